@@ -1,12 +1,15 @@
 -- What an assembler holds, and the code that it comes to.
-use Rattle.std.specs.Prelude.{◌≡◌, ℕ, ◌*◌, ◌<◌, ℤ, List, [], map, length, All, Option, Some, None, IsSome, IfSome, IsSomeAnd, option_map, option_and_then, slice_get, slice_index_or}
+use Rattle.std.specs.Prelude.{◌≡◌, ℕ, ◌*◌, ◌<◌, ℤ, List, [], map, length, All, Option, Some, None}
+use Rattle.std.specs.Prelude.{IsSome, IfSome, IsSomeAnd, option_map, option_and_then, slice_get}
+use Rattle.std.specs.Prelude.{slice_index_or}
 use Rattle.std.specs.Option.{option_map_or}
 use Rattle.std.specs.List.{enumerate_from}
 use Rattle.fk_isa.specs.declared.instruction.Instruction.{Instruction}
 use Rattle.fk_asm.specs.declared.line.Line.{Line}
 use Rattle.fk_asm.specs.Jump.{distance, Reaches, with_distance}
 
--- an assembler: its lines, for each label the index of the word that it is bound to, if it is, and the commit entries
+-- an assembler: its lines, for each label the index of the word that it is bound to, if it is, and
+-- the commit entries
 pub record Assembly : Type 0 where
   pub lines : List Line
   pub bound : List (Option ℕ)
@@ -45,7 +48,8 @@ distance_of bound own line = option_map (distance own) (target bound line)
 
 -- the instruction of the line of a word: a jump to a label goes the distance to it
 abbrev pub placed : List (Option ℕ) → ℕ → Line → Instruction
-placed bound own line = option_map_or (with_distance line.instruction) (distance_of bound own line) line.instruction
+placed bound own line =
+    option_map_or (with_distance line.instruction) (distance_of bound own line) line.instruction
 
 -- the instructions of all lines
 abbrev pub instructions : List (Option ℕ) → List Line → List Instruction
@@ -64,6 +68,7 @@ abbrev pub AreNearBelow : List (Option ℕ) → List Line → ℕ → Type 0
 AreNearBelow bound lines n = (k : ℕ) → k < n → IfSome (slice_get lines k) (IsNear bound k)
 
 -- the line at an index is the first that is too far
-pub record IsFirstTooFar (bound : List (Option ℕ)) (lines : List Line) (k : ℕ) (d : ℤ) : Type 0 where
+pub record IsFirstTooFar (bound : List (Option ℕ)) (lines : List Line) (k : ℕ)
+    (d : ℤ) : Type 0 where
   pub far : IsSomeAnd (slice_get lines k) (λ line. IsTooFar bound k line d)
   pub first : AreNearBelow bound lines k

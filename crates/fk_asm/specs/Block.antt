@@ -1,5 +1,6 @@
 -- Blocks of lines, some of which commit.
-use Rattle.std.specs.Prelude.{◌≡◌, ℕ, ◌+◌, ◌*◌, ◌<◌, List, [], ◌∷◌, ◌++◌, take, map, length, Option, Some, None, IfSome, ◌⊎◌}
+use Rattle.std.specs.Prelude.{◌≡◌, ℕ, ◌+◌, ◌*◌, ◌<◌, List, [], ◌∷◌, ◌++◌, take, map, length, Option}
+use Rattle.std.specs.Prelude.{Some, None, IfSome, ◌⊎◌}
 use Rattle.fk_asm.specs.declared.line.Line.{Line}
 use Rattle.fk_asm.specs.Assembly.{Assembly}
 
@@ -36,12 +37,14 @@ with_block a block =
       commits = a.commits ++ entries_from (length a.lines) block;
     }
 
--- an assembler to which only so many lines of a block were added, with their entries, and perhaps with that of the next line
+-- an assembler to which only so many lines of a block were added, with their entries, and perhaps
+-- with that of the next line
 pub record HasBegun (block : List MarkedLine) (old new : Assembly) : Type 0 where
   pub count : ℕ
   pub lines : new.lines ≡ (with_block old (take count block)).lines
   pub bound : new.bound ≡ old.bound
-  pub entries : (new.commits ≡ (with_block old (take count block)).commits) ⊎ (new.commits ≡ (with_block old (take (count + 1) block)).commits)
+  pub entries : (new.commits ≡ (with_block old (take count block)).commits)
+      ⊎ (new.commits ≡ (with_block old (take (count + 1) block)).commits)
 
 -- the labels that a block goes to are made
 abbrev pub GoesToMade : List (Option ℕ) → MarkedLine → Type 0

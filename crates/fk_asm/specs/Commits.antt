@@ -2,7 +2,8 @@
 use Rattle.std.specs.Prelude.{◌≡◌, ℕ, ◌*◌, ◌/◌, ◌%◌, ◌<◌, ◌≤◌, List, map, All}
 use Rattle.std.specs.List.Sorted.{IsStrictlyIncreasing}
 
--- an entry: the address of a word, and the count of its operations, 1 to 255, + 256 * its event, up to 6
+-- an entry: the address of a word, and the count of its operations, 1 to 255, + 256 *
+-- its event, up to 6
 pub record IsEntry (entry : ℕ × ℕ) : Type 0 where
   pub aligned : entry.0 % 4 ≡ 0
   pub counted : 1 ≤ entry.1 % 256

@@ -2,7 +2,8 @@
 use Rattle.std.specs.Prelude.{ℕ, ◌-◌, ◌*◌, ◌^◌, ℤ, pos, neg_ℤ, ◌-ℤ◌, ◌≤ℤ◌}
 use Rattle.std.specs.Int.{w32, cast_unsigned}
 use Rattle.fk_isa.specs.declared.instruction.Instruction.{Instruction}
-use Rattle.fk_isa.specs.declared.instruction.Instruction.TheVariants.{Jal, Beq, Bne, Blt, Bge, Bltu, Bgeu}
+use Rattle.fk_isa.specs.declared.instruction.Instruction.TheVariants.{Jal, Beq, Bne, Blt, Bge, Bltu}
+use Rattle.fk_isa.specs.declared.instruction.Instruction.TheVariants.{Bgeu}
 
 -- the instructions that go to a place at a distance: the branches and jal
 abbrev pub IsJump : Instruction → Type 0

@@ -1,11 +1,24 @@
 -- The texts of instructions, as assemblers write them.
-use Rattle.std.specs.Prelude.{ℕ, ◌/◌, ◌%◌, ◌^◌, Bool, true, false, List, [], ◌∷◌, ◌++◌, map, slice_index_or, codes}
+use Rattle.std.specs.Prelude.{ℕ, ◌/◌, ◌%◌, ◌^◌, Bool, true, false, List, [], ◌∷◌, ◌++◌, map}
+use Rattle.std.specs.Prelude.{slice_index_or, codes}
 use Rattle.std.specs.Fmt.{decimal, digit_glyph, digits, signed_decimal}
 use Rattle.std.specs.Option.{option_map_or}
 use Rattle.fk_num.specs.Word.{signed}
 use Rattle.fk_isa.specs.Find.{row}
 use Rattle.fk_isa.specs.declared.instruction.Instruction.{Instruction}
-use Rattle.fk_isa.specs.declared.instruction.Instruction.TheVariants.{Lui, Auipc, Jal, Jalr, Beq, Bne, Blt, Bge, Bltu, Bgeu, Lb, Lh, Lw, Lbu, Lhu, Sb, Sh, Sw, Addi, Slti, Sltiu, Xori, Ori, Andi, Slli, Srli, Srai, Add, Sub, Sll, Slt, Sltu, Xor, Srl, Sra, Or, And, Mul, Mulh, Mulhsu, Mulhu, Div, Divu, Rem, Remu, Fence, Ecall, Ebreak, LrW, ScW, AmoSwapW, AmoAddW, AmoXorW, AmoAndW, AmoOrW, AmoMinW, AmoMaxW, AmoMinuW, AmoMaxuW}
+use Rattle.fk_isa.specs.declared.instruction.Instruction.TheVariants.{Lui, Auipc, Jal, Jalr, Beq}
+use Rattle.fk_isa.specs.declared.instruction.Instruction.TheVariants.{Bne, Blt, Bge, Bltu, Bgeu, Lb}
+use Rattle.fk_isa.specs.declared.instruction.Instruction.TheVariants.{Lh, Lw, Lbu, Lhu, Sb, Sh, Sw}
+use Rattle.fk_isa.specs.declared.instruction.Instruction.TheVariants.{Addi, Slti, Sltiu, Xori, Ori}
+use Rattle.fk_isa.specs.declared.instruction.Instruction.TheVariants.{Andi, Slli, Srli, Srai, Add}
+use Rattle.fk_isa.specs.declared.instruction.Instruction.TheVariants.{Sub, Sll, Slt, Sltu, Xor, Srl}
+use Rattle.fk_isa.specs.declared.instruction.Instruction.TheVariants.{Sra, Or, And, Mul, Mulh}
+use Rattle.fk_isa.specs.declared.instruction.Instruction.TheVariants.{Mulhsu, Mulhu, Div, Divu, Rem}
+use Rattle.fk_isa.specs.declared.instruction.Instruction.TheVariants.{Remu, Fence, Ecall, Ebreak}
+use Rattle.fk_isa.specs.declared.instruction.Instruction.TheVariants.{LrW, ScW, AmoSwapW, AmoAddW}
+use Rattle.fk_isa.specs.declared.instruction.Instruction.TheVariants.{AmoXorW, AmoAndW, AmoOrW}
+use Rattle.fk_isa.specs.declared.instruction.Instruction.TheVariants.{AmoMinW, AmoMaxW, AmoMinuW}
+use Rattle.fk_isa.specs.declared.instruction.Instruction.TheVariants.{AmoMaxuW}
 
 -- ---- numbers
 
@@ -33,8 +46,10 @@ register_names =
     codes "zero" ∷ codes "ra" ∷ codes "sp" ∷ codes "gp" ∷ codes "tp" ∷
     codes "t0" ∷ codes "t1" ∷ codes "t2" ∷
     codes "s0" ∷ codes "s1" ∷
-    codes "a0" ∷ codes "a1" ∷ codes "a2" ∷ codes "a3" ∷ codes "a4" ∷ codes "a5" ∷ codes "a6" ∷ codes "a7" ∷
-    codes "s2" ∷ codes "s3" ∷ codes "s4" ∷ codes "s5" ∷ codes "s6" ∷ codes "s7" ∷ codes "s8" ∷ codes "s9" ∷ codes "s10" ∷ codes "s11" ∷
+    codes "a0" ∷ codes "a1" ∷ codes "a2" ∷ codes "a3" ∷ codes "a4" ∷ codes "a5" ∷
+    codes "a6" ∷ codes "a7" ∷
+    codes "s2" ∷ codes "s3" ∷ codes "s4" ∷ codes "s5" ∷ codes "s6" ∷ codes "s7" ∷ codes "s8" ∷
+    codes "s9" ∷ codes "s10" ∷ codes "s11" ∷
     codes "t3" ∷ codes "t4" ∷ codes "t5" ∷ codes "t6" ∷
     []
 
@@ -70,7 +85,8 @@ with_immediate name a b imm = name_and_register name a ++ register b ++ codes ",
 
 -- `slli rd, rs1, 31`
 unfoldable pub with_distance : List ℕ → ℕ → ℕ → ℕ → List ℕ
-with_distance name a b distance = name_and_register name a ++ register b ++ codes ", " ++ decimal distance
+with_distance name a b distance =
+    name_and_register name a ++ register b ++ codes ", " ++ decimal distance
 
 -- `add rd, rs1, rs2`
 unfoldable pub three_registers : List ℕ → ℕ → ℕ → ℕ → List ℕ
@@ -89,7 +105,8 @@ reserving name aq rl rd base = name_and_register (name ++ ordering aq rl) rd ++ 
 
 -- `amoadd.w rd, rs2, (rs1)`
 unfoldable pub atomic : List ℕ → Bool → Bool → ℕ → ℕ → ℕ → List ℕ
-atomic name aq rl rd value base = name_and_register (name ++ ordering aq rl) rd ++ register value ++ codes ", " ++ in_parentheses base
+atomic name aq rl rd value base = name_and_register (name ++ ordering aq rl) rd ++ register value
+    ++ codes ", " ++ in_parentheses base
 
 -- ---- the table
 
@@ -165,4 +182,5 @@ listed w = option_map_or text_of (row w) (unknown w)
 
 -- a line of a listing: the address, the word and its text
 unfoldable pub line_of : ℕ → ℕ → List ℕ
-line_of address w = eight_digits address ++ codes ": " ++ eight_digits w ++ codes "  " ++ listed w ++ 10 ∷ []
+line_of address w = eight_digits address ++ codes ": " ++ eight_digits w ++ codes "  "
+    ++ listed w ++ 10 ∷ []

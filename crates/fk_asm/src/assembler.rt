@@ -1,11 +1,14 @@
 //! The assembler.
 
-ghost use Rattle.std.specs.Prelude.{◌≡◌, ◌↔◌, ◌+◌, ◌-◌, ◌*◌, ◌^◌, ◌<◌, ◌≤◌, ℕ, ℤ, [], ◌∷◌, ◌++◌, map, length, All, None, Some, Ok, Err, IfOk, IfNone, IfSome, OnOk, OnErr, slice_get, slice_set, vec_len};
+ghost use Rattle.std.specs.Prelude.{◌≡◌, ◌↔◌, ◌+◌, ◌-◌, ◌*◌, ◌^◌, ◌<◌, ◌≤◌, ℕ, ℤ, [], ◌∷◌, ◌++◌};
+ghost use Rattle.std.specs.Prelude.{map, length, All, None, Some, Ok, Err, IfOk, IfNone, IfSome};
+ghost use Rattle.std.specs.Prelude.{OnOk, OnErr, slice_get, slice_set, vec_len};
 ghost use Rattle.fk_isa.specs.Fits.{Fits};
 ghost use Rattle.fk_isa.specs.Find.{row};
 ghost use Rattle.fk_asm.specs.Jump.{IsJump};
 ghost use Rattle.fk_asm.specs.Commits.{IsCommitTable};
-ghost use Rattle.fk_asm.specs.Assembly.{empty, straight, jump_to, next_address, AreFollowed, IsBound, instructions, AreNearBelow, IsFirstTooFar};
+ghost use Rattle.fk_asm.specs.Assembly.{empty, straight, jump_to, next_address, AreFollowed};
+ghost use Rattle.fk_asm.specs.Assembly.{IsBound, instructions, AreNearBelow, IsFirstTooFar};
 
 use crate::code::{AsmFault, Code};
 use crate::line::Line;
@@ -28,7 +31,8 @@ impl Model for Assembler {
 
     ghost Value = { Assembly };
 
-    ghost view = { λ a. record { lines = a.lines.items; bound = a.bound.items; commits = a.commits.items } };
+    ghost view = { λ a.
+        record { lines = a.lines.items; bound = a.bound.items; commits = a.commits.items } };
 
     ghost invariant = { λ a. IsSound a.lines.items a.commits.items };
 }
@@ -49,7 +53,8 @@ impl Assembler {
     pub fn label(&mut self) -> Result<u32, AllocError>
         requires few { length self.old.bound < 2 ^ 32 - 1 }
         ensures number { IfOk result (λ label. label ≡ length self.old.bound) }
-        ensures made { OnOk result (self.new ≡ record self.old { bound = self.old.bound ++ None ∷ [] }) }
+        ensures made { OnOk result
+            (self.new ≡ record self.old { bound = self.old.bound ++ None ∷ [] }) }
         ensures refused { OnErr result (self.new ≡ self.old) }
     {
         let label = self.bound.len() as u32;
@@ -73,7 +78,8 @@ impl Assembler {
     pub fn emit(&mut self, i: Instruction) -> Result<(), AllocError>
         requires room { length self.old.lines < 2 ^ 30 - 1 }
         requires fits { Fits i }
-        ensures added { OnOk result (self.new ≡ record self.old { lines = self.old.lines ++ straight i ∷ [] }) }
+        ensures added { OnOk result
+            (self.new ≡ record self.old { lines = self.old.lines ++ straight i ∷ [] }) }
         ensures followed { OnOk result (AreFollowed self.new) }
         ensures refused { OnErr result (self.new ≡ self.old) }
     {
@@ -81,13 +87,15 @@ impl Assembler {
         Ok(())
     }
 
-    /// Adds a jump to a label: a branch or `jal`, whose immediate `finish` replaces by the distance.
+    /// Adds a jump to a label: a branch or `jal`, whose immediate `finish` replaces
+    /// by the distance.
     pub fn jump(&mut self, i: Instruction, label: u32) -> Result<(), AllocError>
         requires room { length self.old.lines < 2 ^ 30 - 1 }
         requires fits { Fits i }
         requires jump { IsJump i }
         requires made { label < length self.old.bound }
-        ensures added { OnOk result (self.new ≡ record self.old { lines = self.old.lines ++ jump_to i label ∷ [] }) }
+        ensures added { OnOk result
+            (self.new ≡ record self.old { lines = self.old.lines ++ jump_to i label ∷ [] }) }
         ensures followed { OnOk result (AreFollowed self.new) }
         ensures refused { OnErr result (self.new ≡ self.old) }
     {
@@ -120,13 +128,16 @@ impl Assembler {
         requires bound { All (IsBound self.bound) self.lines }
         requires followed { AreFollowed self }
 
-        ensures rows { IfOk result (λ code. map row code.words.items ≡ map Some (instructions self.bound self.lines)) }
+        ensures rows { IfOk result
+            (λ code. map row code.words.items ≡ map Some (instructions self.bound self.lines)) }
         ensures count { IfOk result (λ code. vec_len code.words ≡ length self.lines) }
         ensures commits { IfOk result (λ code. code.commits.items ≡ self.commits) }
-        ensures table { IfOk result (λ code. IsCommitTable (vec_len code.words) code.commits.items) }
+        ensures table { IfOk result
+            (λ code. IsCommitTable (vec_len code.words) code.commits.items) }
 
         ensures near { OnOk result (AreNearBelow self.bound self.lines (length self.lines)) }
-        ensures too_far { (k : ℕ) (d : ℤ) → (result ≡ Err (AsmFault.TooFar k d)) ↔ IsFirstTooFar self.bound self.lines k d }
+        ensures too_far { (k : ℕ) (d : ℤ)
+            → (result ≡ Err (AsmFault.TooFar k d)) ↔ IsFirstTooFar self.bound self.lines k d }
     {
         let Assembler {
             lines,
@@ -162,7 +173,8 @@ fn words(alloc: Global, lines: &[Line], bound: &[Option<u32>]) -> Result<Vec<u32
     requires few { length lines.now < 2 ^ 30 }
     requires fit { All (λ line. Fits line.instruction) lines.now }
     requires near { AreNearBelow bound.now lines.now (length lines.now) }
-    ensures rows { IfOk result (λ words. map row words.items ≡ map Some (instructions bound.now lines.now)) }
+    ensures rows { IfOk result
+        (λ words. map row words.items ≡ map Some (instructions bound.now lines.now)) }
     ensures count { IfOk result (λ words. vec_len words ≡ length lines.now) }
 {
     let mut words = Vec::new(alloc);

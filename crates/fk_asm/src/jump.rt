@@ -1,4 +1,5 @@
-//! Jumps (RISC-V Unprivileged ISA, "RV32I Base Integer Instruction Set", Control Transfer Instructions).
+//! Jumps (RISC-V Unprivileged ISA, "RV32I Base Integer Instruction Set", Control
+//! Transfer Instructions).
 
 ghost use Rattle.std.specs.Prelude.{◌≡◌, ◌↔◌, IsTrue};
 ghost use Rattle.fk_asm.specs.Jump.{IsJump, Reaches, distance, with_distance};

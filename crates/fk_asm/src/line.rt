@@ -15,7 +15,8 @@ pub struct Line {
 }
 
 impl Line {
-    ghost use Rattle.fk_asm.specs.Assembly.{straight, jump_to, distance_of, placed, IsNear, IsTooFar};
+    ghost use Rattle.fk_asm.specs.Assembly.{straight, jump_to, distance_of, placed, IsNear};
+    ghost use Rattle.fk_asm.specs.Assembly.{IsTooFar};
 
     pub(crate) fn straight(instruction: Instruction) -> Line
         ensures { result ≡ straight instruction }

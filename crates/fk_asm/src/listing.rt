@@ -19,14 +19,14 @@ use shapes::{
     with_immediate,
 };
 
-/// The text of one instruction word, such as `sw zero, 12(t0)`, at most 47 bytes (RISC-V Unprivileged
-/// ISA, "RISC-V Assembly Programmer's Handbook").
+/// The text of one instruction word, such as `sw zero, 12(t0)`, at most 47 bytes (RISC-V
+/// Unprivileged ISA, "RISC-V Assembly Programmer's Handbook").
 ///
-/// Registers have the names that they have in calls. Immediates are signed decimals, and the offsets
-/// of jumps and branches are such immediates. The upper 20 bits of `lui` and `auipc` are hexadecimal,
-/// without leading zeros. The bits aq and rl add `.aq`, `.rl` or `.aqrl` to a name. `fence` has no
-/// operands. A word with no row in the table of instructions is `.word 0x` and eight digits.
-/// It takes no memory.
+/// Registers have the names that they have in calls. Immediates are signed decimals, and the
+/// offsets of jumps and branches are such immediates. The upper 20 bits of `lui` and `auipc` are
+/// hexadecimal, without leading zeros. The bits aq and rl add `.aq`, `.rl` or `.aqrl` to a name.
+/// `fence` has no operands. A word with no row in the table of instructions is `.word 0x` and eight
+/// digits. It takes no memory.
 #[tactic(auto, unfolding(crate::specs::Listing::listed))]
 pub fn listing(word: u32) -> ArrayVec<u8, 48>
     ensures text { result.items ≡ listed word }
@@ -40,8 +40,8 @@ pub fn listing(word: u32) -> ArrayVec<u8, 48>
     }
 }
 
-/// A line of a listing: the address in eight hexadecimal digits, `: `, the word in eight, two blanks,
-/// the text of the word, and a newline. It takes no memory.
+/// A line of a listing: the address in eight hexadecimal digits, `: `, the word in eight, two
+/// blanks, the text of the word, and a newline. It takes no memory.
 #[tactic(auto, unfolding(crate::specs::Listing::line_of))]
 pub fn listing_line(address: u32, word: u32) -> ArrayVec<u8, 68>
     ensures { result.items ≡ line_of address word }

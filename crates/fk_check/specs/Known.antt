@@ -5,7 +5,8 @@ use Rattle.fk_types_rules.specs.Facts.{AreFacts}
 use Rattle.fk_regions.specs.Broken.{AreRegions}
 use Rattle.fk_sharing.specs.Broken.{AreShared}
 
--- what its types and names say, then with its regions, and then with what is shared and where groups split
+-- what its types and names say, then with its regions, and then with what is shared and
+-- where groups split
 pub record AreAllFacts (program : ProgramTree) (facts : Facts) : Type 0 where
   pub typed : Facts
   pub placed : Facts

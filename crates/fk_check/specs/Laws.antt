@@ -8,12 +8,14 @@ use Rattle.fk_check.specs.Known.{AreAllFacts}
 
 -- no program keeps all rules and breaks one
 abbrev pub KeepsOrBreaks : Type 0
-KeepsOrBreaks = (program : ProgramTree) (place : Place) (number : ℕ) → Keeps program → ¬ BreaksFirst program place number
+KeepsOrBreaks = (program : ProgramTree) (place : Place) (number : ℕ) → Keeps program
+    → ¬ BreaksFirst program place number
 
 -- at most one rule at one place is the first that a program breaks
 abbrev pub BreaksOneFirst : Type 0
 BreaksOneFirst =
-    (program : ProgramTree) (place other : Place) (m n : ℕ) → BreaksFirst program place m → BreaksFirst program other n → (place ≡ other) × (m ≡ n)
+    (program : ProgramTree) (place other : Place) (m n : ℕ) → BreaksFirst program place m
+    → BreaksFirst program other n → (place ≡ other) × (m ≡ n)
 
 -- the same notes, and the same kinds
 pub record AreSame (one other : Facts) : Type 0 where
@@ -22,4 +24,5 @@ pub record AreSame (one other : Facts) : Type 0 where
 
 -- all facts of a program are the same
 abbrev pub HasOneFacts : Type 0
-HasOneFacts = (program : ProgramTree) (one other : Facts) → AreAllFacts program one → AreAllFacts program other → AreSame one other
+HasOneFacts = (program : ProgramTree) (one other : Facts) → AreAllFacts program one
+    → AreAllFacts program other → AreSame one other

@@ -30,12 +30,15 @@ pub record Keeps (program : ProgramTree) : Type 0 where
   pub regions : KeepsRegions program
   pub sharing : KeepsSharing program
 
--- of the rules 1 to 20 one of this number is broken at this place, and none before it, by place and then by number;
--- or these are kept, and so it is of the rules 21 to 32; or those too, and so it is of the rules 33 to 40
+-- of the rules 1 to 20 one of this number is broken at this place, and none before it, by place and
+-- then by number; or these are kept, and so it is of the rules 21 to 32; or those too, and so it is
+-- of the rules 33 to 40
 pub data BreaksFirst (program : ProgramTree) (place : Place) (number : ℕ) : Type 0 where
   by_types : types.IsRefusal program (fault.Rule place number) → BreaksFirst program place number
-  by_regions : KeepsTypes program → regions.IsRefusal program (fault.Rule place number) → BreaksFirst program place number
-  by_sharing : KeepsTypes program → KeepsRegions program → sharing.IsRefusal program (fault.Rule place number) → BreaksFirst program place number
+  by_regions : KeepsTypes program → regions.IsRefusal program (fault.Rule place number)
+      → BreaksFirst program place number
+  by_sharing : KeepsTypes program → KeepsRegions program
+      → sharing.IsRefusal program (fault.Rule place number) → BreaksFirst program place number
 
 -- why a program isn't accepted: the rule that it breaks first; want of memory says nothing
 abbrev pub IsRefusal : ProgramTree → CheckFault → Type 0

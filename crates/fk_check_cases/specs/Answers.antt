@@ -50,15 +50,18 @@ IsAnswerOf asked tokens tree (answer.Broken place rule) = BreaksFirst tree place
 IsAnswerOf asked tokens tree answer.Kept = (asked ≡ question.Rules) × Keeps tree
 IsAnswerOf asked tokens tree (answer.Known known) =
     (asked ≡ question.Facts) × (map spelled known.tokens.items ≡ tokens) × HasFacts tree known.facts
-IsAnswerOf asked tokens tree (answer.Sites layout) = (asked ≡ question.Sites) × HasLayout tree layout
-IsAnswerOf asked tokens tree (answer.Tables layout) = (asked ≡ question.Layout) × HasLayout tree layout
+IsAnswerOf asked tokens tree (answer.Sites layout) = (asked ≡ question.Sites)
+    × HasLayout tree layout
+IsAnswerOf asked tokens tree (answer.Tables layout) = (asked ≡ question.Layout)
+    × HasLayout tree layout
 IsAnswerOf asked tokens tree (answer.TooLarge why) = AsksLayout asked × HasNoLayout tree why
 
 -- a text is too long, or has no tokens, or these are those of no program
 pub data HasNoProgram (source : List ℕ) : Type 0 where
   too_long : 1048576 < length source → HasNoProgram source
   no_tokens : (found : LexFault) → Faults source found → HasNoProgram source
-  no_tree : (tokens : List Spelled) (found : SyntaxFault) → Tokens source tokens → RefusesTokens tokens found → ¬ IsMemory found → HasNoProgram source
+  no_tree : (tokens : List Spelled) (found : SyntaxFault) → Tokens source tokens
+      → RefusesTokens tokens found → ¬ IsMemory found → HasNoProgram source
 
 -- what is said of a text that has a program
 pub record HasAnswer (asked : Question) (source : List ℕ) (given : Answer) : Type 0 where

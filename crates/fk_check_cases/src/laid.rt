@@ -14,8 +14,8 @@ const NOWHERE: Place = Place { line: 0, column: 0 };
 #[derive(Clone, Copy)]
 pub(crate) struct SitesAndFrames<'l, 'a>(pub(crate) &'l Layout<'a>);
 
-/// The other tables of a text: a line for each shared variable of file scope, two for what those and
-/// the private ones begin as, and one for each place and each group frame.
+/// The other tables of a text: a line for each shared variable of file scope, two for what those
+/// and the private ones begin as, and one for each place and each group frame.
 #[derive(Clone, Copy)]
 pub(crate) struct Tables<'l, 'a>(pub(crate) &'l Layout<'a>);
 

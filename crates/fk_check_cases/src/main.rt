@@ -1,10 +1,11 @@
 //! A table of texts, and what the front end says of each: the lines of the input, and those of the
 //! output.
 //!
-//! A line of the input is what is asked, a tab, the place of a piece, a tab and the piece. Asked for
-//! `rules`, the program tells the first rule that the text breaks. Of a text that breaks none it
-//! tells, asked for `facts`, its kinds and the notes of its tokens; asked for `sites`, its operations
-//! and the frames of its functions; asked for `layout`, where its variables and group frames lie.
+//! A line of the input is what is asked, a tab, the place of a piece, a tab and the piece. Asked
+//! for `rules`, the program tells the first rule that the text breaks. Of a text that breaks
+//! none it tells, asked for `facts`, its kinds and the notes of its tokens; asked for `sites`,
+//! its operations and the frames of its functions; asked for `layout`, where its variables and
+//! group frames lie.
 #![tactic(auto)]
 
 mod laid;

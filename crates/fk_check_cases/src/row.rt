@@ -93,8 +93,8 @@ impl<'a> Row<'a> {
     }
 
     /// The text of a row: the piece by itself; or on a line of its own among others, which declare
-    /// structs and variables, beside functions, in the body of `main`, or in the body of its `start`.
-    /// Fails only for want of memory.
+    /// structs and variables, beside functions, in the body of `main`, or in the body of its
+    /// `start`. Fails only for want of memory.
     pub fn text(&self, alloc: Global) -> Result<String, AllocError> {
         let piece = self.piece;
         if self.place == "whole" {

@@ -105,7 +105,8 @@ fn kept<'a>(
     facts: Facts,
 ) -> Result<Answer<'a>, AllocError>
     requires { HasFacts (program_of program.now) facts }
-    ensures { IfOk result (IsAnswerOf asked (map spelled tokens.entry.items) (program_of program.now)) }
+    ensures { IfOk result
+        (IsAnswerOf asked (map spelled tokens.entry.items) (program_of program.now)) }
 {
     match asked {
         Question::Rules => Ok(Answer::Kept),
@@ -130,7 +131,8 @@ fn answer_of<'a>(
 ) -> Result<Answer<'a>, AllocError>
     requires well_formed { IsWellFormed (program_of program.now) }
     requires small { program.now.tokens ≤ 2 ^ 20 }
-    ensures { IfOk result (IsAnswerOf asked (map spelled tokens.entry.items) (program_of program.now)) }
+    ensures { IfOk result
+        (IsAnswerOf asked (map spelled tokens.entry.items) (program_of program.now)) }
 {
     match checked(alloc, program) {
         Ok(facts) => kept(alloc, asked, tokens, program, facts),

@@ -11,7 +11,8 @@ use Rattle.fk_core.specs.Stands.{is_first}
 
 module _ (tables : Tables) (functions : (binding : ℕ) → Signature) where
   abbrev pub Begins : Tree → Type 0
-  Begins e = (rest : Coded) (first : ℕ) → is_first (numbered first (value tables functions e rest)) ≡ true
+  Begins e = (rest : Coded) (first : ℕ)
+      → is_first (numbered first (value tables functions e rest)) ≡ true
 
   abbrev pub OptionBegins : Option Tree → Type 0
   OptionBegins None = Unit {0}
@@ -44,4 +45,5 @@ module _ (tables : Tables) (functions : (binding : ℕ) → Signature) where
   FunctionsBegin (f ∷ fs) = BodyBegins f.body × FunctionsBegin fs
 
 abbrev pub ConditionsBegin : Tables → ProgramTree → Type 0
-ConditionsBegin tables program = let fs = functions_of program.items in FunctionsBegin tables (signature_in tables fs) fs
+ConditionsBegin tables program = let fs = functions_of program.items in
+    FunctionsBegin tables (signature_in tables fs) fs

@@ -7,8 +7,8 @@ use Rattle.fk_parse_laws.specs.Trim.{ProgramIsTrim}
 use Rattle.fk_check_laws.specs.Correct.{IsCorrect}
 use Rattle.fk_check_laws.specs.Conditions.{ConditionsBegin}
 
--- calls have their arguments and a body, conditions of loops begin with an operation, and `break` and `continue` stand in loops: so
--- the program fits, if its tree is trim, as that of a text is
+-- calls have their arguments and a body, conditions of loops begin with an operation, and `break`
+-- and `continue` stand in loops: so the program fits, if its tree is trim, as that of a text is
 abbrev pub CorrectProgramsFit : Type 0
 CorrectProgramsFit =
     (program : ProgramTree) (facts : Facts) → IsCorrect program facts → ProgramIsTrim program
@@ -17,4 +17,5 @@ CorrectProgramsFit =
 -- the conditions of its loops begin with an operation
 abbrev pub ConditionsOfLoopsBegin : Type 0
 ConditionsOfLoopsBegin =
-    (program : ProgramTree) (facts : Facts) → IsCorrect program facts → ProgramIsTrim program → ConditionsBegin (tables_by program facts) program
+    (program : ProgramTree) (facts : Facts) → IsCorrect program facts → ProgramIsTrim program
+    → ConditionsBegin (tables_by program facts) program

@@ -1,6 +1,7 @@
--- Programs that keep all rules, and what they compute for a `fork` gives one value each, are in place, so their groups have
--- one remaining program.
-use Rattle.std.specs.Prelude.{◌≡◌, ◌≢◌, ℕ, ◌≤◌, ◌^◌, Bool, true, not, ◌&&◌, List, Option, Some, None, slice_get}
+-- Programs that keep all rules, and what they compute for a `fork` gives one value each, are in
+-- place, so their groups have one remaining program.
+use Rattle.std.specs.Prelude.{◌≡◌, ◌≢◌, ℕ, ◌≤◌, ◌^◌, Bool, true, not, ◌&&◌, List, Option, Some}
+use Rattle.std.specs.Prelude.{None, slice_get}
 use Rattle.fk_syntax.specs.declared.facts.Facts.{Facts}
 use Rattle.fk_syntax.specs.declared.program.Mode.{Mode}
 use Rattle.fk_syntax.specs.declared.program.Mode.TheVariants.{Sync, Async, Straight}
@@ -32,14 +33,16 @@ may_run in_group Straight = true
 abbrev pub callable : (in_group : Bool) → Option DeclarationTree → Bool
 callable in_group None = true
 callable in_group (Some (Variable variable)) = true
-callable in_group (Some (Header function)) = not (is_main function) && may_run in_group function.mode
+callable in_group (Some (Header function)) =
+    not (is_main function) && may_run in_group function.mode
 
 abbrev pub may_call : ProgramTree → (in_group : Bool) → (binding : ℕ) → Bool
 may_call program in_group binding = callable in_group (slice_get (declarations program) binding)
 
 -- no token of a program is a `fork`, so nothing is computed for one
 abbrev pub HasNoFork : ProgramTree → Type 0
-HasNoFork program = (i : ℕ) (token : Standing (List Holder)) → slice_get (tokens program) i ≡ Some token → token.word ≢ Fork
+HasNoFork program = (i : ℕ) (token : Standing (List Holder))
+    → slice_get (tokens program) i ≡ Some token → token.word ≢ Fork
 
 abbrev pub ForkFreeProgramsAreValued : Type 0
 ForkFreeProgramsAreValued =
@@ -48,34 +51,40 @@ ForkFreeProgramsAreValued =
     let fs = functions_of program.items in
     ForksAreValued tables (signature_in tables fs) fs
 
--- a program of at most 2^20 tokens that keeps all rules and whose every `fork` is so, with what is known of it
+-- a program of at most 2^20 tokens that keeps all rules and whose every `fork` is so, with
+-- what is known of it
 pub record IsValid (program : ProgramTree) (facts : Facts) : Type 0 where
   pub well_formed : IsWellFormed program
   pub small : program.tokens ≤ 2 ^ 20
   pub known : AreAllFacts program facts
-  pub valued : ForksAreValued (tables_by program facts) (signature_in (tables_by program facts) (functions_of program.items)) (functions_of program.items)
+  pub valued : ForksAreValued (tables_by program facts) (signature_in (tables_by program facts)
+      (functions_of program.items)) (functions_of program.items)
 
 -- such a program is in place by its names, its types and the places of its variables
 abbrev pub ValidProgramsAreInPlace : Type 0
-ValidProgramsAreInPlace = (program : ProgramTree) (facts : Facts) → IsValid program facts → IsInPlace (tables_by program facts) program (may_call program)
+ValidProgramsAreInPlace = (program : ProgramTree) (facts : Facts) → IsValid program facts
+    → IsInPlace (tables_by program facts) program (may_call program)
 
 -- and its groups have one remaining program
 abbrev pub ValidProgramsHaveOneProgram : Type 0
 ValidProgramsHaveOneProgram =
     (program : ProgramTree) (facts : Facts) → IsValid program facts
-    → (setting : Setting) (schedule : Schedule) (words firsts input : List ℕ) (processors : ℕ) → 1 ≤ processors
+    → (setting : Setting) (schedule : Schedule) (words firsts input : List ℕ) (processors : ℕ)
+    → 1 ≤ processors
     → let next = next_in (tables_by program facts) program in
     let first = program_opening (tables_by program facts) program words firsts input processors in
     IsLawful next setting schedule first
     → (run next setting schedule first).fault ≡ None
     → KeepOneProgram next processors (run next setting schedule first)
 
--- and all members of a group in lockstep have levels that differ in `$` alone, as have all who wait at one node. No function, and
--- no statement with a frame, stands at the first token of a text
+-- and all members of a group in lockstep have levels that differ in `$` alone, as have all who wait
+-- at one node. No function, and no statement with a frame, stands at the first token of a text
 abbrev pub ValidProgramsHaveOneSpace : Type 0
 ValidProgramsHaveOneSpace =
-    (program : ProgramTree) (facts : Facts) → IsValid program facts → frame_at (tables_by program facts) 0 0 ≡ None
-    → (setting : Setting) (schedule : Schedule) (words firsts input : List ℕ) (processors : ℕ) → 1 ≤ processors
+    (program : ProgramTree) (facts : Facts) → IsValid program facts
+    → frame_at (tables_by program facts) 0 0 ≡ None
+    → (setting : Setting) (schedule : Schedule) (words firsts input : List ℕ) (processors : ℕ)
+    → 1 ≤ processors
     → let first = program_opening (tables_by program facts) program words firsts input processors in
     IsLawful (next_in (tables_by program facts) program) setting schedule first
     → (run (next_in (tables_by program facts) program) setting schedule first).fault ≡ None

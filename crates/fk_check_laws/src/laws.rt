@@ -1,17 +1,18 @@
 //! Laws of programs that keep all rules.
 
 ghost use Rattle.fk_check_laws.specs.Laws.{ConditionsOfLoopsBegin, CorrectProgramsFit};
-ghost use Rattle.fk_check_laws.specs.Valid.{ForkFreeProgramsAreValued, ValidProgramsAreInPlace, ValidProgramsHaveOneProgram, ValidProgramsHaveOneSpace};
+ghost use Rattle.fk_check_laws.specs.Valid.{ForkFreeProgramsAreValued, ValidProgramsAreInPlace};
+ghost use Rattle.fk_check_laws.specs.Valid.{ValidProgramsHaveOneProgram, ValidProgramsHaveOneSpace};
 
 /// A program that keeps the forty rules calls functions alone, each with its arguments, and each
-/// has a body; its loops' conditions begin with an operation, and its `break` and `continue` stand in
-/// loops. So it fits, if its tree is trim, as that of a text is.
+/// has a body; its loops' conditions begin with an operation, and its `break` and `continue` stand
+/// in loops. So it fits, if its tree is trim, as that of a text is.
 pub fn correct_programs_fit()
     ensures { CorrectProgramsFit }
 {}
 
-/// The value of each condition of its loops is found by operations, the first of which stands at its
-/// beginning: such a condition is no name of a function, and no address of a private variable.
+/// The value of each condition of its loops is found by operations, the first of which stands at
+/// its beginning: such a condition is no name of a function, and no address of a private variable.
 pub fn conditions_begin()
     ensures { ConditionsOfLoopsBegin }
 {}
@@ -29,14 +30,15 @@ pub fn valid_programs_are_in_place()
     ensures { ValidProgramsAreInPlace }
 {}
 
-/// After every lawful schedule of such a program without a stopped last round all members of a group
-/// in lockstep have the same left to do, and where a branch stands in it, the same last value.
+/// After every lawful schedule of such a program without a stopped last round all members
+/// of a group in lockstep have the same left to do, and where a branch stands in it, the
+/// same last value.
 pub fn valid_programs_have_one_program()
     ensures { ValidProgramsHaveOneProgram }
 {}
 
-/// And they have levels that differ in `$` alone: of their group and of each group round it they have
-/// the same `@`, size and space. So have those who wait at one node.
+/// And they have levels that differ in `$` alone: of their group and of each group round it they
+/// have the same `@`, size and space. So have those who wait at one node.
 pub fn valid_programs_have_one_space()
     ensures { ValidProgramsHaveOneSpace }
 {}

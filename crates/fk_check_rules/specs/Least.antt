@@ -25,7 +25,8 @@ Breaks = Place → Rule → Type 0
 -- the first of all that is broken, or nothing where nothing is
 abbrev pub IsLeast : Breaks → Option Fault → Type 0
 IsLeast broken None = (place : Place) (rule : Rule) → ¬ broken place rule
-IsLeast broken (Some f) = broken f.place f.rule × ((g : Fault) → broken g.place g.rule → IsNoLater f g)
+IsLeast broken (Some f) = broken f.place f.rule
+    × ((g : Fault) → broken g.place g.rule → IsNoLater f g)
 
 -- one rule, broken at these places
 abbrev pub only : Rule → (Place → Type 0) → Breaks
@@ -37,7 +38,8 @@ either P Q place rule = P place rule ⊎ Q place rule
 
 -- what one of the first elements of a list breaks
 abbrev pub among_first : {X : Type 0} → ℕ → (ℕ → X → Breaks) → List X → Breaks
-among_first {X} count P xs place rule = (i : ℕ) × (x : X) × (i < count) × (slice_get xs i ≡ Some x) × P i x place rule
+among_first {X} count P xs place rule = (i : ℕ) × (x : X) × (i < count) × (slice_get xs i ≡ Some x)
+    × P i x place rule
 
 -- what an element of a list breaks
 abbrev pub among : {X : Type 0} → (ℕ → X → Breaks) → List X → Breaks

@@ -60,7 +60,8 @@ pub enum Rule {
     SyncCalledOutside,
     /// A call of an `async` function in a synchronous region.
     AsyncCalledInside,
-    /// A choice, a loop, a `barrier` or a call of a function that isn't straight, in a `straight` function.
+    /// A choice, a loop, a `barrier` or a call of a function that isn't straight, in a
+    /// `straight` function.
     NotStraight,
     /// A call of `shalloc` outside a synchronous region.
     ShallocOutside,

@@ -37,7 +37,8 @@ pub record IsFaithfulTo (program : ProgramTree) (facts : Facts) (image : Image) 
   pub globals_are : image.globals.items ≡ words_by program facts
   pub follows : (input : List ℕ) (p n : ℕ) → IsInput image input → 1 ≤ p → p ≤ 1024 → n < 2 ^ 32
       → Follows (next_in (tables_by program facts) program) image input p n
-      (program_opening (tables_by program facts) program (words_by program facts) (firsts_by program facts) input p)
+      (program_opening (tables_by program facts) program (words_by program facts)
+      (firsts_by program facts) input p)
 
 -- the text keeps all rules, its operations are all built, and the image is faithful to it
 pub record IsFaithful (source : List ℕ) (image : Image) : Type 0 where

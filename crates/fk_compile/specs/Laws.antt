@@ -15,5 +15,6 @@ IsUntrapped stand = Unit {0}
 -- a machine that runs an image of a text has no trap after any number of cycles
 abbrev pub NeverTraps : Type 0
 NeverTraps =
-    (source : List ℕ) (image : Image) (input : List ℕ) (p n : ℕ) → IsFaithful source image → IsInput image input → 1 ≤ p → p ≤ 1024
+    (source : List ℕ) (image : Image) (input : List ℕ) (p n : ℕ) → IsFaithful source image
+    → IsInput image input → 1 ≤ p → p ≤ 1024
     → n < 2 ^ 32 → IsUntrapped (machine image input p n).stand

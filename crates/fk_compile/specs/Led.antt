@@ -12,5 +12,6 @@ use Rattle.fk_compile_text.specs.Plain.{ArePlain}
 abbrev pub ProgramsAreLed : Type 0
 ProgramsAreLed =
     (tables : Tables) (program : ProgramTree) (may_call : (in_group : Bool) → (function : ℕ) → Bool)
-    → IsInPlace tables program may_call → ArePlain tables program → AreShaped (bodies_of tables program)
+    → IsInPlace tables program may_call → ArePlain tables program
+    → AreShaped (bodies_of tables program)
     → AreLed may_call (bodies_of tables program) (main_of tables program)

@@ -13,14 +13,15 @@ use Rattle.fk_sim_runs.specs.Lists.{IsOfOneGroup}
 use Rattle.fk_lower_laws.specs.Laws.{CanHaveGroups}
 
 -- it is flat, and the code of each function stands at its entry, that of `main` at this index
-pub record HasListOf (tables : Tables) (program : ProgramTree) (core : List CoreOp) (main : ℕ) : Type 0 where
+pub record HasListOf (tables : Tables) (program : ProgramTree) (core : List CoreOp)
+    (main : ℕ) : Type 0 where
   pub entry : ℕ → ℕ
   pub flat : IsFlat (bodies_of tables program) core entry
   pub code : HasCodeOf tables program core entry
   pub begins : main ≡ entry (main_of tables program)
 
--- what is known of it where no group splits in the text: code with groups can be made of it, its operations have blocks, and its
--- processors are in one group at a time
+-- what is known of it where no group splits in the text: code with groups can be made of it, its
+-- operations have blocks, and its processors are in one group at a time
 pub record IsGrouped (core : List CoreOp) (main firsts : ℕ) : Type 0 where
   pub can : CanHaveGroups core main firsts
   pub blocks : HasBlocks core

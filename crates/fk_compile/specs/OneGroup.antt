@@ -20,10 +20,12 @@ use Rattle.fk_compile.specs.OneProgram.{IsLaidOut}
 -- where no level stands in a frame
 abbrev pub PlainListsAreOfOneGroup : Type 0
 PlainListsAreOfOneGroup =
-    (program : ProgramTree) (facts : Facts) (known : ProgramTables) → IsKnownOf program facts known → IsLaidOut program facts
+    (program : ProgramTree) (facts : Facts) (known : ProgramTables) → IsKnownOf program facts known
+    → IsLaidOut program facts
     → let tables = tables_by program facts in
     ArePlain tables program
-    → (core : List CoreOp) (entry : (binding : ℕ) → ℕ) → IsFlat (bodies_of tables program) core entry
+    → (core : List CoreOp) (entry : (binding : ℕ) → ℕ)
+    → IsFlat (bodies_of tables program) core entry
     → AreTold (depths_of known (functions_in known)) core → HasSites known core
     → (nestings : Nestings) → ((i : ℕ) → nestings.levels i ≡ 0)
     → IsOfOneGroup core nestings (entry (main_of tables program))

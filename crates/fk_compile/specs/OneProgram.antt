@@ -32,23 +32,29 @@ use Rattle.fk_lower_laws.specs.Typed.{IsNothing, Known}
 use Rattle.fk_lower_laws.specs.Proper.{ProgramIsProper}
 
 -- a function that is called gives a value where it has a result
-abbrev pub GiveResults : (functions : (binding : ℕ) → Signature) → (place_of : (binding : ℕ) → FunctionKind) → Type 0
-GiveResults functions place_of = (binding : ℕ) → IsCalled (place_of binding) → w.place_gives (place_of binding) ≡ gives_value functions binding
+abbrev pub GiveResults : (functions : (binding : ℕ) → Signature)
+    → (place_of : (binding : ℕ) → FunctionKind) → Type 0
+GiveResults functions place_of = (binding : ℕ) → IsCalled (place_of binding)
+    → w.place_gives (place_of binding) ≡ gives_value functions binding
 
 -- what well typed code asks of an expression is enough for it to leave one value or none
 abbrev pub AskedEvaluates : Type 0
 AskedEvaluates =
-    (tables : Tables) (functions : (binding : ℕ) → Signature) (place_of : (binding : ℕ) → FunctionKind) → GiveResults functions place_of
+    (tables : Tables) (functions : (binding : ℕ) → Signature)
+    (place_of : (binding : ℕ) → FunctionKind) → GiveResults functions place_of
     → (x : Tree) → Asked tables functions place_of x
-    → Evaluates tables functions x × (gives (way tables functions x) ≡ w.gives (w.way tables place_of x))
+    → Evaluates tables functions x
+    × (gives (way tables functions x) ≡ w.gives (w.way tables place_of x))
 
 -- so an expression that has a type leaves one value, or none where its type is nothing
 abbrev pub TypedEvaluates : Type 0
 TypedEvaluates =
     (has_room : (address : ℕ) → DataType → Bool)
     → ((address : ℕ) (type : DataType) → has_room address type ≡ true → may_use true address ≡ true)
-    → (env : Env) (tables : Tables) (functions : (binding : ℕ) → Signature) (place_of : (binding : ℕ) → FunctionKind) → GiveResults functions place_of
-    → (x : Tree) → Known (λ address type. has_room address type ≡ true) env tables functions place_of x
+    → (env : Env) (tables : Tables) (functions : (binding : ℕ) → Signature)
+    (place_of : (binding : ℕ) → FunctionKind) → GiveResults functions place_of
+    → (x : Tree)
+    → Known (λ address type. has_room address type ≡ true) env tables functions place_of x
     → (type : ExpressionType) → type_of env (term_of x) ≡ Some type
     → Evaluates tables functions x × (gives (way tables functions x) ≡ not (IsNothing type))
 
@@ -70,7 +76,8 @@ ForksGiveValues =
 -- and its groups have one remaining program
 abbrev pub HasOneProgram : (program : ProgramTree) (facts : Facts) → Type 0
 HasOneProgram program facts =
-    (setting : Setting) (schedule : Schedule) (words firsts input : List ℕ) (processors : ℕ) → 1 ≤ processors
+    (setting : Setting) (schedule : Schedule) (words firsts input : List ℕ) (processors : ℕ)
+    → 1 ≤ processors
     → let next = next_in (tables_by program facts) program in
     let first = program_opening (tables_by program facts) program words firsts input processors in
     IsLawful next setting schedule first
@@ -78,18 +85,22 @@ HasOneProgram program facts =
     → KeepOneProgram next processors (run next setting schedule first)
 
 abbrev pub CorrectProgramsHaveOneProgram : Type 0
-CorrectProgramsHaveOneProgram = (program : ProgramTree) (facts : Facts) → IsLaidOut program facts → HasOneProgram program facts
+CorrectProgramsHaveOneProgram = (program : ProgramTree) (facts : Facts) → IsLaidOut program facts
+    → HasOneProgram program facts
 
 -- so has the program of a text
 abbrev pub TextsHaveOneProgram : Type 0
 TextsHaveOneProgram =
-    (source : List ℕ) (tokens : List Spelled) (program : ProgramTree) (facts : Facts) → Tokens source tokens → SpellsProgram tokens program
-    → IsCorrect program facts → Fits (tables_by program facts) program.items → HasOneProgram program facts
+    (source : List ℕ) (tokens : List Spelled) (program : ProgramTree) (facts : Facts)
+    → Tokens source tokens → SpellsProgram tokens program
+    → IsCorrect program facts → Fits (tables_by program facts) program.items
+    → HasOneProgram program facts
 
 -- and its groups have one space
 abbrev pub HasOneSpace : (program : ProgramTree) (facts : Facts) → Type 0
 HasOneSpace program facts =
-    (setting : Setting) (schedule : Schedule) (words firsts input : List ℕ) (processors : ℕ) → 1 ≤ processors
+    (setting : Setting) (schedule : Schedule) (words firsts input : List ℕ) (processors : ℕ)
+    → 1 ≤ processors
     → let next = next_in (tables_by program facts) program in
     let first = program_opening (tables_by program facts) program words firsts input processors in
     IsLawful next setting schedule first
@@ -98,5 +109,7 @@ HasOneSpace program facts =
 
 abbrev pub TextsHaveOneSpace : Type 0
 TextsHaveOneSpace =
-    (source : List ℕ) (tokens : List Spelled) (program : ProgramTree) (facts : Facts) → Tokens source tokens → SpellsProgram tokens program
-    → IsCorrect program facts → Fits (tables_by program facts) program.items → HasOneSpace program facts
+    (source : List ℕ) (tokens : List Spelled) (program : ProgramTree) (facts : Facts)
+    → Tokens source tokens → SpellsProgram tokens program
+    → IsCorrect program facts → Fits (tables_by program facts) program.items
+    → HasOneSpace program facts

@@ -22,25 +22,31 @@ use Rattle.fk_lower_laws.specs.Laws.{CanHaveGroups}
 -- what goes straight on has no target
 abbrev pub StraightHasNoTarget : Type 0
 StraightHasNoTarget =
-    (bodies : (binding : ℕ) → Code ℕ) (core : List CoreOp) (entry : (binding : ℕ) → ℕ) → AreShaped bodies → IsFlat bodies core entry
-    → (i : ℕ) (op : CoreOp) (operation : Operation) → StandsOp core i op operation → way_of operation ≡ straight → op.target ≡ 0
+    (bodies : (binding : ℕ) → Code ℕ) (core : List CoreOp) (entry : (binding : ℕ) → ℕ)
+    → AreShaped bodies → IsFlat bodies core entry
+    → (i : ℕ) (op : CoreOp) (operation : Operation) → StandsOp core i op operation
+    → way_of operation ≡ straight → op.target ≡ 0
 
 abbrev pub PlainListsHaveBlocks : Type 0
 PlainListsHaveBlocks =
-    (bodies : (binding : ℕ) → Code ℕ) (core : List CoreOp) (entry : (binding : ℕ) → ℕ) → AreShaped bodies → IsFlat bodies core entry
+    (bodies : (binding : ℕ) → Code ℕ) (core : List CoreOp) (entry : (binding : ℕ) → ℕ)
+    → AreShaped bodies → IsFlat bodies core entry
     → IsPlain core → LeadsWithin core → HasBlocks core
 
 abbrev pub StepsFindValues : Type 0
 StepsFindValues = (core : List CoreOp) → HasEnough core → StepsHaveValues core
 
--- its sites and numbers are words, as in every slice, and so are the first values of private variables of file scope
+-- its sites and numbers are words, as in every slice, and so are the first values of private
+-- variables of file scope
 abbrev pub GroupedListsAreGenerable : Type 0
 GroupedListsAreGenerable =
-    (core : List CoreOp) (kept : List Set) (main : ℕ) (firsts : List ℕ) → CanHaveGroups core main (length firsts) → HasBlocks core → LeadsOn core
+    (core : List CoreOp) (kept : List Set) (main : ℕ) (firsts : List ℕ)
+    → CanHaveGroups core main (length firsts) → HasBlocks core → LeadsOn core
     → IsLive core (words_in kept) → IsLeast core (words_in kept)
     → All (λ op. (op.site < 2 ^ 32) × (op.number < 2 ^ 32)) core → All (λ v. v < 2 ^ 32) firsts
     → IsGenerable core kept main firsts
 
 -- the blocks of a list have few words where its text has few operations
 abbrev pub ListsAreSmall : Type 0
-ListsAreSmall = (known : ProgramTables) (core : List CoreOp) → HasSites known core → length (sites_of_text known) ≤ 16000 → sum_by most_words core ≤ 256000
+ListsAreSmall = (known : ProgramTables) (core : List CoreOp) → HasSites known core
+    → length (sites_of_text known) ≤ 16000 → sum_by most_words core ≤ 256000

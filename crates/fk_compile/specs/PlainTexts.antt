@@ -22,5 +22,7 @@ PlainProgramsHaveOneGroup =
     (program : ProgramTree) (facts : Facts) → IsLaidOut program facts
     → let tables = tables_by program facts in
     ArePlain tables program
-    → (core : List CoreOp) (entry : (binding : ℕ) → ℕ) → IsFlat (bodies_of tables program) core entry → HasOwnSites core
-    → AlwaysOneGroup (next core) (λ w. landing core w.at) (position (entry (main_of tables program)) [])
+    → (core : List CoreOp) (entry : (binding : ℕ) → ℕ)
+    → IsFlat (bodies_of tables program) core entry → HasOwnSites core
+    → AlwaysOneGroup (next core) (λ w. landing core w.at)
+    (position (entry (main_of tables program)) [])

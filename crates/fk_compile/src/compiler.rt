@@ -17,10 +17,10 @@ use fk_sim_rounds::laws::programs_are_followed;
 use fk_sim_runs::laws::machines_follow_groups;
 use std::alloc::Global;
 
-/// The image of a text. Every run of it, of up to 2^32 - 1 cycles, with 1 to 1,024 harts and an input of
-/// at most 65,536 words that leaves it within 524,288 words of globals and input, is a run of the text's
-/// program by a lawful schedule: it prints the same bytes, and shared data and its stand are the same, a
-/// fault at a site of the text included.
+/// The image of a text. Every run of it, of up to 2^32 - 1 cycles, with 1 to 1,024 harts and an
+/// input of at most 65,536 words that leaves it within 524,288 words of globals and input, is a run
+/// of the text's program by a lawful schedule: it prints the same bytes, and shared data and its
+/// stand are the same, a fault at a site of the text included.
 ///
 /// # Errors
 /// Those of `built_text`, and of a text that is built `Memory` alone.

@@ -1,23 +1,27 @@
 //! Laws of texts with one group at a time, of their lists, and of their images.
 
 ghost use Rattle.fk_compile.specs.Led.{ProgramsAreLed};
-ghost use Rattle.fk_compile.specs.OneProgram.{AskedEvaluates, TypedEvaluates, ForksGiveValues, CorrectProgramsHaveOneProgram, TextsHaveOneProgram, TextsHaveOneSpace};
+ghost use Rattle.fk_compile.specs.OneProgram.{AskedEvaluates, TypedEvaluates, ForksGiveValues};
+ghost use Rattle.fk_compile.specs.OneProgram.{CorrectProgramsHaveOneProgram, TextsHaveOneProgram};
+ghost use Rattle.fk_compile.specs.OneProgram.{TextsHaveOneSpace};
 ghost use Rattle.fk_compile.specs.PlainTexts.{SitesAreOwn, PlainProgramsHaveOneGroup};
-ghost use Rattle.fk_compile.specs.PlainLists.{StraightHasNoTarget, PlainListsHaveBlocks, StepsFindValues, GroupedListsAreGenerable, ListsAreSmall};
+ghost use Rattle.fk_compile.specs.PlainLists.{StraightHasNoTarget, PlainListsHaveBlocks};
+ghost use Rattle.fk_compile.specs.PlainLists.{StepsFindValues, GroupedListsAreGenerable};
+ghost use Rattle.fk_compile.specs.PlainLists.{ListsAreSmall};
 ghost use Rattle.fk_compile.specs.OneGroup.{PlainListsAreOfOneGroup};
 ghost use Rattle.fk_compile.specs.Laws.{NeverTraps};
 
 use fk_lower_laws::laws::texts_are_proper;
 use fk_parse_laws::laws::{frames_stand_behind_first, texts_are_trim};
 
-/// Where a program is in place, and none of its operations splits a group or takes a frame or a block of one, its code leads each
-/// processor from place to place.
+/// Where a program is in place, and none of its operations splits a group or takes a frame or a
+/// block of one, its code leads each processor from place to place.
 pub fn programs_are_led()
     ensures { ProgramsAreLed }
 {}
 
-/// An expression that is as well typed code asks it leaves one value or none, whichever way is gone in
-/// it, and whatever it calls.
+/// An expression that is as well typed code asks it leaves one value or none, whichever way is gone
+/// in it, and whatever it calls.
 pub fn asked_expressions_evaluate()
     ensures { AskedEvaluates }
 {}
@@ -33,9 +37,9 @@ pub fn forks_give_values()
     ensures { ForksGiveValues }
 {}
 
-/// After every lawful schedule of such a program without a stopped last round all members of a group
-/// in lockstep have the same left to do, and where a branch stands in it, the same last value. They
-/// have the same `@` and the same sizes of their group and of all groups round it.
+/// After every lawful schedule of such a program without a stopped last round all members of a
+/// group in lockstep have the same left to do, and where a branch stands in it, the same last
+/// value. They have the same `@` and the same sizes of their group and of all groups round it.
 pub fn correct_programs_have_one_program()
     ensures { CorrectProgramsHaveOneProgram }
 {}
@@ -48,8 +52,9 @@ pub fn texts_have_one_program()
     texts_are_proper();
 }
 
-/// And all members of a group in lockstep have levels that differ in `$` alone: of their group and of
-/// each group round it they have the same `@`, size and space. So have those who wait at one node.
+/// And all members of a group in lockstep have levels that differ in `$` alone: of their
+/// group and of each group round it they have the same `@`, size and space. So have those who
+/// wait at one node.
 pub fn texts_have_one_space()
     ensures { TextsHaveOneSpace }
 {
@@ -63,9 +68,10 @@ pub fn sites_are_own()
     ensures { SitesAreOwn }
 {}
 
-/// In every run of the list of a program that keeps all rules, has a layout, and in which no group splits or takes a frame or a
-/// block, there is one group at most at a time, and its members in lockstep are at one index of the list: after every lawful
-/// schedule in whose rounds each processor does one operation at most, and whose last round isn't stopped.
+/// In every run of the list of a program that keeps all rules, has a layout, and in which no group
+/// splits or takes a frame or a block, there is one group at most at a time, and its members in
+/// lockstep are at one index of the list: after every lawful schedule in whose rounds each
+/// processor does one operation at most, and whose last round isn't stopped.
 pub fn plain_programs_have_one_group()
     ensures { PlainProgramsHaveOneGroup }
 {}
@@ -81,12 +87,14 @@ pub fn straight_has_no_target()
     ensures { StraightHasNoTarget }
 {}
 
-/// Each operation of a flat list of plain operations, which goes on within itself, has a block, and its target is in the list.
+/// Each operation of a flat list of plain operations, which goes on within itself, has a block, and
+/// its target is in the list.
 pub fn plain_lists_have_blocks()
     ensures { PlainListsHaveBlocks }
 {}
 
-/// Where each operation of a list finds the values that it needs, each step of a group finds the one that it looks at.
+/// Where each operation of a list finds the values that it needs, each step of a group finds the
+/// one that it looks at.
 pub fn steps_find_values()
     ensures { StepsFindValues }
 {}
@@ -96,14 +104,15 @@ pub fn grouped_lists_are_generable()
     ensures { GroupedListsAreGenerable }
 {}
 
-/// The flat list of a program that keeps all rules, has a layout, and in which no group splits or takes a frame or a block, with
-/// the depths and sites of its text, is one with one group at a time, as laws of machines ask it.
+/// The flat list of a program that keeps all rules, has a layout, and in which no group splits or
+/// takes a frame or a block, with the depths and sites of its text, is one with one group at a
+/// time, as laws of machines ask it.
 pub fn plain_lists_are_of_one_group()
     ensures { PlainListsAreOfOneGroup }
 {}
 
-/// A machine that runs an image of a text never traps: it goes on, has finished, or has faulted where
-/// the text's program faults.
+/// A machine that runs an image of a text never traps: it goes on, has finished, or has faulted
+/// where the text's program faults.
 pub fn never_traps()
     ensures { NeverTraps }
 {}

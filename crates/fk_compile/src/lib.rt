@@ -3,7 +3,8 @@
 //! `list` makes the flat list of a text; `fk_gen_list` makes its code, and `image`
 //! puts that into an image with the sites and the globals.
 //!
-//! In `laws` stands why code can be made of the list of a text with one group at a time, and why its image is faithful.
+//! In `laws` stands why code can be made of the list of a text with one group at a time, and why
+//! its image is faithful.
 #![tactic(auto)]
 
 mod compiler;

@@ -1,6 +1,7 @@
 //! The flat list of a text, and the private words that its calls keep.
 
-ghost use Rattle.std.specs.Prelude.{◌≡◌, ◌<◌, ◌≤◌, ◌^◌, ℕ, All, List as Listed, IfErr, IfOk, length, sum_by};
+ghost use Rattle.std.specs.Prelude.{◌≡◌, ◌<◌, ◌≤◌, ◌^◌, ℕ, All, List as Listed, IfErr, IfOk};
+ghost use Rattle.std.specs.Prelude.{length, sum_by};
 ghost use Rattle.fk_syntax.specs.Program.{ProgramTree};
 ghost use Rattle.fk_syntax.specs.ProgramView.{program_of};
 ghost use Rattle.fk_syntax.specs.WellFormed.{IsWellFormed};
@@ -60,7 +61,8 @@ fn lowered(alloc: Global, known: &ProgramTables) -> Result<List, Refusal>
     ensures sites { (program : ProgramTree) → IsLowerable known.now program
         → IfOk result (λ list. HasSites known.now list.ops.items) }
     ensures told { (program : ProgramTree) → IsLowerable known.now program
-        → IfOk result (λ list. AreTold (depths_of known.now (functions_in known.now)) list.ops.items) }
+        → IfOk result
+        (λ list. AreTold (depths_of known.now (functions_in known.now)) list.ops.items) }
     ensures refused { IfErr result (λ refusal. (source : Listed ℕ) → IsRefusedText source refusal) }
 {
     match lower_text(alloc, known) {
@@ -130,11 +132,12 @@ fn have_words(ops: &[CoreOp])
     }
 }
 
-/// The private words that calls keep at each index of a list. Code is made of it, with the first values
-/// of private variables of file scope. Fails only for want of memory.
+/// The private words that calls keep at each index of a list. Code is made of it, with the first
+/// values of private variables of file scope. Fails only for want of memory.
 pub(crate) fn kept_words(alloc: Global, list: &List, firsts: &[u32]) -> Result<Vec<Set>, Refusal>
     requires { IsGrouped list.now.ops.items list.now.main (length firsts.now) }
-    ensures held { IfOk result (λ kept. HasFrames list.now.ops.items kept.items list.now.main (length firsts.now)) }
+    ensures held { IfOk result
+        (λ kept. HasFrames list.now.ops.items kept.items list.now.main (length firsts.now)) }
     ensures generable { IfOk result (λ kept. LeadsOn list.now.ops.items
         → IsGenerable list.now.ops.items kept.items list.now.main firsts.now) }
     ensures refused { IfErr result (λ refusal. (source : Listed ℕ) → IsRefusedText source refusal) }

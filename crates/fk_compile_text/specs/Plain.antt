@@ -3,11 +3,14 @@ use Rattle.std.specs.Prelude.{◌≡◌, Bool, true, false, All}
 use Rattle.fk_syntax.specs.Program.{ProgramTree}
 use Rattle.fk_meaning_operation.specs.declared.operation.OwnValue.TheVariants.{FrameAddress}
 use Rattle.fk_meaning_operation.specs.declared.operation.Operation.{Operation}
-use Rattle.fk_meaning_operation.specs.declared.operation.Operation.TheVariants.{Get, Leave, Heap, Frame, Block, Split, Shrink}
+use Rattle.fk_meaning_operation.specs.declared.operation.Operation.TheVariants.{Get, Leave, Heap}
+use Rattle.fk_meaning_operation.specs.declared.operation.Operation.TheVariants.{Frame, Block, Split}
+use Rattle.fk_meaning_operation.specs.declared.operation.Operation.TheVariants.{Shrink}
 use Rattle.fk_meaning_forms.specs.Tables.{Tables}
 use Rattle.fk_compile_text.specs.Built.{operations_of}
 
--- what is built: all but splits and tests of split loops, what uses a group frame or takes a block of the group's space, and `shmalloc`
+-- what is built: all but splits and tests of split loops, what uses a group frame or takes a block
+-- of the group's space, and `shmalloc`
 abbrev pub is_plain : Operation → Bool
 is_plain (Get (FrameAddress nesting word)) = false
 is_plain (Leave gives true) = false

@@ -8,26 +8,46 @@ use Rattle.fk_lex.specs.Reading.{Faults}
 use Rattle.fk_parse_combinators.specs.declared.fault.SyntaxFault.TheVariants as syntax_fault
 use Rattle.fk_layout.specs.declared.sites.LayoutFault.{LayoutFault}
 use Rattle.fk_layout.specs.declared.sites.LayoutFault.TheVariants as layout
-use Rattle.fk_compile_text.specs.Text.{HasSyntaxFault, HasBrokenRule, HasFunctionAt, HasTooMuch, HasLargeFrame, IsNotBuilt}
+use Rattle.fk_compile_text.specs.Text.{HasSyntaxFault, HasBrokenRule, HasFunctionAt, HasTooMuch}
+use Rattle.fk_compile_text.specs.Text.{HasLargeFrame, IsNotBuilt}
 use Rattle.fk_compile_text.specs.declared.refusal.Refusal.{Refusal}
-use Rattle.fk_compile_text.specs.declared.refusal.Refusal.TheVariants.{BadByte, OpenComment, OpenString, WideNumber, Unexpected, EndOfText, Nesting, Rule, TooManySites, FrameTooLarge, GlobalsTooLarge, SourceTooLong, NotBuilt, Memory}
+use Rattle.fk_compile_text.specs.declared.refusal.Refusal.TheVariants.{BadByte, OpenComment}
+use Rattle.fk_compile_text.specs.declared.refusal.Refusal.TheVariants.{OpenString, WideNumber}
+use Rattle.fk_compile_text.specs.declared.refusal.Refusal.TheVariants.{Unexpected, EndOfText}
+use Rattle.fk_compile_text.specs.declared.refusal.Refusal.TheVariants.{Nesting, Rule, TooManySites}
+use Rattle.fk_compile_text.specs.declared.refusal.Refusal.TheVariants.{FrameTooLarge}
+use Rattle.fk_compile_text.specs.declared.refusal.Refusal.TheVariants.{GlobalsTooLarge}
+use Rattle.fk_compile_text.specs.declared.refusal.Refusal.TheVariants.{SourceTooLong, NotBuilt}
+use Rattle.fk_compile_text.specs.declared.refusal.Refusal.TheVariants.{Memory}
 
--- the length is that of a text that is too long; one that isn't has a lexical fault at the least place, or it has
--- tokens: they have no tree, for a fault at a token or at the end; or they have one, and it breaks this rule first; or
--- it keeps all rules, and there is too much of something for a layout; or it has one, and an operation that isn't built
+-- the length is that of a text that is too long; one that isn't has a lexical fault at the least
+-- place, or it has tokens: they have no tree, for a fault at a token or at the end; or they have
+-- one, and it breaks this rule first; or it keeps all rules, and there is too much of something for
+-- a layout; or it has one, and an operation that isn't built
 abbrev pub IsRefusedText : List ℕ → Refusal → Type 0
 IsRefusedText source (SourceTooLong bytes) = (bytes ≡ length source) × (1048576 < bytes)
-IsRefusedText source (BadByte place) = (length source ≤ 1048576) × Faults source (fault.BadByte place)
-IsRefusedText source (OpenComment place) = (length source ≤ 1048576) × Faults source (fault.OpenComment place)
-IsRefusedText source (OpenString place) = (length source ≤ 1048576) × Faults source (fault.OpenString place)
-IsRefusedText source (WideNumber place) = (length source ≤ 1048576) × Faults source (fault.WideNumber place)
-IsRefusedText source (Unexpected place) = (length source ≤ 1048576) × HasSyntaxFault source (syntax_fault.Unexpected place)
-IsRefusedText source EndOfText = (length source ≤ 1048576) × HasSyntaxFault source syntax_fault.EndOfText
-IsRefusedText source (Nesting place) = (length source ≤ 1048576) × HasSyntaxFault source (syntax_fault.Nesting place)
-IsRefusedText source (Rule place number) = (length source ≤ 1048576) × HasBrokenRule source place number
-IsRefusedText source (TooManySites count) = (length source ≤ 1048576) × HasTooMuch source (layout.TooManySites count)
-IsRefusedText source (FrameTooLarge name words) = (length source ≤ 1048576) × HasLargeFrame source name.items words
-IsRefusedText source (GlobalsTooLarge words) = (length source ≤ 1048576) × HasTooMuch source (layout.GlobalsTooLarge words)
+IsRefusedText source (BadByte place) = (length source ≤ 1048576)
+    × Faults source (fault.BadByte place)
+IsRefusedText source (OpenComment place) = (length source ≤ 1048576)
+    × Faults source (fault.OpenComment place)
+IsRefusedText source (OpenString place) = (length source ≤ 1048576)
+    × Faults source (fault.OpenString place)
+IsRefusedText source (WideNumber place) = (length source ≤ 1048576)
+    × Faults source (fault.WideNumber place)
+IsRefusedText source (Unexpected place) = (length source ≤ 1048576)
+    × HasSyntaxFault source (syntax_fault.Unexpected place)
+IsRefusedText source EndOfText = (length source ≤ 1048576)
+    × HasSyntaxFault source syntax_fault.EndOfText
+IsRefusedText source (Nesting place) = (length source ≤ 1048576)
+    × HasSyntaxFault source (syntax_fault.Nesting place)
+IsRefusedText source (Rule place number) = (length source ≤ 1048576)
+    × HasBrokenRule source place number
+IsRefusedText source (TooManySites count) = (length source ≤ 1048576)
+    × HasTooMuch source (layout.TooManySites count)
+IsRefusedText source (FrameTooLarge name words) = (length source ≤ 1048576)
+    × HasLargeFrame source name.items words
+IsRefusedText source (GlobalsTooLarge words) = (length source ≤ 1048576)
+    × HasTooMuch source (layout.GlobalsTooLarge words)
 IsRefusedText source NotBuilt = (length source ≤ 1048576) × IsNotBuilt source
 IsRefusedText source (Memory e) = Unit {0}
 
@@ -35,12 +55,14 @@ IsRefusedText source (Memory e) = Unit {0}
 
 -- where a frame is too large, its function is one of these items
 abbrev pub IsOfFunction : List ItemTree → LayoutFault → Type 0
-IsOfFunction items (layout.FrameTooLarge place words) = (name : List ℕ) × HasFunctionAt items place name
+IsOfFunction items (layout.FrameTooLarge place words) = (name : List ℕ)
+    × HasFunctionAt items place name
 IsOfFunction items fault = Unit {0}
 
 -- the name of a function at a place, and its words; or there is no memory for the name
 abbrev pub TellsFrame : List ItemTree → Place → ℕ → Refusal → Type 0
-TellsFrame items place words (FrameTooLarge name told) = HasFunctionAt items place name.items × (told ≡ words)
+TellsFrame items place words (FrameTooLarge name told) = HasFunctionAt items place name.items
+    × (told ≡ words)
 TellsFrame items place words (Memory e) = Unit {0}
 TellsFrame items place words refusal = ⊥
 

@@ -65,13 +65,16 @@ pub record HasTooMuch (source : List ℕ) (fault : LayoutFault) : Type 0 where
 
 -- an item is a function of this name, which stands at this place
 abbrev pub IsFunctionAt : Place → List ℕ → ItemTree → Type 0
-IsFunctionAt place name (FunctionItem function) = (function.name.place ≡ place) × (function.name.bytes ≡ name)
+IsFunctionAt place name (FunctionItem function) = (function.name.place ≡ place)
+    × (function.name.bytes ≡ name)
 IsFunctionAt place name item = ⊥
 
 abbrev pub HasFunctionAt : List ItemTree → Place → List ℕ → Type 0
-HasFunctionAt items place name = (item : ItemTree) × Contains items item × IsFunctionAt place name item
+HasFunctionAt items place name = (item : ItemTree) × Contains items item
+    × IsFunctionAt place name item
 
--- or a private frame of so many words is too large: the first such frame is that of a function of this name
+-- or a private frame of so many words is too large: the first such frame is that of a
+-- function of this name
 pub record HasLargeFrame (source name : List ℕ) (words : ℕ) : Type 0 where
   pub tree : ProgramTree
   pub facts : Facts
@@ -102,4 +105,5 @@ IsRowOf all name None = All (λ (row : Row). row.name ≢ name) all
 pub record HasGlobal (source name : List ℕ) (row : Option Row) : Type 0 where
   pub laid : HasLayout source
   pub built : ArePlain (tables_by laid.tree laid.facts) laid.tree
-  pub is : IsRowOf (rows (told laid.facts.notes.items laid.facts.kinds.items) laid.tree.items) name row
+  pub is : IsRowOf
+      (rows (told laid.facts.notes.items laid.facts.kinds.items) laid.tree.items) name row

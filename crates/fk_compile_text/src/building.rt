@@ -11,8 +11,8 @@ use fk_layout_walk::{Event, Mark, ProgramTables, Visitor};
 use fk_layout_walk_statements::text;
 use fk_meaning_operation::{Operation, OwnValue as Pushed};
 
-/// Whether an operation is built: none that splits a group or tests a split loop, uses a group frame, takes a block of the
-/// group's space, or is `shmalloc`.
+/// Whether an operation is built: none that splits a group or tests a split loop, uses a group
+/// frame, takes a block of the group's space, or is `shmalloc`.
 pub fn is_plain(operation: Operation) -> bool
     ensures { result ≡ is_plain operation }
 {

@@ -1,6 +1,7 @@
 //! A text that is built, with all that is known of it.
 
-ghost use Rattle.std.specs.Prelude.{◌≡◌, ◌≤◌, ◌^◌, ℕ, List, IfErr, IfOk, OnOk, false, length, true, vec_len};
+ghost use Rattle.std.specs.Prelude.{◌≡◌, ◌≤◌, ◌^◌, ℕ, List, IfErr, IfOk, OnOk, false, length, true};
+ghost use Rattle.std.specs.Prelude.{vec_len};
 ghost use Rattle.fk_syntax.specs.ProgramView.{program_of};
 ghost use Rattle.fk_syntax.specs.WellFormed.{IsWellFormed};
 ghost use Rattle.fk_layout_walk.specs.Known.{items_in, tables_of};
@@ -52,7 +53,8 @@ pub fn known_of<'p, 'a>(
 // What a text that has a layout is told, by whether it is built.
 fn told_by(is_built: bool) -> Result<(), Refusal>
     ensures built { OnOk result (is_built ≡ true) }
-    ensures not_built { IfErr result (λ refusal. (is_built ≡ false) × (refusal ≡ Refusal.NotBuilt)) }
+    ensures not_built { IfErr result
+        (λ refusal. (is_built ≡ false) × (refusal ≡ Refusal.NotBuilt)) }
 {
     if is_built {
         Ok(())
@@ -72,7 +74,8 @@ fn test_built<'p, 'a>(
         (program_of text.now.tree)) }
     ensures refused { IfErr result (λ refusal. (source : List ℕ) → length source ≤ 1048576
         → IsChecked source (program_of text.now.tree) text.now.facts
-        → Fits (tables_by (program_of text.now.tree) text.now.facts) (program_of text.now.tree).items
+        → Fits (tables_by (program_of text.now.tree) text.now.facts)
+        (program_of text.now.tree).items
         → IsRefusedText source refusal) }
 {
     let known = known_of(&text.tree, &text.facts, layout);
@@ -84,16 +87,16 @@ fn test_built<'p, 'a>(
 /// layout. It takes time and memory linear in the text and the words of its shared variables.
 ///
 /// # Errors
-/// `SourceTooLong` for a text of more than 1,048,576 bytes; `BadByte`, `OpenComment`, `OpenString` or
-/// `WideNumber` for one that has no tokens, by the fault at the least place; `Unexpected`, `EndOfText`
-/// or `Nesting` for one whose tokens have no tree by the grammar of Fork95, by the first token that fits
-/// nowhere, by the end, or by the first token that opens level 129; `Rule` for one that breaks a rule of
-/// the language, by the first rule. One that keeps all rules is refused by the first of these:
-/// `TooManySites`, with their number, where it has more than 16,000 operations; `FrameTooLarge`, with
-/// the name of the first such function and its words, where a private frame has more than 64 words;
-/// `GlobalsTooLarge`, with their number, where its shared variables of file scope have more than
-/// 524,288 words; `NotBuilt` where it has a layout, and an operation that isn't built. `Memory` where
-/// memory is refused, which no clause can say.
+/// `SourceTooLong` for a text of more than 1,048,576 bytes; `BadByte`, `OpenComment`, `OpenString`
+/// or `WideNumber` for one that has no tokens, by the fault at the least place; `Unexpected`,
+/// `EndOfText` or `Nesting` for one whose tokens have no tree by the grammar of Fork95, by the
+/// first token that fits nowhere, by the end, or by the first token that opens level 129; `Rule`
+/// for one that breaks a rule of the language, by the first rule. One that keeps all rules is
+/// refused by the first of these: `TooManySites`, with their number, where it has more than 16,000
+/// operations; `FrameTooLarge`, with the name of the first such function and its words, where a
+/// private frame has more than 64 words; `GlobalsTooLarge`, with their number, where its shared
+/// variables of file scope have more than 524,288 words; `NotBuilt` where it has a layout, and an
+/// operation that isn't built. `Memory` where memory is refused, which no clause can say.
 pub fn built_text<'a>(alloc: Global, source: &'a [u8]) -> Result<Built<'a>, Refusal>
     ensures checked { IfOk result (λ text. IsChecked source.now (program_of text.tree) text.facts) }
     ensures laid { IfOk result (λ text. IsLayout (program_of text.tree) text.facts text.layout) }

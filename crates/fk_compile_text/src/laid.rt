@@ -4,7 +4,8 @@ ghost use Rattle.std.specs.Prelude.{◌≤◌, ℕ, List, IfErr, IfOk, IfSome, I
 ghost use Rattle.fk_syntax.specs.ProgramView.{item_of, program_of};
 ghost use Rattle.fk_layout.specs.Layout.{IsLayout, tables_by};
 ghost use Rattle.fk_layout.specs.Refusal.{Fits};
-ghost use Rattle.fk_compile_text.specs.Refusal.{IsOfFunction, IsRefusedText, TellsFault, TellsFrame};
+ghost use Rattle.fk_compile_text.specs.Refusal.{IsOfFunction, IsRefusedText, TellsFault};
+ghost use Rattle.fk_compile_text.specs.Refusal.{TellsFrame};
 ghost use Rattle.fk_compile_text.specs.Text.{HasFunctionAt, IsChecked, IsFunctionAt};
 
 use crate::refusal::Refusal;
@@ -19,7 +20,8 @@ pub(crate) fn layout_of<'a>(alloc: Global, text: &Checked<'a>) -> Result<Layout<
     ensures fits { OnOk result (Fits (tables_by (program_of text.now.tree) text.now.facts)
         (program_of text.now.tree).items) }
     ensures refused { IfErr result (λ refusal. (source : List ℕ) → length source ≤ 1048576
-        → IsChecked source (program_of text.now.tree) text.now.facts → IsRefusedText source refusal) }
+        → IsChecked source (program_of text.now.tree) text.now.facts
+        → IsRefusedText source refusal) }
 {
     match lay_out(alloc, &text.tree, &text.facts) {
         Ok(layout) => Ok(layout),
@@ -57,7 +59,8 @@ fn frame_too_large(alloc: Global, items: &[Item], place: Place, words: u32) -> R
 // The name of the function at a place.
 fn name_at<'a>(items: &[Item<'a>], place: Place) -> Option<&'a [u8]>
     ensures some { IfSome result (λ name. HasFunctionAt (map item_of items.now) place name.now) }
-    ensures none { IsNone result → (name : List ℕ) → ¬ HasFunctionAt (map item_of items.now) place name }
+    ensures none { IsNone result → (name : List ℕ)
+        → ¬ HasFunctionAt (map item_of items.now) place name }
 {
     for item in items {
         if let Some(name) = name_of(item, place) {

@@ -34,8 +34,8 @@ pub enum Refusal {
     /// It has so many operations, which are more than 16,000. Above 2^64 - 1 it is that number.
     #[error("{0} operations are too many")]
     TooManySites(u64),
-    /// A function has a private frame of more than 64 words: the name of the first one, and its words.
-    /// Above 2^32 - 1 it is that number.
+    /// A function has a private frame of more than 64 words: the name of the first one, and its
+    /// words. Above 2^32 - 1 it is that number.
     #[error("a private frame of {1} words is too large")]
     FrameTooLarge(Vec<u8>, u32),
     /// The shared variables of file scope have so many words, which are more than 524,288. Above
@@ -46,8 +46,8 @@ pub enum Refusal {
     #[error("a text of {0} bytes is too long")]
     SourceTooLong(u64),
     /// It is a text of the language, but it has an operation that isn't built: one by which a group
-    /// splits (`fork`, a private condition in a synchronous region), a group's frame (`sh` variables and
-    /// parameters of functions and bodies), `shalloc`, or `shmalloc`.
+    /// splits (`fork`, a private condition in a synchronous region), a group's frame (`sh`
+    /// variables and parameters of functions and bodies), `shalloc`, or `shmalloc`.
     #[error("not built")]
     NotBuilt,
     /// There is no memory for the image.

@@ -1,6 +1,7 @@
 //! The tree of a text, and what is known of one that keeps the rules.
 
-ghost use Rattle.std.specs.Prelude.{◌≡◌, ◌↔◌, ◌≤◌, ◌<◌, ◌^◌, ℕ, List, IfOk, IfErr, OnOk, length, vec_len};
+ghost use Rattle.std.specs.Prelude.{◌≡◌, ◌↔◌, ◌≤◌, ◌<◌, ◌^◌, ℕ, List, IfOk, IfErr, OnOk, length};
+ghost use Rattle.std.specs.Prelude.{vec_len};
 ghost use Rattle.fk_lex.specs.View.{IsFault};
 ghost use Rattle.fk_syntax.specs.declared.place.Place.{Place};
 ghost use Rattle.fk_syntax.specs.ProgramView.{program_of};
@@ -22,7 +23,8 @@ const MOST_BYTES: usize = 1_048_576;
 // That a text isn't too long.
 fn test_length(source: &[u8]) -> Result<(), Refusal>
     ensures short { OnOk result (length source.now ≤ 1048576) }
-    ensures long { IfErr result (λ refusal. (1048576 < length source.now) × (refusal ≡ Refusal.SourceTooLong (length source.now))) }
+    ensures long { IfErr result (λ refusal. (1048576 < length source.now)
+        × (refusal ≡ Refusal.SourceTooLong (length source.now))) }
 {
     if source.len() > MOST_BYTES {
         Err(Refusal::SourceTooLong(source.len() as u64))
@@ -72,7 +74,8 @@ pub(crate) fn checked_text<'a>(alloc: Global, source: &'a [u8]) -> Result<Checke
 // The refusal of a text by its lexical fault.
 fn lexical(fault: LexFault) -> Refusal
     ensures memory { (e : AllocError) → (result ≡ Refusal.Memory e) ↔ (fault ≡ LexFault.Memory e) }
-    ensures refused { (source : List ℕ) → length source ≤ 1048576 → IsFault source fault → IsRefusedText source result }
+    ensures refused { (source : List ℕ) → length source ≤ 1048576 → IsFault source fault
+        → IsRefusedText source result }
 {
     match fault {
         LexFault::BadByte(place) => Refusal::BadByte(place),
@@ -85,8 +88,10 @@ fn lexical(fault: LexFault) -> Refusal
 
 // The refusal of a text by the fault of its tokens.
 fn syntactic(fault: SyntaxFault) -> Refusal
-    ensures memory { (e : AllocError) → (result ≡ Refusal.Memory e) ↔ (fault ≡ SyntaxFault.Memory e) }
-    ensures refused { (source : List ℕ) → length source ≤ 1048576 → HasSyntaxFault source fault → IsRefusedText source result }
+    ensures memory { (e : AllocError)
+        → (result ≡ Refusal.Memory e) ↔ (fault ≡ SyntaxFault.Memory e) }
+    ensures refused { (source : List ℕ) → length source ≤ 1048576 → HasSyntaxFault source fault
+        → IsRefusedText source result }
 {
     match fault {
         SyntaxFault::Unexpected(place) => Refusal::Unexpected(place),
@@ -100,7 +105,8 @@ fn syntactic(fault: SyntaxFault) -> Refusal
 fn broken(fault: CheckFault) -> Refusal
     ensures memory { (e : AllocError) → (result ≡ Refusal.Memory e) ↔ (fault ≡ CheckFault.Memory) }
     ensures refused { (source : List ℕ) → length source ≤ 1048576
-        → ((place : Place) (number : ℕ) → fault ≡ CheckFault.Rule place number → HasBrokenRule source place number) → IsRefusedText source result }
+        → ((place : Place) (number : ℕ) → fault ≡ CheckFault.Rule place number
+        → HasBrokenRule source place number) → IsRefusedText source result }
 {
     match fault {
         CheckFault::Rule(place, number) => Refusal::Rule(place, number),

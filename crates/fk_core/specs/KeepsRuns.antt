@@ -12,10 +12,13 @@ use Rattle.fk_core.specs.Next.{next, list_opening}
 use Rattle.fk_core.specs.Stands.{Stands}
 use Rattle.fk_core.specs.WellFormed.{LeadsOn}
 
--- the code of each function stands in the list, from the function's entry on. What has no body has its entry at the end
-pub record HasCodeOf (tables : Tables) (program : ProgramTree) (core : List CoreOp) (entry : ℕ → ℕ) : Type 0 where
+-- the code of each function stands in the list, from the function's entry on. What has no body has
+-- its entry at the end
+pub record HasCodeOf (tables : Tables) (program : ProgramTree) (core : List CoreOp)
+    (entry : ℕ → ℕ) : Type 0 where
   pub leads_on : LeadsOn core
-  pub stands : (binding : ℕ) → Stands core entry (bodies_of tables program binding) None (entry binding) (length core)
+  pub stands : (binding : ℕ)
+      → Stands core entry (bodies_of tables program binding) None (entry binding) (length core)
 
 -- a schedule is lawful for both or for neither, and under it the stores and the stands are equal
 abbrev pub FlatListsKeepRuns : Type 0

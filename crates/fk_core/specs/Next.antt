@@ -1,5 +1,6 @@
 -- Runs of a flat list: what is left to do is an index into it, and those to which calls return.
-use Rattle.std.specs.Prelude.{ℕ, zero, suc, ◌==◌, Bool, true, false, List, [], ◌∷◌, length, slice_get, slice_index, Option, Some, None, if◌then◌else◌}
+use Rattle.std.specs.Prelude.{ℕ, zero, suc, ◌==◌, Bool, true, false, List, [], ◌∷◌, length}
+use Rattle.std.specs.Prelude.{slice_get, slice_index, Option, Some, None, if◌then◌else◌}
 use Rattle.fk_meaning_operation.specs.declared.operation.Operation.{Operation}
 use Rattle.fk_meaning_operation.specs.declared.operation.Operation.TheVariants as o
 use Rattle.fk_meaning.specs.Round.{Step, State}
@@ -63,20 +64,26 @@ module _ (core : List CoreOp) where
   returned [] = position (length core) []
   returned (i ∷ callers) = position i callers
 
-  -- where an operation goes on: at the next index; on the second way at its target, and an end always. A call returns behind
-  -- the jump to the function's entry
+  -- where an operation goes on: at the next index; on the second way at its target, and an end
+  -- always. A call returns behind the jump to the function's entry
   abbrev pub follows : Operation → (i target : ℕ) → List ℕ → Bool → Position
   follows (o.Leave gives framed) i target callers onward = returned callers
   follows o.Halt i target callers onward = returned callers
-  follows (o.Enter arguments) i target callers onward = position (suc i) (behind_jump core (suc i) ∷ callers)
+  follows (o.Enter arguments) i target callers onward =
+      position (suc i) (behind_jump core (suc i) ∷ callers)
   follows o.End i target callers onward = position target callers
   follows operation i target callers true = position (suc i) callers
-  follows operation i target callers false = position (if has_two_ways operation then target else suc i) callers
+  follows operation i target callers false =
+      position (if has_two_ways operation then target else suc i) callers
 
   abbrev pub step_by : (i : ℕ) → List ℕ → CoreOp → Option Operation → Option (Step Position)
   step_by i callers op None = None
   step_by i callers op (Some operation) =
-      Some (record { operation = operation; site = op.site; rest = follows operation i op.target callers })
+      Some (record {
+        operation = operation;
+        site = op.site;
+        rest = follows operation i op.target callers;
+      })
 
   abbrev pub step_of : (i : ℕ) → List ℕ → Option CoreOp → Option (Step Position)
   step_of i callers None = None
@@ -88,4 +95,5 @@ module _ (core : List CoreOp) where
 
 -- p processors at the entry of `main`
 abbrev pub list_opening : (main : ℕ) → (words firsts input : List ℕ) → (p : ℕ) → State Position
-list_opening main words firsts input p = run.opening p words input (slice_index firsts) (position main [])
+list_opening main words firsts input p =
+    run.opening p words input (slice_index firsts) (position main [])

@@ -1,7 +1,8 @@
 -- Where code stands in a flat list.
 use Rattle.std.specs.Prelude.{◌≡◌, ℕ, Bool, true, false, List, ◌∷◌, slice_get, Option, Some, None}
 use Rattle.fk_meaning_operation.specs.declared.operation.Operation.{Operation}
-use Rattle.fk_meaning_forms.specs.Code.{Code, done, perform, choose, while, until, turn, again, quit, break, continue, call, ends}
+use Rattle.fk_meaning_forms.specs.Code.{Code, done, perform, choose, while, until, turn, again}
+use Rattle.fk_meaning_forms.specs.Code.{quit, break, continue, call, ends}
 use Rattle.fk_core.specs.declared.op.CoreOp.{CoreOp}
 use Rattle.fk_core.specs.Numbers.{operation_of}
 use Rattle.fk_core.specs.Next.{position, is_jump, follows, returned}
@@ -38,7 +39,8 @@ module _ (core : List CoreOp) (entry : (binding : ℕ) → ℕ) where
   -- jumps lead from one index to another, or there are none
   pub data Leads : ℕ → ℕ → Type 0 where
     Stay : {i : ℕ} → Leads i i
-    Go : {i : ℕ} (op : CoreOp) {k : ℕ} → slice_get core i ≡ Some op → is_jump op ≡ true → Leads op.target k → Leads i k
+    Go : {i : ℕ} (op : CoreOp) {k : ℕ} → slice_get core i ≡ Some op → is_jump op ≡ true
+        → Leads op.target k → Leads i k
 
   -- an operation with a site stands where jumps from an index lead to
   pub record OpFrom (i site : ℕ) (operation : Operation) : Type 0 where
@@ -49,21 +51,27 @@ module _ (core : List CoreOp) (entry : (binding : ℕ) → ℕ) where
     pub is_read : operation_of op.kind op.number ≡ Some operation
     pub has_site : op.site ≡ site
 
-  -- on one of its ways it goes on at an index; it enters a function, to return to an index; it ends the function
-  abbrev pub GoesOn : {i site : ℕ} {operation : Operation} → OpFrom i site operation → Bool → ℕ → Type 0
+  -- on one of its ways it goes on at an index; it enters a function, to return to an index; it
+  -- ends the function
+  abbrev pub GoesOn : {i site : ℕ} {operation : Operation} → OpFrom i site operation
+      → Bool → ℕ → Type 0
   GoesOn {operation = operation} o onward a =
-      (callers : List ℕ) → follows core operation o.at o.op.target callers onward ≡ position a callers
+      (callers : List ℕ)
+      → follows core operation o.at o.op.target callers onward ≡ position a callers
 
-  abbrev pub Enters : {i site : ℕ} {operation : Operation} → OpFrom i site operation → (a back : ℕ) → Type 0
+  abbrev pub Enters : {i site : ℕ} {operation : Operation} → OpFrom i site operation
+      → (a back : ℕ) → Type 0
   Enters {operation = operation} o a back =
-      (callers : List ℕ) (onward : Bool) → follows core operation o.at o.op.target callers onward ≡ position a (back ∷ callers)
+      (callers : List ℕ) (onward : Bool)
+      → follows core operation o.at o.op.target callers onward ≡ position a (back ∷ callers)
 
   abbrev pub Returns : {i site : ℕ} {operation : Operation} → OpFrom i site operation → Type 0
   Returns {operation = operation} o =
-      (callers : List ℕ) (onward : Bool) → follows core operation o.at o.op.target callers onward ≡ returned core callers
+      (callers : List ℕ) (onward : Bool)
+      → follows core operation o.at o.op.target callers onward ≡ returned core callers
 
-  -- code stands from one index to another. What follows a `break`, a `continue` or the end of a function stands anywhere.
-  -- A loop under way stands in no list
+  -- code stands from one index to another. What follows a `break`, a `continue` or the end of a
+  -- function stands anywhere. A loop under way stands in no list
   abbrev pub Stands : Code ℕ → Around → (i k : ℕ) → Type 0
   Stands done c i k = Leads i k
   Stands (perform n op rest) c i k =
@@ -73,19 +81,24 @@ module _ (core : List CoreOp) (entry : (binding : ℕ) → ℕ) where
       × Stands x c a m × Stands y c b m × Stands rest c m k
   Stands (while test body step rest) c i k =
       (s e : ℕ) × (loop : Loop) × Leads i s × (is_first test ≡ true) × (is_start step ≡ true)
-      × Stands test (Some loop) s e × Stands body (Some loop) e loop.onward × Stands step (Some loop) loop.onward s
+      × Stands test (Some loop) s e × Stands body (Some loop) e loop.onward
+      × Stands step (Some loop) loop.onward s
       × Stands rest c loop.behind k
   Stands (until body test rest) c i k =
       (s e : ℕ) × (loop : Loop) × Leads i e × (is_first test ≡ true)
       × Stands test (Some loop) s e × Stands body (Some loop) e loop.onward × Leads loop.onward s
       × Stands rest c loop.behind k
   Stands (quit n op rest) c i k =
-      (o : OpFrom i n op) × (a : ℕ) × (loop : Loop) × (c ≡ Some loop) × GoesOn o true a × GoesOn o false loop.behind
+      (o : OpFrom i n op) × (a : ℕ) × (loop : Loop) × (c ≡ Some loop) × GoesOn o true a
+      × GoesOn o false loop.behind
       × Stands rest c a k
-  Stands (break rest) c i k = (a : ℕ) × (loop : Loop) × (c ≡ Some loop) × Leads i loop.behind × Stands rest c a k
-  Stands (continue rest) c i k = (a : ℕ) × (loop : Loop) × (c ≡ Some loop) × Leads i loop.onward × Stands rest c a k
+  Stands (break rest) c i k = (a : ℕ) × (loop : Loop) × (c ≡ Some loop) × Leads i loop.behind
+      × Stands rest c a k
+  Stands (continue rest) c i k = (a : ℕ) × (loop : Loop) × (c ≡ Some loop) × Leads i loop.onward
+      × Stands rest c a k
   Stands (call n op f opening rest) c i k =
-      (o : OpFrom i n op) × (a e back : ℕ) × Enters o a back × Stands opening None a e × Leads e (entry f)
+      (o : OpFrom i n op) × (a e back : ℕ) × Enters o a back × Stands opening None a e
+      × Leads e (entry f)
       × Stands rest c back k
   Stands (ends n op rest) c i k = (o : OpFrom i n op) × (a : ℕ) × Returns o × Stands rest c a k
   Stands code c i k = ⊥

@@ -19,7 +19,8 @@ pub record IsOperation (core : List CoreOp) (i : ℕ) : Type 0 where
 abbrev pub LeadsOn : List CoreOp → Type 0
 LeadsOn core = (i : ℕ) → i < length core → IsOperation core (landing core i)
 
--- in every run, whenever a processor is about to do an operation, its value list has the operation's depth
+-- in every run, whenever a processor is about to do an operation, its value list has the
+-- operation's depth
 abbrev pub HasDepths : List CoreOp → (main : ℕ) → Type 0
 HasDepths core main =
     (words firsts input : List ℕ) (p : ℕ) (schedule : Schedule)

@@ -2,7 +2,10 @@
 
 ghost use Rattle.std.specs.Prelude.{◌≡◌, ◌+◌, ◌*◌, ◌/◌, ◌%◌, ◌^◌, ◌<◌, ◌≤◌, Some};
 ghost use Rattle.fk_meaning_operation.specs.Kinds.{kind_of};
-ghost use Rattle.fk_core.specs.Numbers.{is_odd, nestings, variable_of, known_of, unary_of, split_of, operator_of, operation_of, local_of as local_by, request_of as request_by, tree_step_of as tree_step_by, IsNear, IsKnownNear, HasNumber};
+ghost use Rattle.fk_core.specs.Numbers.{is_odd, nestings, variable_of, known_of, unary_of};
+ghost use Rattle.fk_core.specs.Numbers.{split_of, operator_of, operation_of, local_of as local_by};
+ghost use Rattle.fk_core.specs.Numbers.{request_of as request_by, tree_step_of as tree_step_by};
+ghost use Rattle.fk_core.specs.Numbers.{IsNear, IsKnownNear, HasNumber};
 
 use fk_meaning_operation::{Multiprefix, Operation, OwnValue, SplitKind, Unary, Variable};
 use fk_num::Op;

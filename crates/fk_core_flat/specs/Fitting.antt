@@ -1,6 +1,8 @@
--- What is asked of a program so that its code has the shape of flat lists: calls have their arguments and a body, a loop's
--- condition begins with an operation, and `break` and `continue` stand in loops.
-use Rattle.std.specs.Prelude.{◌≡◌, ℕ, Bool, true, false, ◌==◌, ◌||◌, List, [], ◌∷◌, Option, Some, None}
+-- What is asked of a program so that its code has the shape of flat lists: calls have their
+-- arguments and a body, a loop's condition begins with an operation, and `break` and
+-- `continue` stand in loops.
+use Rattle.std.specs.Prelude.{◌≡◌, ℕ, Bool, true, false, ◌==◌, ◌||◌, List, [], ◌∷◌, Option, Some}
+use Rattle.std.specs.Prelude.{None}
 use Rattle.fk_syntax.specs.Tree.{Named, Tree, Trees}
 use Rattle.fk_syntax.specs.Program as p
 use Rattle.fk_syntax.specs.Program.{DeclaredTree, Statement, Statements, FunctionTree, ProgramTree}
@@ -19,7 +21,8 @@ abbrev pub is_defined : Tables → List FunctionTree → (binding : ℕ) → Boo
 is_defined tables [] b = false
 is_defined tables (f ∷ fs) b = (binding_of tables f == b) || is_defined tables fs b
 
-module _ (tables : Tables) (functions : (binding : ℕ) → Signature) (has_body : (binding : ℕ) → Bool) where
+module _ (tables : Tables) (functions : (binding : ℕ) → Signature)
+    (has_body : (binding : ℕ) → Bool) where
   -- what is called is a predeclared function with the arguments that it takes, or one with a body
   abbrev pub NameFits : (predeclared : Bool) → Named → Trees → Type 0
   NameFits true name arguments = TakesEnough name arguments
@@ -37,9 +40,11 @@ module _ (tables : Tables) (functions : (binding : ℕ) → Signature) (has_body
   abbrev pub VariablesFit : List DeclaredTree → Type 0
   VariablesFit variables = c.VariablesFit tables functions Takes variables
 
-  -- a condition whose value is found by an operation, and isn't nothing at all, as that of a name of a function would be
+  -- a condition whose value is found by an operation, and isn't nothing at all, as that of a name
+  -- of a function would be
   abbrev pub ConditionFits : Tree → Type 0
-  ConditionFits e = Fits e × ((rest : Coded) (first : ℕ) → is_first (numbered first (value tables functions e rest)) ≡ true)
+  ConditionFits e = Fits e × ((rest : Coded) (first : ℕ)
+      → is_first (numbered first (value tables functions e rest)) ≡ true)
 
   abbrev pub OptionConditionFits : Option Tree → Type 0
   OptionConditionFits None = Unit {0}
@@ -52,15 +57,20 @@ module _ (tables : Tables) (functions : (binding : ℕ) → Signature) (has_body
     StatementFits l (p.Block statements) = StatementsFit l statements
     StatementFits l (p.Declare variables) = VariablesFit variables
     StatementFits l (p.If spot condition first) = Fits condition × StatementFits l first
-    StatementFits l (p.IfElse spot condition first second) = Fits condition × StatementFits l first × StatementFits l second
-    StatementFits l (p.While spot condition body) = ConditionFits condition × StatementFits true body
-    StatementFits l (p.DoWhile spot body condition) = ConditionFits condition × StatementFits true body
+    StatementFits l (p.IfElse spot condition first second) = Fits condition × StatementFits l first
+        × StatementFits l second
+    StatementFits l (p.While spot condition body) = ConditionFits condition
+        × StatementFits true body
+    StatementFits l (p.DoWhile spot body condition) = ConditionFits condition
+        × StatementFits true body
     StatementFits l (p.For spot before condition after body) =
-        OptionFits before × OptionConditionFits condition × OptionFits after × StatementFits true body
+        OptionFits before × OptionConditionFits condition × OptionFits after
+        × StatementFits true body
     StatementFits l (p.Start spot count body) = OptionFits count × StatementFits l body
     StatementFits l (p.Farm spot body) = StatementFits l body
     StatementFits l (p.Seq spot body) = StatementFits l body
-    StatementFits l (p.Fork spot parts part rank body) = Fits parts × Fits part × OptionFits rank × StatementFits l body
+    StatementFits l (p.Fork spot parts part rank body) = Fits parts × Fits part × OptionFits rank
+        × StatementFits l body
     StatementFits l (p.Barrier spot) = Unit {0}
     StatementFits l (p.Break spot) = l ≡ true
     StatementFits l (p.Continue spot) = l ≡ true
@@ -80,14 +90,17 @@ module _ (tables : Tables) (functions : (binding : ℕ) → Signature) (has_body
 
 abbrev pub ProgramFits : Tables → ProgramTree → Type 0
 ProgramFits tables program =
-    let fs = functions_of program.items in FunctionsFit tables (signature_in tables fs) (is_defined tables fs) fs
+    let fs = functions_of program.items in
+    FunctionsFit tables (signature_in tables fs) (is_defined tables fs) fs
 
 -- such programs come to code of this shape
 abbrev pub FormsAreShaped : Type 0
-FormsAreShaped = (tables : Tables) (program : ProgramTree) → ProgramFits tables program → AreShaped (bodies_of tables program)
+FormsAreShaped = (tables : Tables) (program : ProgramTree) → ProgramFits tables program
+    → AreShaped (bodies_of tables program)
 
 -- and the code of each function with a body ends where that does
 abbrev pub FunctionsAreClosed : Type 0
 FunctionsAreClosed =
     (tables : Tables) (program : ProgramTree) → ProgramFits tables program
-    → (binding : ℕ) → is_defined tables (functions_of program.items) binding ≡ true → is_closed (bodies_of tables program binding) ≡ true
+    → (binding : ℕ) → is_defined tables (functions_of program.items) binding ≡ true
+    → is_closed (bodies_of tables program binding) ≡ true

@@ -1,12 +1,16 @@
--- Code as a flat list: its operations in the order of the text. A jump stands only behind an operation that would go on at
--- the next index where the code goes on elsewhere, and in a call, where it leads to the function.
-use Rattle.std.specs.Prelude.{ℕ, suc, ◌+◌, ◌==◌, ◌&&◌, ◌||◌, Bool, true, false, List, [], ◌∷◌, ◌++◌, Some, None, if◌then◌else◌}
-use Rattle.fk_meaning_forms.specs.Code.{Code, done, perform, choose, while, until, quit, break, continue, call, ends}
+-- Code as a flat list: its operations in the order of the text. A jump stands only behind an
+-- operation that would go on at the next index where the code goes on elsewhere, and in a call,
+-- where it leads to the function.
+use Rattle.std.specs.Prelude.{ℕ, suc, ◌+◌, ◌==◌, ◌&&◌, ◌||◌, Bool, true, false, List, [], ◌∷◌, ◌++◌}
+use Rattle.std.specs.Prelude.{Some, None, if◌then◌else◌}
+use Rattle.fk_meaning_forms.specs.Code.{Code, done, perform, choose, while, until, quit, break}
+use Rattle.fk_meaning_forms.specs.Code.{continue, call, ends}
 use Rattle.fk_core.specs.Stands.{Loop, Around}
 use Rattle.fk_core_flat.specs.Items.{Item, jump, act, way_of, goes_away, aim}
 
--- Code is written at an index, and goes on at another one. It is `near` where that is the index behind what is written.
--- Code begins here where its first operation is written, unless it goes elsewhere at once
+-- Code is written at an index, and goes on at another one. It is `near` where that is the index
+-- behind what is written. Code begins here where its first operation is written, unless it goes
+-- elsewhere at once
 abbrev pub begins_here : (near : Bool) → Code ℕ → Bool
 begins_here near done = near
 begins_here near (until body test rest) = begins_here true body
@@ -26,7 +30,8 @@ gap false = 1
 -- how many stand in the list of code
 abbrev pub extent : (near : Bool) → Code ℕ → ℕ
 extent near done = 0
-extent near (perform n op rest) = suc (gap (goes_away (way_of op) || begins_here near rest) + extent near rest)
+extent near (perform n op rest) =
+    suc (gap (goes_away (way_of op) || begins_here near rest) + extent near rest)
 extent near (choose n op x y rest) =
     let after = begins_here near rest in
     let beside = after && (extent after y == 0) in
@@ -38,7 +43,8 @@ extent near (until body test rest) = extent true body + extent false test + exte
 extent near (quit n op rest) = suc (gap (begins_here near rest) + extent near rest)
 extent near (break rest) = extent near rest
 extent near (continue rest) = extent near rest
-extent near (call n op f opening rest) = suc (suc (extent true opening + gap (begins_here near rest) + extent near rest))
+extent near (call n op f opening rest) =
+    suc (suc (extent true opening + gap (begins_here near rest) + extent near rest))
 extent near (ends n op rest) = suc (extent near rest)
 extent near code = 0
 
@@ -85,12 +91,14 @@ module _ (entry : (binding : ℕ) → ℕ) where
       let r = t + extent false step in
       let loop : Loop = record { behind = label c r k rest; onward = if steps then t else i } in
       flat enters (Some loop) i (label (Some loop) b loop.onward body) test
-      ++ flat steps (Some loop) b loop.onward body ++ flat false (Some loop) t i step ++ flat near c r k rest
+      ++ flat steps (Some loop) b loop.onward body ++ flat false (Some loop) t i step
+      ++ flat near c r k rest
   flat near c i k (until body test rest) =
       let t = i + extent true body in
       let r = t + extent false test in
       let loop : Loop = record { behind = label c r k rest; onward = t } in
-      flat true (Some loop) i t body ++ flat false (Some loop) t (label (Some loop) i t body) test ++ flat near c r k rest
+      flat true (Some loop) i t body ++ flat false (Some loop) t (label (Some loop) i t body) test
+      ++ flat near c r k rest
   flat near c i k (quit n op rest) =
       let r = suc i + gap (begins_here near rest) in
       act n op (behind c) ∷ skip (begins_here near rest) (label c r k rest) ++ flat near c r k rest

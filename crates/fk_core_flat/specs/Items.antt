@@ -21,9 +21,11 @@ IsItem (act site operation target) op =
 -- they stand in a list one behind the other, from an index on
 abbrev pub Has : (core : List CoreOp) → (i : ℕ) → List Item → Type 0
 Has core i [] = Unit {0}
-Has core i (item ∷ items) = ((op : CoreOp) × (slice_get core i ≡ Some op) × IsItem item op) × Has core (suc i) items
+Has core i (item ∷ items) = ((op : CoreOp) × (slice_get core i ≡ Some op) × IsItem item op)
+    × Has core (suc i) items
 
--- where an operation goes on: at the next index; there, or at its target; at its target; into a function; or out of it
+-- where an operation goes on: at the next index; there, or at its target; at its target; into a
+-- function; or out of it
 pub data Way : Type 0 where
   straight : Way
   either : Way
@@ -44,8 +46,8 @@ way_of (o.Leave gives framed) = out
 way_of o.Halt = out
 way_of operation = straight
 
--- one that goes onto its target never goes on at the next index, and so no jump stands behind it. One that goes straight on or
--- out has the target 0, which nobody reads
+-- one that goes onto its target never goes on at the next index, and so no jump stands behind it.
+-- One that goes straight on or out has the target 0, which nobody reads
 abbrev pub goes_away : Way → Bool
 goes_away onto = true
 goes_away way = false

@@ -1,5 +1,6 @@
 -- What is so of flat lists.
-use Rattle.std.specs.Prelude.{◌≡◌, ℕ, ◌+◌, ◌<◌, ◌≤◌, ◌⊎◌, Bool, true, false, List, length, slice_get, Some, None}
+use Rattle.std.specs.Prelude.{◌≡◌, ℕ, ◌+◌, ◌<◌, ◌≤◌, ◌⊎◌, Bool, true, false, List, length}
+use Rattle.std.specs.Prelude.{slice_get, Some, None}
 use Rattle.fk_syntax.specs.Program.{ProgramTree}
 use Rattle.fk_meaning_forms.specs.Code.{Code, sites, numbered}
 use Rattle.fk_meaning_forms.specs.Ranks.{ranked}
@@ -21,12 +22,16 @@ AreShaped bodies =
     → IsShaped (λ function. is_closed (bodies function)) false (bodies binding)
     × ((is_done (bodies binding) ≡ true) ⊎ (is_closed (bodies binding) ≡ true))
 
--- A list that has the code of each function at a place of its own, and nothing else. The entry of a function is the index
--- where its code begins; that of a function without code is the end of the list
-pub record IsFlat (bodies : (binding : ℕ) → Code ℕ) (core : List CoreOp) (entry : ℕ → ℕ) : Type 0 where
+-- A list that has the code of each function at a place of its own, and nothing else. The
+-- entry of a function is the index where its code begins; that of a function without code is
+-- the end of the list
+pub record IsFlat (bodies : (binding : ℕ) → Code ℕ) (core : List CoreOp)
+    (entry : ℕ → ℕ) : Type 0 where
   pub place : (binding : ℕ) → ℕ
-  pub has : (binding : ℕ) → Has core (place binding) (flat entry false None (place binding) (length core) (bodies binding))
-  pub begins : (binding : ℕ) → entry binding ≡ label None (place binding) (length core) (bodies binding)
+  pub has : (binding : ℕ) → Has core (place binding)
+      (flat entry false None (place binding) (length core) (bodies binding))
+  pub begins : (binding : ℕ)
+      → entry binding ≡ label None (place binding) (length core) (bodies binding)
   pub covers :
       (i : ℕ) → i < length core
       → (binding : ℕ) × (place binding ≤ i) × (i < place binding + extent false (bodies binding))
@@ -44,13 +49,15 @@ abbrev pub JumpsLeadToOperations : Type 0
 JumpsLeadToOperations =
     (bodies : (binding : ℕ) → Code ℕ) (core : List CoreOp) (entry : ℕ → ℕ)
     → AreShaped bodies → IsFlat bodies core entry
-    → (i : ℕ) (op : CoreOp) → slice_get core i ≡ Some op → is_jump op ≡ true → IsOperation core op.target
+    → (i : ℕ) (op : CoreOp) → slice_get core i ≡ Some op → is_jump op ≡ true
+    → IsOperation core op.target
 
--- The sites of the operations in the list of numbered code are their ranks: 0, 1, 2 and so on from the first number on, once
--- each and in this order. They are the operations of the code
+-- The sites of the operations in the list of numbered code are their ranks: 0, 1, 2 and so on from
+-- the first number on, once each and in this order. They are the operations of the code
 abbrev pub SitesGoUp : (A : Type 0) → Type 0
 SitesGoUp A =
-    (code : Code A) (first : ℕ) (has_body : ℕ → Bool) (in_loop : Bool) → IsShaped has_body in_loop (numbered first code)
+    (code : Code A) (first : ℕ) (has_body : ℕ → Bool) (in_loop : Bool)
+    → IsShaped has_body in_loop (numbered first code)
     → (entry : ℕ → ℕ) (near : Bool) (around : Around) (i k : ℕ)
     → acts (flat entry near around i k (numbered first code)) ≡ ranked first (sites code)
 

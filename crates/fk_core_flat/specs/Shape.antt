@@ -1,6 +1,7 @@
 -- The shape of the code that forms make.
 use Rattle.std.specs.Prelude.{◌≡◌, ℕ, ◌||◌, ◌⊎◌, Bool, true, false}
-use Rattle.fk_meaning_forms.specs.Code.{Code, done, perform, choose, while, until, turn, again, quit, break, continue, call, ends}
+use Rattle.fk_meaning_forms.specs.Code.{Code, done, perform, choose, while, until, turn, again}
+use Rattle.fk_meaning_forms.specs.Code.{quit, break, continue, call, ends}
 use Rattle.fk_core.specs.Stands.{is_first, is_start}
 use Rattle.fk_core_flat.specs.Items.{straight, either, onto, into, out, way_of}
 
@@ -31,12 +32,15 @@ IsOpening code = ⊥
 
 -- the functions that have a body
 module _ (has_body : (binding : ℕ) → Bool) where
-  -- Each operation goes on as its place wants it. Behind one that goes onto its target no code follows, a loop's test begins
-  -- with an operation, what leaves a loop stands in one, and who is called has a body
+  -- Each operation goes on as its place wants it. Behind one that goes onto its target no code
+  -- follows, a loop's test begins with an operation, what leaves a loop stands in one, and who is
+  -- called has a body
   abbrev pub IsShaped : (in_loop : Bool) → Code ℕ → Type 0
   IsShaped l done = Unit {0}
-  IsShaped l (perform n op rest) = ((way_of op ≡ straight) ⊎ ((way_of op ≡ onto) × (is_done rest ≡ true))) × IsShaped l rest
-  IsShaped l (choose n op x y rest) = (way_of op ≡ either) × IsShaped l x × IsShaped l y × IsShaped l rest
+  IsShaped l (perform n op rest) =
+      ((way_of op ≡ straight) ⊎ ((way_of op ≡ onto) × (is_done rest ≡ true))) × IsShaped l rest
+  IsShaped l (choose n op x y rest) = (way_of op ≡ either) × IsShaped l x × IsShaped l y
+      × IsShaped l rest
   IsShaped l (while test body step rest) =
       (is_first test ≡ true) × (is_start step ≡ true)
       × IsShaped true test × IsShaped true body × IsShaped true step × IsShaped l rest
@@ -45,6 +49,7 @@ module _ (has_body : (binding : ℕ) → Bool) where
   IsShaped l (quit n op rest) = (l ≡ true) × (way_of op ≡ either) × IsShaped l rest
   IsShaped l (break rest) = (l ≡ true) × IsShaped l rest
   IsShaped l (continue rest) = (l ≡ true) × IsShaped l rest
-  IsShaped l (call n op f opening rest) = (way_of op ≡ into) × (has_body f ≡ true) × IsOpening opening × IsShaped l rest
+  IsShaped l (call n op f opening rest) = (way_of op ≡ into) × (has_body f ≡ true)
+      × IsOpening opening × IsShaped l rest
   IsShaped l (ends n op rest) = (way_of op ≡ out) × IsShaped l rest
   IsShaped l code = ⊥

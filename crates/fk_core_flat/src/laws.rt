@@ -1,7 +1,8 @@
 //! Laws of flat lists of code.
 //! Laws of the code of programs.
 
-ghost use Rattle.fk_core_flat.specs.Laws.{FlatCodeStands, JumpsLeadToOperations, JumpsAreFew, SitesGoUp};
+ghost use Rattle.fk_core_flat.specs.Laws.{FlatCodeStands, JumpsLeadToOperations, JumpsAreFew};
+ghost use Rattle.fk_core_flat.specs.Laws.{SitesGoUp};
 ghost use Rattle.fk_core_flat.specs.Fitting.{FormsAreShaped, FunctionsAreClosed};
 ghost use Rattle.fk_core_flat.specs.Runs.{FlatProgramsKeepRuns};
 

@@ -1,7 +1,9 @@
 -- Private words of a call that are live: those that may be read before they are written.
-use Rattle.std.specs.Prelude.{◌≡◌, ℕ, suc, ◌-◌, ◌^◌, ◌==◌, ◌||◌, ◌&&◌, not, nat_lt, Bool, true, false, List, [], slice_get, sum_by, Option, Some, None, if◌then◌else◌}
+use Rattle.std.specs.Prelude.{◌≡◌, ℕ, suc, ◌-◌, ◌^◌, ◌==◌, ◌||◌, ◌&&◌, not, nat_lt, Bool, true}
+use Rattle.std.specs.Prelude.{false, List, [], slice_get, sum_by, Option, Some, None, if◌then◌else◌}
 use Rattle.fk_meaning_operation.specs.declared.operation.Operation.{Operation}
-use Rattle.fk_meaning_operation.specs.declared.operation.Operation.TheVariants.{Get, Enter, Leave, Halt}
+use Rattle.fk_meaning_operation.specs.declared.operation.Operation.TheVariants.{Get, Enter, Leave}
+use Rattle.fk_meaning_operation.specs.declared.operation.Operation.TheVariants.{Halt}
 use Rattle.fk_meaning_operation.specs.declared.operation.OwnValue.TheVariants.{Value}
 use Rattle.fk_meaning_operation.specs.declared.operation.Variable.TheVariants.{Private}
 use Rattle.fk_core.specs.declared.op.CoreOp.{CoreOp}
@@ -16,28 +18,32 @@ abbrev pub reads : Operation → (word : ℕ) → Bool
 reads (Get (Value (Private i))) word = (word == i) && nat_lt word 64
 reads operation word = false
 
--- whether a word is to be kept before an operation, by whether it is kept behind it: where the operation doesn't write it; and it
--- is where the operation reads it
+-- whether a word is to be kept before an operation, by whether it is kept behind it: where the
+-- operation doesn't write it; and it is where the operation reads it
 abbrev pub needed : Operation → (behind : Bool) → (word : ℕ) → Bool
 needed operation behind word = (behind && not (writes operation word)) || reads operation word
 
 module _ (core : List CoreOp) (keeps : (index word : ℕ) → Bool) where
-  -- what is kept where the running call goes on, on one way or the other. Behind the jump of a call it does
+  -- what is kept where the running call goes on, on one way or the other. Behind the jump
+  -- of a call it does
   abbrev pub kept_behind : Operation → (i target word : ℕ) → Bool
   kept_behind (Enter arguments) i target word = keeps (suc (suc i)) word
   kept_behind (Leave gives framed) i target word = false
   kept_behind Halt i target word = false
   kept_behind operation i target word =
-      keeps (follows core operation i target [] true).at word || keeps (follows core operation i target [] false).at word
+      keeps (follows core operation i target [] true).at word
+      || keeps (follows core operation i target [] false).at word
 
   -- what is to be kept at an index. At a jump it is what is kept where that leads
   abbrev pub asked_by : Option Operation → (i target word : ℕ) → Bool
   asked_by None i target word = false
-  asked_by (Some operation) i target word = needed operation (kept_behind operation i target word) word
+  asked_by (Some operation) i target word =
+      needed operation (kept_behind operation i target word) word
 
   abbrev pub asked_of : Option CoreOp → (i word : ℕ) → Bool
   asked_of None i word = false
-  asked_of (Some op) i word = if is_jump op then keeps op.target word else asked_by (operation_of op.kind op.number) i op.target word
+  asked_of (Some op) i word = if is_jump op then keeps op.target word
+      else asked_by (operation_of op.kind op.number) i op.target word
 
   abbrev pub asked : (i word : ℕ) → Bool
   asked i = asked_of (slice_get core i) i
@@ -49,7 +55,8 @@ IsLive core keeps = (i word : ℕ) → asked core keeps i word ≡ true → keep
 -- and nothing that could be left out
 abbrev pub IsLeast : List CoreOp → (keeps : (index word : ℕ) → Bool) → Type 0
 IsLeast core keeps =
-    (others : (index word : ℕ) → Bool) → IsLive core others → (i word : ℕ) → keeps i word ≡ true → others i word ≡ true
+    (others : (index word : ℕ) → Bool) → IsLive core others → (i word : ℕ) → keeps i word ≡ true
+    → others i word ≡ true
 
 -- the words that are kept by sets, one at each index
 abbrev pub words_in : List Set → (index word : ℕ) → Bool

@@ -57,7 +57,8 @@ impl Set {
 
     /// The numbers of two sets.
     pub fn union(&self, other: Set) -> Set
-        ensures both { (n : ℕ) → is_in result.mask n ≡ (is_in self.now.mask n || is_in other.mask n) }
+        ensures both { (n : ℕ)
+            → is_in result.mask n ≡ (is_in self.now.mask n || is_in other.mask n) }
         ensures more { self.now.mask ≤ result.mask }
     {
         Set {

@@ -1,10 +1,20 @@
 -- What is known of values behind an operation. The last value has the number 0.
-use Rattle.std.specs.Prelude.{ℕ, zero, suc, ◌+◌, Bool, true, false, not, ◌||◌, Option, Some, None, if◌then◌else◌}
+use Rattle.std.specs.Prelude.{ℕ, zero, suc, ◌+◌, Bool, true, false, not, ◌||◌, Option, Some, None}
+use Rattle.std.specs.Prelude.{if◌then◌else◌}
 use Rattle.fk_num.specs.Word.{word}
 use Rattle.fk_num.specs.Op.{applied}
 use Rattle.fk_num.specs.declared.operator.Op.{Op}
 use Rattle.fk_meaning_operation.specs.declared.operation.Operation.{Operation}
-use Rattle.fk_meaning_operation.specs.declared.operation.Operation.TheVariants.{Push, Get, DropLast, CopyLast, Apply, Binary, Index, Branch, Take, Check, Read, Write, Combine, PrintNumber, PrintByte, Heap, Begin, Agree, Block, Split, Shrink}
+use Rattle.fk_meaning_operation.specs.declared.operation.Operation.TheVariants.{Push, Get, DropLast}
+use Rattle.fk_meaning_operation.specs.declared.operation.Operation.TheVariants.{CopyLast, Apply}
+use Rattle.fk_meaning_operation.specs.declared.operation.Operation.TheVariants.{Binary, Index}
+use Rattle.fk_meaning_operation.specs.declared.operation.Operation.TheVariants.{Branch, Take, Check}
+use Rattle.fk_meaning_operation.specs.declared.operation.Operation.TheVariants.{Read, Write}
+use Rattle.fk_meaning_operation.specs.declared.operation.Operation.TheVariants.{Combine}
+use Rattle.fk_meaning_operation.specs.declared.operation.Operation.TheVariants.{PrintNumber}
+use Rattle.fk_meaning_operation.specs.declared.operation.Operation.TheVariants.{PrintByte, Heap}
+use Rattle.fk_meaning_operation.specs.declared.operation.Operation.TheVariants.{Begin, Agree, Block}
+use Rattle.fk_meaning_operation.specs.declared.operation.Operation.TheVariants.{Split, Shrink}
 use Rattle.fk_meaning_operation.specs.declared.operation.SplitKind.{SplitKind}
 use Rattle.fk_meaning_operation.specs.declared.operation.SplitKind.TheVariants.{AndThen, OrElse}
 use Rattle.fk_meaning_store.specs.Serve.{may_use}
@@ -43,7 +53,8 @@ joined_constant sign turned second last = None
 
 abbrev pub constants_behind : Operation → Constants → Constants
 constants_behind (Push n) known = constants (Some (word n)) known.last
-constants_behind (Binary sign turned) known = constants (joined_constant sign turned known.second known.last) None
+constants_behind (Binary sign turned) known =
+    constants (joined_constant sign turned known.second known.last) None
 constants_behind operation known = no_constants
 
 abbrev pub is_address : (shared_alone : Bool) → (constant : Option ℕ) → Bool
@@ -56,8 +67,9 @@ pushed_by AndThen false = unknown
 pushed_by OrElse false = unknown
 pushed_by split onward = None
 
--- the change by an operation that goes on in its function, on the way on which it does. A constant may be an address, a check
--- passes only addresses, and what a group agrees on may be another member's value
+-- the change by an operation that goes on in its function, on the way on which it does. A
+-- constant may be an address, a check passes only addresses, and what a group agrees on may be
+-- another member's value
 abbrev pub change : (shared_alone : Bool) → Operation → (onward last : Bool) → Constants → Change
 change shared_alone (Push n) onward last known = by 0 (Some (may_use shared_alone (word n)))
 change shared_alone (Get variable) onward last known = by 0 unknown
@@ -79,7 +91,8 @@ change shared_alone (Binary sign turned) onward last known =
 change shared_alone (Index size) onward last known = by 2 unknown
 change shared_alone Write onward last known = by 2 unknown
 change shared_alone (Combine operator) onward last known = by 2 unknown
-change shared_alone (Check checked) onward last known = by 1 (Some (last || (checked || not shared_alone)))
+change shared_alone (Check checked) onward last known =
+    by 1 (Some (last || (checked || not shared_alone)))
 change shared_alone (Split split) onward last known = by (taken_by split) (pushed_by split onward)
 change shared_alone operation onward last known = by 0 None
 

@@ -2,7 +2,8 @@
 use Rattle.std.specs.Prelude.{◌≡◌, ℕ, ◌+◌, ◌-◌, Bool, true, false}
 use Rattle.fk_meaning_operation.specs.declared.operation.Operation.{Operation}
 use Rattle.fk_layout_sizes.specs.Operations.{takes}
-use Rattle.fk_meaning_forms.specs.Code.{Code, done, perform, choose, while, until, turn, again, quit, break, continue, call, ends}
+use Rattle.fk_meaning_forms.specs.Code.{Code, done, perform, choose, while, until, turn, again}
+use Rattle.fk_meaning_forms.specs.Code.{quit, break, continue, call, ends}
 use Rattle.fk_core_liveness.specs.declared.places.FunctionKind.{FunctionKind}
 use Rattle.fk_core_liveness.specs.declared.places.FunctionKind.TheVariants.{Main, Called}
 use Rattle.fk_core_typing.specs.LocalDepths.{results, leaves}
@@ -30,24 +31,27 @@ module _ (place_of : (binding : ℕ) → FunctionKind) where
   height h (call n op f opening rest) = height (h - takes op + results_of (place_of f)) rest
   height h (ends n op rest) = height (raised h op true) rest
 
-  -- the depth at the site of each operation is that number. What stands in the opening of a call is done by the function that
-  -- is called, which begins without values
+  -- the depth at the site of each operation is that number. What stands in the opening of a call is
+  -- done by the function that is called, which begins without values
   module _ (depth : (site : ℕ) → ℕ) where
     abbrev pub HasHeights : (values : ℕ) → Code ℕ → Type 0
     HasHeights h done = Unit {0}
     HasHeights h (perform n op rest) = (depth n ≡ h) × HasHeights (raised h op true) rest
     HasHeights h (choose n op x y rest) =
-        (depth n ≡ h) × HasHeights (raised h op true) x × HasHeights (raised h op false) y × HasHeights (height (raised h op true) x) rest
+        (depth n ≡ h) × HasHeights (raised h op true) x × HasHeights (raised h op false) y
+        × HasHeights (height (raised h op true) x) rest
     HasHeights h (while test body step rest) =
         let b = height h test in
         let s = height b body in
         HasHeights h test × HasHeights b body × HasHeights s step × HasHeights (height s step) rest
     HasHeights h (until body test rest) =
-        let t = height h body in HasHeights h body × HasHeights t test × HasHeights (height t test) rest
+        let t = height h body in HasHeights h body × HasHeights t test
+        × HasHeights (height t test) rest
     HasHeights h (quit n op rest) = (depth n ≡ h) × HasHeights (raised h op true) rest
     HasHeights h (break rest) = HasHeights h rest
     HasHeights h (continue rest) = HasHeights h rest
     HasHeights h (call n op f opening rest) =
-        (depth n ≡ h) × HasHeights 0 opening × HasHeights (h - takes op + results_of (place_of f)) rest
+        (depth n ≡ h) × HasHeights 0 opening
+        × HasHeights (h - takes op + results_of (place_of f)) rest
     HasHeights h (ends n op rest) = (depth n ≡ h) × HasHeights (raised h op true) rest
     HasHeights h code = ⊥

@@ -16,12 +16,14 @@ use Rattle.fk_core_typing.specs.LocalAddresses.{HasKnowledge}
 use Rattle.fk_core_typing.specs.Typed.{AreTyped}
 use Rattle.fk_core_typing.specs.Heights.{HasHeights}
 
-module _ (bodies : (binding : ℕ) → Code ℕ) (core : List CoreOp) (entry : ℕ → ℕ) (place_of : (binding : ℕ) → FunctionKind) where
+module _ (bodies : (binding : ℕ) → Code ℕ) (core : List CoreOp) (entry : ℕ → ℕ)
+    (place_of : (binding : ℕ) → FunctionKind) where
   -- an index lies in the code of a function
   abbrev pub LiesIn : (place : ℕ → ℕ) → (index binding : ℕ) → Type 0
   LiesIn place i f = (place f ≤ i) × (i < place f + extent false (bodies f))
 
-  -- A flat list of well typed functions, where no index lies in the code of two. They are in `main`, or are called
+  -- A flat list of well typed functions, where no index lies in the code of two. They are in
+  -- `main`, or are called
   pub record IsTypedList : Type 0 where
     pub shaped : AreShaped bodies
     pub flat : IsFlat bodies core entry
@@ -30,13 +32,16 @@ module _ (bodies : (binding : ℕ) → Code ℕ) (core : List CoreOp) (entry : �
 
 -- jumps lead to operations, and no operation but an end goes on outside the list
 pub record LeadsWithin (core : List CoreOp) : Type 0 where
-  pub jumps : (i : ℕ) (op : CoreOp) → slice_get core i ≡ Some op → is_jump op ≡ true → IsOperation core op.target
+  pub jumps : (i : ℕ) (op : CoreOp) → slice_get core i ≡ Some op → is_jump op ≡ true
+      → IsOperation core op.target
   pub within : (i : ℕ) (op : CoreOp) (operation : Operation) → slice_get core i ≡ Some op
       → operation_of op.kind op.number ≡ Some operation → is_end operation ≡ false
       → (onward : Bool) → StaysInList core (follows core operation i op.target [] onward)
 
--- the depth of each operation of a list is told by its site, and is as high as the code before it makes it
-pub record HasHeightsOf (bodies : (binding : ℕ) → Code ℕ) (core : List CoreOp) (place_of : (binding : ℕ) → FunctionKind) : Type 0 where
+-- the depth of each operation of a list is told by its site, and is as high as the code
+-- before it makes it
+pub record HasHeightsOf (bodies : (binding : ℕ) → Code ℕ) (core : List CoreOp)
+    (place_of : (binding : ℕ) → FunctionKind) : Type 0 where
   pub depth : (site : ℕ) → ℕ
   pub told : (i : ℕ) (op : CoreOp) (operation : Operation) → slice_get core i ≡ Some op
       → operation_of op.kind op.number ≡ Some operation → op.depth ≡ depth op.site
@@ -44,16 +49,20 @@ pub record HasHeightsOf (bodies : (binding : ℕ) → Code ℕ) (core : List Cor
 
 abbrev pub TypedListsLeadWithin : Type 0
 TypedListsLeadWithin =
-    (bodies : (binding : ℕ) → Code ℕ) (core : List CoreOp) (entry : ℕ → ℕ) (place_of : (binding : ℕ) → FunctionKind)
+    (bodies : (binding : ℕ) → Code ℕ) (core : List CoreOp) (entry : ℕ → ℕ)
+    (place_of : (binding : ℕ) → FunctionKind)
     → IsTypedList bodies core entry place_of → LeadsWithin core
 
 abbrev pub TypedListsKnow : Type 0
 TypedListsKnow =
-    (bodies : (binding : ℕ) → Code ℕ) (core : List CoreOp) (entry : ℕ → ℕ) (place_of : (binding : ℕ) → FunctionKind)
-    → IsTypedList bodies core entry place_of → (main : ℕ) → place_of main ≡ Main → HasKnowledge core (entry main)
+    (bodies : (binding : ℕ) → Code ℕ) (core : List CoreOp) (entry : ℕ → ℕ)
+    (place_of : (binding : ℕ) → FunctionKind)
+    → IsTypedList bodies core entry place_of → (main : ℕ) → place_of main ≡ Main
+    → HasKnowledge core (entry main)
 
 abbrev pub TypedListsHaveDepths : Type 0
 TypedListsHaveDepths =
-    (bodies : (binding : ℕ) → Code ℕ) (core : List CoreOp) (entry : ℕ → ℕ) (place_of : (binding : ℕ) → FunctionKind)
+    (bodies : (binding : ℕ) → Code ℕ) (core : List CoreOp) (entry : ℕ → ℕ)
+    (place_of : (binding : ℕ) → FunctionKind)
     → IsTypedList bodies core entry place_of → HasHeightsOf bodies core place_of
     → (main : ℕ) → place_of main ≡ Main → HasLocalDepths core (entry main)

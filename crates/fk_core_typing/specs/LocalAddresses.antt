@@ -1,7 +1,10 @@
 -- Knowledge of addresses, told by each operation and those that follow it.
-use Rattle.std.specs.Prelude.{◌≡◌, ℕ, suc, Bool, true, false, List, [], length, Option, slice_get, Some}
+use Rattle.std.specs.Prelude.{◌≡◌, ℕ, suc, Bool, true, false, List, [], length, Option, slice_get}
+use Rattle.std.specs.Prelude.{Some}
 use Rattle.fk_meaning_operation.specs.declared.operation.Operation.{Operation}
-use Rattle.fk_meaning_operation.specs.declared.operation.Operation.TheVariants.{Enter, Leave, Halt, Read, Write, Combine}
+use Rattle.fk_meaning_operation.specs.declared.operation.Operation.TheVariants.{Enter, Leave, Halt}
+use Rattle.fk_meaning_operation.specs.declared.operation.Operation.TheVariants.{Read, Write}
+use Rattle.fk_meaning_operation.specs.declared.operation.Operation.TheVariants.{Combine}
 use Rattle.fk_core.specs.declared.op.CoreOp.{CoreOp}
 use Rattle.fk_core.specs.Numbers.{operation_of}
 use Rattle.fk_core.specs.Next.{is_jump, behind_jump, follows}
@@ -10,7 +13,8 @@ use Rattle.fk_core_liveness.specs.declared.places.FunctionKind.{FunctionKind}
 use Rattle.fk_core_liveness.specs.declared.places.FunctionKind.TheVariants.{Main, Called}
 use Rattle.fk_core_typing.specs.declared.change.Change.{Change}
 use Rattle.fk_core_typing.specs.declared.constants.Constants.{Constants}
-use Rattle.fk_core_typing.specs.AddressValues.{after, change, called, unchanged, no_constants, constants_behind}
+use Rattle.fk_core_typing.specs.AddressValues.{after, change, called, unchanged, no_constants}
+use Rattle.fk_core_typing.specs.AddressValues.{constants_behind}
 
 -- a constant that is known is so elsewhere
 abbrev pub IsSameIn : (here elsewhere : Option ℕ) → Type 0
@@ -20,12 +24,14 @@ pub record AreSameIn (here elsewhere : Constants) : Type 0 where
   pub last : IsSameIn here.last elsewhere.last
   pub second : IsSameIn here.second elsewhere.second
 
--- the function in which each index lies, which values of its call are addresses that may be used, or by a multiprefix too, and
--- which constants the last ones are
-module _ (core : List CoreOp) (within : (index : ℕ) → FunctionKind) (known : (shared_alone : Bool) (index value : ℕ) → Bool)
+-- the function in which each index lies, which values of its call are addresses that may be used,
+-- or by a multiprefix too, and which constants the last ones are
+module _ (core : List CoreOp) (within : (index : ℕ) → FunctionKind)
+    (known : (shared_alone : Bool) (index value : ℕ) → Bool)
     (constants : (index : ℕ) → Constants) where
   -- from an index the call goes on at another: what is known there is so behind the change
-  pub record Leads (changes : (shared_alone : Bool) → Change) (behind : Constants) (i j : ℕ) : Type 0 where
+  pub record Leads (changes : (shared_alone : Bool) → Change) (behind : Constants)
+      (i j : ℕ) : Type 0 where
     pub inside : within j ≡ within i
     pub is_known : (shared_alone : Bool) (value : ℕ) → known shared_alone j value ≡ true
         → after (changes shared_alone) (known shared_alone i) value ≡ true
@@ -40,7 +46,8 @@ module _ (core : List CoreOp) (within : (index : ℕ) → FunctionKind) (known :
     pub gives : Bool
     pub inside : within (suc i) ≡ Called gives
     pub begins : KnowsNothing (suc i)
-    pub back : Leads (λ shared_alone. called arguments gives) no_constants i (behind_jump core (suc i))
+    pub back : Leads (λ shared_alone. called arguments gives) no_constants i
+        (behind_jump core (suc i))
 
   abbrev pub GoesOn : Operation → (i target : ℕ) → Type 0
   GoesOn (Enter arguments) i target = Calls arguments i
@@ -48,7 +55,8 @@ module _ (core : List CoreOp) (within : (index : ℕ) → FunctionKind) (known :
   GoesOn Halt i target = within i ≡ Main
   GoesOn operation i target =
       (onward : Bool)
-      → Leads (λ shared_alone. change shared_alone operation onward (known shared_alone i 0) (constants i))
+      → Leads
+      (λ shared_alone. change shared_alone operation onward (known shared_alone i 0) (constants i))
       (constants_behind operation (constants i)) i (follows core operation i target [] onward).at
 
   -- the values that an operation uses as addresses
@@ -77,7 +85,8 @@ pub record HasKnowledge (core : List CoreOp) (main : ℕ) : Type 0 where
   pub jumps : (i : ℕ) (op : CoreOp) → slice_get core i ≡ Some op → is_jump op ≡ true
       → Leads core within known constants (λ shared_alone. unchanged) (constants i) i op.target
   pub fits : (i : ℕ) (op : CoreOp) (operation : Operation) → slice_get core i ≡ Some op
-      → operation_of op.kind op.number ≡ Some operation → Fits core within known constants i op.target operation
+      → operation_of op.kind op.number ≡ Some operation
+      → Fits core within known constants i op.target operation
 
 -- it is enough for each address that is used
 abbrev pub KnowledgeIsEnough : Type 0

@@ -1,5 +1,6 @@
 -- Depths of a flat list, told by each operation and those that follow it.
-use Rattle.std.specs.Prelude.{◌≡◌, ℕ, ◌+◌, ◌-◌, ◌≤◌, Bool, true, false, List, [], slice_get, unwrap_or, Some, if◌then◌else◌}
+use Rattle.std.specs.Prelude.{◌≡◌, ℕ, ◌+◌, ◌-◌, ◌≤◌, Bool, true, false, List, [], slice_get}
+use Rattle.std.specs.Prelude.{unwrap_or, Some, if◌then◌else◌}
 use Rattle.fk_meaning_operation.specs.declared.operation.Operation.{Operation}
 use Rattle.fk_meaning_operation.specs.declared.operation.Operation.TheVariants as o
 use Rattle.fk_meaning_operation.specs.declared.operation.SplitKind.TheVariants.{AndThen, OrElse}
@@ -19,7 +20,8 @@ abbrev pub needs : Operation → ℕ
 needs o.Agree = 1
 needs operation = takes operation
 
--- and how many it pushes by the way on which it goes on. Those who wait at `&&` and `||` have the value of the whole
+-- and how many it pushes by the way on which it goes on. Those who wait at `&&` and `||` have the
+-- value of the whole
 abbrev pub leaves : Operation → (onward : Bool) → ℕ
 leaves (o.Split AndThen) false = 1
 leaves (o.Split OrElse) false = 1
@@ -33,32 +35,40 @@ is_ordinary o.Halt = false
 is_ordinary operation = true
 
 module _ (core : List CoreOp) (within : (index : ℕ) → Within) where
-  -- the operation that comes next from an index on has so many values before it, and lies in such a function
+  -- the operation that comes next from an index on has so many values before it, and lies
+  -- in such a function
   abbrev pub Comes : (index values : ℕ) → Within → Type 0
   Comes index values place =
       (op : CoreOp) → slice_get core (landing core index) ≡ Some op
       → (values ≡ op.depth) × (within (landing core index) ≡ place)
 
-  -- a call: a function begins without values, and behind the call there is its result in place of the arguments
+  -- a call: a function begins without values, and behind the call there is its result in place
+  -- of the arguments
   abbrev pub Enters : (index depth arguments : ℕ) → (gives : Bool) → Within → Type 0
   Enters index depth arguments gives place =
-      Comes (index + 1) 0 (Called gives) × Comes (behind_jump core (index + 1)) (depth - arguments + results gives) place
+      Comes (index + 1) 0 (Called gives)
+      × Comes (behind_jump core (index + 1)) (depth - arguments + results gives) place
 
-  -- behind an operation with so many values: those that it leaves. A function with a result ends with one
+  -- behind an operation with so many values: those that it leaves. A function with a
+  -- result ends with one
   abbrev pub GoesOn : Operation → (index target depth : ℕ) → Within → Type 0
-  GoesOn (o.Enter arguments) index target depth place = (gives : Bool) × Enters index depth arguments gives place
+  GoesOn (o.Enter arguments) index target depth place = (gives : Bool)
+      × Enters index depth arguments gives place
   GoesOn (o.Leave gives framed) index target depth place = place ≡ Called gives
   GoesOn o.Halt index target depth place = place ≡ Main
   GoesOn operation index target depth place =
-      (onward : Bool) → Comes (follows core operation index target [] onward).at (depth - takes operation + leaves operation onward) place
+      (onward : Bool) → Comes (follows core operation index target [] onward).at
+      (depth - takes operation + leaves operation onward) place
 
   -- the operation at an index, where one stands there
   abbrev pub FitsAt : (index : ℕ) → Type 0
   FitsAt index =
-      (op : CoreOp) (operation : Operation) → slice_get core index ≡ Some op → operation_of op.kind op.number ≡ Some operation
+      (op : CoreOp) (operation : Operation) → slice_get core index ≡ Some op
+      → operation_of op.kind op.number ≡ Some operation
       → (needs operation ≤ op.depth) × GoesOn operation index op.target op.depth (within index)
 
--- the depths of a list, and the functions in which its operations lie, such that `main` begins without values
+-- the depths of a list, and the functions in which its operations lie, such that `main`
+-- begins without values
 pub record HasLocalDepths (core : List CoreOp) (main : ℕ) : Type 0 where
   pub within : (index : ℕ) → Within
   pub begins : Comes core within main 0 Main
@@ -66,4 +76,5 @@ pub record HasLocalDepths (core : List CoreOp) (main : ℕ) : Type 0 where
 
 -- such depths are those of every run
 abbrev pub LocalDepthsAreDepths : Type 0
-LocalDepthsAreDepths = (core : List CoreOp) (main : ℕ) → HasLocalDepths core main → HasDepths core main
+LocalDepthsAreDepths = (core : List CoreOp) (main : ℕ) → HasLocalDepths core main
+    → HasDepths core main

@@ -1,13 +1,15 @@
 -- Well typed code, told from its beginning on.
 --
--- A loop begins, goes on and ends with the values that it began with, whatever it does in between. Both ways of a choice come
--- together with the same values. A call takes its arguments, and gives a result or none. The code behind a `break`, a
--- `continue` or an end of the function is never reached. It is typed as if what stands before it fell into it.
+-- A loop begins, goes on and ends with the values that it began with, whatever it does in between.
+-- Both ways of a choice come together with the same values. A call takes its arguments, and gives a
+-- result or none. The code behind a `break`, a `continue` or an end of the function is never
+-- reached. It is typed as if what stands before it fell into it.
 use Rattle.std.specs.Prelude.{◌≡◌, ℕ, Bool, true, false, Option, Some, None}
 use Rattle.fk_meaning_operation.specs.declared.operation.Operation.{Operation}
 use Rattle.fk_meaning_operation.specs.declared.operation.Operation.TheVariants.{Leave, Halt}
 use Rattle.fk_layout_sizes.specs.Operations.{takes}
-use Rattle.fk_meaning_forms.specs.Code.{Code, done, perform, choose, while, until, quit, break, continue, call, ends}
+use Rattle.fk_meaning_forms.specs.Code.{Code, done, perform, choose, while, until, quit, break}
+use Rattle.fk_meaning_forms.specs.Code.{continue, call, ends}
 use Rattle.fk_core_liveness.specs.declared.places.FunctionKind.{FunctionKind}
 use Rattle.fk_core_liveness.specs.declared.places.FunctionKind.TheVariants.{Main, Called}
 use Rattle.fk_core_typing.specs.Values.{State, bare, behind, behind_call, May, Grants}
@@ -31,20 +33,24 @@ module _ (place_of : (binding : ℕ) → FunctionKind) where
   Typed l s (perform n op rest) e = May op s × Typed l (behind op true s) rest e
   Typed l s (choose n op x y rest) e =
       May op s × (together : State)
-      × Typed l (behind op true s) x together × Typed l (behind op false s) y together × Typed l together rest e
+      × Typed l (behind op true s) x together × Typed l (behind op false s) y together
+      × Typed l together rest e
   Typed l s (while test body step rest) e =
       (turn : State) × Grants s turn
-      × Typed (Some turn) turn test turn × Typed (Some turn) turn body turn × Typed (Some turn) turn step turn
+      × Typed (Some turn) turn test turn × Typed (Some turn) turn body turn
+      × Typed (Some turn) turn step turn
       × Typed l turn rest e
   Typed l s (until body test rest) e =
       (turn : State) × Grants s turn
       × Typed (Some turn) turn body turn × Typed (Some turn) turn test turn × Typed l turn rest e
-  Typed l s (quit n op rest) e = May op s × GrantsLoop l (behind op false s) × Typed l (behind op true s) rest e
+  Typed l s (quit n op rest) e = May op s × GrantsLoop l (behind op false s)
+      × Typed l (behind op true s) rest e
   Typed l s (break rest) e = GrantsLoop l s × Typed l s rest e
   Typed l s (continue rest) e = GrantsLoop l s × Typed l s rest e
   Typed l s (call n op f opening rest) e =
       May op s × (gives : Bool) × (place_of f ≡ Called gives)
-      × Typed None (bare (Called gives)) opening (bare (Called gives)) × Typed l (behind_call (takes op) gives s) rest e
+      × Typed None (bare (Called gives)) opening (bare (Called gives))
+      × Typed l (behind_call (takes op) gives s) rest e
   Typed l s (ends n op rest) e = May op s × EndsIn op s.place × Typed l (behind op true s) rest e
   Typed l s code e = ⊥
 

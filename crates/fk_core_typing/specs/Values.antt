@@ -1,8 +1,12 @@
 -- What is known of the values of a call at a place in code, and what an operation makes of it.
-use Rattle.std.specs.Prelude.{◌≡◌, ℕ, ◌≤◌, Bool, true, false, not, List, [], ◌∷◌, ◌++◌, length, drop, replicate, Option, Some, None, if◌then◌else◌}
+use Rattle.std.specs.Prelude.{◌≡◌, ℕ, ◌≤◌, Bool, true, false, not, List, [], ◌∷◌, ◌++◌, length}
+use Rattle.std.specs.Prelude.{drop, replicate, Option, Some, None, if◌then◌else◌}
 use Rattle.fk_num.specs.Word.{word}
 use Rattle.fk_meaning_operation.specs.declared.operation.Operation.{Operation}
-use Rattle.fk_meaning_operation.specs.declared.operation.Operation.TheVariants.{Push, CopyLast, Binary, Check, Read, Write, Combine, Agree}
+use Rattle.fk_meaning_operation.specs.declared.operation.Operation.TheVariants.{Push, CopyLast}
+use Rattle.fk_meaning_operation.specs.declared.operation.Operation.TheVariants.{Binary, Check, Read}
+use Rattle.fk_meaning_operation.specs.declared.operation.Operation.TheVariants.{Write, Combine}
+use Rattle.fk_meaning_operation.specs.declared.operation.Operation.TheVariants.{Agree}
 use Rattle.fk_meaning_store.specs.Serve.{may_use}
 use Rattle.fk_layout_sizes.specs.Operations.{takes}
 use Rattle.fk_core_typing.specs.LocalDepths.{results, needs, leaves}
@@ -12,7 +16,8 @@ use Rattle.fk_core_typing.specs.declared.constants.Constants.{Constants}
 use Rattle.fk_core_typing.specs.AddressValues.{no_constants, joined_constant, constants_behind}
 use Rattle.fk_core_typing.specs.LocalAddresses.{AreSameIn}
 
--- of a value nothing is known; or that it is an address that reads and writes may use; or one that a multiprefix may use too
+-- of a value nothing is known; or that it is an address that reads and writes may use; or one that
+-- a multiprefix may use too
 pub data Value : Type 0 where
   Unknown : Value
   Usable : Value
@@ -24,7 +29,8 @@ is_known shared_alone Unknown = false
 is_known shared_alone Usable = not shared_alone
 is_known shared_alone Shared = true
 
--- what is known of a number, of a constant that may be known, and of a value that a check has passed
+-- what is known of a number, of a constant that may be known, and of a value that a
+-- check has passed
 abbrev pub of_number : ℕ → Value
 of_number n = if may_use true n then Shared else if may_use false n then Usable else Unknown
 
@@ -37,8 +43,8 @@ checked true v = Shared
 checked false Shared = Shared
 checked false v = Usable
 
--- a place in code: in `main`, or in a function that is called; the values of the running call, the last one first; and the
--- constants that the two last ones are, where they are known
+-- a place in code: in `main`, or in a function that is called; the values of the running call, the
+-- last one first; and the constants that the two last ones are, where they are known
 pub record State : Type 0 where
   pub place : FunctionKind
   pub values : List Value
@@ -52,13 +58,15 @@ bare place = record { place = place; values = []; constants = no_constants }
 abbrev pub changed : (takes leaves : ℕ) → List Value → List Value
 changed takes leaves vs = replicate leaves Unknown ++ drop takes vs
 
--- the values behind an operation, on the way on which it goes on. What a group agrees on may be another member's value
+-- the values behind an operation, on the way on which it goes on. What a group agrees on may be
+-- another member's value
 abbrev pub values_behind : Operation → (onward : Bool) → Constants → List Value → List Value
 values_behind (Push n) onward known vs = of_number (word n) ∷ vs
 values_behind CopyLast onward known (v ∷ vs) = v ∷ v ∷ vs
 values_behind (Check shared_alone) onward known (v ∷ vs) = checked shared_alone v ∷ vs
 values_behind Agree onward known (v ∷ vs) = Unknown ∷ vs
-values_behind (Binary sign turned) onward known (b ∷ a ∷ vs) = of_constant (joined_constant sign turned known.second known.last) ∷ vs
+values_behind (Binary sign turned) onward known (b ∷ a ∷ vs) =
+    of_constant (joined_constant sign turned known.second known.last) ∷ vs
 values_behind operation onward known vs = changed (takes operation) (leaves operation onward) vs
 
 abbrev pub behind : Operation → (onward : Bool) → State → State
@@ -70,7 +78,11 @@ behind operation onward s = record {
 
 -- and those behind a call, which has a result or none in place of its arguments
 abbrev pub behind_call : (arguments : ℕ) → (gives : Bool) → State → State
-behind_call arguments gives s = record { place = s.place; values = changed arguments (results gives) s.values; constants = no_constants }
+behind_call arguments gives s = record {
+  place = s.place;
+  values = changed arguments (results gives) s.values;
+  constants = no_constants;
+}
 
 -- what an operation uses as an address is known to be one
 abbrev pub Asks : Operation → List Value → Type 0
@@ -87,7 +99,8 @@ pub record May (operation : Operation) (s : State) : Type 0 where
 
 -- at least as much is known of one value as of another, and so of lists of values
 abbrev pub IsAsGood : Value → Value → Type 0
-IsAsGood v w = (shared_alone : Bool) → is_known shared_alone w ≡ true → is_known shared_alone v ≡ true
+IsAsGood v w = (shared_alone : Bool) → is_known shared_alone w ≡ true
+    → is_known shared_alone v ≡ true
 
 abbrev pub AreAsGood : List Value → List Value → Type 0
 AreAsGood [] [] = Unit {0}

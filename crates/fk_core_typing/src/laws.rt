@@ -4,7 +4,8 @@
 
 ghost use Rattle.fk_core_typing.specs.LocalDepths.{LocalDepthsAreDepths};
 ghost use Rattle.fk_core_typing.specs.LocalAddresses.{KnowledgeIsEnough};
-ghost use Rattle.fk_core_typing.specs.Laws.{TypedListsLeadWithin, TypedListsKnow, TypedListsHaveDepths};
+ghost use Rattle.fk_core_typing.specs.Laws.{TypedListsLeadWithin, TypedListsKnow};
+ghost use Rattle.fk_core_typing.specs.Laws.{TypedListsHaveDepths};
 
 /// Where each operation of a list and those that follow it have depths that go with what it takes
 /// and pushes, a processor that is about to do an operation has as many values as its depth says,
@@ -25,7 +26,8 @@ pub fn typed_lists_lead_within()
     ensures { TypedListsLeadWithin }
 {}
 
-/// A flat list of well typed functions has knowledge of each address that it uses, with nothing known where `main` begins.
+/// A flat list of well typed functions has knowledge of each address that it uses, with nothing
+/// known where `main` begins.
 pub fn typed_lists_know()
     ensures { TypedListsKnow }
 {}

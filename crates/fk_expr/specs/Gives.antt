@@ -1,5 +1,6 @@
 -- What the code says of a token that opens a level.
-use Rattle.std.specs.Prelude.{◌≡◌, ℕ, List, Option, Some, None, Bool, true, false, ◌⊎◌, Result, Ok, Err}
+use Rattle.std.specs.Prelude.{◌≡◌, ℕ, List, Option, Some, None, Bool, true, false, ◌⊎◌, Result, Ok}
+use Rattle.std.specs.Prelude.{Err}
 use Rattle.fk_lex.specs.declared.token.TokenKind.{TokenKind}
 use Rattle.fk_parse_combinators.specs.declared.fault.SyntaxFault.{SyntaxFault}
 use Rattle.fk_parse_combinators.specs.Languages.{Placed}

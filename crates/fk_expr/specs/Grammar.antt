@@ -1,10 +1,16 @@
--- The grammar of expressions. A stretch is given with the levels that are open at each of its tokens.
-use Rattle.std.specs.Prelude.{ℕ, zero, suc, ◌+◌, ◌==◌, if◌then◌else◌, List, [], ◌∷◌, Option, Some, None, length}
+-- The grammar of expressions. A stretch is given with the levels that are open at
+-- each of its tokens.
+use Rattle.std.specs.Prelude.{ℕ, zero, suc, ◌+◌, ◌==◌, if◌then◌else◌, List, [], ◌∷◌, Option, Some}
+use Rattle.std.specs.Prelude.{None, length}
 use Rattle.fk_syntax.specs.declared.sign.Sign.{Sign}
 use Rattle.fk_syntax.specs.declared.sign.Sign.TheVariants as sign
-use Rattle.fk_syntax.specs.Tree.{BaseType, Int, Unsigned, Void, Struct, TypeTree, Tree, Number, Puts, Sizeof, Variable, GroupNumber, GroupRank, Prefix, Cast, Chain, Postfix, Assign, Choose, LinkTree, SuffixTree, Index, Call, Dot, Arrow, Up, Down, links_of, trees_of, suffixes_of}
+use Rattle.fk_syntax.specs.Tree.{BaseType, Int, Unsigned, Void, Struct, TypeTree, Tree, Number}
+use Rattle.fk_syntax.specs.Tree.{Puts, Sizeof, Variable, GroupNumber, GroupRank, Prefix, Cast}
+use Rattle.fk_syntax.specs.Tree.{Chain, Postfix, Assign, Choose, LinkTree, SuffixTree, Index, Call}
+use Rattle.fk_syntax.specs.Tree.{Dot, Arrow, Up, Down, links_of, trees_of, suffixes_of}
 use Rattle.fk_lex.specs.declared.token.TokenKind.{TokenKind}
-use Rattle.fk_parse_combinators.specs.Languages.{Placed, Language, nothing, token, telling, ◌then◌, ◌or◌, making, many, maybe, spot, name}
+use Rattle.fk_parse_combinators.specs.Languages.{Placed, Language, nothing, token, telling, ◌then◌}
+use Rattle.fk_parse_combinators.specs.Languages.{◌or◌, making, many, maybe, spot, name}
 use Rattle.fk_expr.specs.Kinds.{number_told, prefix_told, assignment_told, operator_told}
 use Rattle.fk_parse_combinators.specs.Reads.{Family}
 use Rattle.fk_lex.specs.declared.token.TokenKind.TheVariants as kind
@@ -21,7 +27,8 @@ base l =
 
 -- a type and its stars
 abbrev pub type_name : ℕ → Language TypeTree
-type_name l = making (λ (words, stars). record { base = words; stars = length stars }) (base l then many (token l kind.Star))
+type_name l = making (λ (words, stars). record { base = words; stars = length stars })
+    (base l then many (token l kind.Star))
 
 -- ---- expressions, where those that stand one level deeper are given
 
@@ -35,13 +42,15 @@ pub record Deeper : Type 1 where
 -- "(" comma ")", which leaves no trace
 abbrev pub parenthesized : Deeper → ℕ → Language Tree
 parenthesized D l =
-    making (λ (opening, (tree, closing)). tree) (token (l + 1) kind.OpenParenthesis then D.comma (l + 1) then token (l + 1) kind.CloseParenthesis)
+    making (λ (opening, (tree, closing)). tree) (token (l + 1) kind.OpenParenthesis
+    then D.comma (l + 1) then token (l + 1) kind.CloseParenthesis)
 
 -- "puts" "(" Text ")"
 abbrev pub puts : ℕ → Language Tree
 puts l =
     making (λ (word, (opening, (text, closing))). Puts (spot word) text.bytes)
-    (token l kind.Puts then token (l + 1) kind.OpenParenthesis then token (l + 1) kind.Text then token (l + 1) kind.CloseParenthesis)
+    (token l kind.Puts then token (l + 1) kind.OpenParenthesis then token (l + 1) kind.Text
+    then token (l + 1) kind.CloseParenthesis)
 
 -- primary = Number | Name | "@" | "$" | "(" comma ")" | "puts" "(" Text ")"
 abbrev pub primary : Deeper → ℕ → Language Tree
@@ -59,15 +68,20 @@ listed (Some (first, others)) = first ∷ others
 
 -- [ assign { "," assign } ]
 abbrev pub arguments : Deeper → ℕ → Language (List Tree)
-arguments D l = making listed (maybe (D.assignment l then many (making (λ (comma, next). next) (token l kind.Comma then D.assignment l))))
+arguments D l = making listed (maybe (D.assignment l
+    then many (making (λ (comma, next). next) (token l kind.Comma then D.assignment l))))
 
 -- "[" comma "]" | "(" arguments ")" | "." Name | "->" Name | "++" | "--"
 abbrev pub suffix : Deeper → ℕ → Language SuffixTree
 suffix D l =
-    making (λ (opening, (by, closing)). Index (spot opening) by) (token (l + 1) kind.OpenBracket then D.comma (l + 1) then token (l + 1) kind.CloseBracket)
-    or making (λ (opening, (list, closing)). Call (spot opening) (trees_of list)) (token (l + 1) kind.OpenParenthesis then arguments D (l + 1) then token (l + 1) kind.CloseParenthesis)
-    or making (λ (mark, member). Dot (spot mark) (name member)) (token l kind.Dot then token l kind.Word)
-    or making (λ (mark, member). Arrow (spot mark) (name member)) (token l kind.Arrow then token l kind.Word)
+    making (λ (opening, (by, closing)). Index (spot opening) by)
+    (token (l + 1) kind.OpenBracket then D.comma (l + 1) then token (l + 1) kind.CloseBracket)
+    or making (λ (opening, (list, closing)). Call (spot opening) (trees_of list)) (token
+    (l + 1) kind.OpenParenthesis then arguments D (l + 1) then token (l + 1) kind.CloseParenthesis)
+    or making (λ (mark, member). Dot (spot mark) (name member))
+    (token l kind.Dot then token l kind.Word)
+    or making (λ (mark, member). Arrow (spot mark) (name member))
+    (token l kind.Arrow then token l kind.Word)
     or making (λ t. Up (spot t)) (token l kind.Increment)
     or making (λ t. Down (spot t)) (token l kind.Decrement)
 
@@ -77,24 +91,28 @@ suffixed whole (s ∷ suffixes) = Postfix whole (suffixes_of (s ∷ suffixes))
 
 -- postfix = primary { suffix }
 abbrev pub postfix : Deeper → ℕ → Language Tree
-postfix D l = making (λ (whole, suffixes). suffixed whole suffixes) (primary D l then many (suffix D l))
+postfix D l =
+    making (λ (whole, suffixes). suffixed whole suffixes) (primary D l then many (suffix D l))
 
 -- "(" type stars ")" prefix
 abbrev pub cast : Deeper → ℕ → Language Tree
 cast D l =
     making (λ (opening, (type, (closing, operand))). Cast (spot opening) type operand)
-    (token (l + 1) kind.OpenParenthesis then type_name (l + 1) then token (l + 1) kind.CloseParenthesis then D.prefix (l + 1))
+    (token (l + 1) kind.OpenParenthesis then type_name (l + 1)
+    then token (l + 1) kind.CloseParenthesis then D.prefix (l + 1))
 
 -- "sizeof" "(" type stars ")"
 abbrev pub sizeof : ℕ → Language Tree
 sizeof l =
     making (λ (word, (opening, (type, closing))). Sizeof (spot word) type)
-    (token l kind.Sizeof then token (l + 1) kind.OpenParenthesis then type_name (l + 1) then token (l + 1) kind.CloseParenthesis)
+    (token l kind.Sizeof then token (l + 1) kind.OpenParenthesis then type_name (l + 1)
+    then token (l + 1) kind.CloseParenthesis)
 
 -- prefix = sign prefix | "(" type stars ")" prefix | "sizeof" "(" type stars ")" | postfix
 abbrev pub prefix : Deeper → ℕ → Language Tree
 prefix D l =
-    making (λ ((at, operator), operand). Prefix (spot at) operator operand) (telling (l + 1) prefix_told then D.prefix (l + 1))
+    making (λ ((at, operator), operand). Prefix (spot at) operator operand)
+    (telling (l + 1) prefix_told then D.prefix (l + 1))
     or cast D l
     or sizeof l
     or postfix D l
@@ -119,18 +137,21 @@ abbrev pub joined : Deeper → ℕ → ℕ → Language Tree
 joined D l zero = prefix D l
 joined D l (suc looseness) =
     making (λ (first, links). chained first links)
-    (joined D l looseness then many (making linked (telling l (operator_at (suc looseness)) then joined D l looseness)))
+    (joined D l looseness
+    then many (making linked (telling l (operator_at (suc looseness)) then joined D l looseness)))
 
 abbrev pub chosen : Tree → Option (Placed × (Tree × (Placed × Tree))) → Tree
 chosen condition None = condition
-chosen condition (Some (question, (first, (colon, second)))) = Choose (spot question) condition first second
+chosen condition (Some (question, (first, (colon, second)))) =
+    Choose (spot question) condition first second
 
 -- choose = binary [ "?" comma ":" choose ]
 abbrev pub choice : Deeper → ℕ → Language Tree
 choice D l =
     making (λ (condition, branches). chosen condition branches)
     (joined D l 10
-    then maybe (token (l + 1) kind.Question then D.comma (l + 1) then token (l + 1) kind.Colon then D.choice (l + 1)))
+    then maybe (token (l + 1) kind.Question then D.comma (l + 1) then token (l + 1) kind.Colon
+    then D.choice (l + 1)))
 
 abbrev pub assigned : Tree → Option ((Placed × Sign) × Tree) → Tree
 assigned target None = target
@@ -138,7 +159,8 @@ assigned target (Some ((at, operator), value)) = Assign (spot at) operator targe
 
 -- assign = choose [ asign assign ]
 abbrev pub assignment : Deeper → ℕ → Language Tree
-assignment D l = making (λ (target, value). assigned target value) (choice D l then maybe (telling l assignment_told then D.assignment (l + 1)))
+assignment D l = making (λ (target, value). assigned target value)
+    (choice D l then maybe (telling l assignment_told then D.assignment (l + 1)))
 
 abbrev pub comma_linked : Placed × Tree → LinkTree
 comma_linked = λ (comma, operand). record { spot = spot comma; sign = sign.Comma; right = operand }
@@ -152,11 +174,22 @@ comma D l =
 -- ---- so many levels deeper
 
 abbrev pub deeper : ℕ → Deeper
-deeper zero = record { comma = λ l. nothing; assignment = λ l. nothing; choice = λ l. nothing; prefix = λ l. nothing }
+deeper zero = record {
+  comma = λ l. nothing;
+  assignment = λ l. nothing;
+  choice = λ l. nothing;
+  prefix = λ l. nothing;
+}
 deeper (suc n) =
-    record { comma = comma (deeper n); assignment = assignment (deeper n); choice = choice (deeper n); prefix = prefix (deeper n) }
+    record {
+      comma = comma (deeper n);
+      assignment = assignment (deeper n);
+      choice = choice (deeper n);
+      prefix = prefix (deeper n);
+    }
 
--- the productions `comma` and `assign` where so many levels are open, for each bound on those that they open
+-- the productions `comma` and `assign` where so many levels are open, for each bound on
+-- those that they open
 abbrev pub Comma : ℕ → Family Tree
 Comma level bound = comma (deeper bound) level
 

@@ -3,7 +3,8 @@
 ghost use Rattle.std.specs.Prelude.{IfOk};
 ghost use Rattle.fk_syntax.specs.Tree.{TypeTree};
 ghost use Rattle.fk_syntax.specs.View.{tree_of, suffix_of, type_of};
-ghost use Rattle.fk_expr.specs.Reading.{inner, read_sizeof, read_enclosed_type, read_puts, read_enclosed_text, read_mark, read_dot, read_arrow};
+ghost use Rattle.fk_expr.specs.Reading.{inner, read_sizeof, read_enclosed_type, read_puts};
+ghost use Rattle.fk_expr.specs.Reading.{read_enclosed_text, read_mark, read_dot, read_arrow};
 ghost use Rattle.fk_parse_combinators.specs.Languages.{Placed};
 ghost use Rattle.fk_parse_combinators.specs.Ahead.{seen, Shortens};
 ghost use Rattle.fk_parse_combinators.specs.Gives.{Gives, Makes};

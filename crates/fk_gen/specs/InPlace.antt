@@ -14,7 +14,8 @@ use Rattle.fk_gen.specs.Lines.{label_of}
 -- the instruction of the line of a word: a jump to a label goes the distance to it
 abbrev pub resolved : (bound : ℕ → ℕ) → (k : ℕ) → Line → Instruction
 resolved bound k line =
-    option_map_or (λ label. with_distance line.instruction (distance k (bound label))) line.label line.instruction
+    option_map_or
+    (λ label. with_distance line.instruction (distance k (bound label))) line.label line.instruction
 
 -- how many operations a line does
 abbrev pub count_of_commit : Option ℕ → ℕ
@@ -25,7 +26,8 @@ count_of_commit (Some commit) = count_of_word commit
 abbrev pub LinesAt : Image → (bound : ℕ → ℕ) → (k : ℕ) → List MarkedLine → Type 0
 LinesAt image bound k [] = Unit {0}
 LinesAt image bound k (m ∷ ms) =
-    IsAt image k (resolved bound k m.line) (count_of_commit m.commit) × LinesAt image bound (suc k) ms
+    IsAt image k (resolved bound k m.line) (count_of_commit m.commit)
+    × LinesAt image bound (suc k) ms
 
 -- the labels of the list are those of its places, and all lie in the code or right behind it
 pub record HasLabels (bound : ℕ → ℕ) (places : Places) : Type 0 where
@@ -33,7 +35,8 @@ pub record HasLabels (bound : ℕ → ℕ) (places : Places) : Type 0 where
   pub within : (label : ℕ) → bound label ≤ 262144
 
 -- a block stands at an index, and the next index has its block right behind it
-pub record HasBlock (image : Image) (bound : ℕ → ℕ) (places : Places) (i : ℕ) (block : List MarkedLine) : Type 0 where
+pub record HasBlock (image : Image) (bound : ℕ → ℕ) (places : Places) (i : ℕ)
+    (block : List MarkedLine) : Type 0 where
   pub labels : HasLabels bound places
   pub lines : LinesAt image bound (places.block i) block
   pub next : places.block (suc i) ≡ places.block i + length block

@@ -1,5 +1,5 @@
--- What a block tells beside that it does its operation: how many cycles it takes, and what it leaves of its hart beside what stands
--- for a processor.
+-- What a block tells beside that it does its operation: how many cycles it takes, and what it
+-- leaves of its hart beside what stands for a processor.
 use Rattle.std.specs.Prelude.{◌≡◌, ℕ, suc, ◌+◌, ◌-◌, ◌<◌, ◌≤◌, List, [], ◌∷◌, length, Bool, true}
 use Rattle.fk_meaning_operation.specs.declared.operation.Operation.{Operation}
 use Rattle.fk_meaning_operation.specs.declared.operation.Operation.TheVariants.{Push, Get, CopyLast}
@@ -28,23 +28,32 @@ peak (Get known) depth = suc depth
 peak CopyLast depth = suc depth
 peak operation depth = depth
 
--- a hart keeps a0 and a1, and in the frames of all calls all words but private ones that are written, and so many values of the
--- running call
-pub record Keeps (places : Places) (waiting values : ℕ) (written : (word : ℕ) → Bool) (h h' : Hart) : Type 0 where
+-- a hart keeps a0 and a1, and in the frames of all calls all words but private ones that are
+-- written, and so many values of the running call
+pub record Keeps (places : Places) (waiting values : ℕ) (written : (word : ℕ) → Bool)
+    (h h' : Hart) : Type 0 where
   pub node : h'.registers a0 ≡ h.registers a0
   pub body : h'.registers a1 ≡ h.registers a1
   pub words : (j : ℕ) → places.frames.of_file + 7 ≤ j → j < frame_end waiting - values
-      → ((word : ℕ) → written word ≡ true → j ≡ frame_start places waiting + 7 + word → ⊥) → h'.local j ≡ h.local j
+      → ((word : ℕ) → written word ≡ true → j ≡ frame_start places waiting + 7 + word → ⊥)
+      → h'.local j ≡ h.local j
 
 module _ (core : List CoreOp) (image : Image) (places : Places) where
-  -- it commits after so many private instructions and with so many behind, and then something more holds
-  pub record DoesAnd (setting : Setting) (t : MachineSetting) (p : Owner) (h : Hart) (before behind : ℕ) (Also : Hart → Type 0) : Type 0 where
+  -- it commits after so many private instructions and with so many behind, and then
+  -- something more holds
+  pub record DoesAnd (setting : Setting) (t : MachineSetting) (p : Owner) (h : Hart)
+      (before behind : ℕ) (Also : Hart → Type 0) : Type 0 where
     pub few_before : before ≤ most_before
     pub few_behind : behind ≤ most_behind
-    pub does : OneDoes (core_source core setting) image t 1 before behind (member_of p h) p (λ h' d. HasDone core image places d h' × Also h')
+    pub does : OneDoes (core_source core setting) image t 1 before behind (member_of p h) p
+        (λ h' d. HasDone core image places d h' × Also h')
 
-  -- it does an operation that makes no call, and ends none. How many cycles it runs behind its commit rests on the way it goes
-  abbrev pub BlockDoesBy : (before : ℕ) → (behind : (onward : Bool) → ℕ) → (i : ℕ) → CoreOp → Operation → Type 0
+  -- it does an operation that makes no call, and ends none. How many cycles it runs behind its
+  -- commit rests on the way it goes
+  abbrev pub BlockDoesBy : (before : ℕ) → (behind : (onward : Bool) → ℕ) → (i : ℕ) → CoreOp
+      → Operation → Type 0
   BlockDoesBy before behind i op operation =
-      (setting : Setting) (t : MachineSetting) (p : Owner) (h : Hart) → Enters core image places setting t i op operation p h
-      → DoesAnd setting t p h before (behind (is_onward operation p.runner.has)) (Keeps places (length p.runner.has.callers) (peak operation op.depth) (writes operation) h)
+      (setting : Setting) (t : MachineSetting) (p : Owner) (h : Hart)
+      → Enters core image places setting t i op operation p h
+      → DoesAnd setting t p h before (behind (is_onward operation p.runner.has))
+      (Keeps places (length p.runner.has.callers) (peak operation op.depth) (writes operation) h)

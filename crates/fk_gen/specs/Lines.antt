@@ -1,5 +1,6 @@
 -- The lines of blocks, and what stands in them.
-use Rattle.std.specs.Prelude.{ℕ, ◌+◌, ◌-◌, ◌*◌, ◌/◌, ◌%◌, ◌^◌, ◌==◌, List, [], ◌∷◌, Bool, true, false, Option, Some, None, IfSome}
+use Rattle.std.specs.Prelude.{ℕ, ◌+◌, ◌-◌, ◌*◌, ◌/◌, ◌%◌, ◌^◌, ◌==◌, List, [], ◌∷◌, Bool, true}
+use Rattle.std.specs.Prelude.{false, Option, Some, None, IfSome}
 use Rattle.fk_isa.specs.declared.instruction.Instruction.{Instruction}
 use Rattle.fk_isa.specs.declared.instruction.Instruction.TheVariants.{Lui, Addi}
 use Rattle.fk_isa.specs.Bits.{extended}
@@ -44,7 +45,8 @@ FitLines (m ∷ ms) = FitLine m × FitLines ms
 abbrev pub at_value : (k : ℕ) → ℕ
 at_value k = (2 ^ 32 - 4 * k) % 2 ^ 32
 
--- that of a private word from the start of its frame, and of a private variable of file scope from local memory
+-- that of a private word from the start of its frame, and of a private variable of file scope
+-- from local memory
 abbrev pub at_private : (i : ℕ) → ℕ
 at_private i = 4 * (7 + i)
 
@@ -71,7 +73,8 @@ load_number n = load_by (high_part n == 0) n
 abbrev pub copy_label : (arguments : ℕ) → ℕ
 copy_label arguments = arguments
 
--- where the code that all calls share is entered to clear so many of the last private words of a frame, 0 to 56
+-- where the code that all calls share is entered to clear so many of the last private words of
+-- a frame, 0 to 56
 abbrev pub clear_label : (words : ℕ) → ℕ
 clear_label words = 64 + words
 

@@ -13,8 +13,8 @@ pub fn at_value(k: u32) -> u32
     0u32.wrapping_sub(4 * k)
 }
 
-/// The offset of a private word from the start of its frame, or of a private variable of file scope from
-/// local memory.
+/// The offset of a private word from the start of its frame, or of a private variable of file scope
+/// from local memory.
 pub fn at_private(i: u32) -> u32
     requires in_frame { i < 64 }
     ensures exact { result ≡ at_private i }
@@ -23,7 +23,8 @@ pub fn at_private(i: u32) -> u32
     4 * (7 + i)
 }
 
-/// The upper 20 bits of a number that `lui` takes, where `addi` adds the lower 12 as a signed number.
+/// The upper 20 bits of a number that `lui` takes, where `addi` adds the lower 12 as
+/// a signed number.
 pub fn high_part(number: u32) -> u32
     ensures exact { result ≡ high_part number }
     ensures fits { result < 2 ^ 20 }

@@ -34,5 +34,6 @@ pub const HEAP: u8 = 24;
 pub const SHARED_MASK: u8 = 25;
 /// The address of the devices. It never changes.
 pub const DEVICES: u8 = 26;
-/// The bits of an address that tell whether it is that of a word of the private heap. It never changes.
+/// The bits of an address that tell whether it is that of a word of the private heap.
+/// It never changes.
 pub const HEAP_MASK: u8 = 27;

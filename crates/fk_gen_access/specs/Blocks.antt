@@ -1,13 +1,22 @@
 -- The blocks of accesses: `malloc`, checks of addresses, reads, writes, multiprefixes and prints.
-use Rattle.std.specs.Prelude.{◌≡◌, ℕ, ◌-◌, ◌≤◌, ◌+◌, List, [], ◌∷◌, ◌++◌, map, length, Bool, true, false, Option, Some}
+use Rattle.std.specs.Prelude.{◌≡◌, ℕ, ◌-◌, ◌≤◌, ◌+◌, List, [], ◌∷◌, ◌++◌, map, length, Bool, true}
+use Rattle.std.specs.Prelude.{false, Option, Some}
 use Rattle.fk_meaning_operation.specs.declared.operation.Multiprefix.{Multiprefix}
-use Rattle.fk_meaning_operation.specs.declared.operation.Multiprefix.TheVariants.{MpAdd, MpMax, MpAnd, MpOr}
+use Rattle.fk_meaning_operation.specs.declared.operation.Multiprefix.TheVariants.{MpAdd, MpMax}
+use Rattle.fk_meaning_operation.specs.declared.operation.Multiprefix.TheVariants.{MpAnd, MpOr}
 use Rattle.fk_meaning_operation.specs.declared.operation.Operation.{Operation}
-use Rattle.fk_meaning_operation.specs.declared.operation.Operation.TheVariants.{Take, Check, Read, Write, Combine, PrintNumber, PrintByte}
+use Rattle.fk_meaning_operation.specs.declared.operation.Operation.TheVariants.{Take, Check, Read}
+use Rattle.fk_meaning_operation.specs.declared.operation.Operation.TheVariants.{Write, Combine}
+use Rattle.fk_meaning_operation.specs.declared.operation.Operation.TheVariants.{PrintNumber}
+use Rattle.fk_meaning_operation.specs.declared.operation.Operation.TheVariants.{PrintByte}
 use Rattle.fk_isa.specs.declared.instruction.Instruction.{Instruction}
-use Rattle.fk_isa.specs.declared.instruction.Instruction.TheVariants.{Lui, Addi, Slli, Srli, Add, Sub, Sltu, And, Beq, Lw, Sw, AmoAddW, AmoAndW, AmoOrW, AmoMaxW}
+use Rattle.fk_isa.specs.declared.instruction.Instruction.TheVariants.{Lui, Addi, Slli, Srli, Add}
+use Rattle.fk_isa.specs.declared.instruction.Instruction.TheVariants.{Sub, Sltu, And, Beq, Lw, Sw}
+use Rattle.fk_isa.specs.declared.instruction.Instruction.TheVariants.{AmoAddW, AmoAndW, AmoOrW}
+use Rattle.fk_isa.specs.declared.instruction.Instruction.TheVariants.{AmoMaxW}
 use Rattle.fk_asm.specs.Block.{MarkedLine}
-use Rattle.fk_sim_block.specs.Stands.{end_register, top_register, shared_register, heap_register, shared_mask_register, device_register, heap_mask_register}
+use Rattle.fk_sim_block.specs.Stands.{end_register, top_register, shared_register, heap_register}
+use Rattle.fk_sim_block.specs.Stands.{shared_mask_register, device_register, heap_mask_register}
 use Rattle.fk_core.specs.Numbers.{operation_of}
 use Rattle.fk_gen.specs.declared.placed.Placed.{Placed}
 use Rattle.fk_gen.specs.Registers.{zero_register, t0, t1, t2, t3}
@@ -22,7 +31,8 @@ pub record Straight : Type 0 where
 abbrev pub lines : Straight → List MarkedLine
 lines b = map quiet b.before ++ (commits b.commit ∷ map quiet b.behind)
 
--- how far from the first device on those stand that print a number, that print a byte, and that end a run at a site
+-- how far from the first device on those stand that print a number, that print a byte, and that
+-- end a run at a site
 abbrev pub number_device : ℕ
 number_device = 0
 
@@ -83,9 +93,9 @@ combine_block by d = record {
   behind = store_earlier t0 d ∷ [];
 }
 
--- An address is told by its mask: that of shared data, or of the private heap. One that may be used leads past the store to
--- the device that ends the run at the site, to an instruction that does nothing. Either of the two commits, and as many
--- instructions precede it on each way
+-- An address is told by its mask: that of shared data, or of the private heap. One that may be used
+-- leads past the store to the device that ends the run at the site, to an instruction that does
+-- nothing. Either of the two commits, and as many instructions precede it on each way
 abbrev pub idle : Instruction
 idle = Addi zero_register zero_register 0
 
@@ -94,13 +104,16 @@ refuse = Sw device_register t0 fault_device
 
 abbrev pub shared_test : (depth : ℕ) → List MarkedLine
 shared_test d =
-    quiet (load_last t1 d) ∷ quiet (And t1 t1 shared_mask_register) ∷ quiet (Beq t1 shared_register 8) ∷ commits refuse ∷
+    quiet (load_last t1 d) ∷ quiet (And t1 t1 shared_mask_register) ∷
+    quiet (Beq t1 shared_register 8) ∷ commits refuse ∷
     commits idle ∷ []
 
 abbrev pub any_test : (depth : ℕ) → List MarkedLine
 any_test d =
-    quiet (load_last t1 d) ∷ quiet (And t2 t1 shared_mask_register) ∷ quiet (And t1 t1 heap_mask_register) ∷
-    quiet (Beq t2 shared_register 12) ∷ quiet (Beq t1 heap_register 12) ∷ commits refuse ∷ quiet idle ∷ commits idle ∷ []
+    quiet (load_last t1 d) ∷ quiet (And t2 t1 shared_mask_register) ∷
+    quiet (And t1 t1 heap_mask_register) ∷
+    quiet (Beq t2 shared_register 12) ∷ quiet (Beq t1 heap_register 12) ∷ commits refuse
+    ∷ quiet idle ∷ commits idle ∷ []
 
 abbrev pub test_lines : (shared_alone : Bool) → (depth : ℕ) → List MarkedLine
 test_lines true d = shared_test d
@@ -116,15 +129,17 @@ heap_words = 4
 abbrev pub private_heap : ℕ
 private_heap = 0x20010
 
--- `malloc`: the words of a size are taken where they are as many as are left, at most, and more than 0. A mask of all ones or
--- zeros makes the answer and how many are taken 0 where they aren't
+-- `malloc`: the words of a size are taken where they are as many as are left, at most, and more
+-- than 0. A mask of all ones or zeros makes the answer and how many are taken 0 where they aren't
 abbrev pub take_block : (depth : ℕ) → Straight
 take_block d = record {
   before = [];
   commit = load_last t0 d;
   behind =
-      Addi t0 t0 3 ∷ Srli t0 t0 2 ∷ Lui t1 heap_words ∷ Sub t1 t1 top_register ∷ Addi t2 t0 0xffffffff ∷ Sltu t2 t2 t1 ∷ Sub t2 zero_register t2 ∷
-      Slli t1 top_register 2 ∷ Lui t3 private_heap ∷ Add t1 t1 t3 ∷ And t1 t1 t2 ∷ store_last t1 d ∷ And t0 t0 t2 ∷ Add top_register top_register t0 ∷ [];
+      Addi t0 t0 3 ∷ Srli t0 t0 2 ∷ Lui t1 heap_words ∷ Sub t1 t1 top_register ∷
+      Addi t2 t0 0xffffffff ∷ Sltu t2 t2 t1 ∷ Sub t2 zero_register t2 ∷
+      Slli t1 top_register 2 ∷ Lui t3 private_heap ∷ Add t1 t1 t3 ∷ And t1 t1 t2 ∷ store_last t1 d
+      ∷ And t0 t0 t2 ∷ Add top_register top_register t0 ∷ [];
 }
 
 -- which operations are accesses

@@ -14,15 +14,20 @@ use Rattle.fk_gen_access.specs.Blocks.{is_access, block_of, before_commit, behin
 -- the block of an access in its place, in a list whose values have room, does the access
 abbrev pub AccessBlocksDo : Type 0
 AccessBlocksDo =
-    (core : List CoreOp) (image : Image) (bound : ℕ → ℕ) (places : Places) (i : ℕ) (op : CoreOp) (operation : Operation)
+    (core : List CoreOp) (image : Image) (bound : ℕ → ℕ) (places : Places) (i : ℕ) (op : CoreOp)
+    (operation : Operation)
     → StandsOp core i op operation → is_access (Some operation) ≡ true → op.site < 2 ^ 32
-    → HasBlock image bound places i (block_of (Some operation) op.depth op.site) → Fits core places.frames i op operation
+    → HasBlock image bound places i (block_of (Some operation) op.depth op.site)
+    → Fits core places.frames i op operation
     → BlockDoes core image places i op operation
 
 -- it takes so many cycles, and keeps what such a block keeps
 abbrev pub AccessBlocksKeep : Type 0
 AccessBlocksKeep =
-    (core : List CoreOp) (image : Image) (bound : ℕ → ℕ) (places : Places) (i : ℕ) (op : CoreOp) (operation : Operation)
+    (core : List CoreOp) (image : Image) (bound : ℕ → ℕ) (places : Places) (i : ℕ) (op : CoreOp)
+    (operation : Operation)
     → StandsOp core i op operation → is_access (Some operation) ≡ true → op.site < 2 ^ 32
-    → HasBlock image bound places i (block_of (Some operation) op.depth op.site) → Fits core places.frames i op operation
-    → BlockDoesBy core image places (before_commit operation op.site) (λ onward. behind_commit operation) i op operation
+    → HasBlock image bound places i (block_of (Some operation) op.depth op.site)
+    → Fits core places.frames i op operation
+    → BlockDoesBy core image places (before_commit operation op.site)
+    (λ onward. behind_commit operation) i op operation

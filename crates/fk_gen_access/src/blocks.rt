@@ -4,7 +4,10 @@ ghost use Rattle.std.specs.Prelude.{◌≡◌, ◌+◌, ◌^◌, ◌<◌, ◌≤
 ghost use Rattle.fk_isa.specs.Fits.{Fits};
 ghost use Rattle.fk_asm.specs.Assembly.{AreFollowed};
 ghost use Rattle.fk_asm.specs.Block.{HasBegun, with_block};
-ghost use Rattle.fk_gen_access.specs.Blocks.{lines, load_last, load_earlier, store_last, store_earlier, combining, take_block, check_block, shared_test, any_test, test_lines, read_block, write_block, combine_block, print_block};
+ghost use Rattle.fk_gen_access.specs.Blocks.{lines, load_last, load_earlier, store_last};
+ghost use Rattle.fk_gen_access.specs.Blocks.{store_earlier, combining, take_block, check_block};
+ghost use Rattle.fk_gen_access.specs.Blocks.{shared_test, any_test, test_lines, read_block};
+ghost use Rattle.fk_gen_access.specs.Blocks.{write_block, combine_block, print_block};
 
 use fk_asm::{Assembler, Blocks};
 use fk_gen::numbers::at_value;
@@ -27,7 +30,8 @@ const HEAP_WORDS: u32 = 4;
 /// The upper 20 bits of the address of the private heap.
 const PRIVATE_HEAP: u32 = 0x20010;
 
-/// The blocks of `malloc`, of checks of addresses, of reads, writes and multiprefixes, and of prints.
+/// The blocks of `malloc`, of checks of addresses, of reads, writes and
+/// multiprefixes, and of prints.
 #[derive(Clone, Copy, Drop)]
 pub struct AccessBlocks;
 
@@ -37,7 +41,8 @@ impl Blocks<Placed> for AccessBlocks {
 
     ghost has_block = { HasAccess };
 
-    ghost block = { λ placed. block_of (operation_of placed.op.kind placed.op.number) placed.op.depth placed.op.site };
+    ghost block = { λ placed.
+        block_of (operation_of placed.op.kind placed.op.number) placed.op.depth placed.op.site };
 
     fn emit_op(&self, op: &Placed, into: &mut Assembler) -> Result<(), AllocError> {
         let depth = op.op.depth;
@@ -87,8 +92,10 @@ fn check(into: &mut Assembler, shared_alone: bool, depth: u32, site: u32) -> Res
     requires depth { depth ≤ 56 }
     requires room { length into.old.lines + length (check_block shared_alone depth site) < 2 ^ 30 }
     requires free { AreFollowed into.old }
-    ensures added { OnOk result (into.new ≡ with_block into.old (check_block shared_alone depth site)) }
-    ensures begun { OnErr result (HasBegun (check_block shared_alone depth site) into.old into.new) }
+    ensures added { OnOk result
+        (into.new ≡ with_block into.old (check_block shared_alone depth site)) }
+    ensures begun { OnErr result
+        (HasBegun (check_block shared_alone depth site) into.old into.new) }
 {
     emit_number(into, site)?;
     test(into, shared_alone, depth)
@@ -210,7 +217,8 @@ fn print(into: &mut Assembler, device: u32, depth: u32) -> Result<(), AllocError
     requires depth { depth ≤ 56 }
     requires room { length into.old.lines + length (lines (print_block device depth)) < 2 ^ 30 }
     requires free { AreFollowed into.old }
-    ensures added { OnOk result (into.new ≡ with_block into.old (lines (print_block device depth))) }
+    ensures added { OnOk result
+        (into.new ≡ with_block into.old (lines (print_block device depth))) }
     ensures begun { OnErr result (HasBegun (lines (print_block device depth)) into.old into.new) }
 {
     emit_lines(

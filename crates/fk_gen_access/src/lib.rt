@@ -1,4 +1,5 @@
-//! The blocks of accesses: of `malloc`, of checks of addresses, of reads, writes and multiprefixes, and of prints.
+//! The blocks of accesses: of `malloc`, of checks of addresses, of reads, writes and
+//! multiprefixes, and of prints.
 #![tactic(auto)]
 
 mod blocks;

@@ -1,24 +1,39 @@
 -- The blocks of expressions.
 --
--- The first instruction commits: a processor does a local operation at once, and its hart catches up with it.
-use Rattle.std.specs.Prelude.{ℕ, ◌+◌, ◌-◌, ◌^◌, ◌<◌, ◌≤◌, ◌==◌, List, [], ◌∷◌, ◌++◌, map, Bool, true, false, IsSomeAnd}
+-- The first instruction commits: a processor does a local operation at once, and its hart
+-- catches up with it.
+use Rattle.std.specs.Prelude.{ℕ, ◌+◌, ◌-◌, ◌^◌, ◌<◌, ◌≤◌, ◌==◌, List, [], ◌∷◌, ◌++◌, map, Bool}
+use Rattle.std.specs.Prelude.{true, false, IsSomeAnd}
 use Rattle.std.specs.Option.{option_map_or}
 use Rattle.fk_num.specs.declared.operator.Op.{Op}
 use Rattle.fk_meaning_operation.specs.declared.operation.OwnValue.{OwnValue}
-use Rattle.fk_meaning_operation.specs.declared.operation.OwnValue.TheVariants.{Value, Rank, GroupNumber, ProcessorNumber, Processors, GroupSize, InputLength, FrameAddress, InputAddress}
+use Rattle.fk_meaning_operation.specs.declared.operation.OwnValue.TheVariants.{Value, Rank}
+use Rattle.fk_meaning_operation.specs.declared.operation.OwnValue.TheVariants.{GroupNumber}
+use Rattle.fk_meaning_operation.specs.declared.operation.OwnValue.TheVariants.{ProcessorNumber}
+use Rattle.fk_meaning_operation.specs.declared.operation.OwnValue.TheVariants.{Processors}
+use Rattle.fk_meaning_operation.specs.declared.operation.OwnValue.TheVariants.{GroupSize}
+use Rattle.fk_meaning_operation.specs.declared.operation.OwnValue.TheVariants.{InputLength}
+use Rattle.fk_meaning_operation.specs.declared.operation.OwnValue.TheVariants.{FrameAddress}
+use Rattle.fk_meaning_operation.specs.declared.operation.OwnValue.TheVariants.{InputAddress}
 use Rattle.fk_meaning_operation.specs.declared.operation.Operation.{Operation}
-use Rattle.fk_meaning_operation.specs.declared.operation.Operation.TheVariants.{Push, Get, Set, DropLast, CopyLast, Apply, Binary, Index}
+use Rattle.fk_meaning_operation.specs.declared.operation.Operation.TheVariants.{Push, Get, Set}
+use Rattle.fk_meaning_operation.specs.declared.operation.Operation.TheVariants.{DropLast, CopyLast}
+use Rattle.fk_meaning_operation.specs.declared.operation.Operation.TheVariants.{Apply, Binary}
+use Rattle.fk_meaning_operation.specs.declared.operation.Operation.TheVariants.{Index}
 use Rattle.fk_meaning_operation.specs.declared.operation.Variable.{Variable}
 use Rattle.fk_meaning_operation.specs.declared.operation.Variable.TheVariants.{Private, OfFile}
 use Rattle.fk_meaning_store.specs.Store.{address_of}
 use Rattle.fk_core.specs.Numbers.{operation_of}
 use Rattle.fk_isa.specs.declared.instruction.Instruction.{Instruction}
-use Rattle.fk_isa.specs.declared.instruction.Instruction.TheVariants.{Lui, Addi, Slli, Add, Mul, Lw, Sw}
+use Rattle.fk_isa.specs.declared.instruction.Instruction.TheVariants.{Lui, Addi, Slli, Add, Mul, Lw}
+use Rattle.fk_isa.specs.declared.instruction.Instruction.TheVariants.{Sw}
 use Rattle.fk_asm.specs.Block.{MarkedLine}
-use Rattle.fk_sim_block.specs.Stands.{frame_register, end_register, number_register, rank_register, size_register, local_register, device_register}
+use Rattle.fk_sim_block.specs.Stands.{frame_register, end_register, number_register, rank_register}
+use Rattle.fk_sim_block.specs.Stands.{size_register, local_register, device_register}
 use Rattle.fk_gen.specs.declared.placed.Placed.{Placed}
 use Rattle.fk_gen.specs.Registers.{zero_register, t0, t1, t2}
-use Rattle.fk_gen.specs.Lines.{quiet, commits, at_value, at_private, high_part, low_part, load_number}
+use Rattle.fk_gen.specs.Lines.{quiet, commits, at_value, at_private, high_part, low_part}
+use Rattle.fk_gen.specs.Lines.{load_number}
 use Rattle.fk_gen_expr.specs.Operators.{operator_code, sign_instruction}
 
 -- ---- instructions
@@ -68,7 +83,8 @@ get_code globals d (FrameAddress nesting word) = []
 -- an operator on the two last values, which come to these registers
 abbrev pub join_code : (depth : ℕ) → Op → (first second : ℕ) → List Instruction
 join_code d sign first second =
-    load_value first (d - 1) ∷ load_value second d ∷ (operator_code sign ++ store_value t0 (d - 1) ∷ [])
+    load_value first (d - 1) ∷ load_value second d
+    ∷ (operator_code sign ++ store_value t0 (d - 1) ∷ [])
 
 -- an index times the size of an element, added to an address. That of a word is a shift
 abbrev pub times_size : (is_word : Bool) (size : ℕ) → List Instruction
@@ -77,7 +93,8 @@ times_size false size = Lui t2 (high_part size) ∷ Addi t2 t2 (low_part size) �
 
 abbrev pub index_code : (depth size : ℕ) → List Instruction
 index_code d size =
-    load_value t0 (d - 1) ∷ load_value t1 d ∷ (times_size (size == 4) size ++ Add t0 t0 t1 ∷ store_value t0 (d - 1) ∷ [])
+    load_value t0 (d - 1) ∷ load_value t1 d
+    ∷ (times_size (size == 4) size ++ Add t0 t0 t1 ∷ store_value t0 (d - 1) ∷ [])
 
 abbrev pub expression_code : (globals depth : ℕ) → Operation → List Instruction
 expression_code globals d (Push n) = push_number d n
@@ -85,7 +102,8 @@ expression_code globals d (Get known) = get_code globals d known
 expression_code globals d (Set variable) = load_value t0 d ∷ store_variable variable ∷ []
 expression_code globals d DropLast = Addi zero_register zero_register 0 ∷ []
 expression_code globals d CopyLast = load_value t0 d ∷ store_value t0 (d + 1) ∷ []
-expression_code globals d (Apply sign) = load_value t0 d ∷ sign_instruction sign ∷ store_value t0 d ∷ []
+expression_code globals d (Apply sign) =
+    load_value t0 d ∷ sign_instruction sign ∷ store_value t0 d ∷ []
 expression_code globals d (Binary sign false) = join_code d sign t0 t1
 expression_code globals d (Binary sign true) = join_code d sign t1 t0
 expression_code globals d (Index size) = index_code d size
@@ -125,8 +143,10 @@ IsExpression globals d operation = ⊥
 -- what a list has at an index of an image
 abbrev pub HasExpression : Placed → Type 0
 HasExpression placed =
-    IsSomeAnd (operation_of placed.op.kind placed.op.number) (IsExpression placed.globals placed.op.depth)
+    IsSomeAnd (operation_of placed.op.kind placed.op.number)
+    (IsExpression placed.globals placed.op.depth)
 
 abbrev pub block_of : Placed → List MarkedLine
 block_of placed =
-    option_map_or (expression_block placed.globals placed.op.depth) (operation_of placed.op.kind placed.op.number) []
+    option_map_or (expression_block placed.globals placed.op.depth)
+    (operation_of placed.op.kind placed.op.number) []

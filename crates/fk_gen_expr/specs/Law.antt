@@ -11,24 +11,31 @@ use Rattle.fk_gen.specs.InPlace.{HasBlock}
 use Rattle.fk_gen.specs.Keeps.{BlockDoesBy, past_first}
 use Rattle.fk_gen_expr.specs.Expressions.{IsExpression, expression_block}
 
--- where the block of an operation of expressions is in its place, and frames suit the operation, it does the operation
+-- where the block of an operation of expressions is in its place, and frames suit the operation, it
+-- does the operation
 abbrev pub ExpressionsDo : Type 0
 ExpressionsDo =
-    (core : List CoreOp) (image : Image) (places : Places) (bound : ℕ → ℕ) (i : ℕ) (op : CoreOp) (operation : Operation)
+    (core : List CoreOp) (image : Image) (places : Places) (bound : ℕ → ℕ) (i : ℕ) (op : CoreOp)
+    (operation : Operation)
     → StandsOp core i op operation
     → IsExpression (length image.globals.items) op.depth operation
-    → HasBlock image bound places i (expression_block (length image.globals.items) op.depth operation)
+    → HasBlock image bound places i
+    (expression_block (length image.globals.items) op.depth operation)
     → places.frames.of_file ≤ 56
     → Fits core places.frames i op operation
     → BlockDoes core image places i op operation
 
--- it commits with its first instruction, has so many behind as lines follow that one, and keeps what such a block keeps
+-- it commits with its first instruction, has so many behind as lines follow that one, and keeps
+-- what such a block keeps
 abbrev pub ExpressionsKeep : Type 0
 ExpressionsKeep =
-    (core : List CoreOp) (image : Image) (places : Places) (bound : ℕ → ℕ) (i : ℕ) (op : CoreOp) (operation : Operation)
+    (core : List CoreOp) (image : Image) (places : Places) (bound : ℕ → ℕ) (i : ℕ) (op : CoreOp)
+    (operation : Operation)
     → StandsOp core i op operation
     → IsExpression (length image.globals.items) op.depth operation
-    → HasBlock image bound places i (expression_block (length image.globals.items) op.depth operation)
+    → HasBlock image bound places i
+    (expression_block (length image.globals.items) op.depth operation)
     → places.frames.of_file ≤ 56
     → Fits core places.frames i op operation
-    → BlockDoesBy core image places 0 (λ onward. past_first (expression_block (length image.globals.items) op.depth operation)) i op operation
+    → BlockDoesBy core image places 0 (λ onward.
+    past_first (expression_block (length image.globals.items) op.depth operation)) i op operation

@@ -5,7 +5,10 @@ use Rattle.fk_num.specs.declared.operator.Op.TheVariants as op
 use Rattle.fk_meaning_operation.specs.declared.operation.Unary.{Unary}
 use Rattle.fk_meaning_operation.specs.declared.operation.Unary.TheVariants.{Negate, Complement, Not}
 use Rattle.fk_isa.specs.declared.instruction.Instruction.{Instruction}
-use Rattle.fk_isa.specs.declared.instruction.Instruction.TheVariants.{Xori, Sltiu, Add, Sub, Sll, Slt, Sltu, Xor, Srl, Sra, Or, And, Mul, Mulh, Mulhsu, Mulhu, Div, Divu, Rem, Remu}
+use Rattle.fk_isa.specs.declared.instruction.Instruction.TheVariants.{Xori, Sltiu, Add, Sub, Sll}
+use Rattle.fk_isa.specs.declared.instruction.Instruction.TheVariants.{Slt, Sltu, Xor, Srl, Sra, Or}
+use Rattle.fk_isa.specs.declared.instruction.Instruction.TheVariants.{And, Mul, Mulh, Mulhsu, Mulhu}
+use Rattle.fk_isa.specs.declared.instruction.Instruction.TheVariants.{Div, Divu, Rem, Remu}
 use Rattle.fk_gen.specs.Registers.{zero_register, t0, t1, t2}
 
 -- a sign on the word in t0
@@ -14,8 +17,9 @@ sign_instruction Negate = Sub t0 zero_register t0
 sign_instruction Complement = Xori t0 t0 0xffffffff
 sign_instruction Not = Sltiu t0 t0 1
 
--- The first instruction of an operator, and of most the only one. An order that isn't strict is first a strict one, with its
--- operands turned round; what compares for equality is first a difference; a least or greatest word is first a test, in t2
+-- The first instruction of an operator, and of most the only one. An order that isn't strict is
+-- first a strict one, with its operands turned round; what compares for equality is first a
+-- difference; a least or greatest word is first a test, in t2
 abbrev pub first_instruction : Op → Instruction
 first_instruction op.Add = Add t0 t0 t1
 first_instruction op.Sub = Sub t0 t0 t1

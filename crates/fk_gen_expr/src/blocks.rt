@@ -18,8 +18,8 @@ use std::alloc::AllocError;
 
 /// How many bytes a word has.
 const WORD: u32 = 4;
-/// How far from the first device on those stand that tell a hart its number, how many harts there are, and how
-/// many input numbers.
+/// How far from the first device on those stand that tell a hart its number, how many harts there
+/// are, and how many input numbers.
 const HART_NUMBER: u32 = 20;
 
 const HARTS: u32 = 24;
@@ -53,10 +53,13 @@ fn emit_expression(
     operation: Operation,
 ) -> Result<(), AllocError>
     requires known { code.IsExpression globals depth operation }
-    requires room { length into.old.lines + length (code.expression_block globals depth operation) < 2 ^ 30 }
+    requires room { length into.old.lines
+        + length (code.expression_block globals depth operation) < 2 ^ 30 }
     requires free { AreFollowed into.old }
-    ensures added { OnOk result (into.new ≡ with_block into.old (code.expression_block globals depth operation)) }
-    ensures begun { OnErr result (HasBegun (code.expression_block globals depth operation) into.old into.new) }
+    ensures added { OnOk result
+        (into.new ≡ with_block into.old (code.expression_block globals depth operation)) }
+    ensures begun { OnErr result
+        (HasBegun (code.expression_block globals depth operation) into.old into.new) }
 {
     match operation {
         Operation::Push(number) => push_number(into, depth, number),
@@ -78,10 +81,13 @@ fn emit_expression(
 
 fn push_number(into: &mut Assembler, depth: u32, number: u32) -> Result<(), AllocError>
     requires depth { depth < 64 }
-    requires room { length into.old.lines + length (code.first_commits (code.push_number depth number)) < 2 ^ 30 }
+    requires room { length into.old.lines
+        + length (code.first_commits (code.push_number depth number)) < 2 ^ 30 }
     requires free { AreFollowed into.old }
-    ensures added { OnOk result (into.new ≡ with_block into.old (code.first_commits (code.push_number depth number))) }
-    ensures begun { OnErr result (HasBegun (code.first_commits (code.push_number depth number)) into.old into.new) }
+    ensures added { OnOk result
+        (into.new ≡ with_block into.old (code.first_commits (code.push_number depth number))) }
+    ensures begun { OnErr result
+        (HasBegun (code.first_commits (code.push_number depth number)) into.old into.new) }
 {
     let high = high_part(number);
     let low = low_part(number);
@@ -103,10 +109,13 @@ fn push_number(into: &mut Assembler, depth: u32, number: u32) -> Result<(), Allo
 fn get(into: &mut Assembler, globals: u32, depth: u32, known: OwnValue) -> Result<(), AllocError>
     requires depth { depth < 64 }
     requires known { code.IsKnown known globals }
-    requires room { length into.old.lines + length (code.first_commits (code.get_code globals depth known)) < 2 ^ 30 }
+    requires room { length into.old.lines
+        + length (code.first_commits (code.get_code globals depth known)) < 2 ^ 30 }
     requires free { AreFollowed into.old }
-    ensures added { OnOk result (into.new ≡ with_block into.old (code.first_commits (code.get_code globals depth known))) }
-    ensures begun { OnErr result (HasBegun (code.first_commits (code.get_code globals depth known)) into.old into.new) }
+    ensures added { OnOk result
+        (into.new ≡ with_block into.old (code.first_commits (code.get_code globals depth known))) }
+    ensures begun { OnErr result
+        (HasBegun (code.first_commits (code.get_code globals depth known)) into.old into.new) }
 {
     match known {
         OwnValue::Value(variable) => {
@@ -128,8 +137,10 @@ fn alone(into: &mut Assembler, instruction: Instruction) -> Result<(), AllocErro
     requires fits { Fits instruction }
     requires room { length into.old.lines + 1 < 2 ^ 30 }
     requires free { AreFollowed into.old }
-    ensures added { OnOk result (into.new ≡ with_block into.old (code.first_commits (instruction ∷ []))) }
-    ensures begun { OnErr result (HasBegun (code.first_commits (instruction ∷ [])) into.old into.new) }
+    ensures added { OnOk result
+        (into.new ≡ with_block into.old (code.first_commits (instruction ∷ []))) }
+    ensures begun { OnErr result
+        (HasBegun (code.first_commits (instruction ∷ [])) into.old into.new) }
 {
     emit_lines(into, &[BlockLine::commits(instruction)])
 }
@@ -140,8 +151,10 @@ fn move_word(into: &mut Assembler, load: Instruction, store: Instruction) -> Res
     requires store { Fits store }
     requires room { length into.old.lines + 2 < 2 ^ 30 }
     requires free { AreFollowed into.old }
-    ensures added { OnOk result (into.new ≡ with_block into.old (code.first_commits (load ∷ store ∷ []))) }
-    ensures begun { OnErr result (HasBegun (code.first_commits (load ∷ store ∷ [])) into.old into.new) }
+    ensures added { OnOk result
+        (into.new ≡ with_block into.old (code.first_commits (load ∷ store ∷ []))) }
+    ensures begun { OnErr result
+        (HasBegun (code.first_commits (load ∷ store ∷ [])) into.old into.new) }
 {
     emit_lines(into, &[BlockLine::commits(load), BlockLine::quiet(store)])
 }
@@ -151,8 +164,10 @@ fn push_device(into: &mut Assembler, depth: u32, offset: u32) -> Result<(), Allo
     requires offset { offset ≤ 28 }
     requires room { length into.old.lines + 2 < 2 ^ 30 }
     requires free { AreFollowed into.old }
-    ensures added { OnOk result (into.new ≡ with_block into.old (code.first_commits (code.push_device depth offset))) }
-    ensures begun { OnErr result (HasBegun (code.first_commits (code.push_device depth offset)) into.old into.new) }
+    ensures added { OnOk result
+        (into.new ≡ with_block into.old (code.first_commits (code.push_device depth offset))) }
+    ensures begun { OnErr result
+        (HasBegun (code.first_commits (code.push_device depth offset)) into.old into.new) }
 {
     move_word(
         into,
@@ -164,10 +179,13 @@ fn push_device(into: &mut Assembler, depth: u32, offset: u32) -> Result<(), Allo
 fn index(into: &mut Assembler, depth: u32, size: u32) -> Result<(), AllocError>
     requires two { 2 ≤ depth }
     requires depth { depth ≤ 64 }
-    requires room { length into.old.lines + length (code.first_commits (code.index_code depth size)) < 2 ^ 30 }
+    requires room { length into.old.lines
+        + length (code.first_commits (code.index_code depth size)) < 2 ^ 30 }
     requires free { AreFollowed into.old }
-    ensures added { OnOk result (into.new ≡ with_block into.old (code.first_commits (code.index_code depth size))) }
-    ensures begun { OnErr result (HasBegun (code.first_commits (code.index_code depth size)) into.old into.new) }
+    ensures added { OnOk result
+        (into.new ≡ with_block into.old (code.first_commits (code.index_code depth size))) }
+    ensures begun { OnErr result
+        (HasBegun (code.first_commits (code.index_code depth size)) into.old into.new) }
 {
     if size == WORD {
         emit_lines(
@@ -200,8 +218,11 @@ fn apply(into: &mut Assembler, depth: u32, sign: Unary) -> Result<(), AllocError
     requires depth { depth ≤ 64 }
     requires room { length into.old.lines + 3 < 2 ^ 30 }
     requires free { AreFollowed into.old }
-    ensures added { OnOk result (into.new ≡ with_block into.old (code.first_commits (code.load_value T0 depth ∷ operators.sign_instruction sign ∷ code.store_value T0 depth ∷ []))) }
-    ensures begun { OnErr result (HasBegun (code.first_commits (code.load_value T0 depth ∷ operators.sign_instruction sign ∷ code.store_value T0 depth ∷ [])) into.old into.new) }
+    ensures added { OnOk result
+        (into.new ≡ with_block into.old (code.first_commits (code.load_value T0 depth
+        ∷ operators.sign_instruction sign ∷ code.store_value T0 depth ∷ []))) }
+    ensures begun { OnErr result (HasBegun (code.first_commits (code.load_value T0 depth
+        ∷ operators.sign_instruction sign ∷ code.store_value T0 depth ∷ [])) into.old into.new) }
 {
     emit_lines(
         into,
@@ -231,10 +252,13 @@ fn join(into: &mut Assembler, depth: u32, sign: Op, first: u8, second: u8) -> Re
     requires depth { depth ≤ 64 }
     requires first { IsRegister first }
     requires second { IsRegister second }
-    requires room { length into.old.lines + length (code.first_commits (code.join_code depth sign first second)) < 2 ^ 30 }
+    requires room { length into.old.lines
+        + length (code.first_commits (code.join_code depth sign first second)) < 2 ^ 30 }
     requires free { AreFollowed into.old }
-    ensures added { OnOk result (into.new ≡ with_block into.old (code.first_commits (code.join_code depth sign first second))) }
-    ensures begun { OnErr result (HasBegun (code.first_commits (code.join_code depth sign first second)) into.old into.new) }
+    ensures added { OnOk result (into.new
+        ≡ with_block into.old (code.first_commits (code.join_code depth sign first second))) }
+    ensures begun { OnErr result
+        (HasBegun (code.first_commits (code.join_code depth sign first second)) into.old into.new) }
 {
     let a = BlockLine::commits(load_value(first, depth - 1));
     let b = BlockLine::quiet(load_value(second, depth));

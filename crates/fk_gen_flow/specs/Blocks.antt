@@ -1,7 +1,9 @@
 -- Which operations have a block of control flow, and which block.
-use Rattle.std.specs.Prelude.{◌≡◌, ℕ, ◌^◌, ◌<◌, ◌≤◌, List, [], Bool, true, false, not, Option, Some, None, if◌then◌else◌, ◌⊎◌}
+use Rattle.std.specs.Prelude.{◌≡◌, ℕ, ◌^◌, ◌<◌, ◌≤◌, List, [], Bool, true, false, not, Option, Some}
+use Rattle.std.specs.Prelude.{None, if◌then◌else◌, ◌⊎◌}
 use Rattle.fk_meaning_operation.specs.declared.operation.Operation.{Operation}
-use Rattle.fk_meaning_operation.specs.declared.operation.Operation.TheVariants.{Branch, Leave, Enter, Halt}
+use Rattle.fk_meaning_operation.specs.declared.operation.Operation.TheVariants.{Branch, Leave}
+use Rattle.fk_meaning_operation.specs.declared.operation.Operation.TheVariants.{Enter, Halt}
 use Rattle.fk_core.specs.declared.op.CoreOp.{CoreOp}
 use Rattle.fk_core.specs.Next.{is_jump}
 use Rattle.fk_core.specs.Numbers.{operation_of}
@@ -25,9 +27,11 @@ block_by clears op (Some (Enter arguments)) = enter_block clears arguments op.de
 block_by clears op (Some Halt) = halt_block
 block_by clears op operation = []
 
--- the block of a jump or an operation. Where it is a call, it clears the private words behind its arguments or it doesn't
+-- the block of a jump or an operation. Where it is a call, it clears the private words behind its
+-- arguments or it doesn't
 abbrev pub flow_block : (clears : Bool) → CoreOp → List MarkedLine
-flow_block clears op = if is_jump op then jump_block op.target else block_by clears op (operation_of op.kind op.number)
+flow_block clears op = if is_jump op then jump_block op.target
+    else block_by clears op (operation_of op.kind op.number)
 
 -- the target of a branch has a label, and a call has its arguments
 abbrev pub HasOperands : (depth target : ℕ) → Option Operation → Type 0
@@ -41,7 +45,9 @@ is_some_flow None = false
 
 -- a jump whose target has a label, or such an operation, whose values have room in a frame
 pub record HasFlow (placed : Placed) : Type 0 where
-  pub kind : (is_jump placed.op ≡ true) ⊎ (is_some_flow (operation_of placed.op.kind placed.op.number) ≡ true)
+  pub kind : (is_jump placed.op ≡ true)
+      ⊎ (is_some_flow (operation_of placed.op.kind placed.op.number) ≡ true)
   pub depth : is_jump placed.op ≡ false → placed.op.depth ≤ 56
   pub jump : is_jump placed.op ≡ true → placed.op.target < 2 ^ 31
-  pub operands : HasOperands placed.op.depth placed.op.target (operation_of placed.op.kind placed.op.number)
+  pub operands : HasOperands placed.op.depth placed.op.target
+      (operation_of placed.op.kind placed.op.number)

@@ -1,21 +1,26 @@
 -- The block of a call, and the code that calls share.
-use Rattle.std.specs.Prelude.{◌≡◌, ℕ, zero, suc, ◌+◌, ◌-◌, ◌<◌, nat_le, Bool, true, false, List, [], ◌∷◌, ◌++◌}
+use Rattle.std.specs.Prelude.{◌≡◌, ℕ, zero, suc, ◌+◌, ◌-◌, ◌<◌, nat_le, Bool, true, false, List, []}
+use Rattle.std.specs.Prelude.{◌∷◌, ◌++◌}
 use Rattle.fk_image.specs.declared.Image.{Image}
-use Rattle.fk_isa.specs.declared.instruction.Instruction.TheVariants.{Lui, Jal, Jalr, Bne, Lw, Sw, Addi}
+use Rattle.fk_isa.specs.declared.instruction.Instruction.TheVariants.{Lui, Jal, Jalr, Bne, Lw, Sw}
+use Rattle.fk_isa.specs.declared.instruction.Instruction.TheVariants.{Addi}
 use Rattle.fk_asm.specs.Block.{MarkedLine}
 use Rattle.fk_sim_block.specs.Stands.{frame_register, end_register, heap_register, device_register}
 use Rattle.fk_gen.specs.Registers.{zero_register, ra, t0, t1, t2}
-use Rattle.fk_gen.specs.Lines.{quiet, commits, goes_to, at_value, at_private, high_part, low_part, copy_label, clear_label}
+use Rattle.fk_gen.specs.Lines.{quiet, commits, goes_to, at_value, at_private, high_part, low_part}
+use Rattle.fk_gen.specs.Lines.{copy_label, clear_label}
 use Rattle.fk_gen.specs.InPlace.{LinesAt}
 
--- Where 255 calls wait already, the word behind the frame is the first of the private heap: the site goes to the device that
--- faults. Else that is passed by, and t2 is the address of the first argument, where the call takes its result. As many
--- instructions precede the commit on both ways
+-- Where 255 calls wait already, the word behind the frame is the first of the private heap: the
+-- site goes to the device that faults. Else that is passed by, and t2 is the address of the first
+-- argument, where the call takes its result. As many instructions precede the commit on both ways
 abbrev pub depth_lines : (arguments depth site : ℕ) → List MarkedLine
 depth_lines arguments depth site =
-    quiet (Bne end_register heap_register 16) ∷ quiet (Lui t0 (high_part site)) ∷ quiet (Addi t0 t0 (low_part site)) ∷
+    quiet (Bne end_register heap_register 16) ∷ quiet (Lui t0 (high_part site)) ∷
+    quiet (Addi t0 t0 (low_part site)) ∷
     commits (Sw device_register t0 8) ∷ quiet (Sw end_register frame_register 4) ∷
-    quiet (Addi t2 end_register (at_value (depth - arguments + 1))) ∷ commits (Sw end_register t2 8) ∷ []
+    quiet (Addi t2 end_register (at_value (depth - arguments + 1)))
+    ∷ commits (Sw end_register t2 8) ∷ []
 
 -- one argument: the word k words before the first one becomes private word k of the new frame
 abbrev pub copy_lines : (k : ℕ) → List MarkedLine
@@ -53,11 +58,12 @@ abbrev pub word_lines : (clears : Bool) (arguments : ℕ) → List MarkedLine
 word_lines clears arguments = argument_lines arguments ++ clears_by clears arguments
 
 abbrev pub enter_block : (clears : Bool) (arguments depth site : ℕ) → List MarkedLine
-enter_block clears arguments depth site = depth_lines arguments depth site ++ (word_lines clears arguments ++ frame_lines)
+enter_block clears arguments depth site =
+    depth_lines arguments depth site ++ (word_lines clears arguments ++ frame_lines)
 
--- the code that all calls share is two chains: each has parts, the last one first, with a label before each of them and one
--- before its end, which goes back to the call. In one, each part copies an argument; in the other, each clears a word of the
--- new frame, the last one in part 0
+-- the code that all calls share is two chains: each has parts, the last one first, with a label
+-- before each of them and one before its end, which goes back to the call. In one, each part copies
+-- an argument; in the other, each clears a word of the new frame, the last one in part 0
 abbrev pub back_lines : List MarkedLine
 back_lines = quiet (Jalr zero_register t1 0) ∷ []
 
@@ -69,7 +75,8 @@ abbrev pub clear_lines : (k : ℕ) → List MarkedLine
 clear_lines k = quiet (Sw end_register zero_register (at_private (most_privates - 1 - k))) ∷ []
 
 -- a chain stands in an image, each part of so many words, and each at its label
-pub record HasChain (image : Image) (bound label : ℕ → ℕ) (part : ℕ → List MarkedLine) (width : ℕ) : Type 0 where
+pub record HasChain (image : Image) (bound label : ℕ → ℕ) (part : ℕ → List MarkedLine)
+    (width : ℕ) : Type 0 where
   pub parts : (k : ℕ) → k < most_privates → LinesAt image bound (bound (label (suc k))) (part k)
   pub next : (k : ℕ) → k < most_privates → bound (label k) ≡ bound (label (suc k)) + width
   pub back : LinesAt image bound (bound (label 0)) back_lines

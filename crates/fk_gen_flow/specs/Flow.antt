@@ -1,7 +1,8 @@
 -- The blocks of jumps, branches, ends of calls and halts.
 use Rattle.std.specs.Prelude.{ℕ, List, [], ◌∷◌, Bool, true, false}
 use Rattle.fk_isa.specs.declared.instruction.Instruction.{Instruction}
-use Rattle.fk_isa.specs.declared.instruction.Instruction.TheVariants.{Jal, Jalr, Beq, Bne, Lw, Sw, Addi}
+use Rattle.fk_isa.specs.declared.instruction.Instruction.TheVariants.{Jal, Jalr, Beq, Bne, Lw, Sw}
+use Rattle.fk_isa.specs.declared.instruction.Instruction.TheVariants.{Addi}
 use Rattle.fk_asm.specs.Block.{MarkedLine}
 use Rattle.fk_sim_block.specs.Stands.{frame_register, end_register, device_register}
 use Rattle.fk_gen.specs.Registers.{zero_register, t0, t1, t2}
@@ -13,7 +14,8 @@ jump_line target = goes_to (Jal zero_register 0) (label_of target)
 abbrev pub jump_block : (target : ℕ) → List MarkedLine
 jump_block target = jump_line target ∷ []
 
--- a value with which a branch goes on, one that is not 0 or one that is, leads past the jump behind it
+-- a value with which a branch goes on, one that is not 0 or one that is, leads past
+-- the jump behind it
 abbrev pub passes : (onward : Bool) → Instruction
 passes true = Bne t0 zero_register 8
 passes false = Beq t0 zero_register 8
@@ -22,8 +24,8 @@ abbrev pub branch_block : (onward : Bool) (depth target : ℕ) → List MarkedLi
 branch_block onward depth target =
     commits (Lw t0 end_register (at_value depth)) ∷ quiet (passes onward) ∷ jump_line target ∷ []
 
--- the frame of the call that waits is that of the running call again, and its hart goes on four words behind the address in
--- t1: the rest of the block of the call and the jump behind it
+-- the frame of the call that waits is that of the running call again, and its hart goes on four
+-- words behind the address in t1: the rest of the block of the call and the jump behind it
 abbrev pub returning : List MarkedLine
 returning =
     quiet (Addi end_register frame_register 0) ∷ quiet (Lw frame_register frame_register 4) ∷
@@ -31,7 +33,8 @@ returning =
 
 abbrev pub leave_block : (gives : Bool) (depth : ℕ) → List MarkedLine
 leave_block true depth =
-    commits (Lw t0 end_register (at_value depth)) ∷ quiet (Lw t1 frame_register 0) ∷ quiet (Lw t2 frame_register 8) ∷
+    commits (Lw t0 end_register (at_value depth)) ∷ quiet (Lw t1 frame_register 0) ∷
+    quiet (Lw t2 frame_register 8) ∷
     quiet (Sw t2 t0 0) ∷ returning
 leave_block false depth = commits (Lw t1 frame_register 0) ∷ returning
 

@@ -1,8 +1,10 @@
--- What the blocks of control flow tell beside that they do their operations: how many cycles they take, and what they leave of their
--- harts.
-use Rattle.std.specs.Prelude.{◌≡◌, ℕ, suc, ◌+◌, ◌-◌, ◌*◌, ◌<◌, nat_le, List, [], ◌∷◌, length, Bool, if◌then◌else◌}
+-- What the blocks of control flow tell beside that they do their operations: how many cycles they
+-- take, and what they leave of their harts.
+use Rattle.std.specs.Prelude.{◌≡◌, ℕ, suc, ◌+◌, ◌-◌, ◌*◌, ◌<◌, nat_le, List, [], ◌∷◌, length, Bool}
+use Rattle.std.specs.Prelude.{if◌then◌else◌}
 use Rattle.fk_meaning_operation.specs.declared.operation.Operation.{Operation}
-use Rattle.fk_meaning_operation.specs.declared.operation.Operation.TheVariants.{Branch, Leave, Enter}
+use Rattle.fk_meaning_operation.specs.declared.operation.Operation.TheVariants.{Branch, Leave}
+use Rattle.fk_meaning_operation.specs.declared.operation.Operation.TheVariants.{Enter}
 use Rattle.fk_meaning.specs.Processor.{Call, Processor, Setting}
 use Rattle.fk_meaning.specs.Local.{is_onward}
 use Rattle.fk_core.specs.declared.op.CoreOp.{CoreOp}
@@ -23,8 +25,8 @@ abbrev pub before_commit : Operation → ℕ
 before_commit (Enter arguments) = 3
 before_commit operation = 0
 
--- behind that a call takes two cycles for each argument, and two more where the code that all calls share copies them; one for
--- each word that it clears, and two more; and four for the new frame
+-- behind that a call takes two cycles for each argument, and two more where the code that all calls
+-- share copies them; one for each word that it clears, and two more; and four for the new frame
 abbrev pub copying_takes : (own : Bool) (arguments : ℕ) → ℕ
 copying_takes own arguments = 2 * arguments + (if own then 0 else 2)
 
@@ -32,7 +34,8 @@ abbrev pub clearing_takes : (clears : Bool) (arguments : ℕ) → ℕ
 clearing_takes clears arguments = if clears then most_privates - arguments + 2 else 0
 
 abbrev pub call_takes : (clears : Bool) (arguments : ℕ) → ℕ
-call_takes clears arguments = copying_takes (nat_le arguments 1) arguments + clearing_takes clears arguments + 4
+call_takes clears arguments =
+    copying_takes (nat_le arguments 1) arguments + clearing_takes clears arguments + 4
 
 -- how many cycles follow a commit, by the way that the operation goes
 abbrev pub behind_commit : (clears : Bool) → Operation → (onward : Bool) → ℕ
@@ -54,15 +57,19 @@ pub record KeepsBelow (word : ℕ) (h h' : Hart) : Type 0 where
   pub body : h'.registers a1 ≡ h.registers a1
   pub words : (j : ℕ) → j < word → h'.local j ≡ h.local j
 
--- a call keeps all words below its own frame, and the end of a call those below the result. Other operations keep what blocks
--- do that make no call
+-- a call keeps all words below its own frame, and the end of a call those below the result. Other
+-- operations keep what blocks do that make no call
 abbrev pub KeepsFor : Places → Operation → (depth : ℕ) → Processor → (h h' : Hart) → Type 0
 KeepsFor places (Enter arguments) depth p h h' = KeepsBelow (frame_end (length p.callers)) h h'
 KeepsFor places (Leave gives framed) depth p h h' = KeepsBelow (result_word p.callers) h h'
-KeepsFor places operation depth p h h' = Keeps places (length p.callers) (peak operation depth) (writes operation) h h'
+KeepsFor places operation depth p h h' =
+    Keeps places (length p.callers) (peak operation depth) (writes operation) h h'
 
 -- the block of an operation does it in so many cycles, and keeps what is to be kept
-abbrev pub BlockKeeps : (core : List CoreOp) → Image → Places → (before : ℕ) → (behind : (onward : Bool) → ℕ) → (i : ℕ) → CoreOp → Operation → Type 0
+abbrev pub BlockKeeps : (core : List CoreOp) → Image → Places → (before : ℕ)
+    → (behind : (onward : Bool) → ℕ) → (i : ℕ) → CoreOp → Operation → Type 0
 BlockKeeps core image places before behind i op operation =
-    (setting : Setting) (t : MachineSetting) (p : Owner) (h : Hart) → Enters core image places setting t i op operation p h
-    → DoesAnd core image places setting t p h before (behind (is_onward operation p.runner.has)) (λ h'. KeepsFor places operation op.depth p.runner.has h h')
+    (setting : Setting) (t : MachineSetting) (p : Owner) (h : Hart)
+    → Enters core image places setting t i op operation p h
+    → DoesAnd core image places setting t p h before (behind (is_onward operation p.runner.has))
+    (λ h'. KeepsFor places operation op.depth p.runner.has h h')

@@ -1,5 +1,6 @@
 -- What the blocks do where they stand.
-use Rattle.std.specs.Prelude.{◌≡◌, ℕ, suc, ◌^◌, ◌<◌, ◌≤◌, List, Bool, true, Some, slice_get, slice_index}
+use Rattle.std.specs.Prelude.{◌≡◌, ℕ, suc, ◌^◌, ◌<◌, ◌≤◌, List, Bool, true, Some, slice_get}
+use Rattle.std.specs.Prelude.{slice_index}
 use Rattle.fk_meaning_operation.specs.declared.operation.Operation.{Operation}
 use Rattle.fk_meaning_operation.specs.declared.operation.Operation.TheVariants.{Enter, Halt}
 use Rattle.fk_meaning.specs.Processor.{Setting}
@@ -22,47 +23,65 @@ use Rattle.fk_gen_flow.specs.Keeps.{BlockKeeps, before_commit, behind_commit}
 -- the block of a jump leads to that of its target
 abbrev pub JumpsGo : Type 0
 JumpsGo =
-    (core : List CoreOp) (image : Image) (places : Places) (bound : ℕ → ℕ) (i : ℕ) (op : CoreOp) → is_jump op ≡ true
-    → HasBlock image bound places i (jump_block op.target) → Flows core places.frames nothing i op.target → BlockJumps core image places i op
+    (core : List CoreOp) (image : Image) (places : Places) (bound : ℕ → ℕ) (i : ℕ) (op : CoreOp)
+    → is_jump op ≡ true
+    → HasBlock image bound places i (jump_block op.target)
+    → Flows core places.frames nothing i op.target → BlockJumps core image places i op
 
 -- the jumps of a list have their blocks
 abbrev pub JumpsStand : List CoreOp → Image → (bound : ℕ → ℕ) → Places → Type 0
 JumpsStand core image bound places =
-    (i : ℕ) (op : CoreOp) → slice_get core i ≡ Some op → is_jump op ≡ true → HasBlock image bound places i (jump_block op.target)
+    (i : ℕ) (op : CoreOp) → slice_get core i ≡ Some op → is_jump op ≡ true
+    → HasBlock image bound places i (jump_block op.target)
 
 -- a call clears where a word behind its arguments is kept as it begins
 abbrev pub ClearsEnough : Frames → (i : ℕ) (clears : Bool) → Operation → Type 0
-ClearsEnough frames i clears (Enter arguments) = (word : ℕ) → frames.keeps (suc i) word ≡ true → arguments ≤ word → clears ≡ true
+ClearsEnough frames i clears (Enter arguments) = (word : ℕ) → frames.keeps (suc i) word ≡ true
+    → arguments ≤ word → clears ≡ true
 ClearsEnough frames i clears operation = Unit {0}
 
--- those of branches, calls and ends of calls do their operations, where the code that calls share and the jumps stand too
+-- those of branches, calls and ends of calls do their operations, where the code that calls share
+-- and the jumps stand too
 abbrev pub FlowBlocksDo : Type 0
 FlowBlocksDo =
-    (core : List CoreOp) (image : Image) (places : Places) (bound : ℕ → ℕ) (i : ℕ) (op : CoreOp) (operation : Operation) (clears : Bool)
-    → StandsOp core i op operation → is_alone operation ≡ true → is_flow operation ≡ true → op.site < 2 ^ 32
-    → HasBlock image bound places i (flow_block clears op) → HasShared image bound → JumpsStand core image bound places
-    → places.frames.of_file ≤ 56 → Fits core places.frames i op operation → ClearsEnough places.frames i clears operation
+    (core : List CoreOp) (image : Image) (places : Places) (bound : ℕ → ℕ) (i : ℕ) (op : CoreOp)
+    (operation : Operation) (clears : Bool)
+    → StandsOp core i op operation → is_alone operation ≡ true → is_flow operation ≡ true
+    → op.site < 2 ^ 32
+    → HasBlock image bound places i (flow_block clears op) → HasShared image bound
+    → JumpsStand core image bound places
+    → places.frames.of_file ≤ 56 → Fits core places.frames i op operation
+    → ClearsEnough places.frames i clears operation
     → BlockDoes core image places i op operation
 
 -- they take so many cycles, and keep what is to be kept
 abbrev pub FlowBlocksKeep : Type 0
 FlowBlocksKeep =
-    (core : List CoreOp) (image : Image) (places : Places) (bound : ℕ → ℕ) (i : ℕ) (op : CoreOp) (operation : Operation) (clears : Bool)
-    → StandsOp core i op operation → is_alone operation ≡ true → is_flow operation ≡ true → op.site < 2 ^ 32
-    → HasBlock image bound places i (flow_block clears op) → HasShared image bound → JumpsStand core image bound places
-    → places.frames.of_file ≤ 56 → Fits core places.frames i op operation → ClearsEnough places.frames i clears operation
-    → BlockKeeps core image places (before_commit operation) (behind_commit clears operation) i op operation
+    (core : List CoreOp) (image : Image) (places : Places) (bound : ℕ → ℕ) (i : ℕ) (op : CoreOp)
+    (operation : Operation) (clears : Bool)
+    → StandsOp core i op operation → is_alone operation ≡ true → is_flow operation ≡ true
+    → op.site < 2 ^ 32
+    → HasBlock image bound places i (flow_block clears op) → HasShared image bound
+    → JumpsStand core image bound places
+    → places.frames.of_file ≤ 56 → Fits core places.frames i op operation
+    → ClearsEnough places.frames i clears operation
+    → BlockKeeps core image places (before_commit operation)
+    (behind_commit clears operation) i op operation
 
 -- that of a halt ends its hart
 abbrev pub HaltsEnd : Type 0
 HaltsEnd =
-    (core : List CoreOp) (image : Image) (places : Places) (bound : ℕ → ℕ) (i : ℕ) (op : CoreOp) (clears : Bool) → StandsOp core i op Halt
+    (core : List CoreOp) (image : Image) (places : Places) (bound : ℕ → ℕ) (i : ℕ) (op : CoreOp)
+    (clears : Bool) → StandsOp core i op Halt
     → HasBlock image bound places i (flow_block clears op) → BlockHalts core image places i op
 
--- from the opening each hart comes to the block where `main` begins, with the first values of private variables
+-- from the opening each hart comes to the block where `main` begins, with the first values of
+-- private variables
 abbrev pub HartsBegin : Type 0
 HartsBegin =
-    (core : List CoreOp) (image : Image) (places : Places) (bound : ℕ → ℕ) (firsts : List ℕ) (main : ℕ)
-    → HasOpening image bound places firsts main → AreFirsts places.frames.of_file firsts → places.frames.is_main main ≡ true
+    (core : List CoreOp) (image : Image) (places : Places) (bound : ℕ → ℕ)
+    (firsts : List ℕ) (main : ℕ)
+    → HasOpening image bound places firsts main → AreFirsts places.frames.of_file firsts
+    → places.frames.is_main main ≡ true
     → (setting : Setting) (t : MachineSetting) (number : ℕ) → IsRunning image setting t
     → Begins core image places t (beginner setting (slice_index firsts) main number)

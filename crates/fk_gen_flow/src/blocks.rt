@@ -88,7 +88,8 @@ fn emit_branch(
     requires labels { All (GoesToMade into.old.bound) (branch_block onward depth target) }
     requires room { length into.old.lines + 3 < 2 ^ 30 }
     requires free { AreFollowed into.old }
-    ensures added { OnOk result (into.new ≡ with_block into.old (branch_block onward depth target)) }
+    ensures added { OnOk result
+        (into.new ≡ with_block into.old (branch_block onward depth target)) }
     ensures begun { OnErr result (HasBegun (branch_block onward depth target) into.old into.new) }
 {
     emit_lines(

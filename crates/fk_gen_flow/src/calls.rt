@@ -3,7 +3,9 @@
 ghost use Rattle.std.specs.Prelude.{◌≡◌, ◌+◌, ◌^◌, ◌<◌, ◌≤◌, All, OnOk, OnErr, length};
 ghost use Rattle.fk_asm.specs.Assembly.{AreFollowed};
 ghost use Rattle.fk_asm.specs.Block.{GoesToMade, HasBegun, with_block};
-ghost use Rattle.fk_gen_flow.specs.Calls.{depth_lines, copy_lines, clear_lines, argument_lines, clears_by, word_lines, frame_lines, enter_block, back_lines, most_privates};
+ghost use Rattle.fk_gen_flow.specs.Calls.{depth_lines, copy_lines, clear_lines, argument_lines};
+ghost use Rattle.fk_gen_flow.specs.Calls.{clears_by, word_lines, frame_lines, enter_block};
+ghost use Rattle.fk_gen_flow.specs.Calls.{back_lines, most_privates};
 
 use fk_asm::Assembler;
 use fk_gen::numbers::{at_private, at_value, high_part, low_part};
@@ -16,7 +18,8 @@ use std::alloc::AllocError;
 const FAULT_DEVICE: u32 = 8;
 /// How many private words a frame has.
 const MOST_PRIVATES: u32 = 56;
-/// The label where the shared code clears no word of a frame; behind it come those where it clears more.
+/// The label where the shared code clears no word of a frame; behind it come those
+/// where it clears more.
 const CLEAR_LABEL: u32 = 64;
 
 pub(crate) fn emit_enter(
@@ -29,10 +32,13 @@ pub(crate) fn emit_enter(
     requires depth { depth ≤ 56 }
     requires arguments { arguments ≤ depth }
     requires labels { All (GoesToMade into.old.bound) (enter_block clears arguments depth site) }
-    requires room { length into.old.lines + length (enter_block clears arguments depth site) < 2 ^ 30 }
+    requires room { length into.old.lines
+        + length (enter_block clears arguments depth site) < 2 ^ 30 }
     requires free { AreFollowed into.old }
-    ensures added { OnOk result (into.new ≡ with_block into.old (enter_block clears arguments depth site)) }
-    ensures begun { OnErr result (HasBegun (enter_block clears arguments depth site) into.old into.new) }
+    ensures added { OnOk result
+        (into.new ≡ with_block into.old (enter_block clears arguments depth site)) }
+    ensures begun { OnErr result
+        (HasBegun (enter_block clears arguments depth site) into.old into.new) }
 {
     emit_depth(into, arguments, depth, site)?;
     emit_words(into, clears, arguments)?;
@@ -45,7 +51,8 @@ fn emit_depth(into: &mut Assembler, arguments: u32, depth: u32, site: u32) -> Re
     requires arguments { arguments ≤ depth }
     requires room { length into.old.lines + 7 < 2 ^ 30 }
     requires free { AreFollowed into.old }
-    ensures added { OnOk result (into.new ≡ with_block into.old (depth_lines arguments depth site)) }
+    ensures added { OnOk result
+        (into.new ≡ with_block into.old (depth_lines arguments depth site)) }
     ensures begun { OnErr result (HasBegun (depth_lines arguments depth site) into.old into.new) }
 {
     emit_lines(
@@ -128,8 +135,8 @@ fn emit_frame(into: &mut Assembler) -> Result<(), AllocError>
     )
 }
 
-/// Adds the lines that copy an argument, from 0 on, into the new frame. In the code that calls share they stand at the label of
-/// one argument more.
+/// Adds the lines that copy an argument, from 0 on, into the new frame. In the code that calls
+/// share they stand at the label of one argument more.
 pub fn emit_copy(into: &mut Assembler, argument: u32) -> Result<(), AllocError>
     requires argument { argument < 56 }
     requires room { length into.old.lines + 2 < 2 ^ 30 }
@@ -146,8 +153,8 @@ pub fn emit_copy(into: &mut Assembler, argument: u32) -> Result<(), AllocError>
     )
 }
 
-/// Adds the line that clears a private word of the new frame, the one behind which so many others come. In the code that
-/// calls share it stands at the label of one word more.
+/// Adds the line that clears a private word of the new frame, the one behind which so many others
+/// come. In the code that calls share it stands at the label of one word more.
 pub fn emit_clear(into: &mut Assembler, behind: u32) -> Result<(), AllocError>
     requires behind { behind < 56 }
     requires room { length into.old.lines + 1 < 2 ^ 30 }
@@ -162,7 +169,8 @@ pub fn emit_clear(into: &mut Assembler, behind: u32) -> Result<(), AllocError>
     )
 }
 
-/// Adds the line that goes back to the call. It stands at the label of no argument, and at that of no word.
+/// Adds the line that goes back to the call. It stands at the label of no argument, and at
+/// that of no word.
 pub fn emit_back(into: &mut Assembler) -> Result<(), AllocError>
     requires room { length into.old.lines + 1 < 2 ^ 30 }
     requires free { AreFollowed into.old }

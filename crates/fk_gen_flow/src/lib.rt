@@ -1,5 +1,5 @@
-//! The blocks of control flow: jumps, branches, calls, ends of calls and halts; the code that all calls share; and the opening
-//! of an image.
+//! The blocks of control flow: jumps, branches, calls, ends of calls and halts; the code that all
+//! calls share; and the opening of an image.
 #![tactic(auto)]
 
 mod blocks;

@@ -17,14 +17,16 @@ use fk_gen::{BlockLine, emit_lines};
 use fk_isa::Instruction;
 use std::alloc::AllocError;
 
-/// Adds the opening: the registers, the first value of each private variable of file scope, and the jump to `main`.
+/// Adds the opening: the registers, the first value of each private variable of file scope, and
+/// the jump to `main`.
 pub fn emit_opening(into: &mut Assembler, firsts: &[u32], main: u32) -> Result<(), AllocError>
     requires few { length firsts.now ≤ 56 }
     requires near { main < 2 ^ 31 }
     requires labels { All (GoesToMade into.old.bound) (jump_block main) }
     requires room { length into.old.lines < 2 ^ 29 }
     requires free { AreFollowed into.old }
-    ensures added { OnOk result (into.new ≡ with_block into.old (opening_lines (length firsts.now) firsts.now main)) }
+    ensures added { OnOk result
+        (into.new ≡ with_block into.old (opening_lines (length firsts.now) firsts.now main)) }
 {
     emit_registers(into, firsts.len() as u32)?;
     emit_firsts(into, firsts)?;

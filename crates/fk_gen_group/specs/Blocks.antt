@@ -1,17 +1,24 @@
 -- Which steps of groups have a block, and which block.
-use Rattle.std.specs.Prelude.{◌≡◌, ℕ, ◌*◌, ◌^◌, ◌<◌, ◌≤◌, List, [], ◌∷◌, ◌++◌, length, Bool, true, false, Option, Some}
+use Rattle.std.specs.Prelude.{◌≡◌, ℕ, ◌*◌, ◌^◌, ◌<◌, ◌≤◌, List, [], ◌∷◌, ◌++◌, length, Bool, true}
+use Rattle.std.specs.Prelude.{false, Option, Some}
 use Rattle.fk_meaning_operation.specs.declared.operation.Operation.{Operation}
-use Rattle.fk_meaning_operation.specs.declared.operation.Operation.TheVariants.{Begin, Agree, Farm, Seq, End, Resume, Meet}
+use Rattle.fk_meaning_operation.specs.declared.operation.Operation.TheVariants.{Begin, Agree, Farm}
+use Rattle.fk_meaning_operation.specs.declared.operation.Operation.TheVariants.{Seq, End, Resume}
+use Rattle.fk_meaning_operation.specs.declared.operation.Operation.TheVariants.{Meet}
 use Rattle.fk_core.specs.Numbers.{operation_of}
 use Rattle.fk_image.specs.declared.Image.{Image}
-use Rattle.fk_isa.specs.declared.instruction.Instruction.TheVariants.{Lui, Jal, Jalr, Beq, Bltu, Lw, Sw, Addi, Sltiu, Slli, Srli, Add, Sltu, Mul, AmoAddW}
+use Rattle.fk_isa.specs.declared.instruction.Instruction.TheVariants.{Lui, Jal, Jalr, Beq, Bltu, Lw}
+use Rattle.fk_isa.specs.declared.instruction.Instruction.TheVariants.{Sw, Addi, Sltiu, Slli, Srli}
+use Rattle.fk_isa.specs.declared.instruction.Instruction.TheVariants.{Add, Sltu, Mul, AmoAddW}
 use Rattle.fk_asm.specs.Block.{MarkedLine}
-use Rattle.fk_sim_block.specs.Stands.{end_register, number_register, rank_register, size_register, device_register}
+use Rattle.fk_sim_block.specs.Stands.{end_register, number_register, rank_register, size_register}
+use Rattle.fk_sim_block.specs.Stands.{device_register}
 use Rattle.fk_gen.specs.Registers.{zero_register, ra, t0, t1, t2, t3}
 use Rattle.fk_gen.specs.Lines.{quiet, commits, goes_to, at_value, label_of, high_part, low_part}
 use Rattle.fk_gen.specs.InPlace.{LinesAt}
 use Rattle.fk_gen.specs.declared.placed.Placed.{Placed}
-use Rattle.fk_sim_block.specs.Node.{node_register, body_register, barrier_word, closing_word, agreed_word, control_address}
+use Rattle.fk_sim_block.specs.Node.{node_register, body_register, barrier_word, closing_word}
+use Rattle.fk_sim_block.specs.Node.{agreed_word, control_address}
 use Rattle.fk_gen_group.specs.Meeting.{Meeting, meeting_lines}
 
 -- a meeting that is an operation, with the number of members in a register
@@ -22,37 +29,44 @@ meeting_of size = record { arrivals = t2; size = size; commits = true }
 abbrev pub meet_block : (word size : ℕ) → List MarkedLine
 meet_block word size = quiet (Addi t2 node_register (4 * word)) ∷ meeting_lines (meeting_of size)
 
--- those who run a body meet at a `barrier`; all members of a node at the end of a body, and where they wait for a part to end
+-- those who run a body meet at a `barrier`; all members of a node at the end of a body, and where
+-- they wait for a part to end
 abbrev pub barrier_block : List MarkedLine
 barrier_block = meet_block barrier_word body_register
 
 abbrev pub closing_block : List MarkedLine
 closing_block = meet_block closing_word size_register
 
--- all store their last values in one cycle, so that the highest member's stays, and load it in the next
+-- all store their last values in one cycle, so that the highest member's stays, and
+-- load it in the next
 abbrev pub agree_block : (depth : ℕ) → List MarkedLine
 agree_block depth =
     quiet (Lw t0 end_register (at_value depth)) ∷ quiet (Sw node_register t0 (4 * agreed_word)) ∷
-    commits (Lw t0 node_register (4 * agreed_word)) ∷ quiet (Sw end_register t0 (at_value depth)) ∷ []
+    commits (Lw t0 node_register (4 * agreed_word))
+    ∷ quiet (Sw end_register t0 (at_value depth)) ∷ []
 
 -- all members run the body, each by itself
 abbrev pub farm_block : List MarkedLine
 farm_block = commits (Addi body_register size_register 0) ∷ []
 
--- All store 0 to the node's word in one cycle, and add 1 to it in the next. The lowest finds 0: it passes by the jump behind, and
--- runs the body alone. The others jump to where it ends
+-- All store 0 to the node's word in one cycle, and add 1 to it in the next. The lowest finds 0: it
+-- passes by the jump behind, and runs the body alone. The others jump to where it ends
 abbrev pub seq_block : (target : ℕ) → List MarkedLine
 seq_block target =
-    quiet (Addi t2 node_register (4 * agreed_word)) ∷ quiet (Addi t1 zero_register 1) ∷ quiet (Sw t2 zero_register 0) ∷
+    quiet (Addi t2 node_register (4 * agreed_word)) ∷ quiet (Addi t1 zero_register 1) ∷
+    quiet (Sw t2 zero_register 0) ∷
     commits (AmoAddW t0 t2 t1 false false) ∷ quiet (Beq t0 zero_register 8) ∷
-    goes_to (Jal zero_register 0) (label_of target) ∷ quiet (Addi body_register zero_register 1) ∷ []
+    goes_to (Jal zero_register 0) (label_of target)
+    ∷ quiet (Addi body_register zero_register 1) ∷ []
 
--- The end of the group of `start`: `@` is 0 again, `$` the number of the hart and the size that of the root, which devices tell. The
--- root's control words are at 0x18400000, and all run its body
+-- The end of the group of `start`: `@` is 0 again, `$` the number of the hart and the size that of
+-- the root, which devices tell. The root's control words are at 0x18400000, and all run its body
 abbrev pub end_block : (target : ℕ) → List MarkedLine
 end_block target =
-    commits (Addi number_register zero_register 0) ∷ quiet (Lui t0 0x30000) ∷ quiet (Lw rank_register t0 20) ∷
-    quiet (Lw size_register t0 24) ∷ quiet (Addi body_register size_register 0) ∷ quiet (Lui node_register 0x18400) ∷
+    commits (Addi number_register zero_register 0) ∷ quiet (Lui t0 0x30000) ∷
+    quiet (Lw rank_register t0 20) ∷
+    quiet (Lw size_register t0 24) ∷ quiet (Addi body_register size_register 0) ∷
+    quiet (Lui node_register 0x18400) ∷
     goes_to (Jal zero_register 0) (label_of target) ∷ []
 
 -- ---- the beginning of `start`
@@ -61,36 +75,45 @@ end_block target =
 abbrev pub start_label : ℕ
 start_label = 57
 
--- A processor goes there with its last value in t3. It comes back where it waits, or a word behind, where the group goes on
+-- A processor goes there with its last value in t3. It comes back where it waits, or a word behind,
+-- where the group goes on
 abbrev pub begin_block : (depth target : ℕ) → List MarkedLine
 begin_block depth target =
-    quiet (Lw t3 end_register (at_value depth)) ∷ goes_to (Jal ra 0) start_label ∷ goes_to (Jal zero_register 0) (label_of target) ∷ []
+    quiet (Lw t3 end_register (at_value depth)) ∷ goes_to (Jal ra 0) start_label
+    ∷ goes_to (Jal zero_register 0) (label_of target) ∷ []
 
 -- All meet in the root, where leaving is no operation
 abbrev pub gathering : Meeting
 gathering = record { arrivals = t2; size = size_register; commits = false }
 
--- then all store their values in one cycle, so that the highest member's stays, and load it in the next
+-- then all store their values in one cycle, so that the highest member's stays, and
+-- load it in the next
 abbrev pub telling_lines : List MarkedLine
-telling_lines = quiet (Sw node_register t3 (4 * agreed_word)) ∷ commits (Lw t3 node_register (4 * agreed_word)) ∷ []
+telling_lines = quiet (Sw node_register t3 (4 * agreed_word))
+    ∷ commits (Lw t3 node_register (4 * agreed_word)) ∷ []
 
 -- it becomes the size of the group: 0 for a negative value, and at most the number of processors
 abbrev pub size_lines : List MarkedLine
 size_lines =
-    quiet (Srli t1 t3 31) ∷ quiet (Sltiu t1 t1 1) ∷ quiet (Mul t3 t3 t1) ∷ quiet (Sltu t1 t3 size_register) ∷ quiet (Mul t3 t3 t1) ∷
+    quiet (Srli t1 t3 31) ∷ quiet (Sltiu t1 t1 1) ∷ quiet (Mul t3 t3 t1) ∷
+    quiet (Sltu t1 t3 size_register) ∷ quiet (Mul t3 t3 t1) ∷
     quiet (Sltiu t1 t1 1) ∷ quiet (Mul t1 size_register t1) ∷ quiet (Add t3 t3 t1) ∷ []
 
--- the address of the first control word of the group: that at the index behind the globals and the input numbers, whose number
--- a device tells
+-- the address of the first control word of the group: that at the index behind the globals and the
+-- input numbers, whose number a device tells
 abbrev pub group_words : (globals : ℕ) → ℕ
 group_words globals = control_address globals
 
--- who is not below the size goes back to wait. The others have the size of their group, and its control words
+-- who is not below the size goes back to wait. The others have the size of their group, and
+-- its control words
 abbrev pub parting_lines : (globals : ℕ) → List MarkedLine
 parting_lines globals =
-    quiet (Bltu rank_register t3 8) ∷ quiet (Jalr zero_register ra 0) ∷ quiet (Addi size_register t3 0) ∷
-    quiet (Lw t0 device_register 28) ∷ quiet (Slli t0 t0 2) ∷ quiet (Lui t1 (high_part (group_words globals))) ∷
-    quiet (Addi t1 t1 (low_part (group_words globals))) ∷ quiet (Add node_register t0 t1) ∷ quiet (Jalr zero_register ra 4) ∷ []
+    quiet (Bltu rank_register t3 8) ∷ quiet (Jalr zero_register ra 0) ∷
+    quiet (Addi size_register t3 0) ∷
+    quiet (Lw t0 device_register 28) ∷ quiet (Slli t0 t0 2) ∷
+    quiet (Lui t1 (high_part (group_words globals))) ∷
+    quiet (Addi t1 t1 (low_part (group_words globals))) ∷ quiet (Add node_register t0 t1)
+    ∷ quiet (Jalr zero_register ra 4) ∷ []
 
 abbrev pub meet_lines : List MarkedLine
 meet_lines = quiet (Addi t2 node_register (4 * closing_word)) ∷ meeting_lines gathering

@@ -11,12 +11,16 @@ use Rattle.fk_sim_nodes.specs.Phase.{Phase, Outside, Away, AllMove}
 use Rattle.fk_gen_group.specs.Meeting.{Meeting, count_for, lead}
 use Rattle.fk_gen_group.specs.Together.{Comer, Stands, GoesOn, phases}
 
-module _ {S P D : Type 0} (source : Source S P D) (g : Meeting) (image : Image) (bound : ℕ → ℕ) (mine : Words) (w n : ℕ) (test : Member → P → Hart → D → Bool) where
-  -- who is not in the lines has the turn of its processor, or faults. It leaves the arrival word as it is
+module _ {S P D : Type 0} (source : Source S P D) (g : Meeting) (image : Image) (bound : ℕ → ℕ)
+    (mine : Words) (w n : ℕ) (test : Member → P → Hart → D → Bool) where
+  -- who is not in the lines has the turn of its processor, or faults. It leaves the
+  -- arrival word as it is
   abbrev pub TurnsElsewhere : Setting → Member → P → Type 0
   TurnsElsewhere t m p =
-      (own : Memory) (earlier : List ℕ) (sh : Shared) (s : S) → Shows source earlier sh s → Has mine sh.control own
-      → Passing source image mine t m p earlier sh s (λ h d own'. (own' w ≡ own w) × (test m p h d ≡ true)) ⊎ Faulting source image mine t m p sh s
+      (own : Memory) (earlier : List ℕ) (sh : Shared) (s : S) → Shows source earlier sh s
+      → Has mine sh.control own
+      → Passing source image mine t m p earlier sh s
+      (λ h d own'. (own' w ≡ own w) × (test m p h d ≡ true)) ⊎ Faulting source image mine t m p sh s
 
   -- who is in them takes part with the count of its phase, which makes no request
   pub record TurnsInside (t : Setting) (c : Comer) (m : Member) (p : P) (d : D) : Type 0 where
@@ -39,14 +43,18 @@ module _ {S P D : Type 0} (source : Source S P D) (g : Meeting) (image : Image) 
   Became t Away c m p d f' h d' = (f' ≡ Away) × (test m p h d' ≡ true)
   Became t f c m p d f' h d' = GoesOn g image bound w n t f c m f' h × (d' ≡ d)
 
-  abbrev pub AllBecame : Setting → List Comer → List Member → List P → List D → List Phase → List Member → List D → Type 0
+  abbrev pub AllBecame : Setting → List Comer → List Member → List P → List D → List Phase
+      → List Member → List D → Type 0
   AllBecame t [] [] [] [] [] [] [] = Unit {0}
   AllBecame t (c ∷ cs) (m ∷ ms) (p ∷ ps) (d ∷ ds) (f' ∷ fs') (m' ∷ ms') (d' ∷ ds') =
-      (m'.number ≡ m.number) × Became t c.phase c m p d f' m'.hart d' × AllBecame t cs ms ps ds fs' ms' ds'
+      (m'.number ≡ m.number) × Became t c.phase c m p d f' m'.hart d'
+      × AllBecame t cs ms ps ds fs' ms' ds'
   AllBecame t cs ms ps ds fs' ms' ds' = ⊥
 
   -- and their turns are moves of those who meet
-  pub record HaveTurned (t : Setting) (cs : List Comer) (ms : List Member) (ps : List P) (ds : List D) (before : Memory) (ms' : List Member) (ds' : List D) (own : Memory) : Type 0 where
+  pub record HaveTurned (t : Setting) (cs : List Comer) (ms : List Member)
+      (ps : List P) (ds : List D) (before : Memory) (ms' : List Member) (ds' : List D)
+      (own : Memory) : Type 0 where
     pub phases' : List Phase
     pub moves : AllMove t.finished n lead (phases cs) (before w) phases' (own w)
     pub became : AllBecame t cs ms ps ds phases' ms' ds'
@@ -54,7 +62,10 @@ module _ {S P D : Type 0} (source : Source S P D) (g : Meeting) (image : Image) 
 -- The members of a node have a chain, whatever all other nodes do
 abbrev pub MeetersHaveChains : (S P D : Type 0) → Type 0
 MeetersHaveChains S P D =
-    (source : Source S P D) (g : Meeting) (image : Image) (bound : ℕ → ℕ) (mine : Words) (w n : ℕ) (test : Member → P → Hart → D → Bool)
+    (source : Source S P D) (g : Meeting) (image : Image) (bound : ℕ → ℕ) (mine : Words) (w n : ℕ)
+    (test : Member → P → Hart → D → Bool)
     (t : Setting) (cs : List Comer) (ms : List Member) (ps : List P) (ds : List D) (own : Memory)
-    → AreApart mine source.common → mine w ≡ true → Holds image t → AllTurn source g image bound mine w n test t cs ms ps ds
-    → Chain source image mine t ms ps own (λ ms' ds' own'. HaveTurned source g image bound mine w n test t cs ms ps ds own ms' ds' own')
+    → AreApart mine source.common → mine w ≡ true → Holds image t
+    → AllTurn source g image bound mine w n test t cs ms ps ds
+    → Chain source image mine t ms ps own
+    (λ ms' ds' own'. HaveTurned source g image bound mine w n test t cs ms ps ds own ms' ds' own')

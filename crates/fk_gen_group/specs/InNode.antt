@@ -19,20 +19,25 @@ use Rattle.fk_sim_block.specs.Node.{Nestings, HasLevelRoom}
 use Rattle.fk_sim_block.specs.Lockstep.{LevelsStay}
 use Rattle.fk_sim_block.specs.Law.{Cycles, BlockDoesInNode, BlockJumpsInNode}
 
--- the levels of the running call have room beside the values of an operation and the private words that it writes, and the call
--- goes on with them
-pub record HasLevels (core : List CoreOp) (places : Places) (nestings : Nestings) (i : ℕ) (op : CoreOp) (operation : Operation) : Type 0 where
+-- the levels of the running call have room beside the values of an operation and the private words
+-- that it writes, and the call goes on with them
+pub record HasLevels (core : List CoreOp) (places : Places) (nestings : Nestings) (i : ℕ)
+    (op : CoreOp) (operation : Operation) : Type 0 where
   pub few : places.frames.of_file ≤ 56
   pub room : HasLevelRoom places.frames nestings i (peak operation op.depth)
-  pub apart : 0 < nestings.levels i → (word : ℕ) → writes operation word ≡ true → word < nestings.behind i
-  pub stay : (onward : Bool) → LevelsStay nestings i (follows core operation i op.target [] onward).at
+  pub apart : 0 < nestings.levels i → (word : ℕ) → writes operation word ≡ true
+      → word < nestings.behind i
+  pub stay : (onward : Bool)
+      → LevelsStay nestings i (follows core operation i op.target [] onward).at
 
--- a call goes on behind the jump that follows it, with the same levels, which have room beside the values that are left and a
--- result. None stand in the new frame
-pub record GivesLevels (core : List CoreOp) (places : Places) (nestings : Nestings) (i depth arguments : ℕ) : Type 0 where
+-- a call goes on behind the jump that follows it, with the same levels, which have room beside the
+-- values that are left and a result. None stand in the new frame
+pub record GivesLevels (core : List CoreOp) (places : Places) (nestings : Nestings)
+    (i depth arguments : ℕ) : Type 0 where
   pub few : places.frames.of_file ≤ 56
   pub stay : LevelsStay nestings i (behind_jump core (suc i))
-  pub room : HasLevelRoom places.frames nestings (behind_jump core (suc i)) (suc (depth - arguments))
+  pub room : HasLevelRoom places.frames nestings (behind_jump core (suc i))
+      (suc (depth - arguments))
   pub none : nestings.levels (suc i) ≡ 0
   pub entry : HasLevelRoom places.frames nestings (suc i) 0
 
@@ -42,21 +47,30 @@ pub record HasNoLevels (places : Places) (nestings : Nestings) (i : ℕ) : Type 
   pub none : nestings.levels i ≡ 0
 
 -- what is asked of the levels of the running call, by an operation
-abbrev pub LevelsFit : (core : List CoreOp) → Places → Nestings → (i : ℕ) → CoreOp → Operation → Type 0
-LevelsFit core places nestings i op (Enter arguments) = GivesLevels core places nestings i op.depth arguments
+abbrev pub LevelsFit : (core : List CoreOp) → Places → Nestings → (i : ℕ) → CoreOp
+    → Operation → Type 0
+LevelsFit core places nestings i op (Enter arguments) =
+    GivesLevels core places nestings i op.depth arguments
 LevelsFit core places nestings i op (Leave gives framed) = HasNoLevels places nestings i
 LevelsFit core places nestings i op operation = HasLevels core places nestings i op operation
 
--- a block of an operation that processors do alone, and that keeps what is to be kept, keeps its hart in its node, in as many cycles
+-- a block of an operation that processors do alone, and that keeps what is to be kept, keeps its
+-- hart in its node, in as many cycles
 abbrev pub LoneBlocksStayInNode : Type 0
 LoneBlocksStayInNode =
-    (core : List CoreOp) (image : Image) (places : Places) (nestings : Nestings) (cycles : Cycles) (i : ℕ) (op : CoreOp) (operation : Operation)
-    → StandsOp core i op operation → is_alone operation ≡ true → LevelsFit core places nestings i op operation
-    → BlockKeeps core image places (cycles.before i) (cycles.behind i) i op operation → BlockDoesInNode core image places nestings cycles i op operation
+    (core : List CoreOp) (image : Image) (places : Places) (nestings : Nestings) (cycles : Cycles)
+    (i : ℕ) (op : CoreOp) (operation : Operation)
+    → StandsOp core i op operation → is_alone operation ≡ true
+    → LevelsFit core places nestings i op operation
+    → BlockKeeps core image places (cycles.before i) (cycles.behind i) i op operation
+    → BlockDoesInNode core image places nestings cycles i op operation
 
 -- and so does a jump, where the call goes on with the same levels
 abbrev pub JumpsStayInNode : Type 0
 JumpsStayInNode =
-    (core : List CoreOp) (image : Image) (bound : ℕ → ℕ) (places : Places) (nestings : Nestings) (i : ℕ) (op : CoreOp)
-    → HasBlock image bound places i (goes_to (Jal zero_register 0) (label_of op.target) ∷ []) → Flows core places.frames nothing i op.target
-    → places.frames.of_file ≤ 56 → LevelsStay nestings i op.target → BlockJumpsInNode core image places nestings i op
+    (core : List CoreOp) (image : Image) (bound : ℕ → ℕ) (places : Places) (nestings : Nestings)
+    (i : ℕ) (op : CoreOp)
+    → HasBlock image bound places i (goes_to (Jal zero_register 0) (label_of op.target) ∷ [])
+    → Flows core places.frames nothing i op.target
+    → places.frames.of_file ≤ 56 → LevelsStay nestings i op.target
+    → BlockJumpsInNode core image places nestings i op

@@ -1,7 +1,8 @@
 -- What the blocks of groups do where they stand.
 use Rattle.std.specs.Prelude.{◌≡◌, ℕ, ◌≤◌, suc, List, length, Some, None, true, if◌then◌else◌}
 use Rattle.fk_meaning_operation.specs.declared.operation.Operation.{Operation}
-use Rattle.fk_meaning_operation.specs.declared.operation.Operation.TheVariants.{Begin, Agree, Farm, Seq, End}
+use Rattle.fk_meaning_operation.specs.declared.operation.Operation.TheVariants.{Begin, Agree, Farm}
+use Rattle.fk_meaning_operation.specs.declared.operation.Operation.TheVariants.{Seq, End}
 use Rattle.fk_core.specs.declared.op.CoreOp.{CoreOp}
 use Rattle.fk_image.specs.declared.Image.{Image}
 use Rattle.fk_sim_block.specs.Stands.{Places}
@@ -9,14 +10,16 @@ use Rattle.fk_sim_block.specs.Next.{StandsOp}
 use Rattle.fk_sim_block.specs.Suits.{Fits}
 use Rattle.fk_gen.specs.InPlace.{HasBlock}
 use Rattle.fk_sim_block.specs.Node.{Nestings, HasLevelRoom}
-use Rattle.fk_sim_block.specs.Lockstep.{LevelsStay, StepTogether, PartTogether, EndTogether, AreOfSize, IsLowest, one_runs, values_of_step}
+use Rattle.fk_sim_block.specs.Lockstep.{LevelsStay, StepTogether, PartTogether, EndTogether}
+use Rattle.fk_sim_block.specs.Lockstep.{AreOfSize, IsLowest, one_runs, values_of_step}
 use Rattle.fk_gen_group.specs.Blocks.{block_of, HasStart}
 use Rattle.fk_gen_group.specs.Start.{gathered_at, who_comes}
 use Rattle.fk_sim_block.specs.Joint.{is_meeting, BlockMeets}
 use Rattle.fk_sim_block.specs.Start.{BlockStarts}
 
 -- the block of a step stands at its index, in a list whose values and levels have room
-pub record IsInPlace (core : List CoreOp) (image : Image) (bound : ℕ → ℕ) (places : Places) (nestings : Nestings) (i : ℕ) (op : CoreOp) (operation : Operation) : Type 0 where
+pub record IsInPlace (core : List CoreOp) (image : Image) (bound : ℕ → ℕ) (places : Places)
+    (nestings : Nestings) (i : ℕ) (op : CoreOp) (operation : Operation) : Type 0 where
   pub stands : StandsOp core i op operation
   pub block : HasBlock image bound places i (block_of (Some operation) op.depth op.target)
   pub fits : Fits core places.frames i op operation
@@ -25,46 +28,60 @@ pub record IsInPlace (core : List CoreOp) (image : Image) (bound : ℕ → ℕ) 
   pub levels : HasLevelRoom places.frames nestings i op.depth
   pub stay : LevelsStay nestings i (suc i)
 
--- members in lockstep come in two cycles to the one in which all agree on the last value of the highest, and one more brings
--- them to the next block
+-- members in lockstep come in two cycles to the one in which all agree on the last value of the
+-- highest, and one more brings them to the next block
 abbrev pub GroupsAgree : Type 0
 GroupsAgree =
-    (core : List CoreOp) (image : Image) (bound : ℕ → ℕ) (places : Places) (nestings : Nestings) (i : ℕ) (op : CoreOp) (lowest size : ℕ)
-    → IsInPlace core image bound places nestings i op Agree → StepTogether core image places nestings i op Agree (λ ps. Unit {0}) 2 1 None (λ p. None) lowest size
+    (core : List CoreOp) (image : Image) (bound : ℕ → ℕ) (places : Places) (nestings : Nestings)
+    (i : ℕ) (op : CoreOp) (lowest size : ℕ)
+    → IsInPlace core image bound places nestings i op Agree → StepTogether core image places
+    nestings i op Agree (λ ps. Unit {0}) 2 1 None (λ p. None) lowest size
 
--- the block of a `barrier`, of the end of a body and of the end of a part leads its hart to a meeting, where it arrives after at most
--- 7 cycles
+-- the block of a `barrier`, of the end of a body and of the end of a part leads its hart to a
+-- meeting, where it arrives after at most 7 cycles
 abbrev pub BlocksMeet : Type 0
 BlocksMeet =
-    (core : List CoreOp) (image : Image) (bound : ℕ → ℕ) (places : Places) (nestings : Nestings) (i : ℕ) (op : CoreOp) (operation : Operation)
-    → is_meeting operation ≡ true → IsInPlace core image bound places nestings i op operation → BlockMeets core image places nestings i op operation 7
+    (core : List CoreOp) (image : Image) (bound : ℕ → ℕ) (places : Places) (nestings : Nestings)
+    (i : ℕ) (op : CoreOp) (operation : Operation)
+    → is_meeting operation ≡ true → IsInPlace core image bound places nestings i op operation
+    → BlockMeets core image places nestings i op operation 7
 
 -- in one cycle all members of a group begin to run its body, each by itself
 abbrev pub GroupsSetFree : Type 0
 GroupsSetFree =
-    (core : List CoreOp) (image : Image) (bound : ℕ → ℕ) (places : Places) (nestings : Nestings) (i : ℕ) (op : CoreOp) (lowest size : ℕ)
+    (core : List CoreOp) (image : Image) (bound : ℕ → ℕ) (places : Places) (nestings : Nestings)
+    (i : ℕ) (op : CoreOp) (lowest size : ℕ)
     → size ≤ 1024 → IsInPlace core image bound places nestings i op Farm
-    → PartTogether core image places nestings i op Farm (λ ps. AreOfSize size ps) 0 0 None (λ p. Some size) lowest size
+    → PartTogether core image places nestings i op Farm (λ ps. AreOfSize size ps) 0 0 None
+    (λ p. Some size) lowest size
 
--- the lowest member alone comes to the body, which it runs by itself; the others come to where it ends
+-- the lowest member alone comes to the body, which it runs by itself; the others come
+-- to where it ends
 abbrev pub GroupsSendOne : Type 0
 GroupsSendOne =
-    (core : List CoreOp) (image : Image) (bound : ℕ → ℕ) (places : Places) (nestings : Nestings) (i : ℕ) (op : CoreOp) (lowest size : ℕ)
+    (core : List CoreOp) (image : Image) (bound : ℕ → ℕ) (places : Places) (nestings : Nestings)
+    (i : ℕ) (op : CoreOp) (lowest size : ℕ)
     → IsInPlace core image bound places nestings i op Seq → LevelsStay nestings i op.target
-    → PartTogether core image places nestings i op Seq (λ ps. (length ps ≤ 1024) × IsLowest lowest ps) 3 2 None (one_runs lowest) lowest size
+    → PartTogether core image places nestings i op Seq
+    (λ ps. (length ps ≤ 1024) × IsLowest lowest ps) 3 2 None (one_runs lowest) lowest size
 
 -- the members of the group of `start` go back to the root
 abbrev pub GroupsEnd : Type 0
 GroupsEnd =
-    (core : List CoreOp) (image : Image) (bound : ℕ → ℕ) (places : Places) (nestings : Nestings) (i : ℕ) (op : CoreOp) (lowest size : ℕ)
+    (core : List CoreOp) (image : Image) (bound : ℕ → ℕ) (places : Places) (nestings : Nestings)
+    (i : ℕ) (op : CoreOp) (lowest size : ℕ)
     → IsInPlace core image bound places nestings i op End → LevelsStay nestings i op.target
     → EndTogether core image places nestings i op 6 lowest size
 
--- at the beginning of `start` all processors meet in the root, after at most 9 cycles. Two cycles behind the one in which they
--- leave they commit, and know the last value of the highest. Those below it come 16 cycles later to the body, in the group; and
--- the others 11 cycles later to where they wait
+-- at the beginning of `start` all processors meet in the root, after at most 9 cycles. Two
+-- cycles behind the one in which they leave they commit, and know the last value of the highest.
+-- Those below it come 16 cycles later to the body, in the group; and the others 11 cycles later
+-- to where they wait
 abbrev pub GroupsStart : Type 0
 GroupsStart =
-    (core : List CoreOp) (image : Image) (bound : ℕ → ℕ) (places : Places) (nestings : Nestings) (i : ℕ) (op : CoreOp)
-    → HasStart image bound → IsInPlace core image bound places nestings i op Begin → LevelsStay nestings i op.target
-    → BlockStarts core image places nestings i op (gathered_at bound) (who_comes bound op.depth) 9 1 (λ onward. if onward then 16 else 11)
+    (core : List CoreOp) (image : Image) (bound : ℕ → ℕ) (places : Places) (nestings : Nestings)
+    (i : ℕ) (op : CoreOp)
+    → HasStart image bound → IsInPlace core image bound places nestings i op Begin
+    → LevelsStay nestings i op.target
+    → BlockStarts core image places nestings i op (gathered_at bound)
+    (who_comes bound op.depth) 9 1 (λ onward. if onward then 16 else 11)

@@ -1,4 +1,5 @@
--- A hart at the block of an operation that several do together by meeting, on its way in lines of a meeting.
+-- A hart at the block of an operation that several do together by meeting, on its way in
+-- lines of a meeting.
 use Rattle.std.specs.Prelude.{◌≡◌, ℕ, suc, ◌+◌, ◌≤◌, List, false, Option}
 use Rattle.fk_meaning_operation.specs.declared.operation.Operation.{Operation}
 use Rattle.fk_meaning_operation.specs.declared.operation.Operation.TheVariants.{Meet}
@@ -18,25 +19,32 @@ use Rattle.fk_sim_block.specs.Lockstep.{IsMember}
 use Rattle.fk_sim_block.specs.Joint.{word_of, AreSoMany}
 use Rattle.fk_gen_group.specs.Blocks.{meeting_of}
 
--- at a `barrier` those who run the body meet, else all members of the node. Which register has their number
+-- at a `barrier` those who run the body meet, else all members of the node. Which register
+-- has their number
 abbrev pub counted_by : Operation → ℕ
 counted_by (Meet false) = body_register
 counted_by operation = size_register
 
-module _ (core : List CoreOp) (image : Image) (bound : ℕ → ℕ) (places : Places) (nestings : Nestings) (i : ℕ) (op : CoreOp) (operation : Operation) where
-  -- a hart is on its way to an arrival word, which it reaches in so many cycles. When it has left it stands for its
-  -- processor behind the operation
-  pub record ComesToMeet (g : Meeting) (word : ℕ) (setting : Setting) (t : MachineSetting) (runs : Option ℕ) (n : ℕ) (m : Member) (p : Owner) : Type 0 where
+module _ (core : List CoreOp) (image : Image) (bound : ℕ → ℕ) (places : Places)
+    (nestings : Nestings) (i : ℕ) (op : CoreOp) (operation : Operation) where
+  -- a hart is on its way to an arrival word, which it reaches in so many cycles. When it has left
+  -- it stands for its processor behind the operation
+  pub record ComesToMeet (g : Meeting) (word : ℕ) (setting : Setting) (t : MachineSetting)
+      (runs : Option ℕ) (n : ℕ) (m : Member) (p : Owner) : Type 0 where
     pub comer : Comer
     pub steps : ℕ
     pub few : steps ≤ 7
     pub comes : comer.phase ≡ Coming steps
     pub stands : Stands g image bound word n t comer m
     pub leaves : (h : Hart) → HasLeft g image comer.lines n comer.first h
-        → StandsAt places (gone_to (suc i) p) h × StandsInNode places nestings setting runs (gone_to (suc i) p) h
+        → StandsAt places (gone_to (suc i) p) h
+        × StandsInNode places nestings setting runs (gone_to (suc i) p) h
 
   abbrev pub BlockComesToMeet : Type 0
   BlockComesToMeet =
-      (setting : Setting) (t : MachineSetting) (mine : Words) (runs : Option ℕ) (first n : ℕ) (m : Member) (p : Owner)
-      → OwnsHeader mine first → Enters core image places setting t i op operation p m.hart → IsMember places nestings setting runs first m p
-      → AreSoMany operation runs p n → ComesToMeet (meeting_of (counted_by operation)) (first + word_of operation) setting t runs n m p
+      (setting : Setting) (t : MachineSetting) (mine : Words) (runs : Option ℕ) (first n : ℕ)
+      (m : Member) (p : Owner)
+      → OwnsHeader mine first → Enters core image places setting t i op operation p m.hart
+      → IsMember places nestings setting runs first m p
+      → AreSoMany operation runs p n → ComesToMeet (meeting_of (counted_by operation))
+      (first + word_of operation) setting t runs n m p

@@ -1,21 +1,24 @@
 -- The lines by which harts meet, and where a hart stands in them.
-use Rattle.std.specs.Prelude.{◌≡◌, ◌≢◌, ℕ, zero, suc, ◌+◌, ◌-◌, ◌*◌, ◌%◌, ◌^◌, ◌<◌, ◌≤◌, List, [], ◌∷◌, Bool, true, false, ◌⊎◌}
+use Rattle.std.specs.Prelude.{◌≡◌, ◌≢◌, ℕ, zero, suc, ◌+◌, ◌-◌, ◌*◌, ◌%◌, ◌^◌, ◌<◌, ◌≤◌, List, []}
+use Rattle.std.specs.Prelude.{◌∷◌, Bool, true, false, ◌⊎◌}
 use Rattle.fk_num.specs.Word.{Memory}
 use Rattle.fk_image.specs.declared.Image.{Image}
 use Rattle.fk_isa.specs.declared.instruction.Instruction.{Instruction}
-use Rattle.fk_isa.specs.declared.instruction.Instruction.TheVariants.{Lui, Lw, Sw, Addi, Andi, Beq, Bne, AmoAddW}
+use Rattle.fk_isa.specs.declared.instruction.Instruction.TheVariants.{Lui, Lw, Sw, Addi, Andi, Beq}
+use Rattle.fk_isa.specs.declared.instruction.Instruction.TheVariants.{Bne, AmoAddW}
 use Rattle.fk_asm.specs.Block.{MarkedLine}
 use Rattle.fk_machine.specs.Hart.{Hart, Setting}
 use Rattle.fk_sim_nodes.specs.Node.{Member, Words}
 use Rattle.fk_sim_nodes.specs.Alone.{Holds, RunsPrivately, Stays, later}
-use Rattle.fk_sim_nodes.specs.Phase.{Phase, Outside, Away, Coming, Waiting, Leaving, Moves, word_after}
+use Rattle.fk_sim_nodes.specs.Phase.{Phase, Outside, Away, Coming, Waiting, Leaving, Moves}
+use Rattle.fk_sim_nodes.specs.Phase.{word_after}
 use Rattle.fk_gen.specs.Registers.{zero_register, t0, t1}
 use Rattle.fk_gen.specs.Lines.{quiet, commits}
 use Rattle.fk_gen.specs.InPlace.{LinesAt}
 use Rattle.fk_sim_block.specs.Node.{control_address, root_words}
 
--- where harts meet: a register with the address of the arrival word, one with the number of members, and whether leaving is
--- the operation
+-- where harts meet: a register with the address of the arrival word, one with the number of
+-- members, and whether leaving is the operation
 pub record Meeting : Type 0 where
   pub arrivals : ℕ
   pub size : ℕ
@@ -29,11 +32,13 @@ abbrev pub count_of_leaving : Bool → ℕ
 count_of_leaving true = 1
 count_of_leaving false = 0
 
--- The device at 0x30000010 tells how many cycles are finished. The first six lines take 5 cycles or 6, so that the addition
--- comes in an even cycle; the load then comes in odd ones, and so does the store of 0, with which all leave
+-- The device at 0x30000010 tells how many cycles are finished. The first six lines take 5 cycles or
+-- 6, so that the addition comes in an even cycle; the load then comes in odd ones, and so does the
+-- store of 0, with which all leave
 abbrev pub meeting_lines : Meeting → List MarkedLine
 meeting_lines g =
-    quiet (Lui t0 0x30000) ∷ quiet (Lw t0 t0 16) ∷ quiet (Andi t0 t0 1) ∷ quiet (Addi t1 zero_register 1) ∷
+    quiet (Lui t0 0x30000) ∷ quiet (Lw t0 t0 16) ∷ quiet (Andi t0 t0 1) ∷
+    quiet (Addi t1 zero_register 1) ∷
     quiet (Beq t0 zero_register 8) ∷ quiet (Addi zero_register zero_register 0) ∷
     quiet (AmoAddW zero_register g.arrivals t1 false false) ∷ quiet (Lw t0 g.arrivals 0) ∷
     quiet (Bne t0 g.size (2 ^ 32 - 4)) ∷ leaving_line g.commits (Sw g.arrivals zero_register 0) ∷ []
@@ -76,16 +81,20 @@ module _ (g : Meeting) where
       pub at : h.pc ≡ 4 * (k + 10)
       pub keeps : Keeps first h
 
-    -- where a hart that came to the lines at word k stands at the beginning of a cycle, by its phase
+    -- where a hart that came to the lines at word k stands at the beginning of a
+    -- cycle, by its phase
     abbrev pub StandsInPhase : Setting → (number : ℕ) → Phase → Hart → Type 0
     StandsInPhase t number Outside h = ⊥
     StandsInPhase t number Away h = ⊥
     StandsInPhase t number (Coming d) h =
-        ((t.finished + d) % 2 ≡ 0) × ((arriving : Hart) × RunsPrivately image t number d h arriving × IsArriving arriving)
+        ((t.finished + d) % 2 ≡ 0)
+        × ((arriving : Hart) × RunsPrivately image t number d h arriving × IsArriving arriving)
     StandsInPhase t number Waiting h =
         Keeps first h
-        × (((t.finished % 2 ≡ 1) × (h.pc ≡ 4 * (k + 7))) ⊎ ((t.finished % 2 ≡ 0) × (h.pc ≡ 4 * (k + 8)) × (h.registers t0 ≢ n)))
-    StandsInPhase t number (Leaving zero) h = Keeps first h × (t.finished % 2 ≡ 1) × (h.pc ≡ 4 * (k + 9))
+        × (((t.finished % 2 ≡ 1) × (h.pc ≡ 4 * (k + 7)))
+        ⊎ ((t.finished % 2 ≡ 0) × (h.pc ≡ 4 * (k + 8)) × (h.registers t0 ≢ n)))
+    StandsInPhase t number (Leaving zero) h = Keeps first h × (t.finished % 2 ≡ 1)
+        × (h.pc ≡ 4 * (k + 9))
     StandsInPhase t number (Leaving (suc zero)) h =
         Keeps first h × (t.finished % 2 ≡ 0) × (h.pc ≡ 4 * (k + 8)) × (h.registers t0 ≡ n)
     StandsInPhase t number (Leaving (suc (suc d))) h = ⊥
@@ -100,7 +109,8 @@ module _ (g : Meeting) where
   count_for f = 0
 
   -- the turn of a member in its phase touches the arrival word alone
-  pub record Turn (image : Image) (mine : Words) (k w n : ℕ) (first : Hart) (t : Setting) (f : Phase) (m : Member) (own : Memory) : Type 0 where
+  pub record Turn (image : Image) (mine : Words) (k w n : ℕ) (first : Hart) (t : Setting)
+      (f : Phase) (m : Member) (own : Memory) : Type 0 where
     pub hart : Hart
     pub words : Memory
     pub phase : Phase
@@ -118,13 +128,15 @@ pub record HasMeeting (g : Meeting) (image : Image) (bound : ℕ → ℕ) (k : �
 -- a hart that comes to the lines arrives after 5 or 6 cycles, in an even one
 abbrev pub HartsArrive : Type 0
 HartsArrive =
-    (g : Meeting) (image : Image) (bound : ℕ → ℕ) (k w n number : ℕ) (t : Setting) (h : Hart) → HasMeeting g image bound k
+    (g : Meeting) (image : Image) (bound : ℕ → ℕ) (k w n number : ℕ) (t : Setting) (h : Hart)
+    → HasMeeting g image bound k
     → Holds image t → IsReadyToMeet g w n h → h.pc ≡ 4 * k
     → (d : ℕ) × (5 ≤ d) × (d ≤ 6) × StandsInPhase g image k n h t number (Coming d) h
 
 -- and goes through its phases
 abbrev pub HartsMove : Type 0
 HartsMove =
-    (g : Meeting) (image : Image) (bound : ℕ → ℕ) (mine : Words) (k w n : ℕ) (t : Setting) (first : Hart) (f : Phase) (m : Member) (own : Memory)
+    (g : Meeting) (image : Image) (bound : ℕ → ℕ) (mine : Words) (k w n : ℕ) (t : Setting)
+    (first : Hart) (f : Phase) (m : Member) (own : Memory)
     → HasMeeting g image bound k → mine w ≡ true → Holds image t → IsReadyToMeet g w n first
     → StandsInPhase g image k n first t m.number f m.hart → Turn g image mine k w n first t f m own

@@ -15,14 +15,21 @@ use Rattle.fk_gen_group.specs.Blocks.{start_label}
 abbrev pub gathered_at : (bound : ℕ → ℕ) → Polling
 gathered_at bound = record { at = bound start_label + 11; changes = λ r. (r == t0) || (r == t1) }
 
--- before that a hart has loaded its last value, of so many, into t3, has linked behind its jump, and has the address of the root's
--- closing word in t2
+-- before that a hart has loaded its last value, of so many, into t3, has linked behind its jump,
+-- and has the address of the root's closing word in t2
 abbrev pub who_comes : (bound : ℕ → ℕ) → (depth : ℕ) → Hart → Hart
 who_comes bound depth h =
     let value = h.local ((word_sum (h.registers end_register) (at_value depth) - 0x20000000) / 4) in
-    let linked = set_register (set_register h.registers t3 value) ra (word_sum (word_sum h.pc 4) 4) in
-    record h { registers = set_register linked t2 (word_sum (linked node_register) (4 * closing_word)); pc = word_sum (4 * bound start_label) 4 }
+    let linked =
+    set_register (set_register h.registers t3 value) ra (word_sum (word_sum h.pc 4) 4) in
+    record h {
+      registers = set_register linked t2 (word_sum (linked node_register) (4 * closing_word));
+      pc = word_sum (4 * bound start_label) 4;
+    }
 
 -- so they meet in the code of a list
 abbrev pub gathering_of : List CoreOp → (bound : ℕ → ℕ) → Gathering
-gathering_of core bound = record { there = λ i. gathered_at bound; coming = λ i. who_comes bound (option_map_or (λ op. op.depth) (slice_get core i) 0) }
+gathering_of core bound = record {
+  there = λ i. gathered_at bound;
+  coming = λ i. who_comes bound (option_map_or (λ op. op.depth) (slice_get core i) 0);
+}

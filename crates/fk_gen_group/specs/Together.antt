@@ -7,10 +7,11 @@ use Rattle.fk_machine.specs.Step.{step}
 use Rattle.fk_sim_nodes.specs.Node.{Member, Words}
 use Rattle.fk_sim_nodes.specs.Alone.{Holds, NodeCycle, NodeRun, in_cycles}
 use Rattle.fk_sim_nodes.specs.Phase.{Phase, Outside, Away, Coming, AllMove, Each, Settled, IsDue}
-use Rattle.fk_gen_group.specs.Meeting.{Meeting, HasMeeting, IsReadyToMeet, StandsInPhase, Continues, HasLeft, count_of_leaving, lead}
+use Rattle.fk_gen_group.specs.Meeting.{Meeting, HasMeeting, IsReadyToMeet, StandsInPhase, Continues}
+use Rattle.fk_gen_group.specs.Meeting.{HasLeft, count_of_leaving, lead}
 
--- a hart at an arrival word: its phase there, the word of the code where the lines begin to which it came, and what it was
--- when it came. Those who meet may have come to different lines
+-- a hart at an arrival word: its phase there, the word of the code where the lines begin to which
+-- it came, and what it was when it came. Those who meet may have come to different lines
 pub record Comer : Type 0 where
   pub phase : Phase
   pub lines : ℕ
@@ -35,14 +36,16 @@ module _ (g : Meeting) (image : Image) (bound : ℕ → ℕ) (w n : ℕ) where
 
   -- ---- whatever the others do
 
-  -- the turn of one who is in the lines is its step; that of another leaves the arrival word as it is
+  -- the turn of one who is in the lines is its step; that of another leaves the
+  -- arrival word as it is
   abbrev pub TakesTurn : Setting → Phase → Comer → Member → Shared → Hart → Shared → Type 0
   TakesTurn t Outside c m sh h sh' = sh'.control w ≡ sh.control w
   TakesTurn t Away c m sh h sh' = sh'.control w ≡ sh.control w
   TakesTurn t f c m sh h sh' = Stands t c m × (step t m.number m.hart sh ≡ Goes h sh')
 
   -- the turns of all in a cycle, in ascending number
-  abbrev pub AllTakeTurns : Setting → List Comer → List Member → Shared → List Hart → Shared → Type 0
+  abbrev pub AllTakeTurns : Setting → List Comer → List Member → Shared → List Hart
+      → Shared → Type 0
   AllTakeTurns t [] [] sh [] sh' = sh' ≡ sh
   AllTakeTurns t (c ∷ cs) (m ∷ ms) sh (h ∷ hs) sh' =
       (sh1 : Shared) × TakesTurn t c.phase c m sh h sh1 × AllTakeTurns t cs ms sh1 hs sh'
@@ -56,7 +59,8 @@ module _ (g : Meeting) (image : Image) (bound : ℕ → ℕ) (w n : ℕ) where
 
   abbrev pub AllGoOn : Setting → List Comer → List Member → List Phase → List Hart → Type 0
   AllGoOn t [] [] [] [] = Unit {0}
-  AllGoOn t (c ∷ cs) (m ∷ ms) (f' ∷ fs') (h ∷ hs) = GoesOn t c.phase c m f' h × AllGoOn t cs ms fs' hs
+  AllGoOn t (c ∷ cs) (m ∷ ms) (f' ∷ fs') (h ∷ hs) = GoesOn t c.phase c m f' h
+      × AllGoOn t cs ms fs' hs
   AllGoOn t cs ms fs' hs = ⊥
 
   -- ---- a node whose members are all in the lines
@@ -72,35 +76,43 @@ module _ (g : Meeting) (image : Image) (bound : ℕ → ℕ) (w n : ℕ) where
   AllHaveLeft cs ms = ⊥
 
   -- all have left, their arrival word is 0, and the node's other words are as they were
-  pub record HaveMet (cs : List Comer) (before : Memory) (ms : List Member) (own : Memory) : Type 0 where
+  pub record HaveMet (cs : List Comer) (before : Memory) (ms : List Member)
+      (own : Memory) : Type 0 where
     pub left : AllHaveLeft cs ms
     pub nobody : own w ≡ 0
     pub others : (j : ℕ) → j ≢ w → own j ≡ before j
 
   -- after so many cycles in which nobody leaves they all leave in one
-  abbrev pub LeaveAfter : (mine : Words) → (d : ℕ) → Setting → List Comer → List Member → (own : Memory) → Type 0
+  abbrev pub LeaveAfter : (mine : Words) → (d : ℕ) → Setting → List Comer → List Member
+      → (own : Memory) → Type 0
   LeaveAfter mine d t cs ms own =
       NodeRun image mine t d ms own
-      (λ ms' own'. NodeCycle image mine (in_cycles d t) (count_of_leaving g.commits) ms' own' (λ ms'' own''. HaveMet cs own ms'' own''))
+      (λ ms' own'. NodeCycle image mine (in_cycles d t)
+      (count_of_leaving g.commits) ms' own' (λ ms'' own''. HaveMet cs own ms'' own''))
 
--- The turns of a cycle are moves of those who meet at an arrival word, whatever others do who leave it as it is. So the laws
--- of meetings say when all leave, and that nobody does before all have arrived
+-- The turns of a cycle are moves of those who meet at an arrival word, whatever others do who
+-- leave it as it is. So the laws of meetings say when all leave, and that nobody does before
+-- all have arrived
 abbrev pub TurnsAreMoves : Type 0
 TurnsAreMoves =
-    (g : Meeting) (image : Image) (bound : ℕ → ℕ) (w n : ℕ) (t : Setting) (cs : List Comer) (ms : List Member) (hs : List Hart) (sh sh' : Shared)
+    (g : Meeting) (image : Image) (bound : ℕ → ℕ) (w n : ℕ) (t : Setting) (cs : List Comer)
+    (ms : List Member) (hs : List Hart) (sh sh' : Shared)
     → Holds image t → AllTakeTurns g image bound w n t cs ms sh hs sh'
-    → (fs' : List Phase) × AllMove t.finished n lead (phases cs) (sh.control w) fs' (sh'.control w) × AllGoOn g image bound w n t cs ms fs' hs
+    → (fs' : List Phase) × AllMove t.finished n lead (phases cs) (sh.control w) fs' (sh'.control w)
+    × AllGoOn g image bound w n t cs ms fs' hs
 
--- The aligned barrier: members who have all entered leave in one cycle, at most k from now where all have time for it in k
--- cycles. None of them leaves before
+-- The aligned barrier: members who have all entered leave in one cycle, at most k from now where
+-- all have time for it in k cycles. None of them leaves before
 abbrev pub MembersLeaveTogether : Type 0
 MembersLeaveTogether =
-    (g : Meeting) (image : Image) (bound : ℕ → ℕ) (mine : Words) (w n k : ℕ) (t : Setting) (cs : List Comer) (ms : List Member) (own : Memory)
+    (g : Meeting) (image : Image) (bound : ℕ → ℕ) (mine : Words) (w n k : ℕ) (t : Setting)
+    (cs : List Comer) (ms : List Member) (own : Memory)
     → Holds image t → mine w ≡ true → length cs < 2 ^ 31 → AllStand g image bound w n t cs ms
     → Settled t.finished n (own w) (phases cs) → IsDue lead k t.finished (phases cs)
     → (d : ℕ) × (d ≤ k) × LeaveAfter g image bound w n mine d t cs ms own
 
--- who is on its way has come to its block at most, with the register of the arrival word still to be set
+-- who is on its way has come to its block at most, with the register of the arrival
+-- word still to be set
 abbrev pub HasCome : Phase → Type 0
 HasCome (Coming d) = d ≤ 7
 HasCome f = Unit {0}
@@ -108,7 +120,8 @@ HasCome f = Unit {0}
 -- 10 cycles are enough for that, from the cycle on in which the last of them comes
 abbrev pub MembersLeaveInTen : Type 0
 MembersLeaveInTen =
-    (g : Meeting) (image : Image) (bound : ℕ → ℕ) (mine : Words) (w n : ℕ) (t : Setting) (cs : List Comer) (ms : List Member) (own : Memory)
+    (g : Meeting) (image : Image) (bound : ℕ → ℕ) (mine : Words) (w n : ℕ) (t : Setting)
+    (cs : List Comer) (ms : List Member) (own : Memory)
     → Holds image t → mine w ≡ true → length cs < 2 ^ 31 → AllStand g image bound w n t cs ms
     → Settled t.finished n (own w) (phases cs) → Each HasCome (phases cs)
     → (d : ℕ) × (d ≤ 10) × LeaveAfter g image bound w n mine d t cs ms own

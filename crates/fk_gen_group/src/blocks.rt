@@ -3,7 +3,8 @@
 ghost use Rattle.std.specs.Prelude.{◌≡◌, ◌+◌, ◌^◌, ◌<◌, ◌≤◌, All, OnOk, OnErr, length};
 ghost use Rattle.fk_asm.specs.Assembly.{AreFollowed};
 ghost use Rattle.fk_asm.specs.Block.{GoesToMade, HasBegun, with_block};
-ghost use Rattle.fk_gen_group.specs.Blocks.{meet_block, begin_block, agree_block, farm_block, seq_block, end_block};
+ghost use Rattle.fk_gen_group.specs.Blocks.{meet_block, begin_block, agree_block, farm_block};
+ghost use Rattle.fk_gen_group.specs.Blocks.{seq_block, end_block};
 
 use crate::start::START_LABEL;
 use fk_asm::{Assembler, Blocks};
@@ -34,8 +35,8 @@ const CLOSING_WORD: u32 = 1;
 /// How far from its first control word on that of what is agreed stands.
 const AGREED: u32 = 8;
 
-/// The blocks of barriers, of the ends of bodies and parts, of `farm`, `seq`, the beginning and the end of `start`, and of what a group
-/// agrees on.
+/// The blocks of barriers, of the ends of bodies and parts, of `farm`, `seq`, the beginning and the
+/// end of `start`, and of what a group agrees on.
 #[derive(Clone, Copy, Drop)]
 pub struct GroupBlocks;
 
@@ -45,7 +46,8 @@ impl Blocks<Placed> for GroupBlocks {
 
     ghost has_block = { HasGroupStep };
 
-    ghost block = { λ placed. block_of (operation_of placed.op.kind placed.op.number) placed.op.depth placed.op.target };
+    ghost block = { λ placed.
+        block_of (operation_of placed.op.kind placed.op.number) placed.op.depth placed.op.target };
 
     fn emit_op(&self, op: &Placed, into: &mut Assembler) -> Result<(), AllocError> {
         match op.op.operation() {
@@ -62,7 +64,8 @@ impl Blocks<Placed> for GroupBlocks {
     }
 }
 
-// A meeting at a control word of the node, of as many as a register says. Arrivals come in even cycles, polls in odd ones.
+// A meeting at a control word of the node, of as many as a register says. Arrivals come in even
+// cycles, polls in odd ones.
 fn meet(into: &mut Assembler, word: u32, size: u8) -> Result<(), AllocError>
     requires word { word < 8 }
     requires size { size < 32 }

@@ -3,7 +3,8 @@
 ghost use Rattle.std.specs.Prelude.{◌≡◌, ◌+◌, ◌^◌, ◌<◌, ◌≤◌, OnOk, length};
 ghost use Rattle.fk_asm.specs.Assembly.{AreFollowed};
 ghost use Rattle.fk_asm.specs.Block.{with_block};
-ghost use Rattle.fk_gen_group.specs.Blocks.{meet_lines, telling_lines, size_lines, parting_lines, start_lines};
+ghost use Rattle.fk_gen_group.specs.Blocks.{meet_lines, telling_lines, size_lines, parting_lines};
+ghost use Rattle.fk_gen_group.specs.Blocks.{start_lines};
 
 use fk_asm::Assembler;
 use fk_gen::numbers::{high_part, low_part};
@@ -17,15 +18,17 @@ use std::alloc::AllocError;
 pub const START_LABEL: u32 = 57;
 /// The address of the first control word.
 const CONTROL: u32 = 0x1800_0000;
-/// How far from its first control word on the one stands that counts those at the end of a body or a part.
+/// How far from its first control word on the one stands that counts those at the end of
+/// a body or a part.
 const CLOSING: u32 = 4;
 /// And that of what is agreed.
 const AGREED: u32 = 8;
 /// How far from the first device on the one stands that tells how many input numbers there are.
 const INPUTS_DEVICE: u32 = 28;
 
-/// Adds the code that all beginnings of `start` share, for an image with so many words of globals. All processors meet, agree on the
-/// value of the highest, and go each to its part. It stands at `START_LABEL`.
+/// Adds the code that all beginnings of `start` share, for an image with so many words of
+/// globals. All processors meet, agree on the value of the highest, and go each to its part. It
+/// stands at `START_LABEL`.
 pub fn emit_start(into: &mut Assembler, globals: u32) -> Result<(), AllocError>
     requires few { globals ≤ 2 ^ 19 }
     requires room { length into.old.lines + 30 < 2 ^ 30 }
@@ -77,7 +80,8 @@ fn emit_telling(into: &mut Assembler) -> Result<(), AllocError>
     )
 }
 
-// The value becomes the size of the group: 0 for a negative one, and at most the number of processors.
+// The value becomes the size of the group: 0 for a negative one, and at most the
+// number of processors.
 fn emit_size(into: &mut Assembler) -> Result<(), AllocError>
     requires room { length into.old.lines + 8 < 2 ^ 30 }
     requires free { AreFollowed into.old }
@@ -98,7 +102,8 @@ fn emit_size(into: &mut Assembler) -> Result<(), AllocError>
     )
 }
 
-// Who is not below the size goes back to wait; the others have the size of their group, and its control words.
+// Who is not below the size goes back to wait; the others have the size of their group, and
+// its control words.
 fn emit_parting(into: &mut Assembler, globals: u32) -> Result<(), AllocError>
     requires few { globals ≤ 2 ^ 19 }
     requires room { length into.old.lines + 9 < 2 ^ 30 }

@@ -2,7 +2,8 @@
 use Rattle.std.specs.Prelude.{ℕ, List, Bool, false, Option, Some, None, slice_get, if◌then◌else◌}
 use Rattle.std.specs.Option.{option_map_or}
 use Rattle.fk_meaning_operation.specs.declared.operation.Operation.{Operation}
-use Rattle.fk_meaning_operation.specs.declared.operation.Operation.TheVariants.{Begin, Agree, Seq, End}
+use Rattle.fk_meaning_operation.specs.declared.operation.Operation.TheVariants.{Begin, Agree, Seq}
+use Rattle.fk_meaning_operation.specs.declared.operation.Operation.TheVariants.{End}
 use Rattle.fk_core.specs.declared.op.CoreOp.{CoreOp}
 use Rattle.fk_core.specs.Numbers.{operation_of}
 use Rattle.fk_core_liveness.specs.declared.set.Set.{Set}
@@ -32,7 +33,8 @@ abbrev pub behind_in : Kind → Placed → Operation → (onward : Bool) → ℕ
 behind_in Flow here operation onward = flow.behind_commit here.clears operation onward
 behind_in Access here operation onward = accesses.behind_commit operation
 behind_in Group here operation onward = 0
-behind_in Expression here operation onward = past_first (expression_block here.globals here.op.depth operation)
+behind_in Expression here operation onward =
+    past_first (expression_block here.globals here.op.depth operation)
 
 -- and those of steps that a group does in lockstep
 abbrev pub before_of : CoreOp → Operation → ℕ
@@ -56,7 +58,8 @@ before_at (Some op) = option_map_or (before_of op) (operation_of op.kind op.numb
 abbrev pub behind_at : (globals : ℕ) → List Set → (index : ℕ) → Option CoreOp → (onward : Bool) → ℕ
 behind_at globals kept index None onward = 0
 behind_at globals kept index (Some op) onward =
-    option_map_or (λ operation. behind_of (placed globals kept index op) operation onward) (operation_of op.kind op.number) 0
+    option_map_or (λ operation. behind_of (placed globals kept index op) operation onward)
+    (operation_of op.kind op.number) 0
 
 -- in an image with so many words of globals, where calls keep these words
 abbrev pub cycles_of : (core : List CoreOp) (globals : ℕ) (kept : List Set) → Cycles

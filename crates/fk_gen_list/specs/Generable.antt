@@ -1,5 +1,6 @@
 -- Lists that code is made of, and what the code does.
-use Rattle.std.specs.Prelude.{◌≡◌, ℕ, ◌<◌, ◌^◌, List, length, All, Bool, true, false, IsSome, Option, Some, slice_get, if◌then◌else◌, ◌⊎◌}
+use Rattle.std.specs.Prelude.{◌≡◌, ℕ, ◌<◌, ◌^◌, List, length, All, Bool, true, false, IsSome}
+use Rattle.std.specs.Prelude.{Option, Some, slice_get, if◌then◌else◌, ◌⊎◌}
 use Rattle.fk_meaning_operation.specs.declared.operation.Operation.{Operation}
 use Rattle.fk_meaning_operation.specs.declared.operation.Operation.TheVariants.{Branch, Enter, Halt}
 use Rattle.fk_core.specs.declared.op.CoreOp.{CoreOp}
@@ -23,26 +24,33 @@ use Rattle.fk_gen_list.specs.Layout.{placed}
 
 -- frames keep no words but those of sets
 abbrev pub AreKept : Frames → List Set → Type 0
-AreKept frames kept = (index word : ℕ) → frames.keeps index word ≡ true → kept_in (slice_get kept index) word ≡ true
+AreKept frames kept = (index word : ℕ) → frames.keeps index word ≡ true
+    → kept_in (slice_get kept index) word ≡ true
 
 -- what a processor does alone, a halt, or a step of one group
 abbrev pub HasOwnBlock : Operation → Type 0
-HasOwnBlock operation = (is_alone operation ≡ true) ⊎ ((operation ≡ Halt) ⊎ (is_group_step (Some operation) ≡ true))
+HasOwnBlock operation = (is_alone operation ≡ true)
+    ⊎ ((operation ≡ Halt) ⊎ (is_group_step (Some operation) ≡ true))
 
--- which operations have a target in the list: a branch, and steps of groups. Those that go straight on have 0
+-- which operations have a target in the list: a branch, and steps of groups. Those that go
+-- straight on have 0
 abbrev pub has_target : Operation → Bool
 has_target (Branch onward) = true
 has_target operation = is_group_step (Some operation)
 
 -- a list of jumps and of operations that have blocks, which stays inside itself
 pub record HasBlocks (core : List CoreOp) : Type 0 where
-  pub jumps : (i : ℕ) (op : CoreOp) → slice_get core i ≡ Some op → is_jump op ≡ true → op.target < length core
-  pub operations : (i : ℕ) (op : CoreOp) (operation : Operation) → StandsOp core i op operation → HasOwnBlock operation
-  pub targets : (i : ℕ) (op : CoreOp) (operation : Operation) → StandsOp core i op operation → has_target operation ≡ true → op.target < length core
+  pub jumps : (i : ℕ) (op : CoreOp) → slice_get core i ≡ Some op → is_jump op ≡ true
+      → op.target < length core
+  pub operations : (i : ℕ) (op : CoreOp) (operation : Operation) → StandsOp core i op operation
+      → HasOwnBlock operation
+  pub targets : (i : ℕ) (op : CoreOp) (operation : Operation) → StandsOp core i op operation
+      → has_target operation ≡ true → op.target < length core
 
--- a list of operations of processors in one group or in none, which suits some frames with such private variables of file scope,
--- in which calls keep no words but these
-pub record IsGenerable (core : List CoreOp) (kept : List Set) (main : ℕ) (firsts : List ℕ) : Type 0 where
+-- a list of operations of processors in one group or in none, which suits some frames with such
+-- private variables of file scope, in which calls keep no words but these
+pub record IsGenerable (core : List CoreOp) (kept : List Set) (main : ℕ)
+    (firsts : List ℕ) : Type 0 where
   pub blocks : HasBlocks core
   pub operations : (i : ℕ) (op : CoreOp) → slice_get core i ≡ Some op → is_jump op ≡ false
       → IsSome (operation_of op.kind op.number)
@@ -69,23 +77,32 @@ pub record HasCode (code : Code) (globals : ℕ) (image : Image) : Type 0 where
   pub commits : image.commits.items ≡ code.commits.items
   pub globals_of : length image.globals.items ≡ globals
 
--- Each image with this code does what the law of blocks asks, in all frames that suit the list and keep no words but these
-abbrev pub DoesTheList : (core : List CoreOp) (kept : List Set) (main : ℕ) (firsts : List ℕ) (globals : ℕ) → Code → Type 0
+-- Each image with this code does what the law of blocks asks, in all frames that suit the list and
+-- keep no words but these
+abbrev pub DoesTheList : (core : List CoreOp) (kept : List Set) (main : ℕ) (firsts : List ℕ)
+    (globals : ℕ) → Code → Type 0
 DoesTheList core kept main firsts globals code =
-    (image : Image) (frames : Frames) → HasCode code globals image → Suits core frames main → AreKept frames kept
-    → frames.of_file ≡ length firsts → (block : (index : ℕ) → ℕ) × BlockLaw core image (record { block = block; frames = frames }) firsts main
+    (image : Image) (frames : Frames) → HasCode code globals image → Suits core frames main
+    → AreKept frames kept
+    → frames.of_file ≡ length firsts → (block : (index : ℕ) → ℕ)
+    × BlockLaw core image (record { block = block; frames = frames }) firsts main
 
 -- ---- all of it stands in an image
 
--- the opening, the block of each index, as it has to clear, and the code that calls and beginnings of `start` share
-pub record HasWholeCode (core : List CoreOp) (kept : List Set) (image : Image) (bound : ℕ → ℕ) (places : Places) (firsts : List ℕ) (main : ℕ) : Type 0 where
+-- the opening, the block of each index, as it has to clear, and the code that calls and beginnings
+-- of `start` share
+pub record HasWholeCode (core : List CoreOp) (kept : List Set) (image : Image) (bound : ℕ → ℕ)
+    (places : Places) (firsts : List ℕ) (main : ℕ) : Type 0 where
   pub opening : HasOpening image bound places firsts main
-  pub blocks : (i : ℕ) (op : CoreOp) → slice_get core i ≡ Some op → HasBlock image bound places i (block_of (placed (length image.globals.items) kept i op))
+  pub blocks : (i : ℕ) (op : CoreOp) → slice_get core i ≡ Some op
+      → HasBlock image bound places i (block_of (placed (length image.globals.items) kept i op))
   pub shared : HasShared image bound
   pub start : HasStart image bound
 
 -- so it is in each image with this code, with each label bound to a word
-abbrev pub CodeStands : (core : List CoreOp) (kept : List Set) (main : ℕ) (firsts : List ℕ) (globals : ℕ) → Code → Type 0
+abbrev pub CodeStands : (core : List CoreOp) (kept : List Set) (main : ℕ) (firsts : List ℕ)
+    (globals : ℕ) → Code → Type 0
 CodeStands core kept main firsts globals code =
     (image : Image) (frames : Frames) → HasCode code globals image → frames.of_file ≡ length firsts
-    → (block : (index : ℕ) → ℕ) × ((bound : (label : ℕ) → ℕ) × HasWholeCode core kept image bound (record { block = block; frames = frames }) firsts main)
+    → (block : (index : ℕ) → ℕ) × ((bound : (label : ℕ) → ℕ)
+    × HasWholeCode core kept image bound (record { block = block; frames = frames }) firsts main)

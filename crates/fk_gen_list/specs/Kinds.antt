@@ -21,12 +21,15 @@ kind_by false false false = Expression
 abbrev pub kind_of : CoreOp → Kind
 kind_of op =
     let operation = operation_of op.kind op.number in
-    kind_by (is_jump op || flow.is_some_flow operation) (accesses.is_access operation) (group.is_group_step operation)
+    kind_by (is_jump op || flow.is_some_flow operation) (accesses.is_access operation)
+    (group.is_group_step operation)
 
 abbrev pub block_in : Kind → Placed → List MarkedLine
 block_in Flow placed = flow.flow_block placed.clears placed.op
-block_in Access placed = accesses.block_of (operation_of placed.op.kind placed.op.number) placed.op.depth placed.op.site
-block_in Group placed = group.block_of (operation_of placed.op.kind placed.op.number) placed.op.depth placed.op.target
+block_in Access placed =
+    accesses.block_of (operation_of placed.op.kind placed.op.number) placed.op.depth placed.op.site
+block_in Group placed =
+    group.block_of (operation_of placed.op.kind placed.op.number) placed.op.depth placed.op.target
 block_in Expression placed = expressions.block_of placed
 
 abbrev pub block_of : Placed → List MarkedLine

@@ -1,7 +1,9 @@
 -- What the code of a list does for processors by themselves.
-use Rattle.std.specs.Prelude.{◌≡◌, ℕ, suc, ◌<◌, ◌≤◌, ◌^◌, List, length, Bool, true, false, Some, slice_get, slice_index}
+use Rattle.std.specs.Prelude.{◌≡◌, ℕ, suc, ◌<◌, ◌≤◌, ◌^◌, List, length, Bool, true, false, Some}
+use Rattle.std.specs.Prelude.{slice_get, slice_index}
 use Rattle.fk_meaning_operation.specs.declared.operation.Operation.{Operation}
-use Rattle.fk_meaning_operation.specs.declared.operation.Operation.TheVariants.{Begin, Seq, End, Halt}
+use Rattle.fk_meaning_operation.specs.declared.operation.Operation.TheVariants.{Begin, Seq, End}
+use Rattle.fk_meaning_operation.specs.declared.operation.Operation.TheVariants.{Halt}
 use Rattle.fk_meaning.specs.Processor.{Setting}
 use Rattle.fk_core.specs.declared.op.CoreOp.{CoreOp}
 use Rattle.fk_core.specs.Next.{is_jump}
@@ -21,7 +23,8 @@ use Rattle.fk_gen_list.specs.Layout.{placed}
 use Rattle.fk_gen_list.specs.Generable.{AreKept}
 use Rattle.fk_sim_block.specs.Node.{Gathering, Nestings, HasLevelRoom}
 use Rattle.fk_sim_block.specs.Lockstep.{LevelsStay, values_of_step}
-use Rattle.fk_sim_block.specs.Law.{Cycles, GroupLaw, BlockDoesInNode, BlockJumpsInNode, BeginsInNode}
+use Rattle.fk_sim_block.specs.Law.{Cycles, GroupLaw, BlockDoesInNode, BlockJumpsInNode}
+use Rattle.fk_sim_block.specs.Law.{BeginsInNode}
 use Rattle.fk_gen_group.specs.Blocks.{HasStart, block_of as block_of_step, is_group_step}
 use Rattle.fk_gen_group.specs.Start.{gathering_of}
 use Rattle.fk_gen_group.specs.InNode.{LevelsFit}
@@ -32,40 +35,53 @@ abbrev pub is_lone : Operation → Bool
 is_lone Halt = true
 is_lone operation = is_alone operation
 
--- the blocks of these stand at their indices, those of calls as they have to clear where such words are kept; and so do jumps, and the
--- code that calls share
-pub record HasLoneCode (core : List CoreOp) (kept : List Set) (image : Image) (bound : ℕ → ℕ) (places : Places) : Type 0 where
-  pub blocks : (i : ℕ) (op : CoreOp) (operation : Operation) → StandsOp core i op operation → is_lone operation ≡ true
-      → HasBlock image bound places i (block_in (lone_kind operation) (placed (length image.globals.items) kept i op))
+-- the blocks of these stand at their indices, those of calls as they have to clear where such words
+-- are kept; and so do jumps, and the code that calls share
+pub record HasLoneCode (core : List CoreOp) (kept : List Set) (image : Image) (bound : ℕ → ℕ)
+    (places : Places) : Type 0 where
+  pub blocks : (i : ℕ) (op : CoreOp) (operation : Operation) → StandsOp core i op operation
+      → is_lone operation ≡ true
+      → HasBlock image bound places i
+      (block_in (lone_kind operation) (placed (length image.globals.items) kept i op))
   pub jumps : JumpsStand core image bound places
   pub shared : HasShared image bound
 
 -- the numbers of a list are words, and there are no more globals than shared words
 pub record AreInRange (core : List CoreOp) (image : Image) : Type 0 where
-  pub words : (i : ℕ) (op : CoreOp) → slice_get core i ≡ Some op → (op.site < 2 ^ 32) × (op.number < 2 ^ 32)
+  pub words : (i : ℕ) (op : CoreOp) → slice_get core i ≡ Some op
+      → (op.site < 2 ^ 32) × (op.number < 2 ^ 32)
   pub globals : length image.globals.items ≤ 2 ^ 20
 
 -- the levels round a processor fit all that it does alone, and stay at jumps
 pub record HaveLevels (core : List CoreOp) (places : Places) (nestings : Nestings) : Type 0 where
-  pub operations : (i : ℕ) (op : CoreOp) (operation : Operation) → StandsOp core i op operation → is_alone operation ≡ true
+  pub operations : (i : ℕ) (op : CoreOp) (operation : Operation) → StandsOp core i op operation
+      → is_alone operation ≡ true
       → LevelsFit core places nestings i op operation
-  pub jumps : (i : ℕ) (op : CoreOp) → slice_get core i ≡ Some op → is_jump op ≡ true → LevelsStay nestings i op.target
+  pub jumps : (i : ℕ) (op : CoreOp) → slice_get core i ≡ Some op → is_jump op ≡ true
+      → LevelsStay nestings i op.target
 
 -- the parts of the law of blocks of groups in which a processor acts alone
-pub record DoesAlone (core : List CoreOp) (image : Image) (places : Places) (nestings : Nestings) (cycles : Cycles) : Type 0 where
+pub record DoesAlone (core : List CoreOp) (image : Image) (places : Places) (nestings : Nestings)
+    (cycles : Cycles) : Type 0 where
   pub few_before : (i : ℕ) → cycles.before i ≤ most_before
   pub few_behind : (i : ℕ) (onward : Bool) → cycles.behind i onward ≤ most_behind
-  pub alone : (i : ℕ) (op : CoreOp) (operation : Operation) → StandsOp core i op operation → is_alone operation ≡ true
+  pub alone : (i : ℕ) (op : CoreOp) (operation : Operation) → StandsOp core i op operation
+      → is_alone operation ≡ true
       → BlockDoesInNode core image places nestings cycles i op operation
-  pub jumps : (i : ℕ) (op : CoreOp) → slice_get core i ≡ Some op → is_jump op ≡ true → BlockJumpsInNode core image places nestings i op
+  pub jumps : (i : ℕ) (op : CoreOp) → slice_get core i ≡ Some op → is_jump op ≡ true
+      → BlockJumpsInNode core image places nestings i op
   pub halts : (i : ℕ) (op : CoreOp) → StandsOp core i op Halt → BlockHalts core image places i op
 
--- a list does so where its code stands in an image, and it suits frames in which calls keep no other words
+-- a list does so where its code stands in an image, and it suits frames in which calls
+-- keep no other words
 abbrev pub ListsDoAlone : Type 0
 ListsDoAlone =
-    (core : List CoreOp) (kept : List Set) (image : Image) (bound : ℕ → ℕ) (places : Places) (nestings : Nestings) (main : ℕ)
-    → Suits core places.frames main → AreKept places.frames kept → AreInRange core image → HasLoneCode core kept image bound places
-    → HaveLevels core places nestings → DoesAlone core image places nestings (cycles_of core (length image.globals.items) kept)
+    (core : List CoreOp) (kept : List Set) (image : Image) (bound : ℕ → ℕ) (places : Places)
+    (nestings : Nestings) (main : ℕ)
+    → Suits core places.frames main → AreKept places.frames kept → AreInRange core image
+    → HasLoneCode core kept image bound places
+    → HaveLevels core places nestings
+    → DoesAlone core image places nestings (cycles_of core (length image.globals.items) kept)
 
 -- ---- with steps of groups
 
@@ -77,38 +93,53 @@ leads_away End = true
 leads_away operation = false
 
 -- the block of each step stands at its index, and so does the code that beginnings of `start` share
-pub record HasGroupCode (core : List CoreOp) (image : Image) (bound : ℕ → ℕ) (places : Places) : Type 0 where
-  pub blocks : (i : ℕ) (op : CoreOp) (operation : Operation) → StandsOp core i op operation → is_group_step (Some operation) ≡ true
+pub record HasGroupCode (core : List CoreOp) (image : Image) (bound : ℕ → ℕ)
+    (places : Places) : Type 0 where
+  pub blocks : (i : ℕ) (op : CoreOp) (operation : Operation) → StandsOp core i op operation
+      → is_group_step (Some operation) ≡ true
       → HasBlock image bound places i (block_of_step (Some operation) op.depth op.target)
   pub start : HasStart image bound
 
 -- a step finds the value that it looks at
 abbrev pub StepsHaveValues : List CoreOp → Type 0
 StepsHaveValues core =
-    (i : ℕ) (op : CoreOp) (operation : Operation) → StandsOp core i op operation → is_group_step (Some operation) ≡ true → values_of_step operation ≤ op.depth
+    (i : ℕ) (op : CoreOp) (operation : Operation) → StandsOp core i op operation
+    → is_group_step (Some operation) ≡ true → values_of_step operation ≤ op.depth
 
 -- the levels round a processor have room where it comes to one, and stay where it goes on
-pub record HaveStepLevels (core : List CoreOp) (places : Places) (nestings : Nestings) : Type 0 where
-  pub room : (i : ℕ) (op : CoreOp) (operation : Operation) → StandsOp core i op operation → is_group_step (Some operation) ≡ true
+pub record HaveStepLevels (core : List CoreOp) (places : Places)
+    (nestings : Nestings) : Type 0 where
+  pub room : (i : ℕ) (op : CoreOp) (operation : Operation) → StandsOp core i op operation
+      → is_group_step (Some operation) ≡ true
       → HasLevelRoom places.frames nestings i op.depth
-  pub stay : (i : ℕ) (op : CoreOp) (operation : Operation) → StandsOp core i op operation → is_group_step (Some operation) ≡ true
+  pub stay : (i : ℕ) (op : CoreOp) (operation : Operation) → StandsOp core i op operation
+      → is_group_step (Some operation) ≡ true
       → LevelsStay nestings i (suc i)
-  pub leads : (i : ℕ) (op : CoreOp) (operation : Operation) → StandsOp core i op operation → leads_away operation ≡ true → LevelsStay nestings i op.target
+  pub leads : (i : ℕ) (op : CoreOp) (operation : Operation) → StandsOp core i op operation
+      → leads_away operation ≡ true → LevelsStay nestings i op.target
 
 -- each hart comes from the opening to the block where `main` begins, in the root
-abbrev pub HartsBeginInNode : (core : List CoreOp) → Image → Places → Nestings → (firsts : List ℕ) → (main : ℕ) → Type 0
+abbrev pub HartsBeginInNode : (core : List CoreOp) → Image → Places → Nestings → (firsts : List ℕ)
+    → (main : ℕ) → Type 0
 HartsBeginInNode core image places nestings firsts main =
-    (setting : Setting) (t : MachineSetting) (number : ℕ) → IsRunning image setting t → number < setting.processors
-    → BeginsInNode core image places nestings setting t (beginner setting (slice_index firsts) main number)
+    (setting : Setting) (t : MachineSetting) (number : ℕ) → IsRunning image setting t
+    → number < setting.processors
+    → BeginsInNode core image places nestings setting t
+    (beginner setting (slice_index firsts) main number)
 
 -- with these, and with an opening that leads there, the whole law holds
 abbrev pub ListsHaveTheLaw : Type 0
 ListsHaveTheLaw =
-    (core : List CoreOp) (kept : List Set) (image : Image) (bound : ℕ → ℕ) (places : Places) (nestings : Nestings) (firsts : List ℕ) (main : ℕ)
-    → Suits core places.frames main → AreKept places.frames kept → AreInRange core image → HasLoneCode core kept image bound places
-    → HaveLevels core places nestings → HasGroupCode core image bound places → StepsHaveValues core → HaveStepLevels core places nestings
-    → nestings.start ≡ gathering_of core bound → HartsBeginInNode core image places nestings firsts main
-    → GroupLaw core image places nestings (cycles_of core (length image.globals.items) kept) firsts main
+    (core : List CoreOp) (kept : List Set) (image : Image) (bound : ℕ → ℕ) (places : Places)
+    (nestings : Nestings) (firsts : List ℕ) (main : ℕ)
+    → Suits core places.frames main → AreKept places.frames kept → AreInRange core image
+    → HasLoneCode core kept image bound places
+    → HaveLevels core places nestings → HasGroupCode core image bound places → StepsHaveValues core
+    → HaveStepLevels core places nestings
+    → nestings.start ≡ gathering_of core bound
+    → HartsBeginInNode core image places nestings firsts main
+    → GroupLaw core image places nestings
+    (cycles_of core (length image.globals.items) kept) firsts main
 
 -- ---- without levels
 
@@ -119,5 +150,6 @@ none_saved start = record { levels = λ index. 0; behind = λ index. 0; start = 
 -- these fit each list that suits frames
 abbrev pub LevelsNeedNoRoom : Type 0
 LevelsNeedNoRoom =
-    (core : List CoreOp) (places : Places) (start : Gathering) (main : ℕ) → Suits core places.frames main
+    (core : List CoreOp) (places : Places) (start : Gathering) (main : ℕ)
+    → Suits core places.frames main
     → HaveLevels core places (none_saved start) × HaveStepLevels core places (none_saved start)

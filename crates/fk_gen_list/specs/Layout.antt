@@ -1,5 +1,7 @@
 -- Blocks that stand one behind the other, each with its label.
-use Rattle.std.specs.Prelude.{◌≡◌, ℕ, suc, ◌+◌, ◌-◌, ◌*◌, ◌/◌, ◌^◌, ◌==◌, ◌<◌, ◌≤◌, nat_lt, List, [], ◌∷◌, ◌++◌, length, take, flat_map, Bool, not, false, ◌&&◌, Option, Some, None, slice_get, slice_index_or, slice_set}
+use Rattle.std.specs.Prelude.{◌≡◌, ℕ, suc, ◌+◌, ◌-◌, ◌*◌, ◌/◌, ◌^◌, ◌==◌, ◌<◌, ◌≤◌, nat_lt, List}
+use Rattle.std.specs.Prelude.{[], ◌∷◌, ◌++◌, length, take, flat_map, Bool, not, false, ◌&&◌, Option}
+use Rattle.std.specs.Prelude.{Some, None, slice_get, slice_index_or, slice_set}
 use Rattle.fk_meaning_operation.specs.declared.operation.Operation.{Operation}
 use Rattle.fk_meaning_operation.specs.declared.operation.Operation.TheVariants.{Enter}
 use Rattle.fk_core.specs.declared.op.CoreOp.{CoreOp}
@@ -14,43 +16,56 @@ use Rattle.fk_gen_group.specs.Blocks.{start_label, start_lines}
 
 -- a call clears where its set has a word that is no argument
 abbrev pub clears_by : Option Operation → Option Set → Bool
-clears_by (Some (Enter arguments)) (Some set) = nat_lt arguments 64 && not (set.mask / 2 ^ arguments == 0)
+clears_by (Some (Enter arguments)) (Some set) =
+    nat_lt arguments 64 && not (set.mask / 2 ^ arguments == 0)
 clears_by operation set = false
 
 -- the operation at an index. The words that are kept as a call begins are those at the next index
 abbrev pub placed : (globals : ℕ) → List Set → (index : ℕ) → CoreOp → Placed
 placed globals kept index op =
-    record { op = op; globals = globals; clears = clears_by (operation_of op.kind op.number) (slice_get kept (suc index)) }
+    record {
+      op = op;
+      globals = globals;
+      clears = clears_by (operation_of op.kind op.number) (slice_get kept (suc index));
+    }
 
 abbrev pub placed_from : (globals : ℕ) → List Set → (index : ℕ) → List CoreOp → List Placed
 placed_from globals kept index [] = []
-placed_from globals kept index (op ∷ ops) = placed globals kept index op ∷ placed_from globals kept (suc index) ops
+placed_from globals kept index (op ∷ ops) =
+    placed globals kept index op ∷ placed_from globals kept (suc index) ops
 
 -- all operations of a list
 abbrev pub all_placed : (globals : ℕ) → List Set → List CoreOp → List Placed
 all_placed globals kept ops = placed_from globals kept 0 ops
 
--- the word where the block of an index begins, where the first one begins at a word; behind the list, where the last one ends
+-- the word where the block of an index begins, where the first one begins at a word; behind the
+-- list, where the last one ends
 abbrev pub place : (Placed → List MarkedLine) → (first : ℕ) → List Placed → (index : ℕ) → ℕ
 place block first ops index = first + length (flat_map block (take index ops))
 
 -- an assembler to which the blocks of a list were added, each behind its label
-pub record AddsBlocks (block : Placed → List MarkedLine) (ops : List Placed) (old new : Assembly) : Type 0 where
+pub record AddsBlocks (block : Placed → List MarkedLine) (ops : List Placed)
+    (old new : Assembly) : Type 0 where
   pub made : new ≡ record (with_block old (flat_map block ops)) { bound = new.bound }
   pub count : length new.bound ≡ length old.bound
   pub labels : (i : ℕ) → i < length ops
       → slice_index_or new.bound (label_of i) None ≡ Some (place block (length old.lines) ops i)
-  pub others : (label : ℕ) → label < label_of 0 → slice_index_or new.bound label None ≡ slice_index_or old.bound label None
+  pub others : (label : ℕ) → label < label_of 0
+      → slice_index_or new.bound label None ≡ slice_index_or old.bound label None
 
--- an assembler to which a chain was added. The label before so many parts is bound so many words behind its beginning
-pub record AddsChain (label offset : ℕ → ℕ) (part : ℕ → List MarkedLine) (old new : Assembly) : Type 0 where
+-- an assembler to which a chain was added. The label before so many parts is bound so many words
+-- behind its beginning
+pub record AddsChain (label offset : ℕ → ℕ) (part : ℕ → List MarkedLine)
+    (old new : Assembly) : Type 0 where
   pub made : new ≡ record (with_block old (chain_lines part most_privates)) { bound = new.bound }
   pub count : length new.bound ≡ length old.bound
-  pub entries : (n : ℕ) → n ≤ most_privates → slice_index_or new.bound (label n) None ≡ Some (length old.lines + offset n)
+  pub entries : (n : ℕ) → n ≤ most_privates
+      → slice_index_or new.bound (label n) None ≡ Some (length old.lines + offset n)
   pub others : (other : ℕ) → ((n : ℕ) → n ≤ most_privates → other ≡ label n → ⊥)
       → slice_index_or new.bound other None ≡ slice_index_or old.bound other None
 
--- the chains of the code that all calls share: one copies arguments, two words for each, and one clears private words
+-- the chains of the code that all calls share: one copies arguments, two words for each, and one
+-- clears private words
 abbrev pub copy_offset : (arguments : ℕ) → ℕ
 copy_offset arguments = 2 * (most_privates - arguments)
 
@@ -69,11 +84,13 @@ copying_lines = chain_lines copy_lines most_privates
 abbrev pub clearing_lines : List MarkedLine
 clearing_lines = chain_lines clear_lines most_privates
 
--- an assembler to which the code was added that all beginnings of `start` share, in an image with so many words of globals. Its label
--- is bound where it begins
+-- an assembler to which the code was added that all beginnings of `start` share, in an image with
+-- so many words of globals. Its label is bound where it begins
 abbrev pub AddsStart : (globals : ℕ) → (old new : Assembly) → Type 0
 AddsStart globals old new =
-    new ≡ with_block (record old { bound = slice_set old.bound start_label (Some (length old.lines)) }) (start_lines globals)
+    new
+    ≡ with_block (record old { bound = slice_set old.bound start_label (Some (length old.lines)) })
+    (start_lines globals)
 
 -- what stands before that code, what stands before the blocks, and all lines of a code
 abbrev pub calls_front : (opening : List MarkedLine) → List MarkedLine
@@ -82,7 +99,8 @@ calls_front opening = (opening ++ copying_lines) ++ clearing_lines
 abbrev pub front : (opening : List MarkedLine) → (globals : ℕ) → List MarkedLine
 front opening globals = calls_front opening ++ start_lines globals
 
-abbrev pub all_lines : (Placed → List MarkedLine) → (opening : List MarkedLine) → (globals : ℕ) → List Placed → List MarkedLine
+abbrev pub all_lines : (Placed → List MarkedLine) → (opening : List MarkedLine) → (globals : ℕ)
+    → List Placed → List MarkedLine
 all_lines block opening globals ops = front opening globals ++ flat_map block ops
 
 -- a label of none of these
@@ -93,14 +111,17 @@ pub record IsSpare (label : ℕ) : Type 0 where
   pub no_clear : (n : ℕ) → n ≤ most_privates → label ≡ clear_label n → ⊥
 
 -- an assembler with all of a code
-pub record IsLaid (block : Placed → List MarkedLine) (opening : List MarkedLine) (globals : ℕ) (ops : List Placed) (a : Assembly) : Type 0 where
+pub record IsLaid (block : Placed → List MarkedLine) (opening : List MarkedLine) (globals : ℕ)
+    (ops : List Placed) (a : Assembly) : Type 0 where
   pub made : a ≡ record (with_block empty (all_lines block opening globals ops)) { bound = a.bound }
   pub count : length a.bound ≡ label_of (length ops)
   pub copies : (n : ℕ) → n ≤ most_privates
       → slice_index_or a.bound (copy_label n) None ≡ Some (length opening + copy_offset n)
   pub clears : (n : ℕ) → n ≤ most_privates
-      → slice_index_or a.bound (clear_label n) None ≡ Some (length (opening ++ copying_lines) + clear_offset n)
+      → slice_index_or a.bound (clear_label n) None
+      ≡ Some (length (opening ++ copying_lines) + clear_offset n)
   pub starts : slice_index_or a.bound start_label None ≡ Some (length (calls_front opening))
   pub spare : (label : ℕ) → IsSpare label → slice_index_or a.bound label None ≡ None
   pub labels : (i : ℕ) → i < length ops
-      → slice_index_or a.bound (label_of i) None ≡ Some (place block (length (front opening globals)) ops i)
+      → slice_index_or a.bound (label_of i) None
+      ≡ Some (place block (length (front opening globals)) ops i)

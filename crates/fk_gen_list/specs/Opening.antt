@@ -7,9 +7,13 @@ use Rattle.fk_gen_flow.specs.Opening.{AreFirsts, HasOpening}
 use Rattle.fk_sim_block.specs.Node.{Nestings, HasLevelRoom}
 use Rattle.fk_gen_list.specs.Laws.{HartsBeginInNode}
 
--- from the opening each hart comes to the block where `main` begins, in the root, where no level stands in its frame
+-- from the opening each hart comes to the block where `main` begins, in the root, where no level
+-- stands in its frame
 abbrev pub GroupsBegin : Type 0
 GroupsBegin =
-    (core : List CoreOp) (image : Image) (bound : ℕ → ℕ) (places : Places) (nestings : Nestings) (firsts : List ℕ) (main : ℕ)
-    → HasOpening image bound places firsts main → AreFirsts places.frames.of_file firsts → places.frames.is_main main ≡ true
-    → nestings.levels main ≡ 0 → HasLevelRoom places.frames nestings main 0 → HartsBeginInNode core image places nestings firsts main
+    (core : List CoreOp) (image : Image) (bound : ℕ → ℕ) (places : Places) (nestings : Nestings)
+    (firsts : List ℕ) (main : ℕ)
+    → HasOpening image bound places firsts main → AreFirsts places.frames.of_file firsts
+    → places.frames.is_main main ≡ true
+    → nestings.levels main ≡ 0 → HasLevelRoom places.frames nestings main 0
+    → HartsBeginInNode core image places nestings firsts main

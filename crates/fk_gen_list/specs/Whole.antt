@@ -12,10 +12,12 @@ use Rattle.fk_sim_block.specs.Node.{Gathering}
 use Rattle.fk_sim_block.specs.Law.{GroupLaw}
 use Rattle.fk_gen_group.specs.Start.{gathering_of}
 use Rattle.fk_gen_list.specs.Cycles.{cycles_of}
-use Rattle.fk_gen_list.specs.Laws.{AreInRange, HasLoneCode, HasGroupCode, StepsHaveValues, none_saved}
+use Rattle.fk_gen_list.specs.Laws.{AreInRange, HasLoneCode, HasGroupCode, StepsHaveValues}
+use Rattle.fk_gen_list.specs.Laws.{none_saved}
 
 -- all its code stands in an image
-pub record HasAllCode (core : List CoreOp) (kept : List Set) (image : Image) (bound : ℕ → ℕ) (places : Places) (firsts : List ℕ) (main : ℕ) : Type 0 where
+pub record HasAllCode (core : List CoreOp) (kept : List Set) (image : Image) (bound : ℕ → ℕ)
+    (places : Places) (firsts : List ℕ) (main : ℕ) : Type 0 where
   pub opening : HasOpening image bound places firsts main
   pub alone : HasLoneCode core kept image bound places
   pub steps : HasGroupCode core image bound places
@@ -23,22 +25,30 @@ pub record HasAllCode (core : List CoreOp) (kept : List Set) (image : Image) (bo
 -- so it is where the code that is made of a list stands
 abbrev pub GeneratedCodeStands : Type 0
 GeneratedCodeStands =
-    (core : List CoreOp) (kept : List Set) (image : Image) (bound : ℕ → ℕ) (places : Places) (firsts : List ℕ) (main : ℕ)
-    → HasWholeCode core kept image bound places firsts main → HasAllCode core kept image bound places firsts main
+    (core : List CoreOp) (kept : List Set) (image : Image) (bound : ℕ → ℕ) (places : Places)
+    (firsts : List ℕ) (main : ℕ)
+    → HasWholeCode core kept image bound places firsts main
+    → HasAllCode core kept image bound places firsts main
 
 -- then it has the law, where the list suits frames in which calls keep no other words
 abbrev pub CodeHasTheLaw : Type 0
 CodeHasTheLaw =
-    (core : List CoreOp) (kept : List Set) (image : Image) (bound : ℕ → ℕ) (places : Places) (firsts : List ℕ) (main : ℕ)
-    → Suits core places.frames main → AreKept places.frames kept → AreInRange core image → StepsHaveValues core → AreFirsts places.frames.of_file firsts
+    (core : List CoreOp) (kept : List Set) (image : Image) (bound : ℕ → ℕ) (places : Places)
+    (firsts : List ℕ) (main : ℕ)
+    → Suits core places.frames main → AreKept places.frames kept → AreInRange core image
+    → StepsHaveValues core → AreFirsts places.frames.of_file firsts
     → HasAllCode core kept image bound places firsts main
-    → GroupLaw core image places (none_saved (gathering_of core bound)) (cycles_of core (length image.globals.items) kept) firsts main
+    → GroupLaw core image places (none_saved (gathering_of core bound))
+    (cycles_of core (length image.globals.items) kept) firsts main
 
--- Each image with this code has the law of blocks of groups, in all frames that suit the list and keep no words but these, where each step
--- finds the value that it looks at
-abbrev pub GivesGroupLaw : (core : List CoreOp) (kept : List Set) (main : ℕ) (firsts : List ℕ) (globals : ℕ) → Code → Type 0
+-- Each image with this code has the law of blocks of groups, in all frames that suit the list and
+-- keep no words but these, where each step finds the value that it looks at
+abbrev pub GivesGroupLaw : (core : List CoreOp) (kept : List Set) (main : ℕ) (firsts : List ℕ)
+    (globals : ℕ) → Code → Type 0
 GivesGroupLaw core kept main firsts globals code =
-    (image : Image) (frames : Frames) → HasCode code globals image → Suits core frames main → AreKept frames kept → frames.of_file ≡ length firsts
+    (image : Image) (frames : Frames) → HasCode code globals image → Suits core frames main
+    → AreKept frames kept → frames.of_file ≡ length firsts
     → StepsHaveValues core
     → (block : (index : ℕ) → ℕ) × (start : Gathering)
-    × GroupLaw core image (record { block = block; frames = frames }) (none_saved start) (cycles_of core globals kept) firsts main
+    × GroupLaw core image (record { block = block; frames = frames }) (none_saved start)
+    (cycles_of core globals kept) firsts main

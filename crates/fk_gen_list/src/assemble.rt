@@ -1,6 +1,7 @@
 //! Blocks that stand one behind the other, each with its label.
 
-ghost use Rattle.std.specs.Prelude.{◌≡◌, ◌+◌, ◌^◌, ◌<◌, ◌≤◌, ℕ, ℤ, All, IfOk, None, OnOk, Some, flat_map, length, map, replicate, slice_index_or, vec_len};
+ghost use Rattle.std.specs.Prelude.{◌≡◌, ◌+◌, ◌^◌, ◌<◌, ◌≤◌, ℕ, ℤ, All, IfOk, None, OnOk, Some};
+ghost use Rattle.std.specs.Prelude.{flat_map, length, map, replicate, slice_index_or, vec_len};
 ghost use Rattle.fk_isa.specs.Find.{row};
 ghost use Rattle.fk_asm.specs.Assembly.{empty, instructions, AreFollowed, IsBound, IsFirstTooFar};
 ghost use Rattle.fk_asm.specs.Commits.{IsCommitTable};
@@ -29,7 +30,8 @@ pub(crate) fn make_labels(into: &mut Assembler, count: u32) -> Result<(), AllocE
     Ok(())
 }
 
-/// Adds the blocks of a list in which calls keep these words, and binds the label of each where it begins.
+/// Adds the blocks of a list in which calls keep these words, and binds the label of each
+/// where it begins.
 pub(crate) fn emit_blocks<B: Blocks<Placed>>(
     blocks: &B,
     ops: &[CoreOp],
@@ -38,13 +40,17 @@ pub(crate) fn emit_blocks<B: Blocks<Placed>>(
     into: &mut Assembler,
 ) -> Result<(), AllocError>
     requires known { All B.has_block (all_placed globals kept.now ops.now) }
-    requires goes { All (λ op. All (GoesToMade into.old.bound) (B.block op)) (all_placed globals kept.now ops.now) }
-    requires room { length into.old.lines + length (flat_map B.block (all_placed globals kept.now ops.now)) < 2 ^ 30 }
+    requires goes { All (λ op. All (GoesToMade into.old.bound) (B.block op))
+        (all_placed globals kept.now ops.now) }
+    requires room { length into.old.lines
+        + length (flat_map B.block (all_placed globals kept.now ops.now)) < 2 ^ 30 }
     requires followed { AreFollowed into.old }
     requires made { label_of (length ops.now) ≤ length into.old.bound }
     requires few { label_of (length ops.now) < 2 ^ 32 }
-    requires free { (i : ℕ) → i < length ops.now → slice_index_or into.old.bound (label_of i) None ≡ None }
-    ensures added { OnOk result (AddsBlocks B.block (all_placed globals kept.now ops.now) into.old into.new) }
+    requires free { (i : ℕ) → i < length ops.now
+        → slice_index_or into.old.bound (label_of i) None ≡ None }
+    ensures added { OnOk result
+        (AddsBlocks B.block (all_placed globals kept.now ops.now) into.old into.new) }
     ensures followed { OnOk result (AreFollowed into.new) }
 {
     for (i, op) in ops.iter().enumerate() {
@@ -59,7 +65,8 @@ pub(crate) fn finish(laid: Assembler) -> Result<Code, AllocError>
     requires bound { All (IsBound laid.bound) laid.lines }
     requires followed { AreFollowed laid }
     requires near { (k : ℕ) (d : ℤ) → IsFirstTooFar laid.bound laid.lines k d → ⊥ }
-    ensures rows { IfOk result (λ code. map row code.words.items ≡ map Some (instructions laid.bound laid.lines)) }
+    ensures rows { IfOk result
+        (λ code. map row code.words.items ≡ map Some (instructions laid.bound laid.lines)) }
     ensures count { IfOk result (λ code. vec_len code.words ≡ length laid.lines) }
     ensures commits { IfOk result (λ code. code.commits.items ≡ laid.commits) }
     ensures table { IfOk result (λ code. IsCommitTable (vec_len code.words) code.commits.items) }

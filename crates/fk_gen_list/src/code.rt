@@ -18,12 +18,12 @@ use fk_core_liveness::Set;
 use fk_gen_flow::emit_opening;
 use std::alloc::{AllocError, Global};
 
-/// The code of a list of operations that processors do in one group or in none, with the private words that calls keep at each
-/// index and the first values of private variables of file scope, in an image with so many words of globals. `main` is the index
-/// where the program begins.
+/// The code of a list of operations that processors do in one group or in none, with the private
+/// words that calls keep at each index and the first values of private variables of file scope, in
+/// an image with so many words of globals. `main` is the index where the program begins.
 ///
-/// At word 0 stands the opening, then the code that all calls share, that which all beginnings of `start` share, and then the
-/// block of each operation in their order.
+/// At word 0 stands the opening, then the code that all calls share, that which all beginnings of
+/// `start` share, and then the block of each operation in their order.
 pub(crate) fn assemble_list(
     alloc: Global,
     ops: &[CoreOp],
@@ -57,7 +57,8 @@ fn lay(
     requires list { IsGenerable ops.now kept.now main firsts.now }
     requires small { sum_by most_words ops.now ≤ 256000 }
     requires globals { globals ≤ 2 ^ 19 }
-    ensures laid { IfOk result (IsLaid block_of (opening_lines (length firsts.now) firsts.now main) globals (all_placed globals kept.now ops.now)) }
+    ensures laid { IfOk result (IsLaid block_of (opening_lines (length firsts.now) firsts.now main)
+        globals (all_placed globals kept.now ops.now)) }
     ensures followed { IfOk result AreFollowed }
 {
     let mut into = Assembler::new(alloc);

@@ -15,13 +15,15 @@ const MOST_PRIVATES: u32 = 56;
 /// The label where no word is cleared.
 const CLEAR_LABEL: u32 = 64;
 
-/// Adds the code that copies arguments. A call of more than one argument enters it at the label of as many: from there on each
-/// is copied into the new frame, the last one first, and then it goes back to the call.
+/// Adds the code that copies arguments. A call of more than one argument enters it at the label of
+/// as many: from there on each is copied into the new frame, the last one first, and then it goes
+/// back to the call.
 pub(crate) fn emit_copying(into: &mut Assembler) -> Result<(), AllocError>
     requires room { length into.old.lines < 2 ^ 20 }
     requires followed { AreFollowed into.old }
     requires made { label_of 0 ≤ length into.old.bound }
-    requires free { (n : ℕ) → n ≤ most_privates → slice_index_or into.old.bound (copy_label n) None ≡ None }
+    requires free { (n : ℕ) → n ≤ most_privates
+        → slice_index_or into.old.bound (copy_label n) None ≡ None }
     ensures added { OnOk result (AddsCopying into.old into.new) }
     ensures followed { OnOk result (AreFollowed into.new) }
 {
@@ -34,13 +36,15 @@ pub(crate) fn emit_copying(into: &mut Assembler) -> Result<(), AllocError>
     emit_back(into)
 }
 
-/// Adds the code that clears private words. A call enters it before the first word behind its arguments: from there on each
-/// word of the new frame becomes 0, and then it goes back to the call.
+/// Adds the code that clears private words. A call enters it before the first word behind
+/// its arguments: from there on each word of the new frame becomes 0, and then it goes
+/// back to the call.
 pub(crate) fn emit_clearing(into: &mut Assembler) -> Result<(), AllocError>
     requires room { length into.old.lines < 2 ^ 20 }
     requires followed { AreFollowed into.old }
     requires made { label_of 0 ≤ length into.old.bound }
-    requires free { (n : ℕ) → n ≤ most_privates → slice_index_or into.old.bound (clear_label n) None ≡ None }
+    requires free { (n : ℕ) → n ≤ most_privates
+        → slice_index_or into.old.bound (clear_label n) None ≡ None }
     ensures added { OnOk result (AddsClearing into.old into.new) }
     ensures followed { OnOk result (AreFollowed into.new) }
 {

@@ -12,7 +12,8 @@ use fk_meaning_operation::Operation;
 // Whether a call has private words that are kept as it begins and are no arguments.
 fn clears(op: CoreOp, kept: &[Set], index: usize) -> bool
     requires small { index < 2 ^ 32 }
-    ensures { result ≡ layout.clears_by (operation_of op.kind op.number) (slice_get kept.now (suc index)) }
+    ensures { result ≡ layout.clears_by (operation_of op.kind op.number)
+        (slice_get kept.now (suc index)) }
 {
     let Some(Operation::Enter(arguments)) = op.operation() else {
         return false;
@@ -23,7 +24,8 @@ fn clears(op: CoreOp, kept: &[Set], index: usize) -> bool
     }
 }
 
-/// The operation at an index of a list in which calls keep these words, in an image with so many words of globals.
+/// The operation at an index of a list in which calls keep these words, in an image with so many
+/// words of globals.
 pub(crate) fn placed(op: CoreOp, kept: &[Set], index: usize, globals: u32) -> Placed
     requires small { index < 2 ^ 32 }
     ensures { result ≡ layout.placed globals kept.now index op }

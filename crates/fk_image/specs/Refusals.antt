@@ -1,8 +1,10 @@
 -- Why bytes are no image: the first refusal that applies.
-use Rattle.std.specs.Prelude.{◌≡◌, ◌≢◌, ℕ, ◌+◌, ◌*◌, ◌<◌, ◌≤◌, ◌==◌, ◌⊎◌, List, length, take, drop, codes, if◌then◌else◌}
+use Rattle.std.specs.Prelude.{◌≡◌, ◌≢◌, ℕ, ◌+◌, ◌*◌, ◌<◌, ◌≤◌, ◌==◌, ◌⊎◌, List, length, take, drop}
+use Rattle.std.specs.Prelude.{codes, if◌then◌else◌}
 use Rattle.std.specs.Int.{w32, from_le_bytes}
 use Rattle.fk_image.specs.declared.fault.ImageFault.{ImageFault}
-use Rattle.fk_image.specs.declared.fault.ImageFault.TheVariants.{Magic, Version, Short, LongTail, BadTable, BadWord, Memory}
+use Rattle.fk_image.specs.declared.fault.ImageFault.TheVariants.{Magic, Version, Short, LongTail}
+use Rattle.fk_image.specs.declared.fault.ImageFault.TheVariants.{BadTable, BadWord, Memory}
 use Rattle.fk_image.specs.Limits.{IsSite, IsCommit}
 
 -- the word at a place, counted in words
@@ -35,7 +37,8 @@ commit_count bytes = word_at bytes 5
 
 -- how many bytes they ask for
 abbrev pub needed : List ℕ → ℕ
-needed bytes = 24 + 4 * code_words bytes + 4 * global_words bytes + 12 * site_count bytes + 8 * commit_count bytes
+needed bytes = 24 + 4 * code_words bytes + 4 * global_words bytes + 12 * site_count bytes
+    + 8 * commit_count bytes
 
 -- the least value of each of these words
 abbrev pub least : ℕ → ℕ
@@ -50,7 +53,8 @@ greatest bytes index =
 
 -- the word is within its limits
 abbrev pub IsHeaderWord : List ℕ → ℕ → Type 0
-IsHeaderWord bytes index = (least index ≤ word_at bytes index) × (word_at bytes index ≤ greatest bytes index)
+IsHeaderWord bytes index = (least index ≤ word_at bytes index)
+    × (word_at bytes index ≤ greatest bytes index)
 
 -- n is the first, counted from this one, that isn't good
 pub record IsFirstBad (from : ℕ) (IsGood : ℕ → Type 0) (n : ℕ) : Type 0 where
@@ -82,7 +86,8 @@ pub record IsNextCommit (words : ℕ) (commits : ℕ → ℕ × ℕ) (k : ℕ) :
 -- entries of tables are counted from 0, the sites first and the commits after them
 pub record IsEntry (bytes : List ℕ) (entry : ℕ) : Type 0 where
   pub site : entry < site_count bytes → IsSite (site_of bytes entry)
-  pub commit : (k : ℕ) → entry ≡ site_count bytes + k → IsNextCommit (code_words bytes) (commit_of bytes) k
+  pub commit : (k : ℕ) → entry ≡ site_count bytes + k
+      → IsNextCommit (code_words bytes) (commit_of bytes) k
 
 -- ---- each refusal
 
@@ -108,7 +113,8 @@ IsLongTail bytes wanted = (wanted ≡ needed bytes) × (wanted < length bytes)
 
 -- this entry of the tables is the first past its limits
 abbrev pub IsBadTable : List ℕ → ℕ → Type 0
-IsBadTable bytes entry = (entry < site_count bytes + commit_count bytes) × IsFirstBad 0 (IsEntry bytes) entry
+IsBadTable bytes entry = (entry < site_count bytes + commit_count bytes)
+    × IsFirstBad 0 (IsEntry bytes) entry
 
 -- ---- how far none applies
 
@@ -122,13 +128,15 @@ HasVersion bytes = HasMagic bytes × (word_at bytes 1 ≡ 1)
 
 -- and each word of the header is within its limits
 abbrev pub HasHeader : List ℕ → Type 0
-HasHeader bytes = HasVersion bytes × ((index : ℕ) → 2 ≤ index → index ≤ 5 → IsHeaderWord bytes index)
+HasHeader bytes = HasVersion bytes
+    × ((index : ℕ) → 2 ≤ index → index ≤ 5 → IsHeaderWord bytes index)
 
 -- and there are as many bytes as the header asks for
 abbrev pub HasLength : List ℕ → Type 0
 HasLength bytes = HasHeader bytes × (length bytes ≡ needed bytes)
 
--- the bytes are refused: this refusal applies, and none before it. Want of memory is no refusal of the bytes
+-- the bytes are refused: this refusal applies, and none before it. Want of memory is no
+-- refusal of the bytes
 abbrev pub IsRefusedImage : List ℕ → ImageFault → Type 0
 IsRefusedImage bytes (Short size wanted) =
     IsShort bytes size wanted × ((wanted ≡ 24) ⊎ (HasHeader bytes × (wanted ≡ needed bytes)))

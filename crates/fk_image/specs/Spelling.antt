@@ -28,9 +28,11 @@ commit_words commit = commit.0 ∷ commit.1 ∷ []
 -- the version, and how many words of code, words of globals, sites and commits there are
 abbrev pub header_words : Image → List ℕ
 header_words image =
-    1 ∷ vec_len image.code ∷ vec_len image.globals ∷ vec_len image.sites ∷ vec_len image.commits ∷ []
+    1 ∷ vec_len image.code ∷ vec_len image.globals ∷ vec_len image.sites
+    ∷ vec_len image.commits ∷ []
 
--- all words of an image behind the bytes `FK95`: the header, the code, the globals, the sites, the commits
+-- all words of an image behind the bytes `FK95`: the header, the code, the globals, the
+-- sites, the commits
 abbrev pub image_words : Image → List ℕ
 image_words image =
     header_words image ++ image.code.items ++ image.globals.items

@@ -4,7 +4,9 @@ use Rattle.fk_image.specs.declared.fault.ImageFault.{ImageFault}
 use Rattle.fk_image.specs.declared.fault.ImageFault.TheVariants.{BadTable, Memory}
 use Rattle.fk_image.specs.declared.reading.Header.{Header}
 use Rattle.fk_image.specs.Limits.{IsSite}
-use Rattle.fk_image.specs.Refusals.{HasHeader, IsFirstBad, IsNextCommit, code_words, commit_at, commit_count, commits_place, global_words, site_at, site_count, sites_place}
+use Rattle.fk_image.specs.Refusals.{HasHeader, IsFirstBad, IsNextCommit, code_words, commit_at}
+use Rattle.fk_image.specs.Refusals.{commit_count, commits_place, global_words, site_at, site_count}
+use Rattle.fk_image.specs.Refusals.{sites_place}
 
 -- the header says what these bytes say
 pub record IsHeaderOf (bytes : List ℕ) (header : Header) : Type 0 where
@@ -32,7 +34,8 @@ commit_table bytes = drop (4 * commits_place bytes) bytes
 
 -- the fault names the first of a table's sites that is none, or memory ran out
 abbrev pub IsSiteFault : List ℕ → ImageFault → Type 0
-IsSiteFault table (BadTable k) = (12 * k < length table) × IsFirstBad 0 (λ j. IsSite (site_at table (3 * j))) k
+IsSiteFault table (BadTable k) = (12 * k < length table)
+    × IsFirstBad 0 (λ j. IsSite (site_at table (3 * j))) k
 IsSiteFault table (Memory e) = Unit {0}
 IsSiteFault table fault = ⊥
 

@@ -3,8 +3,8 @@
 use std::alloc::AllocError;
 use thiserror::Error;
 
-/// Why bytes are no image: the first of these that applies. The order is `Short` of a header, `Magic`,
-/// `Version`, `BadWord`, `Short` of what the header asks for, `LongTail`, `BadTable`.
+/// Why bytes are no image: the first of these that applies. The order is `Short` of a header,
+/// `Magic`, `Version`, `BadWord`, `Short` of what the header asks for, `LongTail`, `BadTable`.
 #[derive(Debug, Drop, Error)]
 pub enum ImageFault {
     /// The first word isn't the bytes `FK95`.
@@ -20,7 +20,8 @@ pub enum ImageFault {
     /// There are more bytes than the header asks for, which is this many.
     #[error("bytes follow the {0} of the image")]
     LongTail(u64),
-    /// This entry of the tables is past the limits. Sites are counted from 0, and commits after them.
+    /// This entry of the tables is past the limits. Sites are counted from 0, and
+    /// commits after them.
     #[error("entry {0} of the tables is past its limits")]
     BadTable(u32),
     /// This word of the header, from 2 to 5, is past its limits.

@@ -8,15 +8,18 @@ ghost use Rattle.fk_image.specs.Spelling.{IsImageOf, AreAlike};
 
 /// No two images have one spelling.
 pub fn one_image()
-    ensures { (bytes : List ℕ) (image other : Image) → IsImageOf bytes image → IsImageOf bytes other → AreAlike image other }
+    ensures { (bytes : List ℕ) (image other : Image) → IsImageOf bytes image → IsImageOf bytes other
+        → AreAlike image other }
 {}
 
 /// The bytes of an image are not refused: what is written is read back.
 pub fn no_refusal()
-    ensures { (bytes : List ℕ) (image : Image) (fault : ImageFault) → IsImageOf bytes image → IsRefusedImage bytes fault → ⊥ }
+    ensures { (bytes : List ℕ) (image : Image) (fault : ImageFault) → IsImageOf bytes image
+        → IsRefusedImage bytes fault → ⊥ }
 {}
 
 /// Bytes have one refusal at most.
 pub fn one_refusal()
-    ensures { (bytes : List ℕ) (fault other : ImageFault) → IsRefusedImage bytes fault → IsRefusedImage bytes other → fault ≡ other }
+    ensures { (bytes : List ℕ) (fault other : ImageFault) → IsRefusedImage bytes fault
+        → IsRefusedImage bytes other → fault ≡ other }
 {}

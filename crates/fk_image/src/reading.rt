@@ -1,10 +1,13 @@
 //! Reading an image.
 
-ghost use Rattle.std.specs.Prelude.{◌≡◌, ℕ, ◌+◌, ◌*◌, ◌%◌, ◌<◌, ◌≤◌, ◌↔◌, All, flat_map, length, IfOk, IfErr, IsTrue, OnOk};
+ghost use Rattle.std.specs.Prelude.{◌≡◌, ℕ, ◌+◌, ◌*◌, ◌%◌, ◌<◌, ◌≤◌, ◌↔◌, All, flat_map, length};
+ghost use Rattle.std.specs.Prelude.{IfOk, IfErr, IsTrue, OnOk};
 ghost use Rattle.fk_image.specs.Limits.{IsCommit, IsSite, Rise};
-ghost use Rattle.fk_image.specs.Refusals.{HasLength, HasVersion, IsFault, IsHeaderWord, greatest, least, site_at, word_at};
+ghost use Rattle.fk_image.specs.Refusals.{HasLength, HasVersion, IsFault, IsHeaderWord, greatest};
+ghost use Rattle.fk_image.specs.Refusals.{least, site_at, word_at};
 ghost use Rattle.fk_image.specs.Spelling.{IsImageOf, Spells, commit_words, site_words};
-ghost use Rattle.fk_image.specs.Tables.{IsAboveLast, IsCommitFault, IsHeaderOf, IsSiteFault, code_table, commit_table, global_table, site_table};
+ghost use Rattle.fk_image.specs.Tables.{IsAboveLast, IsCommitFault, IsHeaderOf, IsSiteFault};
+ghost use Rattle.fk_image.specs.Tables.{code_table, commit_table, global_table, site_table};
 
 use crate::Image;
 use crate::fault::ImageFault;
@@ -26,7 +29,8 @@ struct Header {
 impl Header {
     /// How many bytes an image with this header has.
     fn needed(self) -> u64
-        ensures { result ≡ 24 + 4 * self.code + 4 * self.globals + 12 * self.sites + 8 * self.commits }
+        ensures { result ≡ 24 + 4 * self.code + 4 * self.globals + 12 * self.sites
+            + 8 * self.commits }
     {
         let words = 4 * u64::from(self.code) + 4 * u64::from(self.globals);
         24 + words + 12 * u64::from(self.sites) + 8 * u64::from(self.commits)
@@ -173,7 +177,8 @@ fn read_sites(alloc: Global, table: &[u8]) -> Result<Vec<(u32, u32, u32)>, Image
     requires few { length table.now ≤ 12 * 16000 }
     ensures spelling { IfOk result (λ sites. Spells (flat_map site_words sites.items) table.now) }
     ensures sites { IfOk result (λ sites. All IsSite sites.items) }
-    ensures entries { OnOk result ((k : ℕ) → 12 * k < length table.now → IsSite (site_at table.now (3 * k))) }
+    ensures entries { OnOk result ((k : ℕ) → 12 * k < length table.now
+        → IsSite (site_at table.now (3 * k))) }
     ensures fault { IfErr result (λ fault. IsSiteFault table.now fault) }
 {
     let count = table.len() / 12;
@@ -197,7 +202,8 @@ fn read_commits(alloc: Global, header: Header, table: &[u8]) -> Result<Vec<(u32,
     requires whole { length table.now % 8 ≡ 0 }
     requires few { length table.now ≤ 8 * 262144 }
     requires sites { header.sites ≤ 16000 }
-    ensures spelling { IfOk result (λ commits. Spells (flat_map commit_words commits.items) table.now) }
+    ensures spelling { IfOk result
+        (λ commits. Spells (flat_map commit_words commits.items) table.now) }
     ensures commits { IfOk result (λ commits. All (IsCommit header.code) commits.items) }
     ensures rise { IfOk result (λ commits. Rise commits.items) }
     ensures fault { IfErr result (λ fault. IsCommitFault header table.now fault) }

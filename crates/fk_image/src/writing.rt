@@ -31,7 +31,8 @@ pub fn write_image(alloc: Global, image: &Image) -> Result<Vec<u8>, AllocError>
 
 /// Adds sites at the end.
 fn push_sites(bytes: &mut Vec<u8>, sites: &[(u32, u32, u32)]) -> Result<(), AllocError>
-    ensures bytes { OnOk result (bytes.new.items ≡ bytes.old.items ++ flat_map word_bytes (flat_map site_words sites.now)) }
+    ensures bytes { OnOk result
+        (bytes.new.items ≡ bytes.old.items ++ flat_map word_bytes (flat_map site_words sites.now)) }
     ensures words { OnOk result (All IsWord (flat_map site_words sites.now)) }
 {
     for site in sites {
@@ -42,7 +43,8 @@ fn push_sites(bytes: &mut Vec<u8>, sites: &[(u32, u32, u32)]) -> Result<(), Allo
 
 /// Adds commits at the end.
 fn push_commits(bytes: &mut Vec<u8>, commits: &[(u32, u32)]) -> Result<(), AllocError>
-    ensures bytes { OnOk result (bytes.new.items ≡ bytes.old.items ++ flat_map word_bytes (flat_map commit_words commits.now)) }
+    ensures bytes { OnOk result (bytes.new.items ≡ bytes.old.items
+        ++ flat_map word_bytes (flat_map commit_words commits.now)) }
     ensures words { OnOk result (All IsWord (flat_map commit_words commits.now)) }
 {
     for commit in commits {
@@ -53,7 +55,8 @@ fn push_commits(bytes: &mut Vec<u8>, commits: &[(u32, u32)]) -> Result<(), Alloc
 
 /// Adds words at the end.
 fn push_words(bytes: &mut Vec<u8>, words: &[u32]) -> Result<(), AllocError>
-    ensures bytes { OnOk result (bytes.new.items ≡ bytes.old.items ++ flat_map word_bytes words.now) }
+    ensures bytes { OnOk result
+        (bytes.new.items ≡ bytes.old.items ++ flat_map word_bytes words.now) }
     ensures words { OnOk result (All IsWord words.now) }
 {
     for word in words {

@@ -8,7 +8,8 @@ abbrev pub unless : ℕ → Option ℕ → Option ℕ
 unless word None = None
 unless word (Some r) = if r == word then None else Some r
 
--- the word that an atomic instruction, by the bits 31 to 27 of its word, stores, of the one that it found and its value
+-- the word that an atomic instruction, by the bits 31 to 27 of its word, stores, of the one that it
+-- found and its value
 unfoldable pub combined : ℕ → ℕ → ℕ → ℕ
 combined what old v =
     if what == 0b00001 then v

@@ -42,10 +42,12 @@ abbrev pub s_immediate : ℕ → ℕ
 s_immediate w = extended 12 (bits w 25 7 * 2 ^ 5 + bits w 7 5)
 
 abbrev pub b_immediate : ℕ → ℕ
-b_immediate w = extended 13 (bits w 31 1 * 2 ^ 12 + bits w 7 1 * 2 ^ 11 + bits w 25 6 * 2 ^ 5 + bits w 8 4 * 2)
+b_immediate w =
+    extended 13 (bits w 31 1 * 2 ^ 12 + bits w 7 1 * 2 ^ 11 + bits w 25 6 * 2 ^ 5 + bits w 8 4 * 2)
 
 abbrev pub u_immediate : ℕ → ℕ
 u_immediate w = bits w 12 20
 
 abbrev pub j_immediate : ℕ → ℕ
-j_immediate w = extended 21 (bits w 31 1 * 2 ^ 20 + bits w 12 8 * 2 ^ 12 + bits w 20 1 * 2 ^ 11 + bits w 21 10 * 2)
+j_immediate w = extended 21
+    (bits w 31 1 * 2 ^ 20 + bits w 12 8 * 2 ^ 12 + bits w 20 1 * 2 ^ 11 + bits w 21 10 * 2)

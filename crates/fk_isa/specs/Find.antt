@@ -1,8 +1,21 @@
 -- The row of a word, found by opcode, funct3 and funct7.
 use Rattle.std.specs.Prelude.{ℕ, ◌==◌, if◌then◌else◌, Option, Some, None}
 use Rattle.fk_isa.specs.declared.instruction.Instruction.{Instruction}
-use Rattle.fk_isa.specs.declared.instruction.Instruction.TheVariants.{Lui, Auipc, Jal, Jalr, Beq, Bne, Blt, Bge, Bltu, Bgeu, Lb, Lh, Lw, Lbu, Lhu, Sb, Sh, Sw, Addi, Slti, Sltiu, Xori, Ori, Andi, Slli, Srli, Srai, Add, Sub, Sll, Slt, Sltu, Xor, Srl, Sra, Or, And, Mul, Mulh, Mulhsu, Mulhu, Div, Divu, Rem, Remu, Fence, Ecall, Ebreak, LrW, ScW, AmoSwapW, AmoAddW, AmoXorW, AmoAndW, AmoOrW, AmoMinW, AmoMaxW, AmoMinuW, AmoMaxuW}
-use Rattle.fk_isa.specs.Bits.{bits, is_set, opcode, funct3, funct5, funct7, rd, rs1, rs2, i_immediate, s_immediate, b_immediate, u_immediate, j_immediate}
+use Rattle.fk_isa.specs.declared.instruction.Instruction.TheVariants.{Lui, Auipc, Jal, Jalr, Beq}
+use Rattle.fk_isa.specs.declared.instruction.Instruction.TheVariants.{Bne, Blt, Bge, Bltu, Bgeu, Lb}
+use Rattle.fk_isa.specs.declared.instruction.Instruction.TheVariants.{Lh, Lw, Lbu, Lhu, Sb, Sh, Sw}
+use Rattle.fk_isa.specs.declared.instruction.Instruction.TheVariants.{Addi, Slti, Sltiu, Xori, Ori}
+use Rattle.fk_isa.specs.declared.instruction.Instruction.TheVariants.{Andi, Slli, Srli, Srai, Add}
+use Rattle.fk_isa.specs.declared.instruction.Instruction.TheVariants.{Sub, Sll, Slt, Sltu, Xor, Srl}
+use Rattle.fk_isa.specs.declared.instruction.Instruction.TheVariants.{Sra, Or, And, Mul, Mulh}
+use Rattle.fk_isa.specs.declared.instruction.Instruction.TheVariants.{Mulhsu, Mulhu, Div, Divu, Rem}
+use Rattle.fk_isa.specs.declared.instruction.Instruction.TheVariants.{Remu, Fence, Ecall, Ebreak}
+use Rattle.fk_isa.specs.declared.instruction.Instruction.TheVariants.{LrW, ScW, AmoSwapW, AmoAddW}
+use Rattle.fk_isa.specs.declared.instruction.Instruction.TheVariants.{AmoXorW, AmoAndW, AmoOrW}
+use Rattle.fk_isa.specs.declared.instruction.Instruction.TheVariants.{AmoMinW, AmoMaxW, AmoMinuW}
+use Rattle.fk_isa.specs.declared.instruction.Instruction.TheVariants.{AmoMaxuW}
+use Rattle.fk_isa.specs.Bits.{bits, is_set, opcode, funct3, funct5, funct7, rd, rs1, rs2}
+use Rattle.fk_isa.specs.Bits.{i_immediate, s_immediate, b_immediate, u_immediate, j_immediate}
 
 -- opcode 0x63
 unfoldable pub branch_row : ℕ → Option Instruction
@@ -124,15 +137,24 @@ unfoldable pub word_row : ℕ → Option Instruction
 word_row w =
     if funct5 w == 0b00010 then reserved_row w
     else if funct5 w == 0b00011 then Some (ScW (rd w) (rs1 w) (rs2 w) (is_set w 26) (is_set w 25))
-    else if funct5 w == 0b00001 then Some (AmoSwapW (rd w) (rs1 w) (rs2 w) (is_set w 26) (is_set w 25))
-    else if funct5 w == 0b00000 then Some (AmoAddW (rd w) (rs1 w) (rs2 w) (is_set w 26) (is_set w 25))
-    else if funct5 w == 0b00100 then Some (AmoXorW (rd w) (rs1 w) (rs2 w) (is_set w 26) (is_set w 25))
-    else if funct5 w == 0b01100 then Some (AmoAndW (rd w) (rs1 w) (rs2 w) (is_set w 26) (is_set w 25))
-    else if funct5 w == 0b01000 then Some (AmoOrW (rd w) (rs1 w) (rs2 w) (is_set w 26) (is_set w 25))
-    else if funct5 w == 0b10000 then Some (AmoMinW (rd w) (rs1 w) (rs2 w) (is_set w 26) (is_set w 25))
-    else if funct5 w == 0b10100 then Some (AmoMaxW (rd w) (rs1 w) (rs2 w) (is_set w 26) (is_set w 25))
-    else if funct5 w == 0b11000 then Some (AmoMinuW (rd w) (rs1 w) (rs2 w) (is_set w 26) (is_set w 25))
-    else if funct5 w == 0b11100 then Some (AmoMaxuW (rd w) (rs1 w) (rs2 w) (is_set w 26) (is_set w 25))
+    else if funct5 w == 0b00001
+    then Some (AmoSwapW (rd w) (rs1 w) (rs2 w) (is_set w 26) (is_set w 25))
+    else if funct5 w == 0b00000
+    then Some (AmoAddW (rd w) (rs1 w) (rs2 w) (is_set w 26) (is_set w 25))
+    else if funct5 w == 0b00100
+    then Some (AmoXorW (rd w) (rs1 w) (rs2 w) (is_set w 26) (is_set w 25))
+    else if funct5 w == 0b01100
+    then Some (AmoAndW (rd w) (rs1 w) (rs2 w) (is_set w 26) (is_set w 25))
+    else if funct5 w == 0b01000
+    then Some (AmoOrW (rd w) (rs1 w) (rs2 w) (is_set w 26) (is_set w 25))
+    else if funct5 w == 0b10000
+    then Some (AmoMinW (rd w) (rs1 w) (rs2 w) (is_set w 26) (is_set w 25))
+    else if funct5 w == 0b10100
+    then Some (AmoMaxW (rd w) (rs1 w) (rs2 w) (is_set w 26) (is_set w 25))
+    else if funct5 w == 0b11000
+    then Some (AmoMinuW (rd w) (rs1 w) (rs2 w) (is_set w 26) (is_set w 25))
+    else if funct5 w == 0b11100
+    then Some (AmoMaxuW (rd w) (rs1 w) (rs2 w) (is_set w 26) (is_set w 25))
     else None
 
 -- opcode 0x2f

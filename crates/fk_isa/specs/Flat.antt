@@ -1,5 +1,6 @@
 -- A small memory: 256 bytes, and the reservation of each of two harts.
-use Rattle.std.specs.Prelude.{ℕ, ◌+◌, ◌*◌, ◌/◌, ◌%◌, ◌^◌, ◌==◌, nat_lt, if◌then◌else◌, List, map, Option, Some, None, slice_index, slice_index_or, slice_set}
+use Rattle.std.specs.Prelude.{ℕ, ◌+◌, ◌*◌, ◌/◌, ◌%◌, ◌^◌, ◌==◌, nat_lt, if◌then◌else◌, List, map}
+use Rattle.std.specs.Prelude.{Option, Some, None, slice_index, slice_index_or, slice_set}
 use Rattle.fk_num.specs.Word.{Memory, put}
 use Rattle.fk_isa.specs.declared.flat.FlatMemory.{FlatMemory}
 use Rattle.fk_isa.specs.Atomic.{combined, unless}
@@ -30,11 +31,13 @@ abbrev pub with_word : Memory → ℕ → ℕ → Memory
 with_word m a v = with_half (with_half m a v) (a + 2) (v / 2 ^ 16)
 
 abbrev pub with_number : Memory → ℕ → ℕ → ℕ → Memory
-with_number m a size v = if size == 1 then put m a (v % 2 ^ 8) else if size == 2 then with_half m a v else with_word m a v
+with_number m a size v = if size == 1 then put m a (v % 2 ^ 8)
+    else if size == 2 then with_half m a v else with_word m a v
 
 -- the memory after a store of so many bytes, which clears the reservations of their word
 abbrev pub after_store : Flat → ℕ → ℕ → ℕ → Flat
-after_store m a size v = record { bytes = with_number m.bytes a size v; reserved = map (unless (a / 4)) m.reserved }
+after_store m a size v =
+    record { bytes = with_number m.bytes a size v; reserved = map (unless (a / 4)) m.reserved }
 
 -- the trap of an access: 3 Misaligned, 4 Access
 abbrev pub flat_trap : ℕ → ℕ → Option ℕ
@@ -50,7 +53,8 @@ reserve m hart r = record { bytes = m.bytes; reserved = slice_set m.reserved har
 -- lr.w reserves its word; sc.w stores where the hart has reserved the word, and gives 0, else 1
 abbrev pub conditional : Flat → ℕ → ℕ → ℕ → Option ℕ → Answer Flat ℕ
 conditional m hart a v None = Gives 1 (reserve m hart None)
-conditional m hart a v (Some r) = if r == a / 4 then Gives 0 (after_store m a 4 v) else Gives 1 (reserve m hart None)
+conditional m hart a v (Some r) = if r == a / 4 then Gives 0 (after_store m a 4 v)
+    else Gives 1 (reserve m hart None)
 
 abbrev pub atomically : Flat → ℕ → ℕ → ℕ → ℕ → Answer Flat ℕ
 atomically m hart a what v =
@@ -61,6 +65,7 @@ atomically m hart a what v =
 abbrev pub flat_tells : Tells Flat
 flat_tells = record {
   loads = λ m hart a size. unless_trap (flat_trap a size) (Gives (number_at m.bytes a size) m);
-  stores = λ m hart a size v. unless_trap (flat_trap a size) (Gives GoesOn (after_store m a size v));
+  stores =
+      λ m hart a size v. unless_trap (flat_trap a size) (Gives GoesOn (after_store m a size v));
   atomics = λ m hart a what v. unless_trap (flat_trap a 4) (atomically m hart a what v);
 }

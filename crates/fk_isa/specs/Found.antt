@@ -8,6 +8,8 @@ use Rattle.fk_isa.specs.Row.{Row}
 abbrev pub HasNoRow : ℕ → Type 0
 HasNoRow word = (i : Instruction) → ¬ (Row word i)
 
--- an instruction is found exactly where its row stands for the word, and nothing exactly where none does
+-- an instruction is found exactly where its row stands for the word, and nothing
+-- exactly where none does
 abbrev pub FindsRow : ℕ → Type 0
-FindsRow word = ((i : Instruction) → (row word ≡ Some i) ↔ Row word i) × ((row word ≡ None) ↔ HasNoRow word)
+FindsRow word = ((i : Instruction) → (row word ≡ Some i) ↔ Row word i)
+    × ((row word ≡ None) ↔ HasNoRow word)

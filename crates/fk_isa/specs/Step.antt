@@ -1,5 +1,6 @@
 -- What one instruction does to its hart, over what the bus tells.
-use Rattle.std.specs.Prelude.{ℕ, ◌*◌, ◌/◌, ◌%◌, ◌^◌, ◌==◌, not, nat_lt, nat_le, int_lt, int_le, if◌then◌else◌, Bool, true, slice_index}
+use Rattle.std.specs.Prelude.{ℕ, ◌*◌, ◌/◌, ◌%◌, ◌^◌, ◌==◌, not, nat_lt, nat_le, int_lt, int_le}
+use Rattle.std.specs.Prelude.{if◌then◌else◌, Bool, true, slice_index}
 use Rattle.fk_num.specs.Op.{applied}
 use Rattle.fk_num.specs.Word.{Memory, put, signed, word_sum}
 use Rattle.fk_num.specs.declared.operator.Op.{Op}
@@ -8,7 +9,19 @@ use Rattle.fk_isa.specs.declared.effect.Effect.{Effect}
 use Rattle.fk_isa.specs.declared.effect.Effect.TheVariants.{Next, Ended, Fault, Trap}
 use Rattle.fk_isa.specs.declared.hart.Hart.{Hart}
 use Rattle.fk_isa.specs.declared.instruction.Instruction.{Instruction}
-use Rattle.fk_isa.specs.declared.instruction.Instruction.TheVariants.{Lui, Auipc, Jal, Jalr, Beq, Bne, Blt, Bge, Bltu, Bgeu, Lb, Lh, Lw, Lbu, Lhu, Sb, Sh, Sw, Addi, Slti, Sltiu, Xori, Ori, Andi, Slli, Srli, Srai, Add, Sub, Sll, Slt, Sltu, Xor, Srl, Sra, Or, And, Mul, Mulh, Mulhsu, Mulhu, Div, Divu, Rem, Remu, Fence, Ecall, Ebreak, LrW, ScW, AmoSwapW, AmoAddW, AmoXorW, AmoAndW, AmoOrW, AmoMinW, AmoMaxW, AmoMinuW, AmoMaxuW}
+use Rattle.fk_isa.specs.declared.instruction.Instruction.TheVariants.{Lui, Auipc, Jal, Jalr, Beq}
+use Rattle.fk_isa.specs.declared.instruction.Instruction.TheVariants.{Bne, Blt, Bge, Bltu, Bgeu, Lb}
+use Rattle.fk_isa.specs.declared.instruction.Instruction.TheVariants.{Lh, Lw, Lbu, Lhu, Sb, Sh, Sw}
+use Rattle.fk_isa.specs.declared.instruction.Instruction.TheVariants.{Addi, Slti, Sltiu, Xori, Ori}
+use Rattle.fk_isa.specs.declared.instruction.Instruction.TheVariants.{Andi, Slli, Srli, Srai, Add}
+use Rattle.fk_isa.specs.declared.instruction.Instruction.TheVariants.{Sub, Sll, Slt, Sltu, Xor, Srl}
+use Rattle.fk_isa.specs.declared.instruction.Instruction.TheVariants.{Sra, Or, And, Mul, Mulh}
+use Rattle.fk_isa.specs.declared.instruction.Instruction.TheVariants.{Mulhsu, Mulhu, Div, Divu, Rem}
+use Rattle.fk_isa.specs.declared.instruction.Instruction.TheVariants.{Remu, Fence, Ecall, Ebreak}
+use Rattle.fk_isa.specs.declared.instruction.Instruction.TheVariants.{LrW, ScW, AmoSwapW, AmoAddW}
+use Rattle.fk_isa.specs.declared.instruction.Instruction.TheVariants.{AmoXorW, AmoAndW, AmoOrW}
+use Rattle.fk_isa.specs.declared.instruction.Instruction.TheVariants.{AmoMinW, AmoMaxW, AmoMinuW}
+use Rattle.fk_isa.specs.declared.instruction.Instruction.TheVariants.{AmoMaxuW}
 use Rattle.fk_isa.specs.Bits.{extended}
 use Rattle.fk_isa.specs.Tells.{Answer, Gives, Traps, Stored, GoesOn, Ends, FaultsAt, Tells}
 
@@ -45,7 +58,8 @@ ended h = record { registers = h.registers; pc = next h; ended = true }
 abbrev pub goes : {S : Type 0} → HartState → S → Outcome S
 goes h s = After Next h s
 
--- traps: 3 Misaligned, 5 Ecall, 6 Ebreak, and those of the bus. A trapping instruction changes nothing
+-- traps: 3 Misaligned, 5 Ecall, 6 Ebreak, and those of the bus. A trapping
+-- instruction changes nothing
 abbrev pub traps : {S : Type 0} → ℕ → HartState → S → Outcome S
 traps kind h s = After (Trap kind) h s
 
@@ -68,7 +82,8 @@ abbrev pub branched : Bool → HartState → ℕ → HartState
 branched holds h target = if holds then jumped h 0 target else moved h (next h)
 
 abbrev pub branch : {S : Type 0} → Bool → HartState → S → ℕ → Outcome S
-branch holds h s imm = After (branch_effect holds (word_sum h.pc imm)) (branched holds h (word_sum h.pc imm)) s
+branch holds h s imm =
+    After (branch_effect holds (word_sum h.pc imm)) (branched holds h (word_sum h.pc imm)) s
 
 -- rd gets what the bus gives of the bytes, by a function
 abbrev pub puts : {S : Type 0} → HartState → S → ℕ → (ℕ → ℕ) → Answer S ℕ → Outcome S
@@ -89,10 +104,12 @@ abbrev pub load : {S : Type 0} → Tells S → ℕ → HartState → S → ℕ �
 load t n h s rd rs1 imm size f = puts h s rd f (t.loads s n (address h rs1 imm) size)
 
 abbrev pub store : {S : Type 0} → Tells S → ℕ → HartState → S → ℕ → ℕ → ℕ → ℕ → Outcome S
-store t n h s rs1 rs2 imm size = stores_to h s (t.stores s n (address h rs1 imm) size (h.registers rs2))
+store t n h s rs1 rs2 imm size =
+    stores_to h s (t.stores s n (address h rs1 imm) size (h.registers rs2))
 
 abbrev pub atomic : {S : Type 0} → Tells S → ℕ → HartState → S → ℕ → ℕ → ℕ → ℕ → Outcome S
-atomic t n h s what rd rs1 rs2 = puts h s rd (λ v. v) (t.atomics s n (h.registers rs1) what (h.registers rs2))
+atomic t n h s what rd rs1 rs2 =
+    puts h s rd (λ v. v) (t.atomics s n (h.registers rs1) what (h.registers rs2))
 
 abbrev pub immediate : {S : Type 0} → Op → HartState → S → ℕ → ℕ → ℕ → Outcome S
 immediate o h s rd rs1 imm = goes (written h rd (applied o (h.registers rs1) imm)) s
@@ -107,8 +124,10 @@ step t n (Jal rd imm) h s = jump h s rd (word_sum h.pc imm)
 step t n (Jalr rd rs1 imm) h s = jump h s rd (address h rs1 imm / 2 * 2)
 step t n (Beq rs1 rs2 imm) h s = branch (h.registers rs1 == h.registers rs2) h s imm
 step t n (Bne rs1 rs2 imm) h s = branch (not (h.registers rs1 == h.registers rs2)) h s imm
-step t n (Blt rs1 rs2 imm) h s = branch (int_lt (signed (h.registers rs1)) (signed (h.registers rs2))) h s imm
-step t n (Bge rs1 rs2 imm) h s = branch (int_le (signed (h.registers rs2)) (signed (h.registers rs1))) h s imm
+step t n (Blt rs1 rs2 imm) h s =
+    branch (int_lt (signed (h.registers rs1)) (signed (h.registers rs2))) h s imm
+step t n (Bge rs1 rs2 imm) h s =
+    branch (int_le (signed (h.registers rs2)) (signed (h.registers rs1))) h s imm
 step t n (Bltu rs1 rs2 imm) h s = branch (nat_lt (h.registers rs1) (h.registers rs2)) h s imm
 step t n (Bgeu rs1 rs2 imm) h s = branch (nat_le (h.registers rs2) (h.registers rs1)) h s imm
 step t n (Lb rd rs1 imm) h s = load t n h s rd rs1 imm 1 (extended 8)

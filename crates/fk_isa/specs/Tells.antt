@@ -14,7 +14,8 @@ pub data Stored : Type 0 where
   Ends : Stored
   FaultsAt : (site : ℕ) → Stored
 
--- the answers of a bus, by its state, the hart, the address, the size or the instruction, and the value
+-- the answers of a bus, by its state, the hart, the address, the size or the
+-- instruction, and the value
 pub record Tells (S : Type 0) : Type 0 where
   pub loads : S → ℕ → ℕ → ℕ → Answer S ℕ
   pub stores : S → ℕ → ℕ → ℕ → ℕ → Answer S Stored
@@ -28,7 +29,8 @@ Told (Traps kind) result before now = (result ≡ Err kind) × (now ≡ before)
 abbrev pub ToldStore : {S : Type 0} → Answer S Stored → Result Effect ℕ → S → S → Type 0
 ToldStore (Gives GoesOn after) result before now = (result ≡ Ok Next) × (now ≡ after)
 ToldStore (Gives Ends after) result before now = (result ≡ Ok Ended) × (now ≡ after)
-ToldStore (Gives (FaultsAt site) after) result before now = (result ≡ Ok (Fault site)) × (now ≡ after)
+ToldStore (Gives (FaultsAt site) after) result before now =
+    (result ≡ Ok (Fault site)) × (now ≡ after)
 ToldStore (Traps kind) result before now = (result ≡ Err kind) × (now ≡ before)
 
 abbrev pub IsSize : ℕ → Type 0
@@ -36,4 +38,6 @@ IsSize size = (size ≡ 1) ⊎ (size ≡ 2) ⊎ (size ≡ 4)
 
 -- the bits 31 to 27 of an atomic instruction: lr.w, sc.w, and amoswap.w to amomaxu.w
 abbrev pub IsAtomic : ℕ → Type 0
-IsAtomic what = (what ≡ 0b00010) ⊎ (what ≡ 0b00011) ⊎ (what ≡ 0b00001) ⊎ (what ≡ 0b00000) ⊎ (what ≡ 0b00100) ⊎ (what ≡ 0b01100) ⊎ (what ≡ 0b01000) ⊎ (what ≡ 0b10000) ⊎ (what ≡ 0b10100) ⊎ (what ≡ 0b11000) ⊎ (what ≡ 0b11100)
+IsAtomic what = (what ≡ 0b00010) ⊎ (what ≡ 0b00011) ⊎ (what ≡ 0b00001) ⊎ (what ≡ 0b00000)
+    ⊎ (what ≡ 0b00100) ⊎ (what ≡ 0b01100) ⊎ (what ≡ 0b01000) ⊎ (what ≡ 0b10000) ⊎ (what ≡ 0b10100)
+    ⊎ (what ≡ 0b11000) ⊎ (what ≡ 0b11100)

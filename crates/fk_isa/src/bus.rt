@@ -29,7 +29,8 @@ pub trait Bus {
         requires hart { hart < harts self.old }
         requires ready { is_ready self.old }
         requires size { IsSize size }
-        ensures told { Told (tells.loads (state self.old) hart address size) result (state self.old) (state self.new) }
+        ensures told { Told (tells.loads (state self.old) hart address size) result (state self.old)
+            (state self.new) }
         ensures keeps { keeps self.old self.new }
         ensures fits { IfOk result (λ value. value < 2 ^ (8 * size)) };
 
@@ -38,7 +39,8 @@ pub trait Bus {
         requires hart { hart < harts self.old }
         requires ready { is_ready self.old }
         requires size { IsSize size }
-        ensures told { ToldStore (tells.stores (state self.old) hart address size value) result (state self.old) (state self.new) }
+        ensures told { ToldStore (tells.stores (state self.old) hart address size value) result
+            (state self.old) (state self.new) }
         ensures keeps { keeps self.old self.new };
 
     /// The atomic instruction of a hart that has the bits 31 to 27 of its word: what it puts
@@ -47,6 +49,7 @@ pub trait Bus {
         requires hart { hart < harts self.old }
         requires ready { is_ready self.old }
         requires what { IsAtomic what }
-        ensures told { Told (tells.atomics (state self.old) hart address what value) result (state self.old) (state self.new) }
+        ensures told { Told (tells.atomics (state self.old) hart address what value) result
+            (state self.old) (state self.new) }
         ensures keeps { keeps self.old self.new };
 }

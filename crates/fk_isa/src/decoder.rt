@@ -1,8 +1,12 @@
 //! The instruction of a word.
 
 ghost use Rattle.std.specs.Prelude.{◌≡◌, ◌↔◌, ◌<◌, ◌≤◌, ◌^◌, Some, IfSome};
-ghost use Rattle.fk_isa.specs.Bits.{bits, is_set, i_immediate, s_immediate, b_immediate, j_immediate};
-ghost use Rattle.fk_isa.specs.Find.{row, jump_row, branch_row, load_row, store_row, left_shift_row, right_shift_row, immediate_row, base_row, other_row, product_row, operation_row, fence_row, system_row, reserved_row, word_row, atomic_row};
+ghost use Rattle.fk_isa.specs.Bits.{bits, is_set, i_immediate, s_immediate, b_immediate};
+ghost use Rattle.fk_isa.specs.Bits.{j_immediate};
+ghost use Rattle.fk_isa.specs.Find.{row, jump_row, branch_row, load_row, store_row, left_shift_row};
+ghost use Rattle.fk_isa.specs.Find.{right_shift_row, immediate_row, base_row, other_row};
+ghost use Rattle.fk_isa.specs.Find.{product_row, operation_row, fence_row, system_row};
+ghost use Rattle.fk_isa.specs.Find.{reserved_row, word_row, atomic_row};
 ghost use Rattle.fk_isa.specs.Fits.{Fits};
 ghost use Rattle.fk_isa.specs.Row.{Row};
 ghost use Rattle.fk_isa.specs.declared.instruction.Instruction.{Instruction};

@@ -2,7 +2,8 @@
 
 ghost use Rattle.std.specs.Prelude.{◌≡◌, ℕ, ◌<◌, ◌^◌, ◌*◌, ◌/◌, ◌%◌, ◌+◌};
 ghost use Rattle.fk_isa.specs.Fits.{Fits, IsRegister, IsShort, IsOffset};
-ghost use Rattle.fk_isa.specs.Row.{Row, RFormat, IFormat, SFormat, BFormat, UFormat, JFormat, AFormat, FenceFormat};
+ghost use Rattle.fk_isa.specs.Row.{Row, RFormat, IFormat, SFormat, BFormat, UFormat, JFormat};
+ghost use Rattle.fk_isa.specs.Row.{AFormat, FenceFormat};
 
 use crate::fields::bits;
 use crate::instruction::Instruction;

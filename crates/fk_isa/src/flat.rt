@@ -44,7 +44,8 @@ impl FlatMemory {
     ghost use Rattle.std.specs.Prelude.{◌*◌, ◌^◌, ◌%◌, slice_index_or};
     ghost use Rattle.fk_isa.specs.Tells.{Gives};
     ghost use Rattle.fk_num.specs.Word.{put};
-    ghost use Rattle.fk_isa.specs.Flat.{Flat, flat_of, conditional, after_store, half_at, number_at, with_half, with_number};
+    ghost use Rattle.fk_isa.specs.Flat.{Flat, flat_of, conditional, after_store, half_at};
+    ghost use Rattle.fk_isa.specs.Flat.{number_at, with_half, with_number};
 
     // The number of two bytes.
     fn half(&self, at: usize) -> u32
@@ -81,7 +82,8 @@ impl FlatMemory {
 
     fn set_half(&mut self, at: usize, value: u32)
         requires { at + 2 ≤ 256 }
-        ensures bytes { slice_index self.new.bytes ≡ with_half (slice_index self.old.bytes) at value }
+        ensures bytes { slice_index self.new.bytes
+            ≡ with_half (slice_index self.old.bytes) at value }
         ensures reserved { self.new.reserved ≡ self.old.reserved }
     {
         self.set_byte(at, value % 0x100);
@@ -110,7 +112,8 @@ impl FlatMemory {
     fn store_conditional(&mut self, hart: u32, address: u32, value: u32) -> u32
         requires hart { hart < 2 }
         requires within { address + 4 ≤ 256 }
-        ensures { conditional (flat_of self.old) hart address value (slice_index_or self.old.reserved hart None) ≡ Gives result (flat_of self.new) }
+        ensures { conditional (flat_of self.old) hart address value
+            (slice_index_or self.old.reserved hart None) ≡ Gives result (flat_of self.new) }
     {
         let held = self.reserved[hart as usize];
         match held {

@@ -18,7 +18,8 @@ impl Hart {
     ghost use Rattle.fk_num.specs.Op.{applied};
     ghost use Rattle.fk_num.specs.Word.{signed, word_sum};
     ghost use Rattle.fk_isa.specs.declared.effect.Effect.TheVariants.{Next, Ended};
-    ghost use Rattle.fk_isa.specs.Step.{HartState, hart_of, set_register, moved, next, written, ended, jump_effect, jumped, branch_effect, branched};
+    ghost use Rattle.fk_isa.specs.Step.{HartState, hart_of, set_register, moved, next, written};
+    ghost use Rattle.fk_isa.specs.Step.{ended, jump_effect, jumped, branch_effect, branched};
 
     /// The word of a register.
     pub fn word(&self, number: u8) -> u32
@@ -66,7 +67,8 @@ impl Hart {
     // Gives a register a word, but register 0 stays 0.
     fn set(&mut self, rd: u8, value: u32)
         requires { rd < 32 }
-        ensures registers { slice_index self.new.registers ≡ set_register (slice_index self.old.registers) rd value }
+        ensures registers { slice_index self.new.registers
+            ≡ set_register (slice_index self.old.registers) rd value }
         ensures pc { self.new.pc ≡ self.old.pc }
         ensures ended { self.new.ended ≡ self.old.ended }
     {
@@ -90,7 +92,8 @@ impl Hart {
         requires rd { rd < 32 }
         requires rs1 { rs1 < 32 }
         ensures effect { result ≡ Next }
-        ensures hart { hart_of self.new ≡ written (hart_of self.old) rd (applied op (slice_index self.old.registers rs1) right) }
+        ensures hart { hart_of self.new ≡ written (hart_of self.old) rd
+            (applied op (slice_index self.old.registers rs1) right) }
     {
         let value = apply(op, self.word(rs1), right);
         self.write(rd, value)
@@ -126,7 +129,8 @@ impl Hart {
     // Jumps as far as the offset says where a condition holds, and else goes on.
     pub fn branch(&mut self, holds: bool, offset: u32) -> Effect
         ensures effect { result ≡ branch_effect holds (word_sum self.old.pc offset) }
-        ensures hart { hart_of self.new ≡ branched holds (hart_of self.old) (word_sum self.old.pc offset) }
+        ensures hart { hart_of self.new ≡ branched holds (hart_of self.old)
+            (word_sum self.old.pc offset) }
     {
         if holds {
             self.jump(0, self.pc.wrapping_add(offset))

@@ -9,7 +9,8 @@ ghost use Rattle.fk_isa.specs.declared.effect.Effect.TheVariants.{Trap};
 
 use crate::bus::Bus;
 
-/// What is found for a word is its row of the table, and nothing is found exactly where it has none.
+/// What is found for a word is its row of the table, and nothing is found exactly
+/// where it has none.
 pub fn finds_row()
     ensures { (word : ℕ) → FindsRow word }
 {}
@@ -21,11 +22,14 @@ pub fn one_row()
 
 /// An instruction has at most one word.
 pub fn one_word()
-    ensures { (i : Instruction) (word other : ℕ) → word < 2 ^ 32 → other < 2 ^ 32 → Row word i → Row other i → word ≡ other }
+    ensures { (i : Instruction) (word other : ℕ) → word < 2 ^ 32 → other < 2 ^ 32 → Row word i
+        → Row other i → word ≡ other }
 {}
 
 /// A trapping instruction changes neither its hart nor the bus.
 pub fn trap_changes_nothing<B: Bus>()
-    ensures { (instruction : Instruction) (number kind : ℕ) (hart after : HartState) (bus left : B.State) →
-        step B.tells number instruction hart bus ≡ After (Trap kind) after left → (after ≡ hart) × (left ≡ bus) }
+    ensures { (instruction : Instruction) (number kind : ℕ) (hart after : HartState)
+        (bus left : B.State) →
+        step B.tells number instruction hart bus ≡ After (Trap kind) after left
+        → (after ≡ hart) × (left ≡ bus) }
 {}

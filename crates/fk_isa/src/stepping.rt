@@ -20,7 +20,8 @@ pub fn step<B: Bus>(instruction: Instruction, number: u32, hart: &mut Hart, bus:
     requires fits { Fits instruction }
     requires number { number < B.harts bus.old }
     requires ready { B.is_ready bus.old }
-    ensures outcome { step B.tells number instruction (hart_of hart.old) (B.state bus.old) ≡ After result (hart_of hart.new) (B.state bus.new) }
+    ensures outcome { step B.tells number instruction (hart_of hart.old)
+        (B.state bus.old) ≡ After result (hart_of hart.new) (B.state bus.new) }
     ensures keeps { B.keeps bus.old bus.new ⊎ (bus.new ≡ bus.old) }
 {
     match instruction {
@@ -127,7 +128,8 @@ fn load<B: Bus>(
     requires rd { rd < 32 }
     requires rs1 { rs1 < 32 }
     requires size { IsSize size }
-    ensures outcome { load B.tells number (hart_of hart.old) (B.state bus.old) rd rs1 offset size (λ v. v) ≡ After result (hart_of hart.new) (B.state bus.new) }
+    ensures outcome { load B.tells number (hart_of hart.old) (B.state bus.old) rd rs1 offset size
+        (λ v. v) ≡ After result (hart_of hart.new) (B.state bus.new) }
     ensures keeps { B.keeps bus.old bus.new }
 {
     match bus.load(number, hart.sum(rs1, offset), size) {
@@ -152,7 +154,8 @@ fn load_signed<B: Bus>(
     requires rd { rd < 32 }
     requires rs1 { rs1 < 32 }
     requires size { (size ≡ 1) ⊎ (size ≡ 2) }
-    ensures outcome { load B.tells number (hart_of hart.old) (B.state bus.old) rd rs1 offset size (extended (8 * size)) ≡ After result (hart_of hart.new) (B.state bus.new) }
+    ensures outcome { load B.tells number (hart_of hart.old) (B.state bus.old) rd rs1 offset size
+        (extended (8 * size)) ≡ After result (hart_of hart.new) (B.state bus.new) }
     ensures keeps { B.keeps bus.old bus.new }
 {
     match bus.load(number, hart.sum(rs1, offset), size) {
@@ -177,7 +180,8 @@ fn store<B: Bus>(
     requires rs1 { rs1 < 32 }
     requires rs2 { rs2 < 32 }
     requires size { IsSize size }
-    ensures outcome { store B.tells number (hart_of hart.old) (B.state bus.old) rs1 rs2 offset size ≡ After result (hart_of hart.new) (B.state bus.new) }
+    ensures outcome { store B.tells number (hart_of hart.old) (B.state bus.old) rs1 rs2 offset size
+        ≡ After result (hart_of hart.new) (B.state bus.new) }
     ensures keeps { B.keeps bus.old bus.new }
 {
     match bus.store(number, hart.sum(rs1, offset), size, hart.word(rs2)) {
@@ -205,7 +209,8 @@ fn atomic<B: Bus>(
     requires rd { rd < 32 }
     requires rs1 { rs1 < 32 }
     requires rs2 { rs2 < 32 }
-    ensures outcome { atomic B.tells number (hart_of hart.old) (B.state bus.old) what rd rs1 rs2 ≡ After result (hart_of hart.new) (B.state bus.new) }
+    ensures outcome { atomic B.tells number (hart_of hart.old) (B.state bus.old) what rd rs1 rs2
+        ≡ After result (hart_of hart.new) (B.state bus.new) }
     ensures keeps { B.keeps bus.old bus.new }
 {
     match bus.atomic(number, hart.word(rs1), what, hart.word(rs2)) {

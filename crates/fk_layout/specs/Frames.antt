@@ -1,5 +1,6 @@
 -- How many words the frames of a text's functions have, and the first one that has too many.
-use Rattle.std.specs.Prelude.{ℕ, ◌+◌, ◌-◌, ◌*◌, ◌^◌, min, max, nat_lt, false, List, [], ◌∷◌, length, map, Option, Some, None, if◌then◌else◌}
+use Rattle.std.specs.Prelude.{ℕ, ◌+◌, ◌-◌, ◌*◌, ◌^◌, min, max, nat_lt, false, List, [], ◌∷◌, length}
+use Rattle.std.specs.Prelude.{map, Option, Some, None, if◌then◌else◌}
 use denote.Ref.{Bor}
 use Rattle.fk_syntax.specs.declared.place.Place.{Place}
 use Rattle.fk_syntax.specs.declared.program.Function.{Function}
@@ -24,7 +25,8 @@ file_privates items = length (variables_of false items)
 module _ (tables : Tables) (items : List ItemTree) where
   -- the places of a function's code, the most values that its call has, and how deep its parts nest
   abbrev pub places_of : FunctionTree → List At
-  places_of f = places (signature_in tables (functions_of items)) beginning (code_of tables (functions_of items) f)
+  places_of f = places (signature_in tables (functions_of items)) beginning
+      (code_of tables (functions_of items) f)
 
   abbrev pub values_of : FunctionTree → ℕ
   values_of f = max (filling f.parameters) (most_values (places_of f))
@@ -34,10 +36,11 @@ module _ (tables : Tables) (items : List ItemTree) where
 
   -- its private places. The private variables of file scope are among those of `main`
   abbrev pub privates_of : FunctionTree → ℕ
-  privates_of f = (own_of (told_in tables) f).privates + (if is_main f then file_privates items else 0)
+  privates_of f =
+      (own_of (told_in tables) f).privates + (if is_main f then file_privates items else 0)
 
-  -- the words of its private frame: 8, one for each private place, one for each value that its call has at most, and 4 for each
-  -- part in which its deepest place lies
+  -- the words of its private frame: 8, one for each private place, one for each value that its call
+  -- has at most, and 4 for each part in which its deepest place lies
   abbrev pub private_words : FunctionTree → ℕ
   private_words f = 8 + privates_of f + values_of f + 4 * nesting_of f
 
@@ -48,12 +51,13 @@ module _ (tables : Tables) (items : List ItemTree) where
   abbrev pub frame_sizes : List FrameSize
   frame_sizes = map frame_of (functions_of items)
 
-  -- the first function of more words than a private frame may have: the place of its name, and how many they are. Above
-  -- 2^32 - 1 it is that number
+  -- the first function of more words than a private frame may have: the place of its name, and how
+  -- many they are. Above 2^32 - 1 it is that number
   abbrev pub first_large_in : List FunctionTree → Option (Place × ℕ)
   first_large_in [] = None
   first_large_in (f ∷ fs) =
-      if nat_lt 64 (private_words f) then Some (f.name.place, min (private_words f) (2 ^ 32 - 1)) else first_large_in fs
+      if nat_lt 64 (private_words f) then Some (f.name.place, min (private_words f) (2 ^ 32 - 1))
+      else first_large_in fs
 
   abbrev pub first_large : Option (Place × ℕ)
   first_large = first_large_in (functions_of items)

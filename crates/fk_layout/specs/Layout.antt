@@ -33,9 +33,12 @@ tables_by program facts = record {
 module _ (program : ProgramTree) (facts : Facts) where
   -- each table of it
   pub record IsLayout (layout : Layout) : Type 0 where
-    pub rows : map row_of layout.rows.items ≡ g.rows (told facts.notes.items facts.kinds.items) program.items
-    pub words : layout.words.items ≡ g.words (told facts.notes.items facts.kinds.items) program.items
-    pub firsts : layout.firsts.items ≡ g.firsts (told facts.notes.items facts.kinds.items) program.items
+    pub rows : map row_of layout.rows.items
+        ≡ g.rows (told facts.notes.items facts.kinds.items) program.items
+    pub words : layout.words.items
+        ≡ g.words (told facts.notes.items facts.kinds.items) program.items
+    pub firsts : layout.firsts.items
+        ≡ g.firsts (told facts.notes.items facts.kinds.items) program.items
     pub slots : layout.slots.items ≡ slots_of (told_by facts) program.items
     pub regions : layout.regions.items ≡ regions_of (told_by facts) program.items
     pub frames : layout.frames.items ≡ frame_sizes (tables_by program facts) program.items
@@ -48,14 +51,18 @@ module _ (program : ProgramTree) (facts : Facts) where
     pub owns : places.owns.items ≡ owns_of (told_by facts) program.items
 
   pub record AreGlobals (globals : Globals) : Type 0 where
-    pub rows : map row_of globals.rows.items ≡ g.rows (told facts.notes.items facts.kinds.items) program.items
-    pub words : globals.words.items ≡ g.words (told facts.notes.items facts.kinds.items) program.items
-    pub firsts : globals.firsts.items ≡ g.firsts (told facts.notes.items facts.kinds.items) program.items
+    pub rows : map row_of globals.rows.items
+        ≡ g.rows (told facts.notes.items facts.kinds.items) program.items
+    pub words : globals.words.items
+        ≡ g.words (told facts.notes.items facts.kinds.items) program.items
+    pub firsts : globals.firsts.items
+        ≡ g.firsts (told facts.notes.items facts.kinds.items) program.items
     pub few : g.total (told facts.notes.items facts.kinds.items) program.items ≤ 524288
 
 -- the operations and frames of a text, which are not too many and not too large
 pub record AreSizes (tables : Tables) (items : List ItemTree) (sizes : Sizes) : Type 0 where
-  pub sites : sizes.sites.items ≡ map site (sites_in tables (functions_of items) (functions_of items))
+  pub sites : sizes.sites.items
+      ≡ map site (sites_in tables (functions_of items) (functions_of items))
   pub frames : sizes.frames.items ≡ frame_sizes tables items
   pub few : count_of_sites tables items ≤ 16000
   pub small : first_large tables items ≡ None

@@ -15,7 +15,8 @@ abbrev pub site : (ℕ × Place) → Site
 site operation = record { kind = operation.0; place = operation.1 }
 
 abbrev pub written : Listing → Site → Listing
-written listing x = record { sites = with_item listing.sites listing.filled x; filled = listing.filled + 1 }
+written listing x =
+    record { sites = with_item listing.sites listing.filled x; filled = listing.filled + 1 }
 
 abbrev pub with_operation : Listing → Option (Operation × Place) → Listing
 with_operation listing None = listing

@@ -8,7 +8,8 @@ use Rattle.fk_layout_globals.specs.Constants.{told}
 use Rattle.fk_layout_globals.specs.Rows.{total}
 use Rattle.fk_layout.specs.Frames.{first_large}
 use Rattle.fk_layout.specs.declared.sites.LayoutFault.{LayoutFault}
-use Rattle.fk_layout.specs.declared.sites.LayoutFault.TheVariants.{TooManySites, FrameTooLarge, GlobalsTooLarge, Memory}
+use Rattle.fk_layout.specs.declared.sites.LayoutFault.TheVariants.{TooManySites, FrameTooLarge}
+use Rattle.fk_layout.specs.declared.sites.LayoutFault.TheVariants.{GlobalsTooLarge, Memory}
 
 module _ (tables : Tables) (items : List ItemTree) where
   -- how many operations a text has, and how many words its shared variables of file scope have
@@ -24,12 +25,14 @@ module _ (tables : Tables) (items : List ItemTree) where
   HasTooMany Memory = Unit {0}
   HasTooMany fault = ⊥
 
-  -- what is too much, in this order: its operations, the words of the first large frame, those of its shared variables; or memory
-  -- is refused
+  -- what is too much, in this order: its operations, the words of the first large frame, those of
+  -- its shared variables; or memory is refused
   abbrev pub IsRefusal : LayoutFault → Type 0
   IsRefusal (TooManySites n) = (16000 < count_of_sites) × (n ≡ min count_of_sites (2 ^ 64 - 1))
-  IsRefusal (FrameTooLarge place words) = (count_of_sites ≤ 16000) × (first_large tables items ≡ Some (place, words))
-  IsRefusal (GlobalsTooLarge n) = (count_of_sites ≤ 16000) × (first_large tables items ≡ None) × (524288 < count_of_words) × (n ≡ min count_of_words (2 ^ 64 - 1))
+  IsRefusal (FrameTooLarge place words) = (count_of_sites ≤ 16000)
+      × (first_large tables items ≡ Some (place, words))
+  IsRefusal (GlobalsTooLarge n) = (count_of_sites ≤ 16000) × (first_large tables items ≡ None)
+      × (524288 < count_of_words) × (n ≡ min count_of_words (2 ^ 64 - 1))
   IsRefusal Memory = Unit {0}
 
   -- nothing of these

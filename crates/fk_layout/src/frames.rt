@@ -1,6 +1,7 @@
 //! How many words the frames of functions have.
 
-ghost use Rattle.std.specs.Prelude.{◌≡◌, ◌+◌, ◌-◌, ◌^◌, ◌<◌, ◌≤◌, ◌∷◌, ◌++◌, [], false, List, length, map, min, IfOk, IfErr, OnOk, None};
+ghost use Rattle.std.specs.Prelude.{◌≡◌, ◌+◌, ◌-◌, ◌^◌, ◌<◌, ◌≤◌, ◌∷◌, ◌++◌, [], false, List};
+ghost use Rattle.std.specs.Prelude.{length, map, min, IfOk, IfErr, OnOk, None};
 ghost use Rattle.fk_syntax.specs.Program.{FunctionTree};
 ghost use Rattle.fk_syntax.specs.ProgramView.{declared_of, function_of, item_of};
 ghost use Rattle.fk_meaning_forms.specs.Code.{size};

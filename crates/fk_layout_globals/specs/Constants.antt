@@ -45,9 +45,11 @@ module _ (tables : Tables) where
   -- an operator between two values, of the types that their tokens tell
   abbrev pub operated : Sign → (left right : ℕ) → (a b : ℕ) → ℕ
   operated sign left right a b =
-      let unsigned = if is_shift sign then is_unsigned tables left else is_unsigned tables left || is_unsigned tables right in
+      let unsigned = if is_shift sign then is_unsigned tables left
+      else is_unsigned tables left || is_unsigned tables right in
       let step = (kind_at tables left).step in
-      if step == 0 then joined (operator_of sign unsigned) a b else moved (move_of sign) step (operator_of sign unsigned) a b
+      if step == 0 then joined (operator_of sign unsigned) a b
+      else moved (move_of sign) step (operator_of sign unsigned) a b
 
   -- signs between two values. `&&` and `||` give 0 or 1
   abbrev pub linked_by : Sign → (left right : ℕ) → (a b : ℕ) → ℕ
@@ -64,7 +66,8 @@ module _ (tables : Tables) where
     worth (t.Prefix spot sign operand) = behind_sign sign (worth operand)
     worth (t.Cast spot type operand) = worth operand
     worth (t.Chain first links) = worth_of_links (worth first) (token first) links
-    worth (t.Choose spot condition first second) = if worth condition == 0 then worth second else worth first
+    worth (t.Choose spot condition first second) = if worth condition == 0 then worth second
+        else worth first
     worth tree = 0
 
     pub worth_of_links : (so_far : ℕ) → (left : ℕ) → Links → ℕ

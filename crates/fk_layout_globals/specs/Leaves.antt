@@ -11,12 +11,13 @@ use Rattle.fk_meaning.specs.Processor.{Processor, Setting, push}
 use Rattle.fk_meaning.specs.Local.{local, is_onward}
 use Rattle.fk_layout_globals.specs.Constants.{worth}
 
--- what operations without loops and calls make of a processor. One by itself is its own group, so an agree changes
--- nothing
+-- what operations without loops and calls make of a processor. One by itself is its own group, so
+-- an agree changes nothing
 abbrev pub behind : Setting → Coded → Processor → Processor
 behind set (perform place op rest) p = behind set rest (local set op p)
 behind set (choose place op onward aside rest) p =
-    behind set rest (if is_onward op p then behind set onward (local set op p) else behind set aside (local set op p))
+    behind set rest (if is_onward op p then behind set onward (local set op p)
+    else behind set aside (local set op p))
 behind set code p = p
 
 abbrev pub StandsInConstants : Sign → Type 0
@@ -46,15 +47,19 @@ module _ (tables : Tables) where
     IsConstant (t.Prefix spot sign operand) = StandsInConstants sign × IsConstant operand
     IsConstant (t.Cast spot type operand) = IsConstant operand
     IsConstant (t.Chain first links) = IsConstant first × AreConstant (token first) links
-    IsConstant (t.Choose spot condition first second) = IsWhole spot.at × IsConstant condition × IsConstant first × IsConstant second
+    IsConstant (t.Choose spot condition first second) = IsWhole spot.at × IsConstant condition
+        × IsConstant first × IsConstant second
     IsConstant tree = ⊥
 
     pub AreConstant : (left : ℕ) → Links → Type 0
     AreConstant left t.no_links = ⊤
-    AreConstant left (t.link spot sign right others) = IsLink sign left spot.at × IsConstant right × AreConstant spot.at others
+    AreConstant left (t.link spot sign right others) = IsLink sign left spot.at × IsConstant right
+        × AreConstant spot.at others
 
 -- before any other operations too
 abbrev pub LeavesItsWorth : Type 0
-LeavesItsWorth = (tables : Tables) (functions : (binding : ℕ) → Signature) (set : Setting) (p : Processor) (constant : Tree) (rest : Coded)
+LeavesItsWorth = (tables : Tables) (functions : (binding : ℕ) → Signature) (set : Setting)
+    (p : Processor) (constant : Tree) (rest : Coded)
     → IsConstant tables constant
-    → behind set (value tables functions constant rest) p ≡ behind set rest (push (worth tables constant) p)
+    → behind set (value tables functions constant rest) p
+    ≡ behind set rest (push (worth tables constant) p)

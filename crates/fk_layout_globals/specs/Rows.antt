@@ -1,5 +1,6 @@
 -- Where the variables of file scope stand, and what they begin as.
-use Rattle.std.specs.Prelude.{ℕ, zero, suc, ◌+◌, ◌==◌, ◌&&◌, Bool, true, false, List, [], ◌∷◌, map, flat_map, sum_by, Option, Some, None}
+use Rattle.std.specs.Prelude.{ℕ, zero, suc, ◌+◌, ◌==◌, ◌&&◌, Bool, true, false, List, [], ◌∷◌, map}
+use Rattle.std.specs.Prelude.{flat_map, sum_by, Option, Some, None}
 use Rattle.fk_syntax.specs.Tree as t
 use Rattle.fk_syntax.specs.Tree.{Tree, BaseType, TypeTree}
 use Rattle.fk_syntax.specs.Program.{DeclaredTree, ItemTree}
@@ -7,7 +8,8 @@ use Rattle.fk_meaning_forms.specs.Tables.{Tables, kind_at}
 use Rattle.fk_layout_globals.specs.Variables.{variables_of}
 use Rattle.fk_layout_globals.specs.Constants.{worth}
 
--- a shared variable: its name, its first word of shared data, how many words it has, and whether they are shown with a sign
+-- a shared variable: its name, its first word of shared data, how many words it has, and whether
+-- they are shown with a sign
 pub record Row : Type 0 where
   pub name : List ℕ
   pub first : ℕ
@@ -59,7 +61,8 @@ module _ (tables : Tables) where
   abbrev pub total_of : List DeclaredTree → ℕ
   total_of variables = sum_by words_of variables
 
-  -- those of a text: a row for each shared variable of file scope, the words of all rows, and their number
+  -- those of a text: a row for each shared variable of file scope, the words of all rows,
+  -- and their number
   abbrev pub rows : List ItemTree → List Row
   rows items = rows_from 0 (variables_of true items)
 

@@ -9,4 +9,5 @@ abbrev pub tables_of : Types → Tables
 tables_of types = told types.notes.now types.kinds.now
 
 abbrev pub row_of : GlobalRow → Row
-row_of row = record { name = row.name.now; first = row.first; words = row.words; signed = row.signed }
+row_of row =
+    record { name = row.name.now; first = row.first; words = row.words; signed = row.signed }

@@ -98,7 +98,8 @@ pub fn lay_globals<'a>(
     ensures count { IfOk result (λ globals. length globals.words.items
         ≡ total (told notes.now kinds.now) (map item_of items.now)) }
     ensures fits { OnOk result (total (told notes.now kinds.now) (map item_of items.now) ≤ 524288) }
-    ensures refused { IfErr result (IsFault (total (told notes.now kinds.now) (map item_of items.now))) }
+    ensures refused { IfErr result
+        (IsFault (total (told notes.now kinds.now) (map item_of items.now))) }
 {
     let types = Types { notes, kinds };
     let shared = file_variables(alloc, items, true).map_err(out_of_memory)?;

@@ -1,6 +1,7 @@
 //! Where the variables of file scope stand, and what they begin as.
 
-ghost use Rattle.std.specs.Prelude.{◌≡◌, ◌≤◌, ◌<◌, ◌^◌, ◌-◌, ◌++◌, List, map, flat_map, min, IfOk, IfErr, OnOk};
+ghost use Rattle.std.specs.Prelude.{◌≡◌, ◌≤◌, ◌<◌, ◌^◌, ◌-◌, ◌++◌, List, map, flat_map, min, IfOk};
+ghost use Rattle.std.specs.Prelude.{IfErr, OnOk};
 ghost use Rattle.fk_syntax.specs.View.{type_of};
 ghost use Rattle.fk_syntax.specs.ProgramView.{declared_of};
 ghost use Rattle.fk_layout_globals.specs.Rows as r;
@@ -12,7 +13,8 @@ use crate::types::Types;
 use fk_syntax::{Base, Declared, TypeName};
 use std::alloc::{AllocError, Global};
 
-/// Where a shared variable of file scope stands among the words of shared data, and how it is shown.
+/// Where a shared variable of file scope stands among the words of shared data, and
+/// how it is shown.
 #[derive(Clone, Copy, PartialEq, Eq, Debug)]
 pub struct GlobalRow<'a> {
     pub name: &'a [u8],
@@ -53,7 +55,8 @@ fn first_of(types: &Types, variable: &Declared) -> u32
 
 /// How many words variables have. Above 2^64 - 1 it is that number.
 pub(crate) fn count_words(types: &Types, variables: &Vec<&Declared>) -> u64
-    ensures { result ≡ min (r.total_of (tables_of types.now) (declared_behind variables.now.items)) (2 ^ 64 - 1) }
+    ensures { result ≡ min
+        (r.total_of (tables_of types.now) (declared_behind variables.now.items)) (2 ^ 64 - 1) }
 {
     let mut total: u64 = 0;
     for index in 0..variables.len() {

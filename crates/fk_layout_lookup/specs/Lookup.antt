@@ -1,5 +1,6 @@
 -- What a walk finds in one step.
-use Rattle.std.specs.Prelude.{◌≡◌, ℕ, ◌==◌, ◌&&◌, Bool, not, List, Option, Some, None, slice_get, if◌then◌else◌}
+use Rattle.std.specs.Prelude.{◌≡◌, ℕ, ◌==◌, ◌&&◌, Bool, not, List, Option, Some, None, slice_get}
+use Rattle.std.specs.Prelude.{if◌then◌else◌}
 use Rattle.std.specs.Option.{option_map}
 use Rattle.fk_syntax.specs.Program.{Statements, ItemTree, FunctionItem}
 use Rattle.fk_meaning_forms.specs.declared.tables.Region.{Region}
@@ -7,7 +8,8 @@ use Rattle.fk_meaning_forms.specs.Tables.{Tables, frame_in}
 use Rattle.fk_meaning_forms.specs.Program.{functions_of, binding_of, signature_in}
 use Rattle.fk_layout_walk.specs.declared.known.ProgramTables.{ProgramTables}
 use Rattle.fk_layout_walk.specs.declared.known.Framed.{Framed}
-use Rattle.fk_layout_walk.specs.Known.{tables_of, items_in, signature_at, called, framed_in, part_of}
+use Rattle.fk_layout_walk.specs.Known.{tables_of, items_in, signature_at, called, framed_in}
+use Rattle.fk_layout_walk.specs.Known.{part_of}
 use Rattle.fk_layout_lookup.specs.declared.lookup.Lookup.{Lookup}
 
 -- the binding of the function of an item, where that has a body
@@ -18,19 +20,23 @@ defined_by tables item = None
 -- the functions of these items by their bindings, where each stands among all items by its index
 abbrev pub TellsCallees : Tables → (all items : List ItemTree) → List (Option ℕ) → Type 0
 TellsCallees tables all items callees =
-    (binding : ℕ) → signature_in tables (functions_of items) binding ≡ signature_at (called (slice_get callees binding) all)
+    (binding : ℕ) → signature_in tables (functions_of items) binding
+    ≡ signature_at (called (slice_get callees binding) all)
 
 -- the group frames of tokens that these regions tell
 abbrev pub TellsFrames : Tables → List Region → List Framed → Type 0
 TellsFrames tables regions framed =
-    (at : ℕ) (second : Bool) → frame_in tables regions at (part_of second) ≡ framed_in (slice_get framed at) second
+    (at : ℕ) (second : Bool)
+    → frame_in tables regions at (part_of second) ≡ framed_in (slice_get framed at) second
 
 -- all of a text
 pub record Tells (known : ProgramTables) (lookup : Lookup) : Type 0 where
-  pub callees : TellsCallees (tables_of known) (items_in known) (items_in known) lookup.callees.items
+  pub callees : TellsCallees (tables_of known) (items_in known)
+      (items_in known) lookup.callees.items
   pub frames : TellsFrames (tables_of known) known.regions.now lookup.framed.items
 
 -- the group frame of a part, where this region is put before those that there are
-abbrev pub with_frame : Region → (second : Bool) → (at : ℕ) (part : Bool) → (others : Option Region) → Option Region
+abbrev pub with_frame : Region → (second : Bool) → (at : ℕ) (part : Bool)
+    → (others : Option Region) → Option Region
 with_frame region second at part others =
     if (region.at == at) && (if second then part else not part) then Some region else others

@@ -1,10 +1,12 @@
 //! What a walk finds in one step.
 
-ghost use Rattle.std.specs.Prelude.{◌≡◌, ◌+◌, ◌<◌, ◌++◌, ◌==◌, ℕ, Bool, List, IfOk, OnOk, drop, length, replicate, slice_get, if◌then◌else◌};
+ghost use Rattle.std.specs.Prelude.{◌≡◌, ◌+◌, ◌<◌, ◌++◌, ◌==◌, ℕ, Bool, List, IfOk, OnOk, drop};
+ghost use Rattle.std.specs.Prelude.{length, replicate, slice_get, if◌then◌else◌};
 ghost use Rattle.fk_syntax.specs.Program.{ItemTree};
 ghost use Rattle.fk_layout_walk.specs.Known.{tables_of, items_in, called, framed_in, IsSound};
 ghost use Rattle.fk_syntax.specs.ProgramView.{item_of};
-ghost use Rattle.fk_layout_lookup.specs.Lookup.{Tells, TellsCallees, TellsFrames, defined_by, with_frame};
+ghost use Rattle.fk_layout_lookup.specs.Lookup.{Tells, TellsCallees, TellsFrames, defined_by};
+ghost use Rattle.fk_layout_lookup.specs.Lookup.{with_frame};
 
 use fk_layout_walk::{Framed, ProgramTables};
 use fk_meaning_forms::Region;

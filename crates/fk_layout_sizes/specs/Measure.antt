@@ -15,24 +15,41 @@ plus a b = min (a + b) (2 ^ 64 - 1)
 
 -- what there is now counts among what there was
 abbrev pub raised : Mark → Mark
-raised m = record { values = m.values; most = max m.most m.values; nesting = m.nesting; deepest = max m.deepest m.nesting }
+raised m = record {
+  values = m.values;
+  most = max m.most m.values;
+  nesting = m.nesting;
+  deepest = max m.deepest m.nesting;
+}
 
 -- behind an operation; and behind a call, by what was when it began
 abbrev pub performed : Mark → Operation → Mark
 performed m op =
-    raised (record { values = plus (m.values - takes op) (pushes op); most = m.most; nesting = plus m.nesting (nests op); deepest = m.deepest })
+    raised (record {
+      values = plus (m.values - takes op) (pushes op);
+      most = m.most;
+      nesting = plus m.nesting (nests op);
+      deepest = m.deepest;
+    })
 
 abbrev pub returned : Mark → (void : Bool) → Mark
 returned entered void =
-    raised (record { values = plus entered.values (results void); most = entered.most; nesting = entered.nesting; deepest = entered.deepest })
+    raised (record {
+      values = plus entered.values (results void);
+      most = entered.most;
+      nesting = entered.nesting;
+      deepest = entered.deepest;
+    })
 
 abbrev pub with_operation : Mark → Option (Operation × Place) → Mark
 with_operation m None = m
 with_operation m (Some operation) = performed m operation.0
 
 abbrev pub mark_after : Mark → Event → Mark
-mark_after m (Aside before) = record { values = before.values; most = m.most; nesting = before.nesting; deepest = m.deepest }
-mark_after m (Joined before first) = record { values = first.values; most = m.most; nesting = before.nesting; deepest = m.deepest }
+mark_after m (Aside before) =
+    record { values = before.values; most = m.most; nesting = before.nesting; deepest = m.deepest }
+mark_after m (Joined before first) =
+    record { values = first.values; most = m.most; nesting = before.nesting; deepest = m.deepest }
 mark_after m (Returned entered void) = returned entered void
 mark_after m event = with_operation m (operation_of event)
 

@@ -5,7 +5,8 @@ use Rattle.fk_meaning_operation.specs.declared.operation.Operation.TheVariants a
 use Rattle.fk_meaning_operation.specs.declared.operation.SplitKind.{SplitKind}
 use Rattle.fk_meaning_operation.specs.declared.operation.SplitKind.TheVariants.{Loop, Fork}
 
--- a loop's part has all members. A `fork` takes how many parts there are, which one and which `$`. All else takes a condition
+-- a loop's part has all members. A `fork` takes how many parts there are, which one and which `$`.
+-- All else takes a condition
 abbrev pub split_takes : SplitKind → ℕ
 split_takes Loop = 0
 split_takes Fork = 3

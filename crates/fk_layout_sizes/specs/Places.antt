@@ -5,29 +5,35 @@ use Rattle.fk_syntax.specs.Program.{DeclaredTree, FunctionTree}
 use Rattle.fk_layout_walk.specs.declared.known.ProgramTables.{ProgramTables}
 use Rattle.fk_layout_walk.specs.Known.{functions_of}
 use Rattle.fk_layout_walk_statements.specs.Texts.{code_in}
-use Rattle.fk_meaning_forms.specs.Code.{done, perform, choose, while, until, turn, again, quit, break, continue, call, ends}
+use Rattle.fk_meaning_forms.specs.Code.{done, perform, choose, while, until, turn, again, quit}
+use Rattle.fk_meaning_forms.specs.Code.{break, continue, call, ends}
 use Rattle.fk_meaning_forms.specs.Expressions.{Coded, Signature}
 use Rattle.fk_layout_sizes.specs.Operations.{takes, pushes, nests, results}
 
--- a place in code: how many values the running call has there, and in how many parts of it the place lies
+-- a place in code: how many values the running call has there, and in how many parts of
+-- it the place lies
 pub record At : Type 0 where
   pub values : ℕ
   pub nesting : ℕ
 
 abbrev pub behind_operation : At → Operation → At
-behind_operation p op = record { values = p.values - takes op + pushes op; nesting = p.nesting + nests op }
+behind_operation p op =
+    record { values = p.values - takes op + pushes op; nesting = p.nesting + nests op }
 
 module _ (functions : (binding : ℕ) → Signature) where
   -- behind a call there is its result, if the function gives one
   abbrev pub behind_call : At → Operation → (binding : ℕ) → At
-  behind_call p op f = record (behind_operation p op) { values = (behind_operation p op).values + results (functions f).void }
+  behind_call p op f = record (behind_operation p op)
+      { values = (behind_operation p op).values + results (functions f).void }
 
-  -- the place behind code. Both ways of a choice end with as many values, and lie in what its operation begins, which ends
-  -- behind them. What stands in the opening of a call is done by the function that is called
+  -- the place behind code. Both ways of a choice end with as many values, and lie in what its
+  -- operation begins, which ends behind them. What stands in the opening of a call is done by the
+  -- function that is called
   abbrev pub behind : At → Coded → At
   behind p done = p
   behind p (perform t op rest) = behind (behind_operation p op) rest
-  behind p (choose t op a b rest) = behind (record { values = (behind (behind_operation p op) a).values; nesting = p.nesting }) rest
+  behind p (choose t op a b rest) = behind
+      (record { values = (behind (behind_operation p op) a).values; nesting = p.nesting }) rest
   behind p (while test body step rest) = behind (behind (behind (behind p test) body) step) rest
   behind p (until body test rest) = behind (behind (behind p body) test) rest
   behind p (turn test body step rest) = behind (behind (behind (behind p test) body) step) rest
@@ -44,12 +50,14 @@ module _ (functions : (binding : ℕ) → Signature) where
   places p (perform t op rest) = p ∷ places (behind_operation p op) rest
   places p (choose t op a b rest) =
       let first = behind_operation p op in
-      p ∷ (places first a ++ places first b ++ places (record { values = (behind first a).values; nesting = p.nesting }) rest)
+      p ∷ (places first a ++ places first b
+      ++ places (record { values = (behind first a).values; nesting = p.nesting }) rest)
   places p (while test body step rest) =
       let b = behind p test in
       let s = behind b body in
       places p test ++ places b body ++ places s step ++ places (behind s step) rest
-  places p (until body test rest) = let t = behind p body in places p body ++ places t test ++ places (behind t test) rest
+  places p (until body test rest) = let t = behind p body in
+      places p body ++ places t test ++ places (behind t test) rest
   places p (turn test body step rest) =
       let b = behind p test in
       let s = behind b body in

@@ -1,6 +1,7 @@
--- The group frames of a text that have words, in the order of their tokens: a frame stands before those within it, and the two
--- of an `if` before those within both.
-use Rattle.std.specs.Prelude.{ℕ, ◌+◌, ◌==◌, min, List, [], ◌∷◌, ◌++◌, Option, Some, None, if◌then◌else◌}
+-- The group frames of a text that have words, in the order of their tokens: a frame stands before
+-- those within it, and the two of an `if` before those within both.
+use Rattle.std.specs.Prelude.{ℕ, ◌+◌, ◌==◌, min, List, [], ◌∷◌, ◌++◌, Option, Some, None}
+use Rattle.std.specs.Prelude.{if◌then◌else◌}
 use Rattle.fk_syntax.specs.Program as p
 use Rattle.fk_syntax.specs.Program.{DeclaredTree, Statement, Statements, FunctionTree, ItemTree}
 use Rattle.fk_meaning_forms.specs.declared.tables.Region.{Region}
@@ -14,7 +15,8 @@ last_word = 1048576
 -- a frame of a part of a token, if it has words. All that are too many are one too many
 abbrev pub frame : (at part level words : ℕ) → List Region
 frame at part level words =
-    if words == 0 then [] else record { at = at; part = part; level = level; words = min words (last_word + 1) } ∷ []
+    if words == 0 then []
+    else record { at = at; part = part; level = level; words = min words (last_word + 1) } ∷ []
 
 -- the nesting of a body
 abbrev pub deeper : (level : ℕ) → ℕ
@@ -50,20 +52,24 @@ module _ (told : Told) where
         if splits_at told spot.at
         then body_frame spot.at 0 (deeper level) body ++ frames_in (deeper level) body
         else frames_in level body
-    frames_in level (p.Start spot count body) = body_frame spot.at 0 (deeper level) body ++ frames_in (deeper level) body
-    frames_in level (p.Fork spot parts part rank body) = body_frame spot.at 0 (deeper level) body ++ frames_in (deeper level) body
+    frames_in level (p.Start spot count body) =
+        body_frame spot.at 0 (deeper level) body ++ frames_in (deeper level) body
+    frames_in level (p.Fork spot parts part rank body) =
+        body_frame spot.at 0 (deeper level) body ++ frames_in (deeper level) body
     frames_in level (p.Farm spot body) = frames_in (deeper level) body
     frames_in level (p.Seq spot body) = frames_in (deeper level) body
     frames_in level statement = []
 
     pub all_frames_in : (level : ℕ) → Statements → List Region
     all_frames_in level p.no_statements = []
-    all_frames_in level (p.statement first others) = frames_in level first ++ all_frames_in level others
+    all_frames_in level (p.statement first others) =
+        frames_in level first ++ all_frames_in level others
 
   -- those of a function with this body: its own, and those within
   abbrev pub body_frames : (at : ℕ) → List DeclaredTree → Option Statements → List Region
   body_frames at parameters None = []
-  body_frames at parameters (Some body) = frame at 0 0 (own_words told parameters body) ++ all_frames_in 0 body
+  body_frames at parameters (Some body) =
+      frame at 0 0 (own_words told parameters body) ++ all_frames_in 0 body
 
   abbrev pub item_frames : ItemTree → List Region
   item_frames (p.StructItem name members) = []

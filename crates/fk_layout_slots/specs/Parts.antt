@@ -12,7 +12,8 @@ use Rattle.fk_layout_slots.specs.Slots.{behind_body_frame, begun, begun_two, beh
 module _ (told : Told) where
   -- a body that has a frame
   abbrev pub framed_frames : (at level : ℕ) → Statement → List Region
-  framed_frames at level body = body_frame told at 0 (deeper level) body ++ frames_in told (deeper level) body
+  framed_frames at level body =
+      body_frame told at 0 (deeper level) body ++ frames_in told (deeper level) body
 
   abbrev pub framed_slots : Taken → Statement → List Slot
   framed_slots taken body = slots_in told taken.frames (begun told taken body) body
@@ -22,13 +23,16 @@ module _ (told : Told) where
 
   -- a body that has one where the group splits
   abbrev pub split_frames : (at level : ℕ) → Statement → List Region
-  split_frames at level body = if splits_at told at then framed_frames at level body else frames_in told level body
+  split_frames at level body = if splits_at told at then framed_frames at level body
+      else frames_in told level body
 
   abbrev pub split_slots : (at frame : ℕ) → Taken → Statement → List Slot
-  split_slots at frame taken body = if splits_at told at then framed_slots taken body else slots_in told frame taken body
+  split_slots at frame taken body = if splits_at told at then framed_slots taken body
+      else slots_in told frame taken body
 
   abbrev pub behind_split : (at : ℕ) → Taken → Statement → Taken
-  behind_split at taken body = if splits_at told at then behind_framed taken body else behind told taken body
+  behind_split at taken body = if splits_at told at then behind_framed taken body
+      else behind told taken body
 
   -- two bodies that have frames
   abbrev pub both_framed_frames : (at level : ℕ) → (first second : Statement) → List Region
@@ -39,15 +43,18 @@ module _ (told : Told) where
   abbrev pub both_framed_slots : Taken → (first second : Statement) → List Slot
   both_framed_slots taken first second =
       slots_in told taken.frames (begun_two told taken first second) first
-      ++ slots_in told (behind_body_frame told taken first).frames (within (behind told (begun_two told taken first second) first)) second
+      ++ slots_in told (behind_body_frame told taken first).frames
+      (within (behind told (begun_two told taken first second) first)) second
 
   abbrev pub behind_both_framed : Taken → (first second : Statement) → Taken
-  behind_both_framed taken first second = outside taken (behind told (within (behind told (begun_two told taken first second) first)) second)
+  behind_both_framed taken first second = outside taken
+      (behind told (within (behind told (begun_two told taken first second) first)) second)
 
   -- two bodies that have them where the group splits
   abbrev pub both_frames : (at level : ℕ) → (first second : Statement) → List Region
   both_frames at level first second =
-      if splits_at told at then both_framed_frames at level first second else frames_in told level first ++ frames_in told level second
+      if splits_at told at then both_framed_frames at level first second
+      else frames_in told level first ++ frames_in told level second
 
   abbrev pub both_slots : (at frame : ℕ) → Taken → (first second : Statement) → List Slot
   both_slots at frame taken first second =
@@ -57,4 +64,5 @@ module _ (told : Told) where
 
   abbrev pub behind_both : (at : ℕ) → Taken → (first second : Statement) → Taken
   behind_both at taken first second =
-      if splits_at told at then behind_both_framed taken first second else behind told (behind told taken first) second
+      if splits_at told at then behind_both_framed taken first second
+      else behind told (behind told taken first) second

@@ -1,7 +1,8 @@
 -- What is taken before a declaration, and the place that it gets by it.
 use Rattle.std.specs.Prelude.{ℕ, ◌==◌, min, List, [], ◌∷◌, if◌then◌else◌}
 use Rattle.fk_syntax.specs.Program.{DeclaredTree}
-use Rattle.fk_meaning_forms.specs.declared.tables.Home.TheVariants.{Global, FilePrivate, Private, Group, NoWord}
+use Rattle.fk_meaning_forms.specs.declared.tables.Home.TheVariants.{Global, FilePrivate, Private}
+use Rattle.fk_meaning_forms.specs.declared.tables.Home.TheVariants.{Group, NoWord}
 use Rattle.fk_meaning_forms.specs.declared.tables.Slot.{Slot}
 use Rattle.fk_layout_slots.specs.declared.taken.Taken.{Taken}
 use Rattle.fk_layout_slots.specs.Told.{Told, words_at, more}
@@ -12,7 +13,8 @@ none_taken = record { privates = 0; words = 0; frames = 0 }
 
 -- what is taken behind a frame of so many words, which has a number if it has any
 unfoldable pub behind_frame : Taken → (words : ℕ) → Taken
-behind_frame taken words = if words == 0 then taken else record taken { frames = more taken.frames 1 }
+behind_frame taken words =
+    if words == 0 then taken else record taken { frames = more taken.frames 1 }
 
 -- what is taken at the beginning of a frame, and behind its end, where this is taken before it
 unfoldable pub within : Taken → Taken
@@ -33,7 +35,8 @@ abbrev pub no_slots : List DeclaredTree → List Slot
 no_slots [] = []
 no_slots (x ∷ xs) = no_slot ∷ no_slots xs
 
--- the place of a variable or parameter of a function, whose `sh` ones stand in the group frame of a number
+-- the place of a variable or parameter of a function, whose `sh` ones stand in the group
+-- frame of a number
 unfoldable pub slot_in : (frame : ℕ) → Taken → DeclaredTree → Slot
 slot_in frame taken x =
     if x.shared
@@ -70,11 +73,13 @@ module _ (told : Told) where
   -- the places of those that stand side by side
   abbrev pub variables_slots : (frame : ℕ) → Taken → List DeclaredTree → List Slot
   variables_slots frame taken [] = []
-  variables_slots frame taken (x ∷ xs) = slot_in frame taken x ∷ variables_slots frame (behind_variable taken x) xs
+  variables_slots frame taken (x ∷ xs) =
+      slot_in frame taken x ∷ variables_slots frame (behind_variable taken x) xs
 
   abbrev pub parameters_slots : (frame : ℕ) → Taken → List DeclaredTree → List Slot
   parameters_slots frame taken [] = []
-  parameters_slots frame taken (x ∷ xs) = slot_in frame taken x ∷ parameters_slots frame (behind_parameter taken x) xs
+  parameters_slots frame taken (x ∷ xs) =
+      slot_in frame taken x ∷ parameters_slots frame (behind_parameter taken x) xs
 
   abbrev pub file_slots : Taken → List DeclaredTree → List Slot
   file_slots taken [] = []

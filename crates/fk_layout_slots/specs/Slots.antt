@@ -1,5 +1,7 @@
--- Where the words of each declaration of a text lie, in its order; and how much each function takes.
-use Rattle.std.specs.Prelude.{ℕ, ◌+◌, min, List, [], ◌∷◌, ◌++◌, map, Option, Some, None, if◌then◌else◌}
+-- Where the words of each declaration of a text lie, in its order; and how much
+-- each function takes.
+use Rattle.std.specs.Prelude.{ℕ, ◌+◌, min, List, [], ◌∷◌, ◌++◌, map, Option, Some, None}
+use Rattle.std.specs.Prelude.{if◌then◌else◌}
 use Rattle.fk_syntax.specs.Program as p
 use Rattle.fk_syntax.specs.Program.{DeclaredTree, Statement, Statements, FunctionTree, ItemTree}
 use Rattle.fk_meaning_forms.specs.declared.tables.Slot.{Slot}
@@ -9,7 +11,9 @@ use Rattle.fk_layout_slots.specs.declared.taken.Taken.{Taken}
 use Rattle.fk_layout_slots.specs.Told.{Told, splits_at}
 use Rattle.fk_layout_slots.specs.Words.{statement_words, own_words}
 use Rattle.fk_layout_slots.specs.Frames.{last_word}
-use Rattle.fk_layout_slots.specs.Places.{none_taken, behind_frame, within, outside, behind_variables, behind_parameters, no_slot, no_slots, variables_slots, parameters_slots, file_slots}
+use Rattle.fk_layout_slots.specs.Places.{none_taken, behind_frame, within, outside}
+use Rattle.fk_layout_slots.specs.Places.{behind_variables, behind_parameters, no_slot, no_slots}
+use Rattle.fk_layout_slots.specs.Places.{variables_slots, parameters_slots, file_slots}
 
 module _ (told : Told) where
   -- what is taken behind the frame of a body, and where the body begins that has it
@@ -23,7 +27,8 @@ module _ (told : Told) where
   abbrev pub begun_two : Taken → (first second : Statement) → Taken
   begun_two taken first second = begun (behind_body_frame taken first) second
 
-  -- what is taken behind a statement. A body with a frame begins with none of its words, and ends with those round it
+  -- what is taken behind a statement. A body with a frame begins with none of its words, and ends
+  -- with those round it
   abbrev mutual
     pub behind : Taken → Statement → Taken
     behind taken (p.Block list) = behind_all taken list
@@ -58,7 +63,8 @@ module _ (told : Told) where
     behind_all taken p.no_statements = taken
     behind_all taken (p.statement first others) = behind_all (behind taken first) others
 
-  -- the places in a statement, whose `sh` variables stand in the frame of a number. A frame has the number of those before it
+  -- the places in a statement, whose `sh` variables stand in the frame of a number. A frame has the
+  -- number of those before it
   abbrev mutual
     pub slots_in : (frame : ℕ) → Taken → Statement → List Slot
     slots_in frame taken (p.Block list) = all_slots_in frame taken list
@@ -70,7 +76,8 @@ module _ (told : Told) where
     slots_in frame taken (p.IfElse spot condition first second) =
         if splits_at told spot.at
         then slots_in taken.frames (begun_two taken first second) first
-        ++ slots_in (behind_body_frame taken first).frames (within (behind (begun_two taken first second) first)) second
+        ++ slots_in (behind_body_frame taken first).frames
+        (within (behind (begun_two taken first second) first)) second
         else slots_in frame taken first ++ slots_in frame (behind taken first) second
     slots_in frame taken (p.While spot condition body) =
         if splits_at told spot.at
@@ -85,34 +92,41 @@ module _ (told : Told) where
         then slots_in taken.frames (begun taken body) body
         else slots_in frame taken body
     slots_in frame taken (p.Start spot count body) = slots_in taken.frames (begun taken body) body
-    slots_in frame taken (p.Fork spot parts part rank body) = slots_in taken.frames (begun taken body) body
+    slots_in frame taken (p.Fork spot parts part rank body) =
+        slots_in taken.frames (begun taken body) body
     slots_in frame taken (p.Farm spot body) = slots_in frame taken body
     slots_in frame taken (p.Seq spot body) = slots_in frame taken body
     slots_in frame taken statement = []
 
     pub all_slots_in : (frame : ℕ) → Taken → Statements → List Slot
     all_slots_in frame taken p.no_statements = []
-    all_slots_in frame taken (p.statement first others) = slots_in frame taken first ++ all_slots_in frame (behind taken first) others
+    all_slots_in frame taken (p.statement first others) =
+        slots_in frame taken first ++ all_slots_in frame (behind taken first) others
 
   -- what a function begins with: its frame is the next one
   abbrev pub taken_first : (file : Taken) → List DeclaredTree → Statements → Taken
-  taken_first file parameters body = record (behind_frame file (own_words told parameters body)) { privates = 0; words = 0 }
+  taken_first file parameters body =
+      record (behind_frame file (own_words told parameters body)) { privates = 0; words = 0 }
 
   -- and what is taken at its end
   abbrev pub at_end : (file : Taken) → List DeclaredTree → Statements → Taken
-  at_end file parameters body = behind_all (behind_parameters told (taken_first file parameters body) parameters) body
+  at_end file parameters body =
+      behind_all (behind_parameters told (taken_first file parameters body) parameters) body
 
   -- what is taken behind a function: more frames
   abbrev pub behind_body : (file : Taken) → List DeclaredTree → Option Statements → Taken
   behind_body file parameters None = file
-  behind_body file parameters (Some body) = record file { frames = (at_end file parameters body).frames }
+  behind_body file parameters (Some body) =
+      record file { frames = (at_end file parameters body).frames }
 
-  -- the places of a function's parameters and variables. Those of a header without a body have no word
+  -- the places of a function's parameters and variables. Those of a header without a
+  -- body have no word
   abbrev pub body_slots : (file : Taken) → List DeclaredTree → Option Statements → List Slot
   body_slots file parameters None = no_slots parameters
   body_slots file parameters (Some body) =
       parameters_slots told file.frames (taken_first file parameters body) parameters
-      ++ all_slots_in file.frames (behind_parameters told (taken_first file parameters body) parameters) body
+      ++ all_slots_in file.frames
+      (behind_parameters told (taken_first file parameters body) parameters) body
 
   abbrev pub behind_item : (file : Taken) → ItemTree → Taken
   behind_item file (p.StructItem name members) = file
@@ -127,13 +141,15 @@ module _ (told : Told) where
 
   abbrev pub items_slots : (file : Taken) → List ItemTree → List Slot
   items_slots file [] = []
-  items_slots file (item ∷ items) = item_slots file item ++ items_slots (behind_item file item) items
+  items_slots file (item ∷ items) =
+      item_slots file item ++ items_slots (behind_item file item) items
 
   -- those of a text
   abbrev pub slots_of : List ItemTree → List Slot
   slots_of items = items_slots none_taken items
 
-  -- how much a function takes by itself: its private places, and the words of its own group frame. All that are too many are one too many
+  -- how much a function takes by itself: its private places, and the words of its own group frame.
+  -- All that are too many are one too many
   abbrev pub own_in : List DeclaredTree → Option Statements → Own
   own_in parameters None = record { privates = 0; words = 0 }
   own_in parameters (Some body) = record {

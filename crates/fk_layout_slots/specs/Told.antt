@@ -1,4 +1,5 @@
--- What is asked of the facts of a program: how many words a name's declaration takes, and where groups split.
+-- What is asked of the facts of a program: how many words a name's declaration takes, and
+-- where groups split.
 use Rattle.std.specs.Prelude.{ℕ, ◌+◌, ◌-◌, ◌^◌, min, Bool, List}
 use Rattle.fk_syntax.specs.declared.facts.Note.{Note}
 use Rattle.fk_syntax.specs.declared.facts.Kind.{Kind}

@@ -1,4 +1,5 @@
--- How many words a group frame has: those of the `sh` variables that stand in it, outside the frames within.
+-- How many words a group frame has: those of the `sh` variables that stand in it, outside
+-- the frames within.
 use Rattle.std.specs.Prelude.{ℕ, List, [], ◌∷◌, if◌then◌else◌}
 use Rattle.fk_syntax.specs.Program as p
 use Rattle.fk_syntax.specs.Program.{DeclaredTree, Statement, Statements, FunctionTree}
@@ -17,18 +18,24 @@ module _ (told : Told) where
     pub statement_words : (taken : ℕ) → Statement → ℕ
     statement_words taken (p.Block list) = statements_words taken list
     statement_words taken (p.Declare variables) = variables_words taken variables
-    statement_words taken (p.If spot condition first) = if splits_at told spot.at then taken else statement_words taken first
-    statement_words taken (p.IfElse spot condition first second) = if splits_at told spot.at then taken else statement_words (statement_words taken first) second
-    statement_words taken (p.While spot condition body) = if splits_at told spot.at then taken else statement_words taken body
-    statement_words taken (p.DoWhile spot body condition) = if splits_at told spot.at then taken else statement_words taken body
-    statement_words taken (p.For spot before condition after body) = if splits_at told spot.at then taken else statement_words taken body
+    statement_words taken (p.If spot condition first) = if splits_at told spot.at then taken
+        else statement_words taken first
+    statement_words taken (p.IfElse spot condition first second) = if splits_at told spot.at
+        then taken else statement_words (statement_words taken first) second
+    statement_words taken (p.While spot condition body) = if splits_at told spot.at then taken
+        else statement_words taken body
+    statement_words taken (p.DoWhile spot body condition) = if splits_at told spot.at then taken
+        else statement_words taken body
+    statement_words taken (p.For spot before condition after body) =
+        if splits_at told spot.at then taken else statement_words taken body
     statement_words taken (p.Farm spot body) = statement_words taken body
     statement_words taken (p.Seq spot body) = statement_words taken body
     statement_words taken statement = taken
 
     pub statements_words : (taken : ℕ) → Statements → ℕ
     statements_words taken p.no_statements = taken
-    statements_words taken (p.statement first others) = statements_words (statement_words taken first) others
+    statements_words taken (p.statement first others) =
+        statements_words (statement_words taken first) others
 
   -- the words of a function's own frame: the parameters' come first
   abbrev pub own_words : List DeclaredTree → Statements → ℕ

@@ -4,8 +4,10 @@ ghost use Rattle.std.specs.Prelude.{◌≡◌, ◌++◌, map, OnOk, IfOk};
 ghost use Rattle.fk_syntax.specs.Program.{statements_of};
 ghost use Rattle.fk_syntax.specs.ProgramView.{declared_of, statement_of, function_of, item_of};
 ghost use Rattle.fk_layout_slots.specs.KnownView.{told_by};
-ghost use Rattle.fk_layout_slots.specs.Frames.{frame, deeper as deeper_of, body_frame, frames_in, all_frames_in, item_frames, body_frames, regions_of};
-ghost use Rattle.fk_layout_slots.specs.Parts.{framed_frames, split_frames, both_framed_frames, both_frames};
+ghost use Rattle.fk_layout_slots.specs.Frames.{frame, deeper as deeper_of, body_frame, frames_in};
+ghost use Rattle.fk_layout_slots.specs.Frames.{all_frames_in, item_frames, body_frames, regions_of};
+ghost use Rattle.fk_layout_slots.specs.Parts.{framed_frames, split_frames, both_framed_frames};
+ghost use Rattle.fk_layout_slots.specs.Parts.{both_frames};
 
 use crate::known::TypeNotes;
 use crate::words::{own_words, statement_words};

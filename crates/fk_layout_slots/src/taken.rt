@@ -2,7 +2,9 @@
 
 ghost use Rattle.std.specs.Prelude.{◌≡◌};
 ghost use Rattle.fk_layout_slots.specs.Told.{more};
-ghost use Rattle.fk_layout_slots.specs.Places.{none_taken, behind_frame, within as within_of, outside as outside_of, behind_private as behind_private_of};
+ghost use Rattle.fk_layout_slots.specs.Places.{none_taken, behind_frame, within as within_of};
+ghost use Rattle.fk_layout_slots.specs.Places.{outside as outside_of};
+ghost use Rattle.fk_layout_slots.specs.Places.{behind_private as behind_private_of};
 
 /// How much is taken before a place in the text. Counts that would be greater stay at 2^32 - 1.
 #[derive(Clone, Copy)]

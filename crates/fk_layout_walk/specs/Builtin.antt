@@ -1,7 +1,8 @@
 -- What calls of the names do that are declared before each text.
 use Rattle.std.specs.Prelude.{ℕ, true, false, List, codes, bytes_eq, if◌then◌else◌}
 use Rattle.fk_meaning_operation.specs.declared.operation.Operation.TheVariants as o
-use Rattle.fk_meaning_operation.specs.declared.operation.Multiprefix.TheVariants.{MpAdd, MpMax, MpAnd, MpOr}
+use Rattle.fk_meaning_operation.specs.declared.operation.Multiprefix.TheVariants.{MpAdd, MpMax}
+use Rattle.fk_meaning_operation.specs.declared.operation.Multiprefix.TheVariants.{MpAnd, MpOr}
 use Rattle.fk_layout_walk.specs.declared.builtin.Builtin.{Builtin}
 use Rattle.fk_layout_walk.specs.declared.builtin.Builtin.TheVariants as b
 

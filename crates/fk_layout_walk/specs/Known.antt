@@ -24,7 +24,8 @@ items_in known = map item_of known.items.now
 
 -- the function that a binding means
 abbrev pub functions_of : ProgramTables → (binding : ℕ) → Signature
-functions_of known binding = signature_in (tables_of known) (f.functions_of (items_in known)) binding
+functions_of known binding =
+    signature_in (tables_of known) (f.functions_of (items_in known)) binding
 
 -- the function of an index, as calls see it, if there is one
 abbrev pub signature_at : Option FunctionTree → Signature
@@ -47,7 +48,10 @@ framed_in (Some framed) second = if second then framed.second else framed.first
 abbrev pub part_of : (second : Bool) → ℕ
 part_of second = if second then 1 else 0
 
--- the indices tell the same functions as the bindings do, and the tokens the same group frames as the regions do
+-- the indices tell the same functions as the bindings do, and the tokens the same group frames
+-- as the regions do
 pub record IsSound (known : ProgramTables) : Type 0 where
-  pub callees : (binding : ℕ) → functions_of known binding ≡ signature_at (called (slice_get known.callees.now binding) (items_in known))
-  pub frames : (at : ℕ) (second : Bool) → frame_at (tables_of known) at (part_of second) ≡ framed_in (slice_get known.framed.now at) second
+  pub callees : (binding : ℕ) → functions_of known binding
+      ≡ signature_at (called (slice_get known.callees.now binding) (items_in known))
+  pub frames : (at : ℕ) (second : Bool) → frame_at (tables_of known) at (part_of second)
+      ≡ framed_in (slice_get known.framed.now at) second

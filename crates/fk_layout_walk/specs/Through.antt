@@ -1,7 +1,8 @@
--- What code makes of a visitor that is shown it: its operations in their order, and how they stand in choices, loops and
--- calls.
+-- What code makes of a visitor that is shown it: its operations in their order, and how they stand
+-- in choices, loops and calls.
 use Rattle.std.specs.Prelude.{◌≡◌, ℕ, Option}
-use Rattle.fk_meaning_forms.specs.Code.{done, perform, choose, while, until, turn, again, quit, break, continue, call, ends}
+use Rattle.fk_meaning_forms.specs.Code.{done, perform, choose, while, until, turn, again, quit}
+use Rattle.fk_meaning_forms.specs.Code.{break, continue, call, ends}
 use Rattle.fk_meaning_forms.specs.Expressions as f
 use Rattle.fk_meaning_forms.specs.Expressions.{Coded, Signature, Stands}
 use Rattle.fk_layout_walk.specs.declared.visitor.Event.{Event}
@@ -11,9 +12,10 @@ use Rattle.fk_layout_walk.specs.declared.standing.Standing.{Standing}
 use Rattle.fk_layout_walk.specs.Shown.{shown}
 use Rattle.fk_layout_walk.specs.Standing.{behind, behind_value}
 
-module _ {S : Type 0} (after : S → Event → S) (mark : S → Mark) (functions : (binding : ℕ) → Signature) where
-  -- both ways of a choice begin alike. The second one is shown behind the first. A loop that is under way stands in no text:
-  -- of one only its operations are shown
+module _ {S : Type 0} (after : S → Event → S) (mark : S → Mark)
+    (functions : (binding : ℕ) → Signature) where
+  -- both ways of a choice begin alike. The second one is shown behind the first. A loop that is
+  -- under way stands in no text: of one only its operations are shown
   abbrev pub through : S → Coded → S
   through s done = s
   through s (perform t op rest) = through (after s (v.Perform (shown op) t)) rest
@@ -32,7 +34,8 @@ module _ {S : Type 0} (after : S → Event → S) (mark : S → Mark) (functions
       let tested = through (after turned v.Part) test in
       through (after tested v.Behind) rest
   through s (turn test body step rest) = through (through (through (through s test) body) step) rest
-  through s (again test body step rest) = through (through (through (through s test) body) step) rest
+  through s (again test body step rest) =
+      through (through (through (through s test) body) step) rest
   through s (quit t op rest) = through (after s (v.Quit (shown op) t)) rest
   through s (break rest) = through (after s v.Break) rest
   through s (continue rest) = through (after s v.Continue) rest
@@ -41,13 +44,15 @@ module _ {S : Type 0} (after : S → Event → S) (mark : S → Mark) (functions
       through (after (through entered opening) (v.Returned (mark entered) (functions f).void)) rest
   through s (ends t op rest) = through (after s (v.Ends (shown op) t)) rest
 
-  -- an expression leads a visitor from one state to another, behind which what follows is known by how it stands; or what
-  -- it stands before does, behind a value
+  -- an expression leads a visitor from one state to another, behind which what follows is known by
+  -- how it stands; or what it stands before does, behind a value
   abbrev pub Leads : (from to : S) → Option Standing → Stands → Type 0
-  Leads from to result e = (k : f.Standing → Coded) → through from (e k) ≡ through to (behind result k)
+  Leads from to result e = (k : f.Standing → Coded)
+      → through from (e k) ≡ through to (behind result k)
 
   abbrev pub LeadsOn : (from to : S) → Option Unit → (Coded → Coded) → Type 0
-  LeadsOn from to result f = (rest : Coded) → through from (f rest) ≡ through to (behind_value result rest)
+  LeadsOn from to result f = (rest : Coded)
+      → through from (f rest) ≡ through to (behind_value result rest)
 
   abbrev pub Passes : (from to : S) → (Coded → Coded) → Type 0
   Passes from to f = (rest : Coded) → through from (f rest) ≡ through to rest

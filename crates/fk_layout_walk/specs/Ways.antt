@@ -11,12 +11,14 @@ use Rattle.fk_layout_walk.specs.declared.visitor.Mark.{Mark}
 use Rattle.fk_layout_walk.specs.declared.visitor.Ways.{Ways}
 use Rattle.fk_layout_walk.specs.Through.{through}
 
-module _ {S : Type 0} (after : S → Event → S) (mark : S → Mark) (functions : (binding : ℕ) → Signature) where
+module _ {S : Type 0} (after : S → Event → S) (mark : S → Mark)
+    (functions : (binding : ℕ) → Signature) where
   -- what is still shown behind the first way: the second one, and what stands behind both
   abbrev pub behind_first : S → Ways → (second rest : Coded) → S
   behind_first s ways second rest =
       through after mark functions
-      (after (through after mark functions (after s (Aside ways.inside)) second) (Joined ways.before ways.behind))
+      (after (through after mark functions (after s (Aside ways.inside)) second)
+      (Joined ways.before ways.behind))
       rest
 
 -- where a group splits at a token, it goes on behind both ways
@@ -26,4 +28,5 @@ rejoined tables spot rest = if (note tables spot.at).splits then plain Resume re
 -- and then the second value of `?:` is a part, which ends
 abbrev pub other_arm : Tables → ((binding : ℕ) → Signature) → Spot → (second : Stands) → Coded
 other_arm tables functions spot second =
-    if (note tables spot.at).splits then value_of tables functions second (plain End done) else value_of tables functions second done
+    if (note tables spot.at).splits then value_of tables functions second (plain End done)
+    else value_of tables functions second done

@@ -1,7 +1,8 @@
 //! What calls of the names do that are declared before each text.
 
 ghost use Rattle.std.specs.Prelude.{◌≡◌};
-ghost use Rattle.fk_layout_walk.specs.Builtin.{builtin_by, multiprefix_or, one_operation, printing_or, request};
+ghost use Rattle.fk_layout_walk.specs.Builtin.{builtin_by, multiprefix_or, one_operation};
+ghost use Rattle.fk_layout_walk.specs.Builtin.{printing_or, request};
 
 use crate::texts::is_spelled;
 use fk_meaning_operation::{Multiprefix, Operation};

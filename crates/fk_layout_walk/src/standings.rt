@@ -98,7 +98,8 @@ pub fn discard<V: Visitor>(known: &ProgramTables, visitor: &mut V, at: u32)
 fn operator(known: &ProgramTables, sign: Sign, left: u32, right: u32) -> Operation
     ensures { result ≡ operator_by sign (if is_a_shift sign
         then t.is_unsigned (tables_of known.now) left
-        else t.is_unsigned (tables_of known.now) left || t.is_unsigned (tables_of known.now) right) }
+        else t.is_unsigned (tables_of known.now) left
+        || t.is_unsigned (tables_of known.now) right) }
 {
     if is_shift(sign) {
         operator_of(sign, known.is_unsigned(left))

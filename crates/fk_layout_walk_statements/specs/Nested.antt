@@ -20,22 +20,28 @@ use Rattle.fk_layout_walk_statements.specs.declared.turns.Turns.TheVariants as u
 module _ (tables : Tables) (functions : (binding : ℕ) → Signature) where
   -- a statement that is a part of a group: its frame, itself, and the end of the part
   abbrev pub part_of_group : Inside → Spot → (part : ℕ) → Statement → Coded
-  part_of_group inside spot part s = part_frame tables functions spot part (executed tables functions inside s (plain End done))
+  part_of_group inside spot part s =
+      part_frame tables functions spot part (executed tables functions inside s (plain End done))
 
   -- a loop with this body
   abbrev pub loop_of : Spot → (body : Coded) → Turns → Coded → Coded
-  loop_of spot body (u.While condition) = c.while (tested tables functions spot (Some (tree_of condition.now))) body done
-  loop_of spot body (u.Until condition) = c.until body (tested tables functions spot (Some (tree_of condition.now)))
+  loop_of spot body (u.While condition) =
+      c.while (tested tables functions spot (Some (tree_of condition.now))) body done
+  loop_of spot body (u.Until condition) =
+      c.until body (tested tables functions spot (Some (tree_of condition.now)))
   loop_of spot body (u.For condition after) =
       c.while (tested tables functions spot (option_map tree_of condition.now)) body
       (used_or tables functions (option_map tree_of after.now) done)
 
   -- what stands behind an `else`. It is a part where the group splits
   abbrev pub other_way : Inside → Spot → Statement → Coded
-  other_way inside spot s = if (note tables spot.at).splits then part_of_group inside spot 1 s else executed tables functions inside s done
+  other_way inside spot s = if (note tables spot.at).splits then part_of_group inside spot 1 s
+      else executed tables functions inside s done
 
   -- what is still shown of an `if` with an `else` behind its first way, if that was reached
-  abbrev pub behind_if : {S : Type 0} → (S → Event → S) → (S → Mark) → S → Option Ways → Inside → Spot → (second : Statement) → (rest : Coded) → S
+  abbrev pub behind_if : {S : Type 0} → (S → Event → S) → (S → Mark) → S → Option Ways → Inside
+      → Spot → (second : Statement) → (rest : Coded) → S
   behind_if after mark state None inside spot second rest = state
   behind_if after mark state (Some ways) inside spot second rest =
-      behind_first after mark functions state ways (other_way inside spot second) (rejoined tables spot rest)
+      behind_first after mark functions state ways (other_way inside spot second)
+      (rejoined tables spot rest)

@@ -22,7 +22,9 @@ abbrev pub sites_of_text : ProgramTables → List (ℕ × Place)
 sites_of_text known = sites_in (tables_of known) (functions_in known) (functions_in known)
 
 -- one function after the other
-abbrev pub through_all : {S : Type 0} → (S → Event → S) → (S → Mark) → ProgramTables → S → List FunctionTree → S
+abbrev pub through_all : {S : Type 0} → (S → Event → S) → (S → Mark) → ProgramTables → S
+    → List FunctionTree → S
 through_all after mark known s [] = s
 through_all after mark known s (function ∷ others) =
-    through_all after mark known (through after mark (functions_of known) s (code_in known function)) others
+    through_all after mark known
+    (through after mark (functions_of known) s (code_in known function)) others

@@ -16,7 +16,8 @@ ghost use Rattle.fk_layout_walk.specs.Standing.{behind_value, ending};
 ghost use Rattle.fk_layout_walk.specs.Through.{through, LeadsOn, Passes};
 ghost use Rattle.fk_layout_walk.specs.Ways.{behind_first, rejoined};
 ghost use Rattle.fk_layout_walk_statements.specs.Inside.{inside_of};
-ghost use Rattle.fk_layout_walk_statements.specs.Nested.{part_of_group, loop_of, other_way, behind_if};
+ghost use Rattle.fk_layout_walk_statements.specs.Nested.{part_of_group, loop_of, other_way};
+ghost use Rattle.fk_layout_walk_statements.specs.Nested.{behind_if};
 
 use crate::inside::Inside;
 use crate::simple::{

@@ -1,5 +1,6 @@
 -- Classes of bytes.
-use Rattle.std.specs.Prelude.{ℕ, ◌+◌, ◌-◌, ◌==◌, ◌&&◌, ◌||◌, nat_le, not, Bool, Option, Some, None, if◌then◌else◌}
+use Rattle.std.specs.Prelude.{ℕ, ◌+◌, ◌-◌, ◌==◌, ◌&&◌, ◌||◌, nat_le, not, Bool, Option, Some, None}
+use Rattle.std.specs.Prelude.{if◌then◌else◌}
 
 -- space, tab, carriage return and newline
 abbrev pub is_blank : ℕ → Bool

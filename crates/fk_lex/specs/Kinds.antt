@@ -1,9 +1,30 @@
 -- What bytes spell: keywords, words, numbers and signs.
-use Rattle.std.specs.Prelude.{◌≡◌, ℕ, ◌+◌, ◌-◌, ◌*◌, ◌<◌, ◌≤◌, ◌^◌, ◌==◌, ◌&&◌, ◌||◌, nat_le, nat_lt, Bool, true, false, Option, Some, None, List, [], ◌∷◌, ◌++◌, length, take, drop, slice_index, codes, if◌then◌else◌}
+use Rattle.std.specs.Prelude.{◌≡◌, ℕ, ◌+◌, ◌-◌, ◌*◌, ◌<◌, ◌≤◌, ◌^◌, ◌==◌, ◌&&◌, ◌||◌, nat_le}
+use Rattle.std.specs.Prelude.{nat_lt, Bool, true, false, Option, Some, None, List, [], ◌∷◌, ◌++◌}
+use Rattle.std.specs.Prelude.{length, take, drop, slice_index, codes, if◌then◌else◌}
 use Rattle.std.specs.List.{list_all}
 use Rattle.std.specs.Str.{bytes_eq}
 use Rattle.fk_lex.specs.declared.token.TokenKind.{TokenKind}
-use Rattle.fk_lex.specs.declared.token.TokenKind.TheVariants.{Word, Number, Int, Unsigned, Void, Struct, Sh, Pr, Sync, Async, Straight, If, Else, While, Do, For, Start, Farm, Seq, Fork, Join, Barrier, Break, Continue, Return, Sizeof, Puts, ShiftLeftAssign, ShiftRightAssign, ShiftLeft, ShiftRight, LessOrEqual, GreaterOrEqual, EqualTo, NotEqualTo, AndAnd, OrOr, PlusAssign, MinusAssign, StarAssign, SlashAssign, PercentAssign, AmpersandAssign, BarAssign, CaretAssign, Increment, Decrement, Arrow, Plus, Minus, Star, Slash, Percent, Ampersand, Bar, Caret, Tilde, Exclamation, LessThan, GreaterThan, Assign, Question, Colon, Comma, Semicolon, OpenParenthesis, CloseParenthesis, OpenBrace, CloseBrace, OpenBracket, CloseBracket, Dot, At, Dollar}
+use Rattle.fk_lex.specs.declared.token.TokenKind.TheVariants.{Word, Number, Int, Unsigned, Void}
+use Rattle.fk_lex.specs.declared.token.TokenKind.TheVariants.{Struct, Sh, Pr, Sync, Async, Straight}
+use Rattle.fk_lex.specs.declared.token.TokenKind.TheVariants.{If, Else, While, Do, For, Start, Farm}
+use Rattle.fk_lex.specs.declared.token.TokenKind.TheVariants.{Seq, Fork, Join, Barrier, Break}
+use Rattle.fk_lex.specs.declared.token.TokenKind.TheVariants.{Continue, Return, Sizeof, Puts}
+use Rattle.fk_lex.specs.declared.token.TokenKind.TheVariants.{ShiftLeftAssign, ShiftRightAssign}
+use Rattle.fk_lex.specs.declared.token.TokenKind.TheVariants.{ShiftLeft, ShiftRight, LessOrEqual}
+use Rattle.fk_lex.specs.declared.token.TokenKind.TheVariants.{GreaterOrEqual, EqualTo, NotEqualTo}
+use Rattle.fk_lex.specs.declared.token.TokenKind.TheVariants.{AndAnd, OrOr, PlusAssign, MinusAssign}
+use Rattle.fk_lex.specs.declared.token.TokenKind.TheVariants.{StarAssign, SlashAssign}
+use Rattle.fk_lex.specs.declared.token.TokenKind.TheVariants.{PercentAssign, AmpersandAssign}
+use Rattle.fk_lex.specs.declared.token.TokenKind.TheVariants.{BarAssign, CaretAssign, Increment}
+use Rattle.fk_lex.specs.declared.token.TokenKind.TheVariants.{Decrement, Arrow, Plus, Minus, Star}
+use Rattle.fk_lex.specs.declared.token.TokenKind.TheVariants.{Slash, Percent, Ampersand, Bar, Caret}
+use Rattle.fk_lex.specs.declared.token.TokenKind.TheVariants.{Tilde, Exclamation, LessThan}
+use Rattle.fk_lex.specs.declared.token.TokenKind.TheVariants.{GreaterThan, Assign, Question, Colon}
+use Rattle.fk_lex.specs.declared.token.TokenKind.TheVariants.{Comma, Semicolon, OpenParenthesis}
+use Rattle.fk_lex.specs.declared.token.TokenKind.TheVariants.{CloseParenthesis, OpenBrace}
+use Rattle.fk_lex.specs.declared.token.TokenKind.TheVariants.{CloseBrace, OpenBracket, CloseBracket}
+use Rattle.fk_lex.specs.declared.token.TokenKind.TheVariants.{Dot, At, Dollar}
 use Rattle.fk_lex.specs.Bytes.{is_letter, is_digit, is_word_byte, digit_value, is_suffix, is_x}
 
 abbrev pub keywords : List (List ℕ × TokenKind)
@@ -116,7 +137,8 @@ is_empty (c ∷ cs) = false
 -- digits of a base, and then at most one `u` or `U`
 abbrev pub is_tail : ℕ → List ℕ → Bool
 is_tail base [] = true
-is_tail base (c ∷ cs) = if nat_lt (digit_value c) base then is_tail base cs else (is_suffix c && is_empty cs)
+is_tail base (c ∷ cs) = if nat_lt (digit_value c) base then is_tail base cs
+    else (is_suffix c && is_empty cs)
 
 -- `x` or `X`, a hexadecimal digit, and more of them
 abbrev pub is_hexadecimal : List ℕ → Bool
@@ -127,12 +149,14 @@ is_hexadecimal (x ∷ d ∷ ds) = (is_x x && nat_lt (digit_value d) 16) && is_ta
 -- decimal digits not beginning with 0, 0 and octal digits, or 0x and hexadecimal digits
 abbrev pub is_numeral : List ℕ → Bool
 is_numeral [] = false
-is_numeral (c ∷ cs) = if c == 48 then is_hexadecimal cs || is_tail 8 cs else is_digit c && is_tail 10 cs
+is_numeral (c ∷ cs) = if c == 48 then is_hexadecimal cs || is_tail 8 cs
+    else is_digit c && is_tail 10 cs
 
 -- the value of digits of a base, after digits of this value
 abbrev pub value_in : ℕ → ℕ → List ℕ → ℕ
 value_in base value [] = value
-value_in base value (c ∷ cs) = if nat_lt (digit_value c) base then value_in base (value * base + digit_value c) cs else value
+value_in base value (c ∷ cs) =
+    if nat_lt (digit_value c) base then value_in base (value * base + digit_value c) cs else value
 
 unfoldable pub numeral_value : List ℕ → ℕ
 numeral_value bytes =
@@ -142,18 +166,22 @@ numeral_value bytes =
 
 -- a number is unsigned with the suffix, or from 2^31 on
 unfoldable pub is_unsigned : List ℕ → Bool
-is_unsigned bytes = is_suffix (slice_index bytes (length bytes - 1)) || nat_le (2 ^ 31) (numeral_value bytes)
+is_unsigned bytes =
+    is_suffix (slice_index bytes (length bytes - 1)) || nat_le (2 ^ 31) (numeral_value bytes)
 
 -- the number that a numeral below 2^32 spells
 unfoldable pub number_of : List ℕ → Option TokenKind
-number_of bytes = if nat_lt (numeral_value bytes) (2 ^ 32) then Some (Number (numeral_value bytes) (is_unsigned bytes)) else None
+number_of bytes = if nat_lt (numeral_value bytes) (2 ^ 32)
+    then Some (Number (numeral_value bytes) (is_unsigned bytes)) else None
 
 -- the word, keyword, number or sign that these bytes spell
 unfoldable pub kind_of : List ℕ → Option TokenKind
 kind_of [] = None
 kind_of (c ∷ cs) =
-    if is_letter c then (if list_all is_word_byte cs then Some (or_word (lookup keywords (c ∷ cs))) else None)
-    else (if is_digit c then (if is_numeral (c ∷ cs) then Some (Number (numeral_value (c ∷ cs)) (is_unsigned (c ∷ cs))) else None)
+    if is_letter c
+    then (if list_all is_word_byte cs then Some (or_word (lookup keywords (c ∷ cs))) else None)
+    else (if is_digit c then (if is_numeral (c ∷ cs)
+    then Some (Number (numeral_value (c ∷ cs)) (is_unsigned (c ∷ cs))) else None)
     else lookup signs (c ∷ cs))
 
 -- the longest front of a text that passes a test

@@ -1,5 +1,6 @@
 -- How the code moves through a text: positions, and the parts of a text in quotes.
-use Rattle.std.specs.Prelude.{ℕ, ◌+◌, ◌-◌, ◌==◌, Option, Some, None, List, [], ◌∷◌, length, if◌then◌else◌}
+use Rattle.std.specs.Prelude.{ℕ, ◌+◌, ◌-◌, ◌==◌, Option, Some, None, List, [], ◌∷◌, length}
+use Rattle.std.specs.Prelude.{if◌then◌else◌}
 use Rattle.fk_syntax.specs.declared.place.Place.{Place}
 use Rattle.fk_lex.specs.declared.position.Position.{Position}
 use Rattle.fk_lex.specs.Bytes.{is_plain}
@@ -8,12 +9,17 @@ use Rattle.fk_lex.specs.Texts.{is_escaped}
 
 -- the position behind these bytes
 abbrev pub position_of : List ℕ → Position
-position_of before = record { lines = newlines before; line_start = length before - length (last_line before); offset = length before }
+position_of before = record {
+  lines = newlines before;
+  line_start = length before - length (last_line before);
+  offset = length before;
+}
 
 -- the position behind a byte; a newline ends a line
 abbrev pub next : Position → ℕ → Position
 next at c =
-    if c == 10 then record { lines = at.lines + 1; line_start = at.offset + 1; offset = at.offset + 1 }
+    if c == 10
+    then record { lines = at.lines + 1; line_start = at.offset + 1; offset = at.offset + 1 }
     else record { lines = at.lines; line_start = at.line_start; offset = at.offset + 1 }
 
 abbrev pub after : Position → List ℕ → Position
@@ -23,7 +29,8 @@ after at (c ∷ cs) = after (next at c) cs
 abbrev pub place_of : Position → Place
 place_of at = record { line = at.lines + 1; column = at.offset - at.line_start + 1 }
 
--- how many bytes an escape has, or a byte that stands for itself in a text, which begins with these two
+-- how many bytes an escape has, or a byte that stands for itself in a text, which
+-- begins with these two
 abbrev pub part_size : ℕ → ℕ → Option ℕ
 part_size c d =
     if c == 92 then (if is_escaped d then Some 2 else None)

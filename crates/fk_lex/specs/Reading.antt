@@ -1,5 +1,6 @@
 -- The tokens of a text, or its first fault.
-use Rattle.std.specs.Prelude.{◌≡◌, ℕ, ◌<◌, ◌⊎◌, Option, Some, None, List, [], ◌∷◌, ◌++◌, length, take, drop}
+use Rattle.std.specs.Prelude.{◌≡◌, ℕ, ◌<◌, ◌⊎◌, Option, Some, None, List, [], ◌∷◌, ◌++◌, length}
+use Rattle.std.specs.Prelude.{take, drop}
 use Rattle.fk_syntax.specs.declared.place.Place.{Place}
 use Rattle.fk_lex.specs.declared.token.TokenKind.{TokenKind}
 use Rattle.fk_lex.specs.declared.token.LexFault.{LexFault}
@@ -41,7 +42,8 @@ Cuts (piece ∷ pieces) before text end =
     × Cuts pieces (before ++ take (size_of piece) text) (drop (size_of piece) text) end
 
 abbrev pub spelled_by : Step → List ℕ → List ℕ → List Spelled
-spelled_by (Token n kind) before text = record { kind = kind; bytes = take n text; place = place_behind before } ∷ []
+spelled_by (Token n kind) before text =
+    record { kind = kind; bytes = take n text; place = place_behind before } ∷ []
 spelled_by (Gap n) before text = []
 spelled_by (Fault n kind) before text = []
 
@@ -49,11 +51,13 @@ spelled_by (Fault n kind) before text = []
 abbrev pub tokens_in : List Step → List ℕ → List ℕ → List Spelled
 tokens_in [] before text = []
 tokens_in (piece ∷ pieces) before text =
-    spelled_by piece before text ++ tokens_in pieces (before ++ take (size_of piece) text) (drop (size_of piece) text)
+    spelled_by piece before text ++ tokens_in pieces (before ++ take (size_of piece) text)
+    (drop (size_of piece) text)
 
 -- a text has these tokens, with gaps between them
 abbrev pub Tokens : List ℕ → List Spelled → Type 0
-Tokens text tokens = (pieces : List Step) × Cuts pieces [] text None × (tokens ≡ tokens_in pieces [] text)
+Tokens text tokens = (pieces : List Step) × Cuts pieces [] text None
+    × (tokens ≡ tokens_in pieces [] text)
 
 -- a text has this fault, and gaps and tokens before it
 abbrev pub Faults : List ℕ → LexFault → Type 0
@@ -61,7 +65,11 @@ Faults text found = (pieces : List Step) × Cuts pieces [] text (Some found)
 
 -- every text has exactly one list of tokens or exactly one fault
 pub record OneReading : Type 0 where
-  pub some : (text : List ℕ) → ((list : List Spelled) × Tokens text list) ⊎ ((found : LexFault) × Faults text found)
-  pub tokens : (text : List ℕ) (list other : List Spelled) → Tokens text list → Tokens text other → list ≡ other
-  pub faults : (text : List ℕ) (found other : LexFault) → Faults text found → Faults text other → found ≡ other
-  pub apart : (text : List ℕ) (list : List Spelled) (found : LexFault) → Tokens text list → Faults text found → ⊥
+  pub some : (text : List ℕ)
+      → ((list : List Spelled) × Tokens text list) ⊎ ((found : LexFault) × Faults text found)
+  pub tokens : (text : List ℕ) (list other : List Spelled) → Tokens text list
+      → Tokens text other → list ≡ other
+  pub faults : (text : List ℕ) (found other : LexFault) → Faults text found
+      → Faults text other → found ≡ other
+  pub apart : (text : List ℕ) (list : List Spelled) (found : LexFault) → Tokens text list
+      → Faults text found → ⊥

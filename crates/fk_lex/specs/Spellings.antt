@@ -16,7 +16,8 @@ HasCommentEnd bytes = (before behind : List ℕ) × (bytes ≡ before ++ (codes 
 -- a text begins with `/*`, bytes with no `*/` in them, and `*/`, so many bytes in all
 abbrev pub IsComment : List ℕ → ℕ → Type 0
 IsComment text n =
-    (inside rest : List ℕ) × (HasCommentEnd inside → ⊥) × (text ≡ codes "/*" ++ (inside ++ (codes "*/" ++ rest))) × (n ≡ length inside + 4)
+    (inside rest : List ℕ) × (HasCommentEnd inside → ⊥)
+    × (text ≡ codes "/*" ++ (inside ++ (codes "*/" ++ rest))) × (n ≡ length inside + 4)
 
 -- no newline stands in these bytes
 abbrev pub AreInLine : List ℕ → Type 0
@@ -25,7 +26,8 @@ AreInLine bytes = list_all in_line bytes ≡ true
 -- a text begins with `//` and the bytes up to the end of the line, so many bytes in all
 abbrev pub IsLineComment : List ℕ → ℕ → Type 0
 IsLineComment text n =
-    (line rest : List ℕ) × AreInLine line × EndsLine rest × (text ≡ codes "//" ++ (line ++ rest)) × (n ≡ length line + 2)
+    (line rest : List ℕ) × AreInLine line × EndsLine rest × (text ≡ codes "//" ++ (line ++ rest))
+    × (n ≡ length line + 2)
 
 abbrev pub AreBlank : List ℕ → Type 0
 AreBlank bytes = list_all is_blank bytes ≡ true
@@ -33,22 +35,32 @@ AreBlank bytes = list_all is_blank bytes ≡ true
 -- `#include`, blanks or none, one of two names, and blanks or none
 abbrev pub IsInclude : List ℕ → Type 0
 IsInclude line =
-    (gap name more : List ℕ) × AreBlank gap × ((name ≡ codes "<fork.h>") ⊎ (name ≡ codes "<io.h>")) × AreBlank more
+    (gap name more : List ℕ) × AreBlank gap
+    × ((name ≡ codes "<fork.h>") ⊎ (name ≡ codes "<io.h>")) × AreBlank more
     × (line ≡ codes "#include" ++ (gap ++ (name ++ more)))
 
--- what follows an opening quote goes on with bytes that stand for themselves, escapes, and the closing quote, so many bytes in all
+-- what follows an opening quote goes on with bytes that stand for themselves, escapes, and the
+-- closing quote, so many bytes in all
 abbrev pub IsTextBody : List ℕ → ℕ → Type 0
 IsTextBody body n =
-    (parts : List Part) × (rest : List ℕ) × AreGood parts × AreParts parts (34 ∷ rest) × (body ≡ bytes_of parts ++ 34 ∷ rest) × (n ≡ length (bytes_of parts) + 1)
+    (parts : List Part) × (rest : List ℕ) × AreGood parts × AreParts parts (34 ∷ rest)
+    × (body ≡ bytes_of parts ++ 34 ∷ rest) × (n ≡ length (bytes_of parts) + 1)
 
 pub record Spellings : Type 0 where
-  pub commented : (before body : List ℕ) (n : ℕ) → Stands before (codes "/*" ++ body) (Gap n) → IsComment (codes "/*" ++ body) n
+  pub commented : (before body : List ℕ) (n : ℕ) → Stands before (codes "/*" ++ body) (Gap n)
+      → IsComment (codes "/*" ++ body) n
   pub comments : (before text : List ℕ) (n : ℕ) → IsComment text n → Stands before text (Gap n)
-  pub unclosed : (before body : List ℕ) → Stands before (codes "/*" ++ body) (Fault 0 OpenComment) → HasCommentEnd body → ⊥
-  pub opened : (before body : List ℕ) → (HasCommentEnd body → ⊥) → Stands before (codes "/*" ++ body) (Fault 0 OpenComment)
-  pub line_commented : (before body : List ℕ) (n : ℕ) → Stands before (codes "//" ++ body) (Gap n) → IsLineComment (codes "//" ++ body) n
-  pub line_comments : (before text : List ℕ) (n : ℕ) → IsLineComment text n → Stands before text (Gap n)
+  pub unclosed : (before body : List ℕ) → Stands before (codes "/*" ++ body) (Fault 0 OpenComment)
+      → HasCommentEnd body → ⊥
+  pub opened : (before body : List ℕ) → (HasCommentEnd body → ⊥)
+      → Stands before (codes "/*" ++ body) (Fault 0 OpenComment)
+  pub line_commented : (before body : List ℕ) (n : ℕ) → Stands before (codes "//" ++ body) (Gap n)
+      → IsLineComment (codes "//" ++ body) n
+  pub line_comments : (before text : List ℕ) (n : ℕ) → IsLineComment text n
+      → Stands before text (Gap n)
   pub included : (line : List ℕ) → is_include line ≡ true → IsInclude line
   pub includes : (line : List ℕ) → IsInclude line → is_include line ≡ true
-  pub ended : (before body : List ℕ) (n : ℕ) → Stands before (34 ∷ body) (Token (n + 1) Text) → IsTextBody body n
-  pub ends : (before body : List ℕ) (n : ℕ) → IsTextBody body n → Stands before (34 ∷ body) (Token (n + 1) Text)
+  pub ended : (before body : List ℕ) (n : ℕ) → Stands before (34 ∷ body) (Token (n + 1) Text)
+      → IsTextBody body n
+  pub ends : (before body : List ℕ) (n : ℕ) → IsTextBody body n
+      → Stands before (34 ∷ body) (Token (n + 1) Text)

@@ -1,5 +1,7 @@
 -- What stands at a point of a text: a blank, a comment, an include line, a token or a fault.
-use Rattle.std.specs.Prelude.{◌≡◌, ℕ, ◌+◌, ◌<◌, ◌≤◌, ◌^◌, ◌==◌, ◌&&◌, ◌||◌, ◌⊎◌, nat_lt, Bool, false, Option, Some, None, List, length, take, drop, slice_index, codes, if◌then◌else◌}
+use Rattle.std.specs.Prelude.{◌≡◌, ℕ, ◌+◌, ◌<◌, ◌≤◌, ◌^◌, ◌==◌, ◌&&◌, ◌||◌, ◌⊎◌, nat_lt, Bool}
+use Rattle.std.specs.Prelude.{false, Option, Some, None, List, length, take, drop, slice_index}
+use Rattle.std.specs.Prelude.{codes, if◌then◌else◌}
 use Rattle.std.specs.List.{list_all, prefix_len}
 use Rattle.std.specs.Str.{bytes_eq}
 use Rattle.fk_lex.specs.declared.step.Beginning.{Beginning}
@@ -48,7 +50,8 @@ CommentStep text step =
 
 -- these bytes, and blanks or none
 abbrev pub is_named : List ℕ → List ℕ → Bool
-is_named name text = bytes_eq name (take (length name) text) && list_all is_blank (drop (length name) text)
+is_named name text =
+    bytes_eq name (take (length name) text) && list_all is_blank (drop (length name) text)
 
 abbrev pub is_header : List ℕ → Bool
 is_header text = is_named (codes "<fork.h>") text || is_named (codes "<io.h>") text
@@ -62,7 +65,8 @@ is_include line =
 -- an include line has only blanks before its `#`; every other `#` is a bad byte
 unfoldable pub directive_step : Bool → List ℕ → Step
 directive_step blanks_before text =
-    if blanks_before && is_include (take (line_length text) text) then Gap (line_length text) else Fault 0 BadByte
+    if blanks_before && is_include (take (line_length text) text) then Gap (line_length text)
+    else Fault 0 BadByte
 
 abbrev pub escaped : Option ℕ → Step
 escaped None = Fault 0 BadByte
@@ -81,7 +85,8 @@ character_step text = character_of (slice_index text 1) (slice_index text 2) (sl
 unfoldable pub token_or_fault : List ℕ → ℕ → TokenKind → Step
 token_or_fault text n (Number value unsigned) =
     if nat_lt value (2 ^ 32)
-    then (if is_word_byte (slice_index text n) then Fault n BadByte else Token n (Number value unsigned))
+    then (if is_word_byte (slice_index text n) then Fault n BadByte
+    else Token n (Number value unsigned))
     else Fault 0 WideNumber
 token_or_fault text n kind = Token n kind
 

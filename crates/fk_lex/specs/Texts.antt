@@ -1,5 +1,6 @@
 -- Texts in quotes, told by their parts.
-use Rattle.std.specs.Prelude.{◌≡◌, ◌≢◌, ℕ, ◌+◌, ◌⊎◌, Bool, true, false, Option, Some, None, List, [], ◌∷◌, ◌++◌, length}
+use Rattle.std.specs.Prelude.{◌≡◌, ◌≢◌, ℕ, ◌+◌, ◌⊎◌, Bool, true, false, Option, Some, None, List}
+use Rattle.std.specs.Prelude.{[], ◌∷◌, ◌++◌, length}
 use Rattle.fk_lex.specs.declared.step.Step.{Step}
 use Rattle.fk_lex.specs.declared.step.Step.TheVariants.{Token, Fault}
 use Rattle.fk_lex.specs.declared.step.FaultKind.TheVariants.{BadByte, OpenString}
@@ -68,11 +69,14 @@ FirstBad parts good = (c : ℕ) × (more : List Part) × AreGood good × (parts 
 abbrev pub ClosedStep : List Part → Step → Type 0
 ClosedStep parts step =
     (AreGood parts × (step ≡ Token (length (bytes_of parts) + 2) Text))
-    ⊎ ((good : List Part) × FirstBad parts good × (step ≡ Fault (length (bytes_of good) + 1) BadByte))
+    ⊎ ((good : List Part) × FirstBad parts good
+    × (step ≡ Fault (length (bytes_of good) + 1) BadByte))
 
 -- a text goes from a quote to the next quote between its parts, in its line
 abbrev pub TextStep : List ℕ → Step → Type 0
 TextStep text step =
     (parts : List Part) × (rest : List ℕ)
-    × (((text ≡ 34 ∷ (bytes_of parts ++ 34 ∷ rest)) × AreParts parts (34 ∷ rest) × ClosedStep parts step)
-    ⊎ ((text ≡ 34 ∷ (bytes_of parts ++ rest)) × AreParts parts rest × EndsLine rest × (step ≡ Fault 0 OpenString)))
+    × (((text ≡ 34 ∷ (bytes_of parts ++ 34 ∷ rest)) × AreParts parts (34 ∷ rest)
+    × ClosedStep parts step)
+    ⊎ ((text ≡ 34 ∷ (bytes_of parts ++ rest)) × AreParts parts rest × EndsLine rest
+    × (step ≡ Fault 0 OpenString)))

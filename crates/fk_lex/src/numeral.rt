@@ -1,6 +1,7 @@
 //! Numbers.
 
-ghost use Rattle.std.specs.Prelude.{◌≡◌, ℕ, ◌+◌, ◌≤◌, ◌<◌, ◌^◌, length, slice_index, SomeIff, true, false, nat_lt, nat_le, ◌||◌, List, [], ◌∷◌, Option};
+ghost use Rattle.std.specs.Prelude.{◌≡◌, ℕ, ◌+◌, ◌≤◌, ◌<◌, ◌^◌, length, slice_index, SomeIff, true};
+ghost use Rattle.std.specs.Prelude.{false, nat_lt, nat_le, ◌||◌, List, [], ◌∷◌, Option};
 ghost use Rattle.std.specs.List.{prefix_len};
 ghost use Rattle.fk_lex.specs.Bytes;
 ghost use Rattle.fk_lex.specs.Kinds;
@@ -107,7 +108,8 @@ fn numeral_value(numeral: &[u8]) -> Option<u32>
 /// The value of the digits of a base that a text begins with, where it is below 2^32.
 fn value_in(base: u32, digits: &[u8]) -> Option<u32>
     requires { 0 < base }
-    ensures { let value = Kinds.value_in base 0 digits.now in SomeIff result (value < 2 ^ 32) value }
+    ensures { let value = Kinds.value_in base 0 digits.now in
+        SomeIff result (value < 2 ^ 32) value }
 {
     let mut value: u32 = 0;
     for byte in digits {

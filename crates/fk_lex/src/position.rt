@@ -38,7 +38,8 @@ impl Position {
         requires lines { self.lines + length passed.now < 2 ^ 64 }
         requires offset { self.offset + length passed.now < 2 ^ 64 }
         // A token stands in one line.
-        requires in_line { (n : ℕ) (kind : TokenKind) → step ≡ Token n kind → list_all in_line passed.now ≡ true }
+        requires in_line { (n : ℕ) (kind : TokenKind) → step ≡ Token n kind
+            → list_all in_line passed.now ≡ true }
         ensures { result ≡ after self passed.now }
     {
         match step {

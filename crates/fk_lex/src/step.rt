@@ -60,7 +60,8 @@ pub fn step_at(source: &[u8], at: Position, text: &[u8]) -> Step
     requires some { 0 < length text.now }
     requires line { at.line_start ≤ at.offset }
     requires inside { at.offset ≤ length source.now }
-    ensures { (before : List ℕ) → source.now ≡ before ++ text.now → at ≡ position_of before → Stands before text.now result }
+    ensures { (before : List ℕ) → source.now ≡ before ++ text.now → at ≡ position_of before
+        → Stands before text.now result }
 {
     if is_letter(text[0]) {
         return word_step(text);

@@ -1,5 +1,7 @@
--- Members of a group, where it is kept in any form what is left to do, as at one place of a list of operations.
-use Rattle.std.specs.Prelude.{◌≡◌, ℕ, zero, suc, Bool, true, false, List, [], Option, Some, slice_get}
+-- Members of a group, where it is kept in any form what is left to do, as at one place of a
+-- list of operations.
+use Rattle.std.specs.Prelude.{◌≡◌, ℕ, zero, suc, Bool, true, false, List, [], Option, Some}
+use Rattle.std.specs.Prelude.{slice_get}
 use Rattle.fk_syntax.specs.Program.{ProgramTree}
 use Rattle.fk_meaning.specs.Alike.{Same}
 use Rattle.fk_meaning.specs.Processor.{Setting, values, last}
@@ -16,7 +18,8 @@ use Rattle.fk_core.specs.KeepsRuns.{HasCodeOf}
 use Rattle.fk_lockstep.specs.InStep.{leaves_step, InStep, WorkInStep}
 use Rattle.fk_lockstep.specs.Together.{SamePlace, DoesStep, ActTogether}
 
--- work of one form goes on as work of another does: so many operations on, whichever ways they go, they are the same
+-- work of one form goes on as work of another does: so many operations on, whichever ways they go,
+-- they are the same
 module _ {V W : Type 0} (next : V → Option (Step V)) (next' : W → Option (Step W)) where
   abbrev pub GoesAlike : (operations : ℕ) → V → W → Type 0
   GoesAlike zero v w = Unit {0}
@@ -25,8 +28,10 @@ module _ {V W : Type 0} (next : V → Option (Step V)) (next' : W → Option (St
   abbrev pub GoesAs : V → W → Type 0
   GoesAs v w = (operations : ℕ) → GoesAlike operations v w
 
-module _ {W : Type 0} (next : W → Option (Step W)) (may_call : (function : ℕ) → Bool) (bodies : (binding : ℕ) → Code ℕ) where
-  -- two processors have the same left, which goes on as code that is in step; else as where what is left is code
+module _ {W : Type 0} (next : W → Option (Step W)) (may_call : (function : ℕ) → Bool)
+    (bodies : (binding : ℕ) → Code ℕ) where
+  -- two processors have the same left, which goes on as code that is in step; else as where
+  -- what is left is code
   pub record TogetherAt (agreed : Bool) (r q : Runner W) : Type 0 where
     pub left : r.left ≡ q.left
     pub place : SamePlace r.has q.has
@@ -43,21 +48,26 @@ module _ {W : Type 0} (next : W → Option (Step W)) (may_call : (function : ℕ
     pub left : first.left ≡ second.left
     pub place : SamePlace first.has second.has
     pub together :
-        ((a : Acting W) (step : Step W) → DoesStep next setting round s g a step → leaves_step step.operation ≡ false)
+        ((a : Acting W) (step : Step W) → DoesStep next setting round s g a step
+        → leaves_step step.operation ≡ false)
         → (agreed : Bool) × TogetherAt agreed first second
 
 abbrev pub FormsGoOn : (W : Type 0) → Type 0
 FormsGoOn W =
-    (next : W → Option (Step W)) (may_call : (function : ℕ) → Bool) (bodies : (binding : ℕ) → Code ℕ)
+    (next : W → Option (Step W)) (may_call : (function : ℕ) → Bool)
+    (bodies : (binding : ℕ) → Code ℕ)
     → ((function : ℕ) → may_call function ≡ true → InStep may_call false (bodies function))
     → (setting : Setting) (round : Round) (s : State W) (g h : ℕ) (r q : Runner W)
     → ActTogether next setting round s g h r q
     → (agreed : Bool) → TogetherAt next may_call bodies agreed r q
     → GoOnAt next may_call bodies setting round s g h
 
--- the entry of a function, in a list that has the code of a program, goes on as the code of the function
+-- the entry of a function, in a list that has the code of a program, goes on as the
+-- code of the function
 abbrev pub EntriesGoAsCode : Type 0
 EntriesGoAsCode =
-    (tables : Tables) (program : ProgramTree) (ops : List CoreOp) (entry : ℕ → ℕ) → HasCodeOf tables program ops entry
+    (tables : Tables) (program : ProgramTree) (ops : List CoreOp) (entry : ℕ → ℕ)
+    → HasCodeOf tables program ops entry
     → (function : ℕ)
-    → GoesAs (source.next (bodies_of tables program)) (core.next ops) (going (bodies_of tables program function) []) (position (entry function) [])
+    → GoesAs (source.next (bodies_of tables program)) (core.next ops)
+    (going (bodies_of tables program function) []) (position (entry function) [])

@@ -1,5 +1,6 @@
 -- The numbers of parts that `fork` takes: its group has agreed on them.
-use Rattle.std.specs.Prelude.{◌≡◌, ℕ, zero, suc, ◌≤◌, nat_lt, Bool, true, List, [], ◌∷◌, length, Option, Some, None, is_some}
+use Rattle.std.specs.Prelude.{◌≡◌, ℕ, zero, suc, ◌≤◌, nat_lt, Bool, true, List, [], ◌∷◌, length}
+use Rattle.std.specs.Prelude.{Option, Some, None, is_some}
 use Rattle.fk_meaning_operation.specs.Kinds.{class_of}
 use Rattle.fk_meaning_operation.specs.declared.operation.Operation.{Operation}
 use Rattle.fk_meaning_operation.specs.declared.operation.Operation.TheVariants as o
@@ -14,12 +15,14 @@ use Rattle.fk_meaning.specs.Group.{enters, divided, does, goes_onward}
 use Rattle.fk_meaning.specs.Round.{Step}
 use Rattle.fk_meaning.specs.Behind.{grown}
 
--- the numbers of parts on which a processor's group has agreed and which no `fork` has taken yet, the last one first: which
--- they may be, by what it has left and what it has. How many they are is told by what it has left
+-- the numbers of parts on which a processor's group has agreed and which no `fork` has taken yet,
+-- the last one first: which they may be, by what it has left and what it has. How many they are is
+-- told by what it has left
 pub record Counts (W : Type 0) : Type 0 where
   pub pending : W → ℕ
   pub are_pending : W → Processor → (numbers : List ℕ) → Bool
-  pub many : (work : W) (p : Processor) (numbers : List ℕ) → are_pending work p numbers ≡ true → length numbers ≡ pending work
+  pub many : (work : W) (p : Processor) (numbers : List ℕ) → are_pending work p numbers ≡ true
+      → length numbers ≡ pending work
 
 module _ {W : Type 0} (next : W → Option (Step W)) (outs : W → List W) (counts : Counts W) where
   abbrev pub ArePending : W → Processor → (numbers : List ℕ) → Type 0
@@ -37,9 +40,11 @@ module _ {W : Type 0} (next : W → Option (Step W)) (outs : W → List W) (coun
   -- an operation leaves them as they are
   abbrev pub Leaves : Class → Operation → (here : W) → (rest : Bool → W) → Type 0
   Leaves Local op here rest =
-      (set : Setting) (onward : Bool) (p : Processor) (ns : List ℕ) → ArePending here p ns → ArePending (rest onward) (local set op p) ns
+      (set : Setting) (onward : Bool) (p : Processor) (ns : List ℕ) → ArePending here p ns
+      → ArePending (rest onward) (local set op p) ns
   Leaves Request op here rest =
-      (answer : ℕ) (p : Processor) (ns : List ℕ) → ArePending here p ns → ArePending (rest true) (with_answer op answer p) ns
+      (answer : ℕ) (p : Processor) (ns : List ℕ) → ArePending here p ns
+      → ArePending (rest true) (with_answer op answer p) ns
   Leaves Tree op here rest =
       (highest lowest size : ℕ) (p : Processor) (ns : List ℕ) → ArePending here p ns
       → ArePending (rest (goes_onward op highest lowest p)) (does op highest size p) ns
@@ -51,21 +56,26 @@ module _ {W : Type 0} (next : W → Option (Step W)) (outs : W → List W) (coun
 
   -- the last one is the value that a `fork` splits by, and the others are left
   abbrev pub IsTaken : (p after : Processor) (behind : W) (numbers : List ℕ) → Type 0
-  IsTaken p after behind ns = (others : List ℕ) × (ns ≡ last (before 2 (values p)) ∷ others) × ArePending behind after others
+  IsTaken p after behind ns = (others : List ℕ) × (ns ≡ last (before 2 (values p)) ∷ others)
+      × ArePending behind after others
 
-  -- an agree may add the value that all members have then. A `fork` takes the last one, which is the value that it splits by,
-  -- and which was agreed on in the part that one is in. At a `start` there are none. All else leaves them
+  -- an agree may add the value that all members have then. A `fork` takes the last one, which is
+  -- the value that it splits by, and which was agreed on in the part that one is in. At a `start`
+  -- there are none. All else leaves them
   abbrev pub CountsGoOn : Operation → (here : W) → (rest : Bool → W) → Type 0
   CountsGoOn o.Agree here rest =
       (value : ℕ) (p : Processor) (ns : List ℕ) → ArePending here p ns
-      → ArePending (rest true) (in_place value p) (grown (nat_lt (counts.pending here) (counts.pending (rest true))) value ns)
+      → ArePending (rest true) (in_place value p)
+      (grown (nat_lt (counts.pending here) (counts.pending (rest true))) value ns)
   CountsGoOn (o.Split Fork) here rest =
       ((size : ℕ) (part : Option ℕ) (p : Processor) (ns : List ℕ) → ArePending here p ns
       → IsTaken p (divided Fork size p part) (rest (is_some part)) ns)
       × NoMore (counts.pending (rest true)) (outs here)
-  CountsGoOn (o.Split IfElse) here rest = LeavesAtSplit IfElse here rest × AsMany (counts.pending here) (outs (rest true))
+  CountsGoOn (o.Split IfElse) here rest = LeavesAtSplit IfElse here rest
+      × AsMany (counts.pending here) (outs (rest true))
   CountsGoOn (o.Split by) here rest = LeavesAtSplit by here rest × Unit {0}
-  CountsGoOn o.Farm here rest = Leaves Tree o.Farm here rest × AsMany (counts.pending here) (outs (rest true))
+  CountsGoOn o.Farm here rest = Leaves Tree o.Farm here rest
+      × AsMany (counts.pending here) (outs (rest true))
   CountsGoOn o.Begin here rest = Leaves Tree o.Begin here rest × (counts.pending here ≡ 0)
   CountsGoOn op here rest = Leaves (class_of op) op here rest
 

@@ -1,13 +1,14 @@
 -- How a processor goes through groups and bodies, as what it has left alone tells it.
-use Rattle.std.specs.Prelude.{◌≡◌, ℕ, zero, suc, Bool, true, false, List, [], ◌∷◌, Option, Some, None}
+use Rattle.std.specs.Prelude.{◌≡◌, ℕ, zero, suc, Bool, true, false, List, [], ◌∷◌, Option, Some}
+use Rattle.std.specs.Prelude.{None}
 use Rattle.fk_meaning_operation.specs.declared.operation.Operation.{Operation}
 use Rattle.fk_meaning_operation.specs.declared.operation.Operation.TheVariants as o
 use Rattle.fk_meaning_operation.specs.declared.operation.SplitKind.{SplitKind}
 use Rattle.fk_meaning_operation.specs.declared.operation.SplitKind.TheVariants.{IfElse}
 use Rattle.fk_meaning.specs.Round.{Step}
 
--- where a processor stands: in a group in lockstep, directly behind an agree or not; where it waits for parts, within a
--- `start` or for it; by itself, in a body or outside of each `start`
+-- where a processor stands: in a group in lockstep, directly behind an agree or not; where it waits
+-- for parts, within a `start` or for it; by itself, in a body or outside of each `start`
 pub data Stand : Type 0 where
   InGroup : (agreed : Bool) → Stand
   Waits : (within : Bool) → Stand
@@ -18,32 +19,36 @@ abbrev pub after_waiting : (within : Bool) → Stand
 after_waiting true = InGroup false
 after_waiting false = ByItself false
 
--- `outs` lists what is left where those who are further out are met: behind each part and at the end of each body that a
--- processor is in, and at each `start` ahead of it
+-- `outs` lists what is left where those who are further out are met: behind each part and at the
+-- end of each body that a processor is in, and at each `start` ahead of it
 module _ {W : Type 0} (next : W → Option (Step W)) (outs : W → List W) where
   module _ (Follows : Stand → W → Type 0) where
     -- it goes on where it is
     abbrev pub Stays : Stand → (here : W) → (rest : Bool → W) → Type 0
-    Stays stand here rest = (onward : Bool) → (outs (rest onward) ≡ outs here) × Follows stand (rest onward)
+    Stays stand here rest = (onward : Bool)
+        → (outs (rest onward) ≡ outs here) × Follows stand (rest onward)
 
     -- behind parts there is where the others wait
     abbrev pub Parts : SplitKind → (here : W) → (rest : Bool → W) → (outs_of_part : List W) → Type 0
     Parts by here rest [] = ⊥
     Parts IfElse here rest (parent ∷ behind) =
         (behind ≡ outs here) × (outs parent ≡ outs here) × Follows (Waits true) parent
-        × Follows (InGroup false) (rest true) × Follows (InGroup false) (rest false) × (outs (rest false) ≡ parent ∷ behind)
+        × Follows (InGroup false) (rest true) × Follows (InGroup false) (rest false)
+        × (outs (rest false) ≡ parent ∷ behind)
     Parts by here rest (parent ∷ behind) =
         (behind ≡ outs here) × (outs parent ≡ outs here) × Follows (Waits true) parent
         × Follows (InGroup false) (rest true) × (rest false ≡ parent)
 
     -- what an operation may be where a processor stands, and how it goes on
     abbrev pub Does : Stand → Operation → (here : W) → (rest : Bool → W) → Type 0
-    Does (InGroup agreed) (o.Branch onward) here rest = (agreed ≡ true) × Stays (InGroup false) here rest
+    Does (InGroup agreed) (o.Branch onward) here rest = (agreed ≡ true)
+        × Stays (InGroup false) here rest
     Does (InGroup agreed) o.Block here rest = (agreed ≡ true) × Stays (InGroup false) here rest
     Does (InGroup agreed) o.Agree here rest = Stays (InGroup true) here rest
     Does (InGroup agreed) (o.Split by) here rest = Parts by here rest (outs (rest true))
     Does (InGroup agreed) o.Shrink here rest =
-        (outs (rest true) ≡ outs here) × Follows (InGroup false) (rest true) × (outs here ≡ rest false ∷ outs (rest false))
+        (outs (rest true) ≡ outs here) × Follows (InGroup false) (rest true)
+        × (outs here ≡ rest false ∷ outs (rest false))
     Does (InGroup agreed) o.End here rest = outs here ≡ rest true ∷ outs (rest true)
     Does (InGroup agreed) o.Farm here rest =
         (outs (rest true) ≡ rest false ∷ outs here) × (outs (rest false) ≡ rest false ∷ outs here)
@@ -56,7 +61,8 @@ module _ {W : Type 0} (next : W → Option (Step W)) (outs : W → List W) where
     Does (InGroup agreed) (o.Meet true) here rest = ⊥
     Does (InGroup agreed) o.Halt here rest = ⊥
     Does (InGroup agreed) operation here rest = Stays (InGroup false) here rest
-    Does (Waits within) o.Resume here rest = (outs (rest true) ≡ outs here) × Follows (after_waiting within) (rest true)
+    Does (Waits within) o.Resume here rest = (outs (rest true) ≡ outs here)
+        × Follows (after_waiting within) (rest true)
     Does (Waits within) operation here rest = ⊥
     Does (ByItself within) (o.Split by) here rest = ⊥
     Does (ByItself within) o.Shrink here rest = ⊥

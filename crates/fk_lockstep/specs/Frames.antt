@@ -1,6 +1,8 @@
--- What is asked of calls and of what a group takes of its space: a function takes its frame, and leaves it, in one group, which
--- it was called in, and parts and bodies are left in the call in which they were entered.
-use Rattle.std.specs.Prelude.{◌≡◌, ℕ, zero, suc, ◌<◌, ◌≤◌, Bool, true, false, List, [], ◌∷◌, Option, Some, None}
+-- What is asked of calls and of what a group takes of its space: a function takes its frame, and
+-- leaves it, in one group, which it was called in, and parts and bodies are left in the call in
+-- which they were entered.
+use Rattle.std.specs.Prelude.{◌≡◌, ℕ, zero, suc, ◌<◌, ◌≤◌, Bool, true, false, List, [], ◌∷◌, Option}
+use Rattle.std.specs.Prelude.{Some, None}
 use Rattle.fk_meaning_operation.specs.declared.operation.Operation.{Operation}
 use Rattle.fk_meaning_operation.specs.declared.operation.Operation.TheVariants as o
 use Rattle.fk_meaning_operation.specs.declared.operation.SplitKind.TheVariants.{IfElse}
@@ -66,7 +68,8 @@ alone_after o.Begin n alone = false
 alone_after o.Resume n alone = is_none_round n
 alone_after op n alone = alone
 
--- `outs` lists what is left where those who are further out are met, and `depth` tells of what is left how many calls wait
+-- `outs` lists what is left where those who are further out are met, and `depth` tells of what is
+-- left how many calls wait
 module _ {W : Type 0} (next : W → Option (Step W)) (outs : W → List W) (depth : W → ℕ) where
   abbrev pub NoDeeper : ℕ → List W → Type 0
   NoDeeper d [] = Unit {0}
@@ -83,25 +86,30 @@ module _ {W : Type 0} (next : W → Option (Step W)) (outs : W → List W) (dept
   -- a call is left only in the part and body that it was entered in
   abbrev pub Calls : Calling → (here : W) → (rest : Bool → W) → Type 0
   Calls Enters here rest = depth (rest true) ≡ suc (depth here)
-  Calls Leaves here rest = (depth here ≡ suc (depth (rest true))) × NoDeeper (depth (rest true)) (outs here)
+  Calls Leaves here rest = (depth here ≡ suc (depth (rest true)))
+      × NoDeeper (depth (rest true)) (outs here)
   Calls Remains here rest = (onward : Bool) → depth (rest onward) ≡ depth here
 
   module _ (Framed : (round : ℕ) → (alone : Bool) → W → Type 0) where
-    -- who runs by itself takes no words of its group's space. A function takes its frame in the part that it was called in.
-    -- A `start` stands in `main`, and others wait for a part in the call in which it was entered
-    pub record FramesGoOn (round : ℕ) (alone : Bool) (op : Operation) (here : W) (rest : Bool → W) : Type 0 where
+    -- who runs by itself takes no words of its group's space. A function takes its frame in the
+    -- part that it was called in. A `start` stands in `main`, and others wait for a part in the
+    -- call in which it was entered
+    pub record FramesGoOn (round : ℕ) (alone : Bool) (op : Operation) (here : W)
+        (rest : Bool → W) : Type 0 where
       pub calls : Calls (calling op) here rest
       pub in_group : takes_space op ≡ true → alone ≡ false
       pub own : is_own_frame op ≡ true → Higher (depth here) (outs here)
       pub outermost : is_start op ≡ true → depth here ≡ 0
       pub met : is_split op ≡ true → AsDeep (depth here) (outs (rest true))
-      pub goes_on : (onward : Bool) → Framed (round_after op onward round) (alone_after op round alone) (rest onward)
+      pub goes_on : (onward : Bool)
+          → Framed (round_after op onward round) (alone_after op round alone) (rest onward)
 
     abbrev pub FramedNext : (round : ℕ) → (alone : Bool) → (here : W) → Option (Step W) → Type 0
     FramedNext round alone here None = Unit {0}
     FramedNext round alone here (Some step) = FramesGoOn round alone step.operation here step.rest
 
-  -- so many operations on, whichever ways they go, where so many groups are round one's own, and one runs by itself or not
+  -- so many operations on, whichever ways they go, where so many groups are round one's own, and
+  -- one runs by itself or not
   abbrev pub FramedFor : (operations : ℕ) → (round : ℕ) → (alone : Bool) → W → Type 0
   FramedFor zero round alone here = Unit {0}
   FramedFor (suc n) round alone here = FramedNext (FramedFor n) round alone here (next here)

@@ -1,22 +1,26 @@
--- Code that a group in lockstep runs, and what is left of it: its members go one way at each branch.
+-- Code that a group in lockstep runs, and what is left of it: its members go one
+-- way at each branch.
 use Rattle.std.specs.Prelude.{◌≡◌, ℕ, Bool, true, false, List, [], ◌∷◌, Some}
 use Rattle.fk_meaning_operation.specs.declared.operation.Operation.{Operation}
 use Rattle.fk_meaning_operation.specs.declared.operation.Operation.TheVariants as o
 use Rattle.fk_meaning.specs.Round.{Step}
-use Rattle.fk_meaning_forms.specs.Code.{Code, done, perform, choose, while, until, turn, again, quit, break, continue, call, ends}
+use Rattle.fk_meaning_forms.specs.Code.{Code, done, perform, choose, while, until, turn, again}
+use Rattle.fk_meaning_forms.specs.Code.{quit, break, continue, call, ends}
 use Rattle.fk_meaning.specs.Next.{Work, next}
 
 abbrev pub is_agree : Operation → Bool
 is_agree o.Agree = true
 is_agree operation = false
 
--- a branch goes by a value on which the group has agreed, and `shalloc` takes one; both stand directly behind the agree
+-- a branch goes by a value on which the group has agreed, and `shalloc` takes one; both stand
+-- directly behind the agree
 abbrev pub may_stand : (agreed : Bool) → Operation → Bool
 may_stand agreed (o.Branch onward) = agreed
 may_stand agreed o.Block = agreed
 may_stand agreed operation = true
 
--- behind these the members of a group are no longer in lockstep: a body that they run by themselves, and the end of a part
+-- behind these the members of a group are no longer in lockstep: a body that they run by
+-- themselves, and the end of a part
 abbrev pub leaves_step : Operation → Bool
 leaves_step o.Farm = true
 leaves_step o.Seq = true
@@ -34,8 +38,10 @@ module _ {A : Type 0} (may_call : (function : ℕ) → Bool) where
   InStep agreed done = Unit {0}
   InStep agreed (perform t op rest) = (may_stand agreed op ≡ true) × InStep (is_agree op) rest
   InStep agreed (choose t op a b rest) =
-      (may_stand agreed op ≡ true) × Unless (leaves_step op) (InStep false a) × InStep false b × InStep false rest
-  InStep agreed (while test body step rest) = InStep false test × InStep false body × InStep false step × InStep false rest
+      (may_stand agreed op ≡ true) × Unless (leaves_step op) (InStep false a) × InStep false b
+      × InStep false rest
+  InStep agreed (while test body step rest) = InStep false test × InStep false body
+      × InStep false step × InStep false rest
   InStep agreed (until body test rest) = InStep false body × InStep false test × InStep false rest
   InStep agreed (turn test body step rest) = ⊥
   InStep agreed (again test body step rest) = ⊥
@@ -49,13 +55,18 @@ module _ {A : Type 0} (may_call : (function : ℕ) → Bool) where
   -- what is left in a run, up to where the members leave lockstep
   abbrev pub Runs : (agreed : Bool) → Code A → Type 0
   Runs agreed done = Unit {0}
-  Runs agreed (perform t op rest) = (may_stand agreed op ≡ true) × Unless (leaves_step op) (Runs (is_agree op) rest)
+  Runs agreed (perform t op rest) = (may_stand agreed op ≡ true)
+      × Unless (leaves_step op) (Runs (is_agree op) rest)
   Runs agreed (choose t op a b rest) =
-      (may_stand agreed op ≡ true) × Unless (leaves_step op) (InStep false a) × InStep false b × Runs false rest
-  Runs agreed (while test body step rest) = InStep false test × InStep false body × InStep false step × Runs false rest
+      (may_stand agreed op ≡ true) × Unless (leaves_step op) (InStep false a) × InStep false b
+      × Runs false rest
+  Runs agreed (while test body step rest) = InStep false test × InStep false body
+      × InStep false step × Runs false rest
   Runs agreed (until body test rest) = InStep false body × InStep false test × Runs false rest
-  Runs agreed (turn test body step rest) = InStep false test × InStep false body × InStep false step × Runs false rest
-  Runs agreed (again test body step rest) = InStep false test × InStep false body × InStep false step × Runs false rest
+  Runs agreed (turn test body step rest) = InStep false test × InStep false body × InStep false step
+      × Runs false rest
+  Runs agreed (again test body step rest) = InStep false test × InStep false body
+      × InStep false step × Runs false rest
   Runs agreed (quit t op rest) = (may_stand agreed op ≡ true) × Runs false rest
   Runs agreed (break rest) = Unit {0}
   Runs agreed (continue rest) = Unit {0}
@@ -70,8 +81,10 @@ module _ {A : Type 0} (may_call : (function : ℕ) → Bool) where
   Loops (choose t op a b rest) = Loops rest
   Loops (while test body step rest) = Loops rest
   Loops (until body test rest) = Loops rest
-  Loops (turn test body step rest) = InStep false test × InStep false body × InStep false step × Runs false rest × Loops rest
-  Loops (again test body step rest) = InStep false test × InStep false body × InStep false step × Runs false rest × Loops rest
+  Loops (turn test body step rest) = InStep false test × InStep false body × InStep false step
+      × Runs false rest × Loops rest
+  Loops (again test body step rest) = InStep false test × InStep false body × InStep false step
+      × Runs false rest × Loops rest
   Loops (quit t op rest) = Loops rest
   Loops (break rest) = Loops rest
   Loops (continue rest) = Loops rest
@@ -92,10 +105,12 @@ module _ (may_call : (function : ℕ) → Bool) where
     pub left : CodeInStep agreed work.left
     pub callers : AllInStep work.callers
 
-  -- the next operation may stand where it stands, and behind it the work is in step again, whichever way it goes
+  -- the next operation may stand where it stands, and behind it the work is in step again,
+  -- whichever way it goes
   pub record StepInStep (agreed : Bool) (step : Step Work) : Type 0 where
     pub stands : may_stand agreed step.operation ≡ true
-    pub goes_on : leaves_step step.operation ≡ false → (onward : Bool) → WorkInStep (is_agree step.operation) (step.rest onward)
+    pub goes_on : leaves_step step.operation ≡ false → (onward : Bool)
+        → WorkInStep (is_agree step.operation) (step.rest onward)
 
 -- what is in step stays in step, where the functions that may be called are
 abbrev pub StaysInStep : Type 0

@@ -11,14 +11,17 @@ use Rattle.fk_lockstep.specs.InStep.{InStep}
 use Rattle.fk_lockstep.specs.Together.{DoesStep, Together}
 use Rattle.fk_lockstep.specs.Untouched.{changes_tree, StepsAt, tree_after}
 
-module _ (bodies : (binding : ℕ) → Code ℕ) (setting : Setting) (round : Round) (s : State Work) where
+module _ (bodies : (binding : ℕ) → Code ℕ) (setting : Setting) (round : Round)
+    (s : State Work) where
   -- a processor is a member of no node at which the tree is changed, and there is no `start`
   abbrev pub IsApart : (h : ℕ) → Type 0
   IsApart h =
       (n : ℕ) (at : StepsAt (next bodies) setting round s n)
-      → (at.step.operation ≢ o.Begin) × (n < s.tree.given) × (is_member h (t.members s.tree n) ≡ false)
+      → (at.step.operation ≢ o.Begin) × (n < s.tree.given)
+      × (is_member h (t.members s.tree n) ≡ false)
 
-  -- two processors at one node act in a round without a fault with one count, and change nothing in the tree
+  -- two processors at one node act in a round without a fault with one count, and change
+  -- nothing in the tree
   pub record ActQuietly (g h : ℕ) (r q : Runner Work) : Type 0 where
     pub no_fault : (result (next bodies) setting round s).fault ≡ None
     pub first : slice_get s.runners g ≡ Some r
@@ -27,20 +30,24 @@ module _ (bodies : (binding : ℕ) → Code ℕ) (setting : Setting) (round : Ro
     pub first_count : slice_get round g ≡ Some count
     pub second_count : slice_get round h ≡ Some count
     pub one_node : s.tree.places r.has.number ≡ s.tree.places q.has.number
-    pub quiet : (a : Acting Work) (step : Step Work) → DoesStep (next bodies) setting round s g a step → changes_tree step.operation ≡ false
+    pub quiet : (a : Acting Work) (step : Step Work)
+        → DoesStep (next bodies) setting round s g a step → changes_tree step.operation ≡ false
     pub first_apart : IsApart r.has.number
     pub second_apart : IsApart q.has.number
 
   -- afterwards they are together, and at the same node
-  pub record StayTogether (may_call : (function : ℕ) → Bool) (g h : ℕ) (r q : Runner Work) : Type 0 where
+  pub record StayTogether (may_call : (function : ℕ) → Bool) (g h : ℕ)
+      (r q : Runner Work) : Type 0 where
     pub first : Runner Work
     pub second : Runner Work
     pub first_is : slice_get (result (next bodies) setting round s).runners g ≡ Some first
     pub second_is : slice_get (result (next bodies) setting round s).runners h ≡ Some second
     pub agreed : Bool
     pub together : Together may_call agreed first second
-    pub first_place : (tree_after (next bodies) setting round s).places r.has.number ≡ s.tree.places r.has.number
-    pub second_place : (tree_after (next bodies) setting round s).places q.has.number ≡ s.tree.places q.has.number
+    pub first_place : (tree_after (next bodies) setting round s).places r.has.number
+        ≡ s.tree.places r.has.number
+    pub second_place : (tree_after (next bodies) setting round s).places q.has.number
+        ≡ s.tree.places q.has.number
 
 abbrev pub GroupsStayTogether : Type 0
 GroupsStayTogether =

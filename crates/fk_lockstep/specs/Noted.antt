@@ -1,6 +1,6 @@
--- What is noted of a statement that a group runs in lockstep: each token that decides what is run next is noted as standing
--- in a synchronous region, and no name means a function that may not be called there. The bodies of `farm` and `seq` are
--- left out.
+-- What is noted of a statement that a group runs in lockstep: each token that decides what is run
+-- next is noted as standing in a synchronous region, and no name means a function that may not be
+-- called there. The bodies of `farm` and `seq` are left out.
 use Rattle.std.specs.Prelude.{◌≡◌, ℕ, Bool, true, false, List, [], ◌∷◌, Option, Some, None}
 use Rattle.fk_syntax.specs.Tree.{Named, Tree}
 use Rattle.fk_syntax.specs.Program as p
@@ -36,13 +36,17 @@ module _ (tables : Tables) (may_call : (function : ℕ) → Bool) where
     StatementNoted (p.Expression e) = Noted e
     StatementNoted (p.Block statements) = StatementsNoted statements
     StatementNoted (p.Declare variables) = VariablesNoted variables
-    StatementNoted (p.If spot condition first) = Decides spot.at × Noted condition × StatementNoted first
+    StatementNoted (p.If spot condition first) = Decides spot.at × Noted condition
+        × StatementNoted first
     StatementNoted (p.IfElse spot condition first second) =
         Decides spot.at × Noted condition × StatementNoted first × StatementNoted second
-    StatementNoted (p.While spot condition body) = Decides spot.at × Noted condition × StatementNoted body
-    StatementNoted (p.DoWhile spot body condition) = Decides spot.at × Noted condition × StatementNoted body
+    StatementNoted (p.While spot condition body) = Decides spot.at × Noted condition
+        × StatementNoted body
+    StatementNoted (p.DoWhile spot body condition) = Decides spot.at × Noted condition
+        × StatementNoted body
     StatementNoted (p.For spot before condition after body) =
-        Decides spot.at × OptionNoted before × OptionNoted condition × OptionNoted after × StatementNoted body
+        Decides spot.at × OptionNoted before × OptionNoted condition × OptionNoted after
+        × StatementNoted body
     StatementNoted (p.Start spot count body) = OptionNoted count × StatementNoted body
     StatementNoted (p.Farm spot body) = Unit {0}
     StatementNoted (p.Seq spot body) = Unit {0}
@@ -64,14 +68,17 @@ module _ (tables : Tables) (may_call : (function : ℕ) → Bool) where
 
   abbrev pub FunctionsNoted : List FunctionTree → Type 0
   FunctionsNoted [] = Unit {0}
-  FunctionsNoted (f ∷ fs) = (may_call (binding_of tables f) ≡ true → BodyNoted f.body) × FunctionsNoted fs
+  FunctionsNoted (f ∷ fs) = (may_call (binding_of tables f) ≡ true → BodyNoted f.body)
+      × FunctionsNoted fs
 
--- a statement that is so noted comes to code that a group runs in step, before code that it does, and so do the functions
--- that may be called
+-- a statement that is so noted comes to code that a group runs in step, before code that it does,
+-- and so do the functions that may be called
 pub record FormsAreInStep : Type 0 where
-  pub statement : (tables : Tables) (functions : (binding : ℕ) → Signature) (may_call : (function : ℕ) → Bool)
+  pub statement : (tables : Tables) (functions : (binding : ℕ) → Signature)
+      (may_call : (function : ℕ) → Bool)
       → (inside : Inside) (s : Statement) (rest : Coded) → StatementNoted tables may_call s
       → InStep may_call false rest → InStep may_call false (executed tables functions inside s rest)
   pub function : (tables : Tables) (program : ProgramTree) (may_call : (function : ℕ) → Bool)
       → FunctionsNoted tables may_call (functions_of program.items)
-      → (binding : ℕ) → may_call binding ≡ true → InStep may_call false (bodies_of tables program binding)
+      → (binding : ℕ) → may_call binding ≡ true
+      → InStep may_call false (bodies_of tables program binding)

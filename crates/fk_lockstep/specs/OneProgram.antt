@@ -1,5 +1,6 @@
 -- Groups whose members have one remaining program.
-use Rattle.std.specs.Prelude.{◌≡◌, ℕ, ◌≤◌, Bool, true, false, List, [], ◌∷◌, length, map, Option, Some, None, slice_get}
+use Rattle.std.specs.Prelude.{◌≡◌, ℕ, ◌≤◌, Bool, true, false, List, [], ◌∷◌, length, map, Option}
+use Rattle.std.specs.Prelude.{Some, None, slice_get}
 use Rattle.fk_num.specs.Word.{Memory}
 use Rattle.fk_meaning_operation.specs.declared.operation.Operation.TheVariants as o
 use Rattle.fk_tree.specs.Tree as t
@@ -17,11 +18,13 @@ abbrev pub groups_of : Processor → List (ℕ × ℕ)
 groups_of p = map (λ l. (l.number, l.size)) (p.level ∷ p.outer)
 
 module _ {W : Type 0} (next : W → Option (Step W)) where
-  -- two members of a group in lockstep have the same left to do, and at a branch the same last value. So have they `@` and
-  -- the sizes of their groups, and `groupsize()` is how many members there are
+  -- two members of a group in lockstep have the same left to do, and at a branch the same last
+  -- value. So have they `@` and the sizes of their groups, and `groupsize()` is how many
+  -- members there are
   pub record AreTogether (s : State W) (n : ℕ) (r q : Runner W) : Type 0 where
     pub left : r.left ≡ q.left
-    pub branch : (step : Step W) (onward : Bool) → next r.left ≡ Some step → step.operation ≡ o.Branch onward
+    pub branch : (step : Step W) (onward : Bool) → next r.left ≡ Some step
+        → step.operation ≡ o.Branch onward
         → last (values r.has) ≡ last (values q.has)
     pub groups : groups_of r.has ≡ groups_of q.has
     pub size : r.has.level.size ≡ length (t.members s.tree n)
@@ -36,15 +39,18 @@ module _ {W : Type 0} (next : W → Option (Step W)) where
   -- so have two who wait at one node
   abbrev pub WaitersHaveOneProgram : State W → Type 0
   WaitersHaveOneProgram s =
-      (g h first parts : ℕ) (r q : Runner W) → s.tree.places g ≡ s.tree.places h → t.kind s.tree (s.tree.places g) ≡ Some (Waiting first parts)
+      (g h first parts : ℕ) (r q : Runner W) → s.tree.places g ≡ s.tree.places h
+      → t.kind s.tree (s.tree.places g) ≡ Some (Waiting first parts)
       → slice_get s.runners g ≡ Some r → slice_get s.runners h ≡ Some q
       → (r.left ≡ q.left) × (groups_of r.has ≡ groups_of q.has)
 
   -- and two who are about to begin the group of a `start`
   abbrev pub BeginnersHaveOneProgram : State W → Type 0
   BeginnersHaveOneProgram s =
-      (g h : ℕ) (r q : Runner W) (a b : Step W) → slice_get s.runners g ≡ Some r → slice_get s.runners h ≡ Some q
-      → next r.left ≡ Some a → next q.left ≡ Some b → a.operation ≡ o.Begin → b.operation ≡ o.Begin → r.left ≡ q.left
+      (g h : ℕ) (r q : Runner W) (a b : Step W) → slice_get s.runners g ≡ Some r
+      → slice_get s.runners h ≡ Some q
+      → next r.left ≡ Some a → next q.left ≡ Some b → a.operation ≡ o.Begin → b.operation ≡ o.Begin
+      → r.left ≡ q.left
 
   -- and each processor is at exactly one node
   pub record KeepOneProgram (processors : ℕ) (s : State W) : Type 0 where
@@ -56,9 +62,13 @@ module _ {W : Type 0} (next : W → Option (Step W)) where
 -- after a lawful schedule without a stopped last round, which has a fault
 abbrev pub GroupsHaveOneProgram : (W : Type 0) → Type 0
 GroupsHaveOneProgram W =
-    (next : W → Option (Step W)) (outs : W → List W) (program : W) → Follows next outs (ByItself false) program
-    → (counts : Counts W) → ((p : Processor) → ArePending next outs counts program p []) → IsCounted next outs counts program
-    → (setting : Setting) (schedule : Schedule) (processors : ℕ) (globals input : List ℕ) (firsts : Memory) → 1 ≤ processors
+    (next : W → Option (Step W)) (outs : W → List W) (program : W)
+    → Follows next outs (ByItself false) program
+    → (counts : Counts W) → ((p : Processor) → ArePending next outs counts program p [])
+    → IsCounted next outs counts program
+    → (setting : Setting) (schedule : Schedule) (processors : ℕ) (globals input : List ℕ)
+    (firsts : Memory) → 1 ≤ processors
     → IsLawful next setting schedule (opening processors globals input firsts program)
     → (run next setting schedule (opening processors globals input firsts program)).fault ≡ None
-    → KeepOneProgram next processors (run next setting schedule (opening processors globals input firsts program))
+    → KeepOneProgram next processors
+    (run next setting schedule (opening processors globals input firsts program))

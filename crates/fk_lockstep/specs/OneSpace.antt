@@ -1,5 +1,6 @@
 -- Groups whose members have one space.
-use Rattle.std.specs.Prelude.{◌≡◌, ℕ, ◌≤◌, true, false, List, [], ◌∷◌, map, Option, Some, None, slice_get}
+use Rattle.std.specs.Prelude.{◌≡◌, ℕ, ◌≤◌, true, false, List, [], ◌∷◌, map, Option, Some, None}
+use Rattle.std.specs.Prelude.{slice_get}
 use Rattle.fk_num.specs.Word.{Memory}
 use Rattle.fk_space.specs.Space.{Space}
 use Rattle.fk_tree.specs.Tree as t
@@ -33,7 +34,8 @@ module _ {W : Type 0} where
   -- so have two who wait at one node
   abbrev pub WaitersHaveOneSpace : State W → Type 0
   WaitersHaveOneSpace s =
-      (g h first parts : ℕ) (r q : Runner W) → s.tree.places g ≡ s.tree.places h → t.kind s.tree (s.tree.places g) ≡ Some (Waiting first parts)
+      (g h first parts : ℕ) (r q : Runner W) → s.tree.places g ≡ s.tree.places h
+      → t.kind s.tree (s.tree.places g) ≡ Some (Waiting first parts)
       → slice_get s.runners g ≡ Some r → slice_get s.runners h ≡ Some q
       → HaveSameLevels r.has q.has
 
@@ -49,14 +51,17 @@ module _ {W : Type 0} where
     pub waiters : WaitersHaveOneSpace s
     pub nodes : NodesHaveOneSpace s
 
--- after a lawful schedule without a stopped last round, which has a fault. In the beginning no call waits, no group is round
--- that of all processors, and each of them runs by itself
+-- after a lawful schedule without a stopped last round, which has a fault. In the beginning no call
+-- waits, no group is round that of all processors, and each of them runs by itself
 abbrev pub GroupsHaveOneSpace : (W : Type 0) → Type 0
 GroupsHaveOneSpace W =
-    (next : W → Option (Step W)) (outs : W → List W) (program : W) → Follows next outs (ByItself false) program
-    → (counts : Counts W) → ((p : Processor) → ArePending next outs counts program p []) → IsCounted next outs counts program
+    (next : W → Option (Step W)) (outs : W → List W) (program : W)
+    → Follows next outs (ByItself false) program
+    → (counts : Counts W) → ((p : Processor) → ArePending next outs counts program p [])
+    → IsCounted next outs counts program
     → (depth : W → ℕ) → depth program ≡ 0 → IsFramed next outs depth 0 true program
-    → (setting : Setting) (schedule : Schedule) (processors : ℕ) (globals input : List ℕ) (firsts : Memory) → 1 ≤ processors
+    → (setting : Setting) (schedule : Schedule) (processors : ℕ) (globals input : List ℕ)
+    (firsts : Memory) → 1 ≤ processors
     → IsLawful next setting schedule (opening processors globals input firsts program)
     → (run next setting schedule (opening processors globals input firsts program)).fault ≡ None
     → KeepOneSpace (run next setting schedule (opening processors globals input firsts program))

@@ -16,20 +16,25 @@ pub record IsReached (bodies : (binding : ℕ) → Code ℕ) (main : ℕ) (work 
   pub ways : List Bool
   pub is : work ≡ after_ways (next bodies) ways (going (bodies main) [])
 
-module _ (bodies : (binding : ℕ) → Code ℕ) (main : ℕ) (setting : Setting) (round : Round) (s : State Work) where
+module _ (bodies : (binding : ℕ) → Code ℕ) (main : ℕ) (setting : Setting) (round : Round)
+    (s : State Work) where
   -- what a processor is after the step of the tree that it takes, if any
   abbrev pub stepped_by : Option (Step Work) → Runner Work → Runner Work
   stepped_by None r = r
   stepped_by (Some step) r =
-      let highest = agreed (stepping (next bodies) setting round s) (group_of (next bodies) setting round s r.has) in
+      let highest = agreed (stepping (next bodies) setting round s)
+      (group_of (next bodies) setting round s r.has) in
       let tree = (result (next bodies) setting round s).tree in
       record {
-        left = step.rest (goes_onward step.operation highest (lowest (group_of (next bodies) setting round s r.has)) r.has);
-        has = does step.operation highest (length (t.members tree (tree.places r.has.number))) r.has;
+        left = step.rest (goes_onward step.operation highest
+            (lowest (group_of (next bodies) setting round s r.has)) r.has);
+        has =
+            does step.operation highest (length (t.members tree (tree.places r.has.number))) r.has;
       }
 
-  -- in a round without a fault its local operations and its request leave the parts and bodies that it is in, and the levels
-  -- round its own, as they are. Then it goes on by at most one step of the tree, as parts and bodies are nested
+  -- in a round without a fault its local operations and its request leave the parts and bodies that
+  -- it is in, and the levels round its own, as they are. Then it goes on by at most one step of the
+  -- tree, as parts and bodies are nested
   pub record GoesThrough (h : ℕ) (r : Runner Work) : Type 0 where
     pub acting : Acting Work
     pub stands : slice_get (stepping (next bodies) setting round s) h ≡ Some acting
@@ -38,13 +43,16 @@ module _ (bodies : (binding : ℕ) → Code ℕ) (main : ℕ) (setting : Setting
     pub outs : outs acting.runner.left ≡ outs r.left
     pub reached : IsReached bodies main acting.runner.left
     pub step : (step : Step Work) → acting.due ≡ Some step → GoesOnFrom acting.runner.left step
-    pub after : slice_get (result (next bodies) setting round s).runners h ≡ Some (stepped_by acting.due acting.runner)
+    pub after : slice_get (result (next bodies) setting round s).runners h
+        ≡ Some (stepped_by acting.due acting.runner)
     pub reached_after : IsReached bodies main (stepped_by acting.due acting.runner).left
 
 abbrev pub RoundsGoThroughParts : Type 0
 RoundsGoThroughParts =
-    (bodies : (binding : ℕ) → Code ℕ) → ((binding : ℕ) → Shape false false of_function (bodies binding))
-    → (main : ℕ) (setting : Setting) (round : Round) (s : State Work) (h count : ℕ) (r : Runner Work)
+    (bodies : (binding : ℕ) → Code ℕ)
+    → ((binding : ℕ) → Shape false false of_function (bodies binding))
+    → (main : ℕ) (setting : Setting) (round : Round) (s : State Work) (h count : ℕ)
+    (r : Runner Work)
     → (result (next bodies) setting round s).fault ≡ None
     → slice_get s.runners h ≡ Some r → slice_get round h ≡ Some count → IsReached bodies main r.left
     → GoesThrough bodies main setting round s h r

@@ -1,11 +1,13 @@
 -- Members of a group that have the same left to do, and what a round makes of them.
-use Rattle.std.specs.Prelude.{◌≡◌, ℕ, Bool, true, false, List, [], ◌∷◌, Option, Some, None, slice_get}
+use Rattle.std.specs.Prelude.{◌≡◌, ℕ, Bool, true, false, List, [], ◌∷◌, Option, Some, None}
+use Rattle.std.specs.Prelude.{slice_get}
 use Rattle.fk_meaning_operation.specs.declared.operation.Operation.{Operation}
 use Rattle.fk_meaning_operation.specs.declared.operation.Operation.TheVariants as o
 use Rattle.fk_tree.specs.Tree as t
 use Rattle.fk_meaning.specs.Processor.{Level, Call, Processor, Setting, values, last}
 use Rattle.fk_meaning.specs.Group.{parts, part, goes_onward}
-use Rattle.fk_meaning.specs.Round.{Step, Runner, State, Round, Acting, all_requests, lowest, agreed, asking, result}
+use Rattle.fk_meaning.specs.Round.{Step, Runner, State, Round, Acting, all_requests, lowest, agreed}
+use Rattle.fk_meaning.specs.Round.{asking, result}
 use Rattle.fk_meaning_forms.specs.Code.{Code}
 use Rattle.fk_meaning.specs.Next.{Work, next}
 use Rattle.fk_lockstep.specs.InStep.{leaves_step, InStep, WorkInStep}
@@ -38,11 +40,12 @@ pub record SamePlace (p q : Processor) : Type 0 where
 abbrev pub OneWay : Operation → (highest lowest : ℕ) → Processor → Processor → Type 0
 OneWay (o.Split by) highest lowest p q =
     (part by (values p) ≡ part by (values q)) × (parts by (values p) ≡ parts by (values q))
-OneWay operation highest lowest p q = goes_onward operation highest lowest p ≡ goes_onward operation highest lowest q
+OneWay operation highest lowest p q =
+    goes_onward operation highest lowest p ≡ goes_onward operation highest lowest q
 
 module _ (may_call : (function : ℕ) → Bool) where
-  -- two processors have the same code left, which is in step, and levels that differ in `$` alone; and directly behind an
-  -- agree the same last value
+  -- two processors have the same code left, which is in step, and levels that differ in `$` alone;
+  -- and directly behind an agree the same last value
   pub record Together (agreed : Bool) (r q : Runner Work) : Type 0 where
     pub left : r.left ≡ q.left
     pub place : SamePlace r.has q.has
@@ -50,8 +53,10 @@ module _ (may_call : (function : ℕ) → Bool) where
     pub value : agreed ≡ true → last (values r.has) ≡ last (values q.has)
 
 -- of any form of what is left to do
-module _ {W : Type 0} (next : W → Option (Step W)) (setting : Setting) (round : Round) (s : State W) where
-  -- those who stand before the steps of the tree, and the members of the group that a processor is in before the round
+module _ {W : Type 0} (next : W → Option (Step W)) (setting : Setting) (round : Round)
+    (s : State W) where
+  -- those who stand before the steps of the tree, and the members of the group that a processor is
+  -- in before the round
   abbrev pub stepping : List (Acting W)
   stepping = (all_requests 0 (asking next setting round s.runners) s.store).acting
 
@@ -61,8 +66,8 @@ module _ {W : Type 0} (next : W → Option (Step W)) (setting : Setting) (round 
   abbrev pub DoesStep : (h : ℕ) → Acting W → Step W → Type 0
   DoesStep h a step = (slice_get stepping h ≡ Some a) × (a.due ≡ Some step)
 
-  -- two processors at one node act in a round without a fault with one count, and at a step of the tree go one way, to
-  -- one node
+  -- two processors at one node act in a round without a fault with one count, and at a step of the
+  -- tree go one way, to one node
   pub record ActTogether (g h : ℕ) (r q : Runner W) : Type 0 where
     pub no_fault : (result next setting round s).fault ≡ None
     pub first : slice_get s.runners g ≡ Some r
@@ -72,13 +77,17 @@ module _ {W : Type 0} (next : W → Option (Step W)) (setting : Setting) (round 
     pub second_count : slice_get round h ≡ Some count
     pub one_node : s.tree.places r.has.number ≡ s.tree.places q.has.number
     pub one_way : (a b : Acting W) (step : Step W) → DoesStep g a step → DoesStep h b step
-        → OneWay step.operation (agreed stepping (group_of r.has)) (lowest (group_of r.has)) a.runner.has b.runner.has
+        → OneWay step.operation (agreed stepping (group_of r.has))
+        (lowest (group_of r.has)) a.runner.has b.runner.has
     pub still_one_node :
-        (result next setting round s).tree.places r.has.number ≡ (result next setting round s).tree.places q.has.number
+        (result next setting round s).tree.places r.has.number
+        ≡ (result next setting round s).tree.places q.has.number
 
--- after a round of a program they have the same code left, and levels that differ in `$` alone; and they are together
--- again, but where they have come to the end of a part or to a body that they run by themselves
-pub record GoOn (may_call : (function : ℕ) → Bool) (bodies : (binding : ℕ) → Code ℕ) (setting : Setting) (round : Round) (s : State Work) (g h : ℕ) : Type 0 where
+-- after a round of a program they have the same code left, and levels that differ in `$` alone;
+-- and they are together again, but where they have come to the end of a part or to a body that
+-- they run by themselves
+pub record GoOn (may_call : (function : ℕ) → Bool) (bodies : (binding : ℕ) → Code ℕ)
+    (setting : Setting) (round : Round) (s : State Work) (g h : ℕ) : Type 0 where
   pub first : Runner Work
   pub second : Runner Work
   pub first_is : slice_get (result (next bodies) setting round s).runners g ≡ Some first
@@ -86,7 +95,8 @@ pub record GoOn (may_call : (function : ℕ) → Bool) (bodies : (binding : ℕ)
   pub left : first.left ≡ second.left
   pub place : SamePlace first.has second.has
   pub together :
-      ((a : Acting Work) (step : Step Work) → DoesStep (next bodies) setting round s g a step → leaves_step step.operation ≡ false)
+      ((a : Acting Work) (step : Step Work) → DoesStep (next bodies) setting round s g a step
+      → leaves_step step.operation ≡ false)
       → (agreed : Bool) × Together may_call agreed first second
 
 abbrev pub GroupsGoOn : Type 0

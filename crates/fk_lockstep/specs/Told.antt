@@ -1,4 +1,5 @@
--- What is told of an expression: something of each token in it that decides what is run next, and something of each name.
+-- What is told of an expression: something of each token in it that decides what is run next, and
+-- something of each name.
 use Rattle.std.specs.Prelude.{◌≡◌, ℕ, Bool, true, false, List, [], ◌∷◌, Option, Some, None}
 use Rattle.fk_syntax.specs.declared.sign.Sign.{Sign}
 use Rattle.fk_syntax.specs.declared.sign.Sign.TheVariants as g
@@ -25,11 +26,13 @@ module _ (Decides : (at : ℕ) → Type 0) (Means : Named → Type 0) where
     Told (t.Chain first links) = Told first × LinksTold links
     Told (t.Postfix whole suffixes) = Told whole × SuffixesTold suffixes
     Told (t.Assign spot sign target value) = Told target × Told value
-    Told (t.Choose spot condition first second) = Decides spot.at × Told condition × Told first × Told second
+    Told (t.Choose spot condition first second) = Decides spot.at × Told condition
+        × Told first × Told second
 
     pub LinksTold : Links → Type 0
     LinksTold t.no_links = Unit {0}
-    LinksTold (t.link spot sign right others) = (is_logical sign ≡ true → Decides spot.at) × Told right × LinksTold others
+    LinksTold (t.link spot sign right others) = (is_logical sign ≡ true → Decides spot.at)
+        × Told right × LinksTold others
 
     pub SuffixesTold : Suffixes → Type 0
     SuffixesTold t.no_suffixes = Unit {0}

@@ -20,7 +20,8 @@ changes_tree (o.Meet true) = true
 changes_tree o.Resume = true
 changes_tree op = false
 
-module _ {W : Type 0} (next : W → Option (Step W)) (setting : Setting) (round : Round) (s : State W) where
+module _ {W : Type 0} (next : W → Option (Step W)) (setting : Setting) (round : Round)
+    (s : State W) where
   -- somebody does a step at a node that changes the tree
   pub record StepsAt (n : ℕ) : Type 0 where
     pub index : ℕ
@@ -33,16 +34,20 @@ module _ {W : Type 0} (next : W → Option (Step W)) (setting : Setting) (round 
   abbrev pub tree_after : t.Tree
   tree_after = (result next setting round s).tree
 
-  -- numbers are given, and none is taken back; a node that was there gets no other members, and one at which nobody steps is
-  -- as it was, the root aside, at which a `start` makes its group; who is a member of no node at which somebody steps stays
-  -- where it is, unless there is a `start`
+  -- numbers are given, and none is taken back; a node that was there gets no other members, and one
+  -- at which nobody steps is as it was, the root aside, at which a `start` makes its group; who is
+  -- a member of no node at which somebody steps stays where it is, unless there is a `start`
   pub record OthersStay : Type 0 where
     pub given : s.tree.given ≤ tree_after.given
-    pub members : (n h : ℕ) → n < s.tree.given → is_member h (t.members tree_after n) ≡ true → is_member h (t.members s.tree n) ≡ true
-    pub nodes : (n : ℕ) → n ≢ 0 → n < s.tree.given → (StepsAt n → ⊥) → tree_after.nodes n ≡ s.tree.nodes n
+    pub members : (n h : ℕ) → n < s.tree.given → is_member h (t.members tree_after n) ≡ true
+        → is_member h (t.members s.tree n) ≡ true
+    pub nodes : (n : ℕ) → n ≢ 0 → n < s.tree.given → (StepsAt n → ⊥)
+        → tree_after.nodes n ≡ s.tree.nodes n
     pub places : (h : ℕ)
-        → ((n : ℕ) (at : StepsAt n) → (at.step.operation ≢ o.Begin) × (n < s.tree.given) × (is_member h (t.members s.tree n) ≡ false))
+        → ((n : ℕ) (at : StepsAt n) → (at.step.operation ≢ o.Begin) × (n < s.tree.given)
+        × (is_member h (t.members s.tree n) ≡ false))
         → tree_after.places h ≡ s.tree.places h
 
 abbrev pub UntouchedNodesStay : (W : Type 0) → Type 0
-UntouchedNodesStay W = (next : W → Option (Step W)) (setting : Setting) (round : Round) (s : State W) → OthersStay next setting round s
+UntouchedNodesStay W = (next : W → Option (Step W)) (setting : Setting) (round : Round)
+    (s : State W) → OthersStay next setting round s

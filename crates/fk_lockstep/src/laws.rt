@@ -53,22 +53,22 @@ pub fn untouched_nodes_stay<W>()
     ensures { UntouchedNodesStay W }
 {}
 
-/// Two members of a group that are together are so after a round in which they do nothing that changes
-/// the tree, and are at the same node: they go one way by themselves.
+/// Two members of a group that are together are so after a round in which they do nothing that
+/// changes the tree, and are at the same node: they go one way by themselves.
 pub fn groups_stay_together()
     ensures { GroupsStayTogether }
 {}
 
 /// In a round without a fault a processor of a program stays in its parts and bodies by its local
-/// operations and its request, and in the groups round its own. Then it takes at most one step of the
-/// tree, by which it enters or leaves them as they are nested.
+/// operations and its request, and in the groups round its own. Then it takes at most one step of
+/// the tree, by which it enters or leaves them as they are nested.
 pub fn rounds_go_through_parts()
     ensures { RoundsGoThroughParts }
 {}
 
 /// After every lawful schedule without a stopped last round all members of a group in lockstep have
-/// the same left to do, and where a branch stands in it, the same last value. They have the same `@`
-/// and the same sizes of their group and of all groups round it, and `groupsize()` is how many
+/// the same left to do, and where a branch stands in it, the same last value. They have the same
+/// `@` and the same sizes of their group and of all groups round it, and `groupsize()` is how many
 /// members there are. So have those who wait at one node the same left, and those who are about to
 /// begin the group of a `start`, and each processor is at exactly one node.
 ///
@@ -84,9 +84,9 @@ pub fn groups_have_one_program<W>()
 /// `@`, size and space. So have those who wait at one node. All who are at one node, by themselves
 /// too, have the same spaces.
 ///
-/// This is so in every form `W` in which it is kept what is left to do, of each program whose groups
-/// have one remaining program, and in which a function takes its group frame in a group that it was
-/// called in, and leaves it there.
+/// This is so in every form `W` in which it is kept what is left to do, of each program whose
+/// groups have one remaining program, and in which a function takes its group frame in a group that
+/// it was called in, and leaves it there.
 pub fn groups_have_one_space<W>()
     ensures { GroupsHaveOneSpace W }
 {}

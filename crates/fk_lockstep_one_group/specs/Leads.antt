@@ -1,7 +1,8 @@
 -- Where the operations of code stand, in a program with one group at a time.
 use Rattle.std.specs.Prelude.{◌≡◌, ℕ, Bool, true, false, Option, Some, None}
 use Rattle.fk_meaning_operation.specs.declared.operation.Operation.{Operation}
-use Rattle.fk_meaning_forms.specs.Code.{Code, done, perform, choose, while, until, turn, again, quit, break, continue, call, ends}
+use Rattle.fk_meaning_forms.specs.Code.{Code, done, perform, choose, while, until, turn, again}
+use Rattle.fk_meaning_forms.specs.Code.{quit, break, continue, call, ends}
 use Rattle.fk_lockstep_one_group.specs.Where.{Where, InGroup, goes}
 
 -- what is called there is called by a group
@@ -15,22 +16,29 @@ Comes place op to = (onward : Bool) → goes place op onward ≡ Some to
 
 -- which functions may be called by a group, and which by processors by themselves
 module _ {A : Type 0} (may_call : (in_group : Bool) → (function : ℕ) → Bool) where
-  -- Code leads from a place to its end, and there to another place. A `return` stands where the function began, and what leads
-  -- out of the innermost loop or to its next turn where that loop did; a loop leads to where it began
-  abbrev pub Leads : (function : Where) → (loop : Option Where) → (place : Where) → Code A → (end : Where) → Type 0
+  -- Code leads from a place to its end, and there to another place. A `return` stands where the
+  -- function began, and what leads out of the innermost loop or to its next turn where that loop
+  -- did; a loop leads to where it began
+  abbrev pub Leads : (function : Where) → (loop : Option Where) → (place : Where) → Code A
+      → (end : Where) → Type 0
   Leads f l p done e = p ≡ e
   Leads f l p (perform t op rest) e = (to : Where) × Comes p op to × Leads f l to rest e
   Leads f l p (choose t op a b rest) e =
-      (first second one other : Where) × (goes p op true ≡ Some first) × (goes p op false ≡ Some second)
-      × Leads f l first a one × Leads f l second b other × Leads f l one rest e × Leads f l other rest e
+      (first second one other : Where) × (goes p op true ≡ Some first)
+      × (goes p op false ≡ Some second)
+      × Leads f l first a one × Leads f l second b other × Leads f l one rest e
+      × Leads f l other rest e
   Leads f l p (while test body step rest) e =
-      Leads f (Some p) p test p × Leads f (Some p) p body p × Leads f (Some p) p step p × Leads f l p rest e
-  Leads f l p (until body test rest) e = Leads f (Some p) p body p × Leads f (Some p) p test p × Leads f l p rest e
+      Leads f (Some p) p test p × Leads f (Some p) p body p × Leads f (Some p) p step p
+      × Leads f l p rest e
+  Leads f l p (until body test rest) e = Leads f (Some p) p body p × Leads f (Some p) p test p
+      × Leads f l p rest e
   Leads f l p (turn test body step rest) e = ⊥
   Leads f l p (again test body step rest) e = ⊥
   Leads f l p (quit t op rest) e = (l ≡ Some p) × Comes p op p × Leads f l p rest e
   Leads f l p (break rest) e = (l ≡ Some p) × Leads f l p rest e
   Leads f l p (continue rest) e = (l ≡ Some p) × Leads f l p rest e
   Leads f l p (call t op function opening rest) e =
-      Comes p op p × (may_call (is_in_group p) function ≡ true) × Leads p None p opening p × Leads f l p rest e
+      Comes p op p × (may_call (is_in_group p) function ≡ true) × Leads p None p opening p
+      × Leads f l p rest e
   Leads f l p (ends t op rest) e = Comes p op p × (p ≡ f) × Leads f l p rest e

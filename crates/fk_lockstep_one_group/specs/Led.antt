@@ -7,17 +7,22 @@ use Rattle.fk_core_flat.specs.Laws.{AreShaped}
 use Rattle.fk_lockstep_one_group.specs.Where.{InRoot, InGroup, InBody, Goes}
 use Rattle.fk_lockstep_one_group.specs.Leads.{Leads}
 
--- the functions of a program, and its `main`. One with a body that may be called leads from wherever it is called back there. It
--- ends before it comes to the end of its code
-pub record AreLed (may_call : (in_group : Bool) → (function : ℕ) → Bool) (bodies : (binding : ℕ) → Code ℕ) (main : ℕ) : Type 0 where
+-- the functions of a program, and its `main`. One with a body that may be called leads from
+-- wherever it is called back there. It ends before it comes to the end of its code
+pub record AreLed (may_call : (in_group : Bool) → (function : ℕ) → Bool)
+    (bodies : (binding : ℕ) → Code ℕ) (main : ℕ) : Type 0 where
   pub shaped : AreShaped bodies
-  pub in_group : (function : ℕ) → is_closed (bodies function) ≡ true → may_call true function ≡ true → Leads may_call InGroup None InGroup (bodies function) InGroup
-  pub in_root : (function : ℕ) → is_closed (bodies function) ≡ true → may_call false function ≡ true → Leads may_call InRoot None InRoot (bodies function) InRoot
-  pub in_body : (function : ℕ) → is_closed (bodies function) ≡ true → may_call false function ≡ true → Leads may_call InBody None InBody (bodies function) InBody
+  pub in_group : (function : ℕ) → is_closed (bodies function) ≡ true → may_call true function ≡ true
+      → Leads may_call InGroup None InGroup (bodies function) InGroup
+  pub in_root : (function : ℕ) → is_closed (bodies function) ≡ true → may_call false function ≡ true
+      → Leads may_call InRoot None InRoot (bodies function) InRoot
+  pub in_body : (function : ℕ) → is_closed (bodies function) ≡ true → may_call false function ≡ true
+      → Leads may_call InBody None InBody (bodies function) InBody
   pub main_of : Leads may_call InRoot None InRoot (bodies main) InRoot
 
 abbrev pub CodeGoes : Type 0
 CodeGoes =
-    (may_call : (in_group : Bool) → (function : ℕ) → Bool) (bodies : (binding : ℕ) → Code ℕ) (main : ℕ)
+    (may_call : (in_group : Bool) → (function : ℕ) → Bool)
+    (bodies : (binding : ℕ) → Code ℕ) (main : ℕ)
     → AreLed may_call bodies main
     → Goes (next bodies) InRoot (going (bodies main) [])

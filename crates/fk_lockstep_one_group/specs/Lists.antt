@@ -1,4 +1,5 @@
--- The runs of a list in which the code of a program stands, where the program has one group at a time.
+-- The runs of a list in which the code of a program stands, where the program has one
+-- group at a time.
 use Rattle.std.specs.Prelude.{◌≡◌, ℕ, false, List, [], length, slice_get, Some, None}
 use Rattle.fk_meaning_operation.specs.declared.operation.Operation.{Operation}
 use Rattle.fk_meaning_forms.specs.Code.{Code}
@@ -17,12 +18,17 @@ use Rattle.fk_lockstep_structure.specs.Ahead.{all_outs}
 -- no two operations have one site
 abbrev pub HasOwnSites : List CoreOp → Type 0
 HasOwnSites core =
-    (i j : ℕ) (op other : CoreOp) (x y : Operation) → slice_get core i ≡ Some op → slice_get core j ≡ Some other
-    → operation_of op.kind op.number ≡ Some x → operation_of other.kind other.number ≡ Some y → op.site ≡ other.site → i ≡ j
+    (i j : ℕ) (op other : CoreOp) (x y : Operation) → slice_get core i ≡ Some op
+    → slice_get core j ≡ Some other
+    → operation_of op.kind op.number ≡ Some x → operation_of other.kind other.number ≡ Some y
+    → op.site ≡ other.site → i ≡ j
 
 abbrev pub ListsHaveOneGroup : Type 0
 ListsHaveOneGroup =
     (bodies : (binding : ℕ) → Code ℕ) (core : List CoreOp) (entry : (binding : ℕ) → ℕ) (main : ℕ)
-    → LeadsOn core → ((binding : ℕ) → Stands core entry (bodies binding) None (entry binding) (length core)) → HasOwnSites core
-    → Follows (source.next bodies) all_outs (ByItself false) (going (bodies main) []) → Goes (source.next bodies) InRoot (going (bodies main) [])
+    → LeadsOn core
+    → ((binding : ℕ) → Stands core entry (bodies binding) None (entry binding) (length core))
+    → HasOwnSites core
+    → Follows (source.next bodies) all_outs (ByItself false) (going (bodies main) [])
+    → Goes (source.next bodies) InRoot (going (bodies main) [])
     → AlwaysOneGroup (next core) (λ w. landing core w.at) (position (entry main) [])

@@ -1,5 +1,6 @@
 -- Where the tree has the processors of a program with one group at a time.
-use Rattle.std.specs.Prelude.{◌≡◌, ◌≢◌, ℕ, zero, suc, ◌≤◌, Bool, true, false, List, [], ◌∷◌, length, Option, Some, None, slice_get, ◌⊎◌}
+use Rattle.std.specs.Prelude.{◌≡◌, ◌≢◌, ℕ, zero, suc, ◌≤◌, Bool, true, false, List, [], ◌∷◌, length}
+use Rattle.std.specs.Prelude.{Option, Some, None, slice_get, ◌⊎◌}
 use Rattle.fk_num.specs.Word.{Memory}
 use Rattle.fk_tree.specs.declared.node.Kind.{Kind}
 use Rattle.fk_tree.specs.declared.node.Kind.TheVariants.{Lockstep, Waiting, Asynchronous}
@@ -9,7 +10,8 @@ use Rattle.fk_tree.specs.Tree.{Tree, is_member}
 use Rattle.fk_meaning.specs.Processor.{Processor, Setting, setting_of, group_space}
 use Rattle.fk_meaning.specs.Round.{Step, Runner, State, body_of}
 use Rattle.fk_meaning.specs.Schedule.{first_level, opening}
-use Rattle.fk_lockstep_one_group.specs.Where.{Where, InRoot, Waits, InGroup, InBody, BehindBody, Goes}
+use Rattle.fk_lockstep_one_group.specs.Where.{Where, InRoot, Waits, InGroup, InBody, BehindBody}
+use Rattle.fk_lockstep_one_group.specs.Where.{Goes}
 
 -- where the members of a node stand who are at it. The root is node 0; some may run its body
 abbrev pub where_in : (g : ℕ) → Option Kind → (runs : Bool) → Option Where
@@ -21,7 +23,8 @@ where_in (suc g) (Some (Asynchronous alone)) false = Some BehindBody
 where_in g kind runs = None
 
 abbrev pub where_at : Tree → (h : ℕ) → Option Where
-where_at tree h = let g = tree.places h in where_in g (t.kind tree g) (is_member h (body_of (t.kind tree g) (t.members tree g)))
+where_at tree h = let g = tree.places h in
+    where_in g (t.kind tree g) (is_member h (body_of (t.kind tree g) (t.members tree g)))
 
 -- the root alone
 pub record HasNoGroup (tree : Tree) : Type 0 where
@@ -37,14 +40,17 @@ pub record HasGroup (tree : Tree) (group : ℕ) : Type 0 where
 abbrev pub IsOfOneGroup : Tree → Type 0
 IsOfOneGroup tree = HasNoGroup tree ⊎ ((group : ℕ) × HasGroup tree group)
 
--- the level in the root is that of the beginning, and the group of `start` has all of the group space
+-- the level in the root is that of the beginning, and the group of `start` has all
+-- of the group space
 abbrev pub HasLevels : Setting → Where → Processor → Type 0
 HasLevels set InRoot p = (p.outer ≡ []) × (p.level ≡ first_level set p.number)
 HasLevels set Waits p = (p.outer ≡ []) × (p.level ≡ first_level set p.number)
-HasLevels set place p = (p.outer ≡ first_level set p.number ∷ []) × (p.level.space ≡ group_space set)
+HasLevels set place p = (p.outer ≡ first_level set p.number ∷ [])
+    × (p.level.space ≡ group_space set)
 
 module _ {W : Type 0} (next : W → Option (Step W)) where
-  -- a processor stands somewhere as the tree tells, as what it has left tells, and as its levels tell
+  -- a processor stands somewhere as the tree tells, as what it has left tells, and
+  -- as its levels tell
   pub record IsPlaced (set : Setting) (tree : Tree) (h : ℕ) (r : Runner W) : Type 0 where
     pub number_is : r.has.number ≡ h
     pub place : Where
@@ -60,11 +66,15 @@ module _ {W : Type 0} (next : W → Option (Step W)) where
 
 abbrev pub OpeningsHaveNoGroup : (W : Type 0) → Type 0
 OpeningsHaveNoGroup W =
-    (next : W → Option (Step W)) (program : W) (processors : ℕ) (globals input : List ℕ) (firsts : Memory) → 1 ≤ processors → Goes next InRoot program
-    → HasOneGroup next (setting_of processors globals input) (opening processors globals input firsts program)
+    (next : W → Option (Step W)) (program : W) (processors : ℕ) (globals input : List ℕ)
+    (firsts : Memory) → 1 ≤ processors → Goes next InRoot program
+    → HasOneGroup next (setting_of processors globals input)
+    (opening processors globals input firsts program)
 
 -- who waits for the group of a `start` is about to go on behind it
 abbrev pub WaitersResume : (W : Type 0) → Type 0
 WaitersResume W =
-    (next : W → Option (Step W)) (set : Setting) (s : State W) (h first parts : ℕ) (r : Runner W) (step : Step W) → HasOneGroup next set s
-    → t.kind s.tree (s.tree.places h) ≡ Some (Waiting first parts) → slice_get s.runners h ≡ Some r → next r.left ≡ Some step → step.operation ≡ Resume
+    (next : W → Option (Step W)) (set : Setting) (s : State W) (h first parts : ℕ) (r : Runner W)
+    (step : Step W) → HasOneGroup next set s
+    → t.kind s.tree (s.tree.places h) ≡ Some (Waiting first parts) → slice_get s.runners h ≡ Some r
+    → next r.left ≡ Some step → step.operation ≡ Resume

@@ -5,7 +5,8 @@ use Rattle.fk_tree.specs.Tree as t
 use Rattle.fk_tree.specs.Tree.{is_member}
 use Rattle.fk_tree.specs.Sound.{IsSound}
 use Rattle.fk_meaning.specs.Processor.{Setting}
-use Rattle.fk_meaning.specs.Round.{Step, State, Round, Acting, all_requests, asking, result, is_possible}
+use Rattle.fk_meaning.specs.Round.{Step, State, Round, Acting, all_requests, asking, result}
+use Rattle.fk_meaning.specs.Round.{is_possible}
 use Rattle.fk_lockstep.specs.OneProgram.{HaveOneProgram}
 use Rattle.fk_lockstep_one_group.specs.Placed.{HasOneGroup}
 use Rattle.fk_lockstep_one_group.specs.Steps.{AreKnown}
@@ -14,7 +15,8 @@ use Rattle.fk_lockstep_one_group.specs.Steps.{AreKnown}
 abbrev pub IsSingle : Round → Type 0
 IsSingle round = (h : ℕ) → slice_index round h ≤ 1
 
-module _ {W : Type 0} (next : W → Option (Step W)) (set : Setting) (round : Round) (s : State W) where
+module _ {W : Type 0} (next : W → Option (Step W)) (set : Setting) (round : Round)
+    (s : State W) where
   -- those who stand before the steps of the tree
   abbrev pub stepping : List (Acting W)
   stepping = (all_requests 0 (asking next set round s.runners) s.store).acting
@@ -29,11 +31,13 @@ module _ {W : Type 0} (next : W → Option (Step W)) (set : Setting) (round : Ro
 
 abbrev pub RoundsAreKnown : (W : Type 0) → Type 0
 RoundsAreKnown W =
-    (next : W → Option (Step W)) (set : Setting) (round : Round) (s : State W) → IsRound next set round s → AreKnown s.tree (stepping next set round s)
+    (next : W → Option (Step W)) (set : Setting) (round : Round) (s : State W)
+    → IsRound next set round s → AreKnown s.tree (stepping next set round s)
 
 abbrev pub RoundsKeepOneGroup : (W : Type 0) → Type 0
 RoundsKeepOneGroup W =
-    (next : W → Option (Step W)) (set : Setting) (round : Round) (s : State W) → IsRound next set round s → HasOneGroup next set (result next set round s)
+    (next : W → Option (Step W)) (set : Setting) (round : Round) (s : State W)
+    → IsRound next set round s → HasOneGroup next set (result next set round s)
 
 -- processors have this count in a round
 abbrev pub HaveCount : Round → (members : List ℕ) → (count : ℕ) → Type 0

@@ -20,26 +20,36 @@ AreSingle (round ∷ schedule) = IsSingle round × AreSingle schedule
 -- two who are about to begin the group of a `start` are at one place
 abbrev pub BeginAtOne : {W X : Type 0} → (W → Option (Step W)) → (place : W → X) → State W → Type 0
 BeginAtOne {W} next place s =
-    (g h : ℕ) (r q : Runner W) (a b : Step W) → slice_get s.runners g ≡ Some r → slice_get s.runners h ≡ Some q
-    → next r.left ≡ Some a → next q.left ≡ Some b → a.operation ≡ Begin → b.operation ≡ Begin → place r.left ≡ place q.left
+    (g h : ℕ) (r q : Runner W) (a b : Step W) → slice_get s.runners g ≡ Some r
+    → slice_get s.runners h ≡ Some q
+    → next r.left ≡ Some a → next q.left ≡ Some b → a.operation ≡ Begin → b.operation ≡ Begin
+    → place r.left ≡ place q.left
 
--- in every run of such rounds, whose last is not stopped, each processor is at one node, the members of each group have one
--- program, there is one group at most, and those who begin one are at one place
-abbrev pub AlwaysOneGroup : {W X : Type 0} → (W → Option (Step W)) → (place : W → X) → (program : W) → Type 0
+-- in every run of such rounds, whose last is not stopped, each processor is at one node, the
+-- members of each group have one program, there is one group at most, and those who begin one
+-- are at one place
+abbrev pub AlwaysOneGroup : {W X : Type 0} → (W → Option (Step W)) → (place : W → X)
+    → (program : W) → Type 0
 AlwaysOneGroup next place program =
     (processors : ℕ) (globals input : List ℕ) (firsts : Memory) (schedule : Schedule)
     → let set = setting_of processors globals input in
     let first = opening processors globals input firsts program in
-    1 ≤ processors → IsLawful next set schedule first → AreSingle schedule → (run next set schedule first).fault ≡ None
-    → let s = run next set schedule first in IsSound processors s.tree × HaveOneProgram next s × HasOneGroup next set s × BeginAtOne next place s
+    1 ≤ processors → IsLawful next set schedule first → AreSingle schedule
+    → (run next set schedule first).fault ≡ None
+    → let s = run next set schedule first in IsSound processors s.tree × HaveOneProgram next s
+    × HasOneGroup next set s × BeginAtOne next place s
 
--- after a lawful schedule of such rounds, whose last is not stopped, the members of each group have one program, and there is one
--- group at most, where each processor stands as its operations have led it
+-- after a lawful schedule of such rounds, whose last is not stopped, the members of each group
+-- have one program, and there is one group at most, where each processor stands as its
+-- operations have led it
 abbrev pub RunsHaveOneGroup : (W : Type 0) → Type 0
 RunsHaveOneGroup W =
-    (next : W → Option (Step W)) (outs : W → List W) (program : W) (processors : ℕ) (globals input : List ℕ) (firsts : Memory) (schedule : Schedule)
+    (next : W → Option (Step W)) (outs : W → List W) (program : W) (processors : ℕ)
+    (globals input : List ℕ) (firsts : Memory) (schedule : Schedule)
     → let set = setting_of processors globals input in
     let first = opening processors globals input firsts program in
     Follows next outs (ByItself false) program → Goes next InRoot program → 1 ≤ processors
-    → IsLawful next set schedule first → AreSingle schedule → (run next set schedule first).fault ≡ None
-    → KeepOneProgram next processors (run next set schedule first) × HasOneGroup next set (run next set schedule first)
+    → IsLawful next set schedule first → AreSingle schedule
+    → (run next set schedule first).fault ≡ None
+    → KeepOneProgram next processors (run next set schedule first)
+    × HasOneGroup next set (run next set schedule first)

@@ -1,5 +1,6 @@
 -- Which steps of the tree processors do together.
-use Rattle.std.specs.Prelude.{◌≡◌, ◌≢◌, ℕ, suc, Bool, true, false, List, [], ◌∷◌, Option, Some, None, ◌⊎◌}
+use Rattle.std.specs.Prelude.{◌≡◌, ◌≢◌, ℕ, suc, Bool, true, false, List, [], ◌∷◌, Option, Some}
+use Rattle.std.specs.Prelude.{None, ◌⊎◌}
 use Rattle.fk_tree.specs.declared.node.Kind.TheVariants.{Lockstep, Waiting, Asynchronous}
 use Rattle.fk_tree.specs.Tree as t
 use Rattle.fk_tree.specs.Tree.{Tree}
@@ -24,22 +25,25 @@ module _ {W : Type 0} where
   AllKeep [] = Unit {0}
   AllKeep (a ∷ actings) = Keeps a.due × AllKeep actings
 
-  -- all who stand at a node do one operation, and nobody else changes the tree. Their numbers begin with one
+  -- all who stand at a node do one operation, and nobody else changes the tree. Their
+  -- numbers begin with one
   abbrev pub StepsAt : Tree → (g number : ℕ) → Operation → List (Acting W) → Type 0
   StepsAt old g number operation [] = Unit {0}
   StepsAt old g number operation (a ∷ actings) =
-      (a.runner.has.number ≡ number) × (old.places number ≡ g → Does operation a.due) × (old.places number ≢ g → Keeps a.due)
+      (a.runner.has.number ≡ number) × (old.places number ≡ g → Does operation a.due)
+      × (old.places number ≢ g → Keeps a.due)
       × StepsAt old g (suc number) operation actings
 
--- at which nodes the steps stand that change the tree: all begin in the root, and resume there; a group comes to a body, or ends;
--- those meet who have a body
+-- at which nodes the steps stand that change the tree: all begin in the root, and resume there; a
+-- group comes to a body, or ends; those meet who have a body
 abbrev pub MayStep : Tree → (g : ℕ) → Operation → Type 0
 MayStep tree g o.Begin = (g ≡ 0) × (t.kind tree g ≡ Some (Asynchronous false))
 MayStep tree g o.Resume = (g ≡ 0) × ((first : ℕ) × (t.kind tree g ≡ Some (Waiting first 1)))
 MayStep tree g o.Farm = t.kind tree g ≡ Some Lockstep
 MayStep tree g o.Seq = t.kind tree g ≡ Some Lockstep
 MayStep tree g o.End = t.kind tree g ≡ Some Lockstep
-MayStep tree g (o.Meet true) = (g ≢ 0) × ((alone : Bool) × (t.kind tree g ≡ Some (Asynchronous alone)))
+MayStep tree g (o.Meet true) = (g ≢ 0)
+    × ((alone : Bool) × (t.kind tree g ≡ Some (Asynchronous alone)))
 MayStep tree g operation = ⊥
 
 module _ {W : Type 0} (tree : Tree) (actings : List (Acting W)) where

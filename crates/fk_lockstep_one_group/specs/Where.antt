@@ -1,5 +1,6 @@
 -- How a processor goes through a program with one group at a time, as its operations alone tell it.
-use Rattle.std.specs.Prelude.{◌≡◌, ℕ, zero, suc, Bool, true, false, Option, Some, None, if◌then◌else◌}
+use Rattle.std.specs.Prelude.{◌≡◌, ℕ, zero, suc, Bool, true, false, Option, Some, None}
+use Rattle.std.specs.Prelude.{if◌then◌else◌}
 use Rattle.fk_meaning_operation.specs.Kinds.{class_of}
 use Rattle.fk_meaning_operation.specs.declared.kinds.Class.{Class}
 use Rattle.fk_meaning_operation.specs.declared.kinds.Class.TheVariants as class
@@ -7,8 +8,9 @@ use Rattle.fk_meaning_operation.specs.declared.operation.Operation.{Operation}
 use Rattle.fk_meaning_operation.specs.declared.operation.Operation.TheVariants as o
 use Rattle.fk_meaning.specs.Round.{Step}
 
--- where it stands: by itself in the root; there, until the group of a `start` has ended; in that group, in lockstep; in a body
--- of the group, by itself; at the end of a body, where those wait who don't enter it
+-- where it stands: by itself in the root; there, until the group of a `start` has ended; in that
+-- group, in lockstep; in a body of the group, by itself; at the end of a body, where those wait
+-- who don't enter it
 pub data Where : Type 0 where
   InRoot : Where
   Waits : Where
@@ -22,7 +24,8 @@ stays class.Local place = Some place
 stays class.Request place = Some place
 stays class.Tree place = None
 
--- where it stands behind an operation; none if that may not stand there. Splits, and frames and blocks of groups, may nowhere
+-- where it stands behind an operation; none if that may not stand there. Splits, and frames and
+-- blocks of groups, may nowhere
 abbrev pub goes : Where → Operation → (onward : Bool) → Option Where
 goes place (o.Leave gives true) onward = None
 goes InRoot o.Begin onward = Some (if onward then InGroup else Waits)
@@ -47,7 +50,8 @@ module _ {W : Type 0} (next : W → Option (Step W)) where
   abbrev pub GoesNext : (Goes : Where → W → Type 0) → Where → Option (Step W) → Type 0
   GoesNext Goes place None = place ≡ InRoot
   GoesNext Goes place (Some step) =
-      (onward : Bool) → (to : Where) × (goes place step.operation onward ≡ Some to) × Goes to (step.rest onward)
+      (onward : Bool)
+      → (to : Where) × (goes place step.operation onward ≡ Some to) × Goes to (step.rest onward)
 
   -- so many operations on, whichever ways they go
   abbrev pub GoesFor : (operations : ℕ) → Where → W → Type 0

@@ -3,7 +3,8 @@
 //! Laws of flat lists with one group at a time.
 
 ghost use Rattle.fk_lockstep_one_group.specs.Placed.{OpeningsHaveNoGroup, WaitersResume};
-ghost use Rattle.fk_lockstep_one_group.specs.Rounds.{RoundsAreKnown, RoundsKeepOneGroup, RoundsTakeGroups};
+ghost use Rattle.fk_lockstep_one_group.specs.Rounds.{RoundsAreKnown, RoundsKeepOneGroup};
+ghost use Rattle.fk_lockstep_one_group.specs.Rounds.{RoundsTakeGroups};
 ghost use Rattle.fk_lockstep_one_group.specs.Runs.{RunsHaveOneGroup};
 ghost use Rattle.fk_lockstep_one_group.specs.Led.{CodeGoes};
 ghost use Rattle.fk_lockstep_one_group.specs.Lists.{ListsHaveOneGroup};
@@ -13,12 +14,14 @@ pub fn openings_have_no_group<W>()
     ensures { OpeningsHaveNoGroup W }
 {}
 
-/// In a round of a program with one group at a time nobody changes the tree, or all who stand at one node do one step that does.
+/// In a round of a program with one group at a time nobody changes the tree, or all who stand at
+/// one node do one step that does.
 pub fn rounds_are_known<W>()
     ensures { RoundsAreKnown W }
 {}
 
-/// Behind it there is one group at most, and each processor stands where its operations have led it.
+/// Behind it there is one group at most, and each processor stands where its
+/// operations have led it.
 pub fn rounds_keep_one_group<W>()
     ensures { RoundsKeepOneGroup W }
 {}
@@ -33,20 +36,22 @@ pub fn waiters_resume<W>()
     ensures { WaitersResume W }
 {}
 
-/// So it is in every run in whose rounds each processor does one operation at most. The members of a group have one program.
+/// So it is in every run in whose rounds each processor does one operation at most. The members of
+/// a group have one program.
 pub fn runs_have_one_group<W>()
     ensures { RunsHaveOneGroup W }
 {}
 
-/// Where each operation of the functions of a program stands where it may, whichever ways are gone, each processor goes from
-/// place to place in it as its operations lead it.
+/// Where each operation of the functions of a program stands where it may, whichever ways are gone,
+/// each processor goes from place to place in it as its operations lead it.
 pub fn code_goes()
     ensures { CodeGoes }
 {}
 
-/// Where a program goes through its groups and bodies in their order, one group at a time, so does each list in which its code
-/// stands, if no two of its operations have one site: after every lawful schedule of rounds in which each processor does one
-/// operation at most, the members of a group in lockstep are at one index, and there is one group at most.
+/// Where a program goes through its groups and bodies in their order, one group at a time, so does
+/// each list in which its code stands, if no two of its operations have one site: after every
+/// lawful schedule of rounds in which each processor does one operation at most, the members of a
+/// group in lockstep are at one index, and there is one group at most.
 pub fn lists_have_one_group()
     ensures { ListsHaveOneGroup }
 {}

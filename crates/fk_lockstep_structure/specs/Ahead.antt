@@ -1,6 +1,8 @@
--- What is left where those who are further out are met: behind parts, at the ends of bodies, and at each `start` ahead.
+-- What is left where those who are further out are met: behind parts, at the ends of bodies, and at
+-- each `start` ahead.
 use Rattle.std.specs.Prelude.{◌≡◌, ℕ, Bool, true, false, List, [], ◌∷◌, ◌++◌, map}
-use Rattle.fk_meaning_forms.specs.Code.{Code, done, perform, choose, while, until, turn, again, quit, break, continue, call, ends}
+use Rattle.fk_meaning_forms.specs.Code.{Code, done, perform, choose, while, until, turn, again}
+use Rattle.fk_meaning_forms.specs.Code.{quit, break, continue, call, ends}
 use Rattle.fk_meaning.specs.Next.{Work, going, next}
 use Rattle.fk_meaning.specs.Behind.{grown, outs}
 use Rattle.fk_meaning.specs.Shape.{of_function, Shape}
@@ -29,21 +31,27 @@ outermost code [] = code
 outermost code (caller ∷ callers) = outermost caller callers
 
 abbrev pub starts : Work → List Work
-starts work = map (λ code. let at : Work = record { left = code; callers = [] } in at) (starts_in (outermost work.left work.callers))
+starts work = map (λ code. let at : Work = record { left = code; callers = [] } in at)
+    (starts_in (outermost work.left work.callers))
 
 abbrev pub all_outs : Work → List Work
 all_outs work = outs work ++ starts work
 
 -- the functions of a program, and its `main`
-pub record AreCourses (may_call : (in_group : Bool) → (function : ℕ) → Bool) (bodies : (binding : ℕ) → Code ℕ) (main : ℕ) : Type 0 where
+pub record AreCourses (may_call : (in_group : Bool) → (function : ℕ) → Bool)
+    (bodies : (binding : ℕ) → Code ℕ) (main : ℕ) : Type 0 where
   pub nested : (function : ℕ) → Shape false false of_function (bodies function)
-  pub in_step : (function : ℕ) → may_call true function ≡ true → InStep (may_call true) false (bodies function)
-  pub in_group : (function : ℕ) → may_call true function ≡ true → Placed may_call OfGroup false (bodies function)
-  pub in_body : (function : ℕ) → may_call false function ≡ true → Placed may_call OfBody false (bodies function)
+  pub in_step : (function : ℕ) → may_call true function ≡ true
+      → InStep (may_call true) false (bodies function)
+  pub in_group : (function : ℕ) → may_call true function ≡ true
+      → Placed may_call OfGroup false (bodies function)
+  pub in_body : (function : ℕ) → may_call false function ≡ true
+      → Placed may_call OfBody false (bodies function)
   pub main_of : Placed may_call (OfMain true) false (bodies main)
 
 abbrev pub CodeFollows : Type 0
 CodeFollows =
-    (may_call : (in_group : Bool) → (function : ℕ) → Bool) (bodies : (binding : ℕ) → Code ℕ) (main : ℕ)
+    (may_call : (in_group : Bool) → (function : ℕ) → Bool)
+    (bodies : (binding : ℕ) → Code ℕ) (main : ℕ)
     → AreCourses may_call bodies main
     → Follows (next bodies) all_outs (ByItself false) (going (bodies main) [])

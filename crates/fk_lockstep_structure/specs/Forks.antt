@@ -1,4 +1,5 @@
--- What a `fork` computes behind its number of parts gives one value each, whichever way is gone in it.
+-- What a `fork` computes behind its number of parts gives one value each, whichever
+-- way is gone in it.
 use Rattle.std.specs.Prelude.{ℕ, List, [], ◌∷◌, Option, Some, None}
 use Rattle.fk_syntax.specs.Program as p
 use Rattle.fk_syntax.specs.Program.{Statement, Statements, FunctionTree}
@@ -11,14 +12,16 @@ module _ (tables : Tables) (functions : (binding : ℕ) → Signature) where
     pub StatementValued : Statement → Type 0
     StatementValued (p.Block statements) = StatementsValued statements
     StatementValued (p.If spot condition first) = StatementValued first
-    StatementValued (p.IfElse spot condition first second) = StatementValued first × StatementValued second
+    StatementValued (p.IfElse spot condition first second) = StatementValued first
+        × StatementValued second
     StatementValued (p.While spot condition body) = StatementValued body
     StatementValued (p.DoWhile spot body condition) = StatementValued body
     StatementValued (p.For spot before condition after body) = StatementValued body
     StatementValued (p.Start spot count body) = StatementValued body
     StatementValued (p.Farm spot body) = StatementValued body
     StatementValued (p.Seq spot body) = StatementValued body
-    StatementValued (p.Fork spot parts part rank body) = IsValued tables functions part × OptionValued tables functions rank × StatementValued body
+    StatementValued (p.Fork spot parts part rank body) = IsValued tables functions part
+        × OptionValued tables functions rank × StatementValued body
     StatementValued statement = Unit {0}
 
     pub StatementsValued : Statements → Type 0

@@ -1,10 +1,12 @@
--- Of a text: the frames of its parts are no functions' own, and functions that processors by themselves call have none.
+-- Of a text: the frames of its parts are no functions' own, and functions that processors by
+-- themselves call have none.
 use Rattle.std.specs.Prelude.{◌≡◌, ℕ, ◌==◌, Bool, false, true, List, [], ◌∷◌, Option, Some, None}
 use Rattle.fk_syntax.specs.Program as p
 use Rattle.fk_syntax.specs.Program.{Statement, Statements, FunctionTree, ProgramTree}
 use Rattle.fk_meaning_forms.specs.declared.tables.Region.{Region}
 use Rattle.fk_meaning_forms.specs.Tables.{Tables, frame_at}
-use Rattle.fk_meaning_forms.specs.Program.{functions_of, binding_of, no_signature, bodies_of, main_of}
+use Rattle.fk_meaning_forms.specs.Program.{functions_of, binding_of, no_signature, bodies_of}
+use Rattle.fk_meaning_forms.specs.Program.{main_of}
 use Rattle.fk_lockstep_structure.specs.InPlace.{IsInPlace}
 use Rattle.fk_lockstep_structure.specs.Framed.{AreFramed}
 
@@ -20,7 +22,8 @@ module _ (tables : Tables) where
     pub StatementInner : Statement → Type 0
     StatementInner (p.Block statements) = StatementsInner statements
     StatementInner (p.If spot condition first) = Inner spot.at × StatementInner first
-    StatementInner (p.IfElse spot condition first second) = Inner spot.at × StatementInner first × StatementInner second
+    StatementInner (p.IfElse spot condition first second) = Inner spot.at × StatementInner first
+        × StatementInner second
     StatementInner (p.While spot condition body) = Inner spot.at × StatementInner body
     StatementInner (p.DoWhile spot body condition) = Inner spot.at × StatementInner body
     StatementInner (p.For spot before condition after body) = Inner spot.at × StatementInner body
@@ -38,14 +41,18 @@ module _ (tables : Tables) where
   BodyInner None = Unit {0}
   BodyInner (Some statements) = StatementsInner statements
 
-  abbrev pub FunctionsInner : (may_call : (in_group : Bool) → (function : ℕ) → Bool) → List FunctionTree → Type 0
+  abbrev pub FunctionsInner : (may_call : (in_group : Bool) → (function : ℕ) → Bool)
+      → List FunctionTree → Type 0
   FunctionsInner may_call [] = Unit {0}
   FunctionsInner may_call (f ∷ fs) =
-      BodyInner f.body × (may_call false (binding_of tables f) ≡ true → frame_at tables f.name.at 0 ≡ None) × FunctionsInner may_call fs
+      BodyInner f.body × (may_call false (binding_of tables f) ≡ true
+      → frame_at tables f.name.at 0 ≡ None) × FunctionsInner may_call fs
 
 -- programs of such a text are framed
 abbrev pub ProgramsAreFramed : Type 0
 ProgramsAreFramed =
-    (tables : Tables) (program : ProgramTree) (may_call : (in_group : Bool) → (function : ℕ) → Bool) → IsInPlace tables program may_call
-    → FunctionsInner tables may_call (functions_of program.items) → frame_at tables no_signature.at 0 ≡ None
+    (tables : Tables) (program : ProgramTree) (may_call : (in_group : Bool) → (function : ℕ) → Bool)
+    → IsInPlace tables program may_call
+    → FunctionsInner tables may_call (functions_of program.items)
+    → frame_at tables no_signature.at 0 ≡ None
     → AreFramed may_call (bodies_of tables program) (main_of tables program)

@@ -1,14 +1,18 @@
--- The number of parts that a `fork` takes: it stands among the values of its call from the agree on it up to the `fork`. What
--- is done between them takes no value from below it, and leaves one value more for each expression, whichever way is gone.
--- What is called in between has values of its own, and leaves a result or none behind the arguments that it takes.
-use Rattle.std.specs.Prelude.{◌≡◌, ℕ, zero, suc, ◌==◌, Bool, true, false, not, ◌&&◌, ◌||◌, List, [], ◌∷◌, length, Option, Some, None, is_some, refl, if◌then◌else◌}
+-- The number of parts that a `fork` takes: it stands among the values of its call from the agree on
+-- it up to the `fork`. What is done between them takes no value from below it, and leaves one value
+-- more for each expression, whichever way is gone. What is called in between has values of its own,
+-- and leaves a result or none behind the arguments that it takes.
+use Rattle.std.specs.Prelude.{◌≡◌, ℕ, zero, suc, ◌==◌, Bool, true, false, not, ◌&&◌, ◌||◌, List, []}
+use Rattle.std.specs.Prelude.{◌∷◌, length, Option, Some, None, is_some, refl, if◌then◌else◌}
 use Rattle.std.proofs.Common.{ap}
 use Rattle.std.proofs.lemmas.Bool.{false≢true, and_parts}
 use Rattle.fk_meaning_operation.specs.declared.operation.Operation.{Operation}
 use Rattle.fk_meaning_operation.specs.declared.operation.Operation.TheVariants as o
-use Rattle.fk_meaning_operation.specs.declared.operation.SplitKind.TheVariants.{IfElse, AndThen, OrElse, Fork}
+use Rattle.fk_meaning_operation.specs.declared.operation.SplitKind.TheVariants.{IfElse, AndThen}
+use Rattle.fk_meaning_operation.specs.declared.operation.SplitKind.TheVariants.{OrElse, Fork}
 use Rattle.fk_meaning.specs.Processor.{Call, values, last, before}
-use Rattle.fk_meaning_forms.specs.Code.{Code, done, perform, choose, while, until, turn, again, quit, break, continue, call, ends}
+use Rattle.fk_meaning_forms.specs.Code.{Code, done, perform, choose, while, until, turn, again}
+use Rattle.fk_meaning_forms.specs.Code.{quit, break, continue, call, ends}
 use Rattle.fk_meaning.specs.Next.{Work, going, next}
 use Rattle.fk_meaning.specs.Shape.{of_function, ends_part, is_of_call, Shape}
 use Rattle.fk_lockstep.specs.Counts.{Counts, IsCounted}
@@ -29,8 +33,8 @@ leaves true (o.Leave true framed) = true
 leaves false (o.Leave false framed) = true
 leaves gives op = false
 
--- where so many values stand above the number behind an operation, so many stand above it before. Other operations may not
--- stand between
+-- where so many values stand above the number behind an operation, so many stand above it before.
+-- Other operations may not stand between
 abbrev pub above_before : Operation → (above : ℕ) → Option ℕ
 above_before (o.Push n) (suc m) = Some m
 above_before (o.Get known) (suc m) = Some m
@@ -58,7 +62,8 @@ abbrev pub before_it : Operation → Option ℕ → Option ℕ
 before_it op None = None
 before_it op (Some m) = above_before op m
 
--- and so before a choice, where so many do on one of its ways. Those who wait at `&&` and `||` have the value of the whole
+-- and so before a choice, where so many do on one of its ways. Those who wait at `&&` and `||` have
+-- the value of the whole
 abbrev pub above_choice : Operation → (onward : Bool) → (above : ℕ) → Option ℕ
 above_choice (o.Branch by) onward m = Some (suc m)
 above_choice (o.Split IfElse) onward m = Some (suc m)
@@ -89,11 +94,13 @@ before_call gives op (Some m) = above_call gives op m
 
 -- which functions give a result
 module _ (gives : (function : ℕ) → Bool) where
-  -- how many values stand above the number that the next `fork` takes, where so many do at the end of code
+  -- how many values stand above the number that the next `fork` takes, where so many do
+  -- at the end of code
   abbrev pub above : {A : Type 0} → (after : Option ℕ) → Code A → Option ℕ
   above after done = after
   above after (perform t op rest) = before_it op (above after rest)
-  above after (choose t op a b rest) = if is_fork op then Some 2 else before_way op true (above (above after rest) a)
+  above after (choose t op a b rest) = if is_fork op then Some 2
+      else before_way op true (above (above after rest) a)
   above after (call t op f opening rest) = before_call (gives f) op (above after rest)
   above after code = None
 
@@ -104,23 +111,27 @@ leads (choose t op a b rest) = is_fork op || leads rest
 leads (call t op f opening rest) = leads rest
 leads code = false
 
--- an agree may stand before the number alone, where code leads to the `fork`, or leave the number where it is
+-- an agree may stand before the number alone, where code leads to the `fork`, or leave the
+-- number where it is
 abbrev pub MayStand : Operation → (above : Option ℕ) → (leads : Bool) → Type 0
 MayStand op None to_fork = Unit {0}
 MayStand o.Agree (Some zero) to_fork = to_fork ≡ true
 MayStand op (Some m) to_fork = is_some (above_before op m) ≡ true
 
--- nothing is pending on the ways of a choice, or as many values stand above the number before it, whichever way is gone
+-- nothing is pending on the ways of a choice, or as many values stand above the number before it,
+-- whichever way is gone
 abbrev pub MayChoose : Operation → (behind onward aside : Option ℕ) → Type 0
 MayChoose op None onward aside = (onward ≡ None) × (aside ≡ None)
-MayChoose op (Some m) onward aside = (is_some (before_way op true onward) ≡ true) × (before_way op false aside ≡ before_way op true onward)
+MayChoose op (Some m) onward aside = (is_some (before_way op true onward) ≡ true)
+    × (before_way op false aside ≡ before_way op true onward)
 
 -- nothing is pending behind a call, or it finds its arguments above the number
 abbrev pub MayCall : (gives : Bool) → Operation → (behind : Option ℕ) → Type 0
 MayCall gives op None = Unit {0}
 MayCall gives op (Some m) = is_some (above_call gives op m) ≡ true
 
--- what a function may be: `main`, or one that is called, which ends with a result or without one, and in which no group begins
+-- what a function may be: `main`, or one that is called, which ends with a result or without one,
+-- and in which no group begins
 abbrev pub MayEnd : (called : Option Bool) → Operation → Type 0
 MayEnd None op = Unit {0}
 MayEnd (Some gives) op = leaves gives op ≡ true
@@ -134,41 +145,54 @@ abbrev pub stands_alone : Operation → Bool
 stands_alone op = not (is_fork op) && not (is_of_call op)
 
 module _ {A : Type 0} (may_call gives : (function : ℕ) → Bool) where
-  -- code of a function in which a `fork` stands only so, in each part and behind it. No number of its own is pending where a loop
-  -- or the end of a function is
+  -- code of a function in which a `fork` stands only so, in each part and behind it. No number of
+  -- its own is pending where a loop or the end of a function is
   abbrev pub Counted : (called : Option Bool) → (after : Option ℕ) → Code A → Type 0
   Counted called after done = Unit {0}
-  Counted called after (perform t op rest) = (stands_alone op ≡ true) × MayStand op (above gives after rest) (leads rest) × Counted called after rest
+  Counted called after (perform t op rest) = (stands_alone op ≡ true)
+      × MayStand op (above gives after rest) (leads rest) × Counted called after rest
   Counted called after (choose t op a b rest) =
-      (MayChoose op (above gives after rest) (above gives (above gives after rest) a) (above gives (above gives after rest) b)
+      (MayChoose op (above gives after rest) (above gives (above gives after rest) a)
+      (above gives (above gives after rest) b)
       × Counted called (above gives after rest) a × Counted called (above gives after rest) b)
       × Counted called after rest × MayBegin called op
   Counted called after (while test body step rest) =
-      ((above gives None test ≡ None) × Counted called None test) × ((above gives None body ≡ None) × Counted called None body)
-      × ((above gives None step ≡ None) × Counted called None step) × ((above gives after rest ≡ None) × Counted called after rest)
+      ((above gives None test ≡ None) × Counted called None test)
+      × ((above gives None body ≡ None) × Counted called None body)
+      × ((above gives None step ≡ None) × Counted called None step)
+      × ((above gives after rest ≡ None) × Counted called after rest)
   Counted called after (until body test rest) =
-      ((above gives None body ≡ None) × Counted called None body) × ((above gives None test ≡ None) × Counted called None test)
+      ((above gives None body ≡ None) × Counted called None body)
+      × ((above gives None test ≡ None) × Counted called None test)
       × ((above gives after rest ≡ None) × Counted called after rest)
   Counted called after (turn test body step rest) =
-      ((above gives None test ≡ None) × Counted called None test) × ((above gives None body ≡ None) × Counted called None body)
-      × ((above gives None step ≡ None) × Counted called None step) × ((above gives after rest ≡ None) × Counted called after rest)
+      ((above gives None test ≡ None) × Counted called None test)
+      × ((above gives None body ≡ None) × Counted called None body)
+      × ((above gives None step ≡ None) × Counted called None step)
+      × ((above gives after rest ≡ None) × Counted called after rest)
   Counted called after (again test body step rest) =
-      ((above gives None test ≡ None) × Counted called None test) × ((above gives None body ≡ None) × Counted called None body)
-      × ((above gives None step ≡ None) × Counted called None step) × ((above gives after rest ≡ None) × Counted called after rest)
-  Counted called after (quit t op rest) = (is_fork op ≡ false) × ((above gives after rest ≡ None) × Counted called after rest)
+      ((above gives None test ≡ None) × Counted called None test)
+      × ((above gives None body ≡ None) × Counted called None body)
+      × ((above gives None step ≡ None) × Counted called None step)
+      × ((above gives after rest ≡ None) × Counted called after rest)
+  Counted called after (quit t op rest) = (is_fork op ≡ false)
+      × ((above gives after rest ≡ None) × Counted called after rest)
   Counted called after (break rest) = (above gives after rest ≡ None) × Counted called after rest
   Counted called after (continue rest) = (above gives after rest ≡ None) × Counted called after rest
   Counted called after (call t op f opening rest) =
       (is_enter op ≡ true) × (may_call f ≡ true)
       × ((above gives None opening ≡ None) × Counted (Some (gives f)) None opening)
       × (MayCall (gives f) op (above gives after rest) × Counted called after rest)
-  Counted called after (ends t op rest) = MayEnd called op × ((above gives after rest ≡ None) × Counted called after rest)
+  Counted called after (ends t op rest) = MayEnd called op
+      × ((above gives after rest ≡ None) × Counted called after rest)
 
   abbrev pub Idle : (called : Option Bool) → Code A → Type 0
   Idle called code = (above gives None code ≡ None) × Counted called None code
 
-  -- so many values stand above the number where code begins. On the way to the `fork` itself code leads to it
-  pub record At (called : Option Bool) (on_way : Bool) (after : Option ℕ) (m : ℕ) (code : Code A) : Type 0 where
+  -- so many values stand above the number where code begins. On the way to the `fork` itself
+  -- code leads to it
+  pub record At (called : Option Bool) (on_way : Bool) (after : Option ℕ) (m : ℕ)
+      (code : Code A) : Type 0 where
     pub there : above gives after code ≡ Some m
     pub counted : Counted called after code
     pub leading : on_way ≡ true → leads code ≡ true
@@ -178,24 +202,30 @@ abbrev pub all_leave : (gives : Bool) → Code ℕ → Bool
 all_leave g done = true
 all_leave g (perform t op rest) = all_leave g rest
 all_leave g (choose t op a b rest) = all_leave g a && (all_leave g b && all_leave g rest)
-all_leave g (while test body step rest) = all_leave g test && (all_leave g body && (all_leave g step && all_leave g rest))
+all_leave g (while test body step rest) =
+    all_leave g test && (all_leave g body && (all_leave g step && all_leave g rest))
 all_leave g (until body test rest) = all_leave g body && (all_leave g test && all_leave g rest)
-all_leave g (turn test body step rest) = all_leave g test && (all_leave g body && (all_leave g step && all_leave g rest))
-all_leave g (again test body step rest) = all_leave g test && (all_leave g body && (all_leave g step && all_leave g rest))
+all_leave g (turn test body step rest) =
+    all_leave g test && (all_leave g body && (all_leave g step && all_leave g rest))
+all_leave g (again test body step rest) =
+    all_leave g test && (all_leave g body && (all_leave g step && all_leave g rest))
 all_leave g (quit t op rest) = all_leave g rest
 all_leave g (break rest) = all_leave g rest
 all_leave g (continue rest) = all_leave g rest
 all_leave g (call t op f opening rest) = all_leave g rest
 all_leave g (ends t op rest) = leaves g op && all_leave g rest
 
--- the number that is pending of a call is the first of those that are; the others are those of calls that wait
-abbrev pub has_number : (above : Option ℕ) → (values : List ℕ) → (others : List ℕ → Bool) → (numbers : List ℕ) → Bool
+-- the number that is pending of a call is the first of those that are; the others are those
+-- of calls that wait
+abbrev pub has_number : (above : Option ℕ) → (values : List ℕ) → (others : List ℕ → Bool)
+    → (numbers : List ℕ) → Bool
 has_number None vs others ns = others ns
 has_number (Some m) vs others [] = false
 has_number (Some m) vs others (n ∷ ns) = (n == last (before m vs)) && others ns
 
 -- a call that waits has no result among its values yet
-abbrev pub waits_with : (gives : Bool) → (above : Option ℕ) → (values : List ℕ) → (others : List ℕ → Bool) → (numbers : List ℕ) → Bool
+abbrev pub waits_with : (gives : Bool) → (above : Option ℕ) → (values : List ℕ)
+    → (others : List ℕ → Bool) → (numbers : List ℕ) → Bool
 waits_with true (Some zero) vs others ns = false
 waits_with true (Some (suc m)) vs others ns = has_number (Some m) vs others ns
 waits_with gives x vs others ns = has_number x vs others ns
@@ -205,7 +235,8 @@ is_none [] = true
 is_none (n ∷ ns) = false
 
 -- what follows from either of two tests follows where one of them holds
-abbrev pub of_either : {X : Type 0} (a b : Bool) → (a || b) ≡ true → (a ≡ true → X) → (b ≡ true → X) → X
+abbrev pub of_either : {X : Type 0} (a b : Bool) → (a || b) ≡ true → (a ≡ true → X)
+    → (b ≡ true → X) → X
 of_either true b h first second = first refl
 of_either false b h first second = second h
 
@@ -214,13 +245,16 @@ abbrev pub one_more : Option ℕ → ℕ → ℕ
 one_more None k = k
 one_more (Some m) k = suc k
 
-abbrev pub as_many : (x : Option ℕ) (vs : List ℕ) (others : List ℕ → Bool) (ns : List ℕ) (k : ℕ) → ((ms : List ℕ) → others ms ≡ true → length ms ≡ k)
+abbrev pub as_many : (x : Option ℕ) (vs : List ℕ) (others : List ℕ → Bool) (ns : List ℕ) (k : ℕ)
+    → ((ms : List ℕ) → others ms ≡ true → length ms ≡ k)
     → has_number x vs others ns ≡ true → length ns ≡ one_more x k
 as_many None vs others ns k size h = size ns h
 as_many (Some m) vs others [] k size h = absurd (false≢true h)
-as_many (Some m) vs others (n ∷ ns) k size h = ap (λ (i : ℕ). suc i) (size ns (and_parts (n == last (before m vs)) (others ns) h).1)
+as_many (Some m) vs others (n ∷ ns) k size h =
+    ap (λ (i : ℕ). suc i) (size ns (and_parts (n == last (before m vs)) (others ns) h).1)
 
-abbrev pub as_many_waiting : (g : Bool) (x : Option ℕ) (vs : List ℕ) (others : List ℕ → Bool) (ns : List ℕ) (k : ℕ) → ((ms : List ℕ) → others ms ≡ true → length ms ≡ k)
+abbrev pub as_many_waiting : (g : Bool) (x : Option ℕ) (vs : List ℕ) (others : List ℕ → Bool)
+    (ns : List ℕ) (k : ℕ) → ((ms : List ℕ) → others ms ≡ true → length ms ≡ k)
     → waits_with g x vs others ns ≡ true → length ns ≡ one_more x k
 as_many_waiting true None vs others ns k size h = size ns h
 as_many_waiting true (Some zero) vs others ns k size h = absurd (false≢true h)
@@ -229,35 +263,47 @@ as_many_waiting false x vs others ns k size h = as_many x vs others ns k size h
 
 module _ (gives : (function : ℕ) → Bool) where
   -- of the calls that wait for the running function, which leaves with a result or without one
-  abbrev pub are_waiting : (running : Code ℕ) → List (Code ℕ) → List Call → (numbers : List ℕ) → Bool
+  abbrev pub are_waiting : (running : Code ℕ) → List (Code ℕ) → List Call
+      → (numbers : List ℕ) → Bool
   are_waiting running [] calls ns = is_none ns
   are_waiting running (code ∷ codes) [] ns = false
   are_waiting running (code ∷ codes) (c ∷ calls) ns =
-      (all_leave true running && waits_with true (above gives None code) c.values (λ ms. are_waiting code codes calls ms) ns)
-      || (all_leave false running && waits_with false (above gives None code) c.values (λ ms. are_waiting code codes calls ms) ns)
+      (all_leave true running && waits_with true (above gives None code) c.values
+      (λ ms. are_waiting code codes calls ms) ns)
+      || (all_leave false running && waits_with false (above gives None code) c.values
+      (λ ms. are_waiting code codes calls ms) ns)
 
   abbrev pub many_waiting : List (Code ℕ) → ℕ
   many_waiting [] = 0
   many_waiting (code ∷ codes) = one_more (above gives None code) (many_waiting codes)
 
-  abbrev pub all_waiting : (running : Code ℕ) (codes : List (Code ℕ)) (calls : List Call) (ns : List ℕ) → are_waiting running codes calls ns ≡ true
+  abbrev pub all_waiting : (running : Code ℕ) (codes : List (Code ℕ)) (calls : List Call)
+      (ns : List ℕ) → are_waiting running codes calls ns ≡ true
       → length ns ≡ many_waiting codes
   all_waiting running [] calls [] h = refl
   all_waiting running [] calls (n ∷ ns) h = absurd (false≢true h)
   all_waiting running (code ∷ codes) [] ns h = absurd (false≢true h)
   all_waiting running (code ∷ codes) (c ∷ calls) ns h =
       let others : List ℕ → Bool = λ ms. are_waiting code codes calls ms in
-      let size : (g : Bool) → (all_leave g running && waits_with g (above gives None code) c.values others ns) ≡ true → length ns ≡ many_waiting (code ∷ codes)
-      = λ g e. as_many_waiting g (above gives None code) c.values others ns (many_waiting codes) (all_waiting code codes calls)
-      (and_parts (all_leave g running) (waits_with g (above gives None code) c.values others ns) e).1 in
-      of_either (all_leave true running && waits_with true (above gives None code) c.values others ns)
-      (all_leave false running && waits_with false (above gives None code) c.values others ns) h (size true) (size false)
+      let size : (g : Bool)
+      → (all_leave g running && waits_with g (above gives None code) c.values others ns) ≡ true
+      → length ns ≡ many_waiting (code ∷ codes)
+      = λ g e. as_many_waiting g (above gives None code) c.values others ns (many_waiting codes)
+      (all_waiting code codes calls)
+      (and_parts (all_leave g running)
+      (waits_with g (above gives None code) c.values others ns) e).1 in
+      of_either
+      (all_leave true running && waits_with true (above gives None code) c.values others ns)
+      (all_leave false running && waits_with false (above gives None code) c.values others ns) h
+      (size true) (size false)
 
   abbrev pub fork_counts : Counts Work
   fork_counts = record {
     pending = λ work. one_more (above gives None work.left) (many_waiting work.callers);
-    are_pending = λ work p ns. has_number (above gives None work.left) (values p) (λ ms. are_waiting work.left work.callers p.callers ms) ns;
-    many = λ work p ns h. as_many (above gives None work.left) (values p) (λ ms. are_waiting work.left work.callers p.callers ms) ns (many_waiting work.callers)
+    are_pending = λ work p ns. has_number (above gives None work.left) (values p)
+        (λ ms. are_waiting work.left work.callers p.callers ms) ns;
+    many = λ work p ns h. as_many (above gives None work.left) (values p)
+        (λ ms. are_waiting work.left work.callers p.callers ms) ns (many_waiting work.callers)
         (all_waiting work.left work.callers p.callers) h;
   }
 
@@ -266,6 +312,7 @@ abbrev pub CodeIsCounted : Type 0
 CodeIsCounted =
     (may_call gives : (function : ℕ) → Bool) (bodies : (binding : ℕ) → Code ℕ)
     → ((function : ℕ) → Shape false false of_function (bodies function))
-    → ((function : ℕ) → may_call function ≡ true → Idle may_call gives (Some (gives function)) (bodies function))
+    → ((function : ℕ) → may_call function ≡ true
+    → Idle may_call gives (Some (gives function)) (bodies function))
     → (main : ℕ) → Idle may_call gives None (bodies main)
     → IsCounted (next bodies) all_outs (fork_counts gives) (going (bodies main) [])

@@ -2,12 +2,13 @@
 use Rattle.std.specs.Prelude.{◌≡◌, ℕ, Bool, true, false, not, if◌then◌else◌}
 use Rattle.fk_meaning_operation.specs.declared.operation.Operation.{Operation}
 use Rattle.fk_meaning_operation.specs.declared.operation.Operation.TheVariants as o
-use Rattle.fk_meaning_forms.specs.Code.{Code, done, perform, choose, while, until, turn, again, quit, break, continue, call, ends}
+use Rattle.fk_meaning_forms.specs.Code.{Code, done, perform, choose, while, until, turn, again}
+use Rattle.fk_meaning_forms.specs.Code.{quit, break, continue, call, ends}
 use Rattle.fk_meaning.specs.Shape.{splits}
 use Rattle.fk_lockstep.specs.InStep.{InStep}
 
--- code that a group runs; that processors run by themselves, in the body of a `farm` or `seq` or in a function; and that of
--- `main` round each `start`, on its outermost level or in an arm or a loop
+-- code that a group runs; that processors run by themselves, in the body of a `farm` or `seq` or in
+-- a function; and that of `main` round each `start`, on its outermost level or in an arm or a loop
 pub data Who : Type 0 where
   OfGroup : Who
   OfBody : Who
@@ -82,16 +83,21 @@ module _ {A : Type 0} (may_call : (in_group : Bool) → (function : ℕ) → Boo
       × Placed (who_in who op) false a × Placed (who_in who op) false b
       × (is_begin op ≡ true → InStep (may_call true) false a) × Placed who (splits op) rest
   Placed who resuming (while test body step rest) =
-      (resuming ≡ false) × Placed (inner who) false test × Placed (inner who) false body × Placed (inner who) false step
+      (resuming ≡ false) × Placed (inner who) false test × Placed (inner who) false body
+      × Placed (inner who) false step
       × Placed who false rest
   Placed who resuming (until body test rest) =
-      (resuming ≡ false) × Placed (inner who) false body × Placed (inner who) false test × Placed who false rest
+      (resuming ≡ false) × Placed (inner who) false body × Placed (inner who) false test
+      × Placed who false rest
   Placed who resuming (turn test body step rest) = ⊥
   Placed who resuming (again test body step rest) = ⊥
-  Placed who resuming (quit t op rest) = (resuming ≡ false) × (may_quit who op ≡ true) × Placed who false rest
+  Placed who resuming (quit t op rest) = (resuming ≡ false) × (may_quit who op ≡ true)
+      × Placed who false rest
   Placed who resuming (break rest) = (resuming ≡ false) × Placed who false rest
   Placed who resuming (continue rest) = (resuming ≡ false) × Placed who false rest
   Placed who resuming (call t op f opening rest) =
-      (resuming ≡ false) × (is_halt op ≡ false) × (may_call (is_group who) f ≡ true) × Placed (callee_of who) false opening
+      (resuming ≡ false) × (is_halt op ≡ false) × (may_call (is_group who) f ≡ true)
+      × Placed (callee_of who) false opening
       × Placed who false rest
-  Placed who resuming (ends t op rest) = (resuming ≡ false) × (may_end who op ≡ true) × Placed who false rest
+  Placed who resuming (ends t op rest) = (resuming ≡ false) × (may_end who op ≡ true)
+      × Placed who false rest

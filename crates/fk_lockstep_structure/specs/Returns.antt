@@ -10,7 +10,8 @@ module _ (gives : Bool) where
     pub StatementReturns : Statement → Type 0
     StatementReturns (p.Block statements) = StatementsReturn statements
     StatementReturns (p.If spot condition first) = StatementReturns first
-    StatementReturns (p.IfElse spot condition first second) = StatementReturns first × StatementReturns second
+    StatementReturns (p.IfElse spot condition first second) = StatementReturns first
+        × StatementReturns second
     StatementReturns (p.While spot condition body) = StatementReturns body
     StatementReturns (p.DoWhile spot body condition) = StatementReturns body
     StatementReturns (p.For spot before condition after body) = StatementReturns body
@@ -32,4 +33,5 @@ module _ (gives : Bool) where
 -- a `return` of `main` ends it, with a value or without
 abbrev pub FunctionsReturn : List FunctionTree → Type 0
 FunctionsReturn [] = Unit {0}
-FunctionsReturn (f ∷ fs) = (is_main f ≡ false → BodyReturns (not (is_nothing f.result)) f.body) × FunctionsReturn fs
+FunctionsReturn (f ∷ fs) = (is_main f ≡ false → BodyReturns (not (is_nothing f.result)) f.body)
+    × FunctionsReturn fs

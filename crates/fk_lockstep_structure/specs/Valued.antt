@@ -1,6 +1,7 @@
--- Expressions that give one value, whichever way is gone in them. How an expression stands when its operations are done is
--- told by its tree.
-use Rattle.std.specs.Prelude.{◌≡◌, ℕ, ◌==◌, ◌||◌, Bool, true, false, not, List, [], ◌∷◌, codes, Option, Some, None, if◌then◌else◌}
+-- Expressions that give one value, whichever way is gone in them. How an expression stands when its
+-- operations are done is told by its tree.
+use Rattle.std.specs.Prelude.{◌≡◌, ℕ, ◌==◌, ◌||◌, Bool, true, false, not, List, [], ◌∷◌, codes}
+use Rattle.std.specs.Prelude.{Option, Some, None, if◌then◌else◌}
 use Rattle.fk_syntax.specs.declared.sign.Sign.{Sign}
 use Rattle.fk_syntax.specs.declared.sign.Sign.TheVariants as g
 use Rattle.fk_syntax.specs.Tree as t
@@ -34,7 +35,8 @@ result false = Absent
 -- a predeclared function gives a value, but for those that print
 abbrev pub predeclared_gives : Named → Bool
 predeclared_gives name =
-    takes_two name || (is_name name (codes "groupsize") || not (is_name name (codes "putint") || is_name name (codes "putchar")))
+    takes_two name || (is_name name (codes "groupsize")
+    || not (is_name name (codes "putint") || is_name name (codes "putchar")))
 
 -- predeclared names, and those of variables by their homes
 abbrev pub predeclared_way : Named → Way
@@ -100,7 +102,8 @@ module _ (tables : Tables) (functions : (binding : ℕ) → Signature) where
   call_gives false name = gives_value functions (note tables name.at).binding
 
   abbrev pub called_way : Way → Way
-  called_way (Function name) = result (call_gives ((note tables name.at).binding == no_binding) name)
+  called_way (Function name) =
+      result (call_gives ((note tables name.at).binding == no_binding) name)
   called_way way = Absent
 
   abbrev mutual
@@ -126,7 +129,8 @@ module _ (tables : Tables) (functions : (binding : ℕ) → Signature) where
     suffixed_way w (t.up spot others) = suffixed_way Valued others
     suffixed_way w (t.down spot others) = suffixed_way Valued others
 
-  -- a sign between two needs the values of both. A comma drops the left one, where by its type there is one
+  -- a sign between two needs the values of both. A comma drops the left one, where by its
+  -- type there is one
   abbrev pub JoinNeeds : Sign → (left : Way) → (at : ℕ) → (right : Way) → Type 0
   JoinNeeds g.Comma l at r = gives l ≡ not (is_void tables at)
   JoinNeeds sign l at r = (gives l ≡ true) × (gives r ≡ true)
@@ -134,17 +138,20 @@ module _ (tables : Tables) (functions : (binding : ℕ) → Signature) where
   -- a function is called, with its arguments
   abbrev pub NameTakes : (predeclared : Bool) → Named → Trees → Type 0
   NameTakes true name arguments = TakesEnough name arguments
-  NameTakes false name arguments = AreEnough (functions (note tables name.at).binding).parameters arguments
+  NameTakes false name arguments =
+      AreEnough (functions (note tables name.at).binding).parameters arguments
 
   abbrev pub CallNeeds : Way → Trees → Type 0
-  CallNeeds (Function name) arguments = NameTakes ((note tables name.at).binding == no_binding) name arguments
+  CallNeeds (Function name) arguments =
+      NameTakes ((note tables name.at).binding == no_binding) name arguments
   CallNeeds w arguments = ⊥
 
   abbrev mutual
     pub Evaluates : Tree → Type 0
     Evaluates (t.Prefix spot sign operand) = Evaluates operand × PrefixNeeds sign (way operand)
     Evaluates (t.Cast spot type operand) = Evaluates operand × (gives (way operand) ≡ true)
-    Evaluates (t.Chain first links) = Evaluates first × LinksEvaluate (way first) (token first) links
+    Evaluates (t.Chain first links) = Evaluates first
+        × LinksEvaluate (way first) (token first) links
     Evaluates (t.Postfix whole suffixes) = Evaluates whole × SuffixesEvaluate (way whole) suffixes
     Evaluates (t.Assign spot sign target value) =
         Evaluates target × IsTarget (way target) × Evaluates value × (gives (way value) ≡ true)
@@ -156,7 +163,8 @@ module _ (tables : Tables) (functions : (binding : ℕ) → Signature) where
     pub LinksEvaluate : Way → (at : ℕ) → Links → Type 0
     LinksEvaluate w at t.no_links = Unit {0}
     LinksEvaluate w at (t.link spot sign right others) =
-        Evaluates right × JoinNeeds sign w at (way right) × LinksEvaluate (joined_way sign (way right)) spot.at others
+        Evaluates right × JoinNeeds sign w at (way right)
+        × LinksEvaluate (joined_way sign (way right)) spot.at others
 
     pub SuffixesEvaluate : Way → Suffixes → Type 0
     SuffixesEvaluate w t.no_suffixes = Unit {0}
@@ -165,14 +173,16 @@ module _ (tables : Tables) (functions : (binding : ℕ) → Signature) where
     SuffixesEvaluate w (t.call spot arguments others) =
         CallNeeds w arguments × AllEvaluate arguments × SuffixesEvaluate (called_way w) others
     SuffixesEvaluate w (t.dot spot name others) = HasAddress w × SuffixesEvaluate Placed others
-    SuffixesEvaluate w (t.arrow spot name others) = (gives w ≡ true) × SuffixesEvaluate Placed others
+    SuffixesEvaluate w (t.arrow spot name others) = (gives w ≡ true)
+        × SuffixesEvaluate Placed others
     SuffixesEvaluate w (t.up spot others) = IsTarget w × SuffixesEvaluate Valued others
     SuffixesEvaluate w (t.down spot others) = IsTarget w × SuffixesEvaluate Valued others
 
     -- arguments have values
     pub AllEvaluate : Trees → Type 0
     AllEvaluate t.no_trees = Unit {0}
-    AllEvaluate (t.tree first others) = Evaluates first × (gives (way first) ≡ true) × AllEvaluate others
+    AllEvaluate (t.tree first others) = Evaluates first × (gives (way first) ≡ true)
+        × AllEvaluate others
 
   -- an expression that gives one value
   abbrev pub IsValued : Tree → Type 0

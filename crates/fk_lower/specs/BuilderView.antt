@@ -48,10 +48,12 @@ open_by before (o.Opening act function) = b.Opening before act.site act.operatio
 
 -- the innermost first
 abbrev pub outer_of : List Frame → List Open
-outer_of frames = fold (λ outer (frame : Frame). open_by (shown_code frame.before.items) frame.opened ∷ outer) [] frames
+outer_of frames = fold (λ outer (frame : Frame).
+    open_by (shown_code frame.before.items) frame.opened ∷ outer) [] frames
 
 abbrev pub building_of : Builder → Building
-building_of builder = b.building builder.site (outer_of builder.outer.items) (shown_code builder.pieces.items)
+building_of builder =
+    b.building builder.site (outer_of builder.outer.items) (shown_code builder.pieces.items)
 
 -- the measures of all blocks that are closed are those of their code
 abbrev pub IsBlockMeasured : Block → Type 0
@@ -69,7 +71,9 @@ IsOpenedMeasured other = Unit {0}
 
 abbrev pub AreFramesMeasured : List Frame → Type 0
 AreFramesMeasured [] = Unit {0}
-AreFramesMeasured (frame ∷ frames) = ArePiecesMeasured frame.before.items × IsOpenedMeasured frame.opened × AreFramesMeasured frames
+AreFramesMeasured (frame ∷ frames) = ArePiecesMeasured frame.before.items
+    × IsOpenedMeasured frame.opened × AreFramesMeasured frames
 
 abbrev pub IsBuilderMeasured : Builder → Type 0
-IsBuilderMeasured builder = ArePiecesMeasured builder.pieces.items × AreFramesMeasured builder.outer.items
+IsBuilderMeasured builder = ArePiecesMeasured builder.pieces.items
+    × AreFramesMeasured builder.outer.items

@@ -5,7 +5,8 @@ use Rattle.fk_syntax.specs.declared.place.Place.{Place}
 use Rattle.fk_meaning_forms.specs.Code as c
 use Rattle.fk_meaning_forms.specs.Code.{Code, append, size, numbered}
 
--- what is shown of code: its operations, and where the parts of a choice, a loop and a call begin and end
+-- what is shown of code: its operations, and where the parts of a choice, a loop and a
+-- call begin and end
 pub data Event : Type 0 where
   Perform : (op : Operation) → Event
   Choose : (op : Operation) → Event
@@ -34,13 +35,17 @@ has_site event = false
 abbrev pub events_of : {A : Type 0} → Code A → List Event
 events_of c.done = []
 events_of (c.perform t op rest) = Perform op ∷ events_of rest
-events_of (c.choose t op x y rest) = Choose op ∷ events_of x ++ (Aside ∷ events_of y) ++ (Joined ∷ events_of rest)
-events_of (c.while test body step rest) = While ∷ events_of test ++ (Part ∷ events_of body) ++ (Part ∷ events_of step) ++ (Behind ∷ events_of rest)
-events_of (c.until body test rest) = Until ∷ events_of body ++ (Part ∷ events_of test) ++ (Behind ∷ events_of rest)
+events_of (c.choose t op x y rest) =
+    Choose op ∷ events_of x ++ (Aside ∷ events_of y) ++ (Joined ∷ events_of rest)
+events_of (c.while test body step rest) = While ∷ events_of test ++ (Part ∷ events_of body)
+    ++ (Part ∷ events_of step) ++ (Behind ∷ events_of rest)
+events_of (c.until body test rest) =
+    Until ∷ events_of body ++ (Part ∷ events_of test) ++ (Behind ∷ events_of rest)
 events_of (c.quit t op rest) = Quit op ∷ events_of rest
 events_of (c.break rest) = Break ∷ events_of rest
 events_of (c.continue rest) = Continue ∷ events_of rest
-events_of (c.call t op f opening rest) = Call op f ∷ events_of opening ++ (Returned ∷ events_of rest)
+events_of (c.call t op f opening rest) =
+    Call op f ∷ events_of opening ++ (Returned ∷ events_of rest)
 events_of (c.ends t op rest) = Ends op ∷ events_of rest
 events_of code = []
 
@@ -49,7 +54,8 @@ abbrev pub IsUnbegun : {A : Type 0} → Code A → Type 0
 IsUnbegun c.done = Unit {0}
 IsUnbegun (c.perform t op rest) = IsUnbegun rest
 IsUnbegun (c.choose t op x y rest) = IsUnbegun x × IsUnbegun y × IsUnbegun rest
-IsUnbegun (c.while test body step rest) = IsUnbegun test × IsUnbegun body × IsUnbegun step × IsUnbegun rest
+IsUnbegun (c.while test body step rest) = IsUnbegun test × IsUnbegun body × IsUnbegun step
+    × IsUnbegun rest
 IsUnbegun (c.until body test rest) = IsUnbegun body × IsUnbegun test × IsUnbegun rest
 IsUnbegun (c.quit t op rest) = IsUnbegun rest
 IsUnbegun (c.break rest) = IsUnbegun rest
@@ -58,8 +64,8 @@ IsUnbegun (c.call t op f opening rest) = IsUnbegun opening × IsUnbegun rest
 IsUnbegun (c.ends t op rest) = IsUnbegun rest
 IsUnbegun code = ⊥
 
--- what is open round code: a way of a choice, a part of a loop, or the opening of a call, with the code before it and its parts
--- that are closed
+-- what is open round code: a way of a choice, a part of a loop, or the opening of a call, with the
+-- code before it and its parts that are closed
 pub data Open : Type 0 where
   OnwardWay : (before : Code ℕ) (site : ℕ) (op : Operation) → Open
   AsideWay : (before : Code ℕ) (site : ℕ) (op : Operation) (x : Code ℕ) → Open
@@ -91,11 +97,13 @@ aside_of site (OnwardWay before n op ∷ outer) code = opened site (AsideWay bef
 aside_of site outer code = building site outer code
 
 abbrev joined_of : ℕ → List Open → Code ℕ → Building
-joined_of site (AsideWay before n op x ∷ outer) code = joined site outer before (c.choose n op x code c.done)
+joined_of site (AsideWay before n op x ∷ outer) code =
+    joined site outer before (c.choose n op x code c.done)
 joined_of site outer code = building site outer code
 
 abbrev returned_of : ℕ → List Open → Code ℕ → Building
-returned_of site (Opening before n op f ∷ outer) code = joined site outer before (c.call n op f code c.done)
+returned_of site (Opening before n op f ∷ outer) code =
+    joined site outer before (c.call n op f code c.done)
 returned_of site outer code = building site outer code
 
 abbrev part_of : ℕ → List Open → Code ℕ → Building
@@ -105,8 +113,10 @@ part_of site (FirstBody before ∷ outer) code = opened site (LastTest before co
 part_of site outer code = building site outer code
 
 abbrev behind_of : ℕ → List Open → Code ℕ → Building
-behind_of site (Step before test body ∷ outer) code = joined site outer before (c.while test body code c.done)
-behind_of site (LastTest before body ∷ outer) code = joined site outer before (c.until body code c.done)
+behind_of site (Step before test body ∷ outer) code =
+    joined site outer before (c.while test body code c.done)
+behind_of site (LastTest before body ∷ outer) code =
+    joined site outer before (c.until body code c.done)
 behind_of site outer code = building site outer code
 
 -- what is built after an event
@@ -147,8 +157,10 @@ IsPlaced event outer = Unit {0}
 abbrev pub CodeIsBuilt : (A : Type 0) → Type 0
 CodeIsBuilt A =
     (code : Code A) → IsUnbegun code → (b : Building)
-    → fold after b (events_of code) ≡ building (b.site + size code) b.outer (append b.code (numbered b.site code))
+    → fold after b (events_of code)
+    ≡ building (b.site + size code) b.outer (append b.code (numbered b.site code))
 
 -- code that is shown from a first site on, where all that is shown is that of a text's code
 abbrev pub IsShown : (site : ℕ) → List Event → Code ℕ → Type 0
-IsShown site events built = (code : Code Place) → IsUnbegun code → events_of code ≡ events → built ≡ numbered site code
+IsShown site events built = (code : Code Place) → IsUnbegun code → events_of code ≡ events
+    → built ≡ numbered site code

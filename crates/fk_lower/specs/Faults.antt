@@ -6,8 +6,11 @@ use Rattle.fk_meaning_forms.specs.Code as c
 use Rattle.fk_meaning_forms.specs.Code.{Code, size}
 use Rattle.fk_core.specs.Numbers.{HasNumber}
 use Rattle.fk_lower.specs.declared.fault.LowerFault.{LowerFault}
-use Rattle.fk_lower.specs.declared.fault.LowerFault.TheVariants.{TooLong, OutOfRange, Misplaced, Memory}
-use Rattle.fk_lower.specs.Building.{Event, has_site, events_of, IsUnbegun, IsPlaced, Open, OnwardWay, AsideWay, Test, Body, Step, FirstBody, LastTest, Opening, Building}
+use Rattle.fk_lower.specs.declared.fault.LowerFault.TheVariants.{TooLong, OutOfRange, Misplaced}
+use Rattle.fk_lower.specs.declared.fault.LowerFault.TheVariants.{Memory}
+use Rattle.fk_lower.specs.Building.{Event, has_site, events_of, IsUnbegun, IsPlaced, Open}
+use Rattle.fk_lower.specs.Building.{OnwardWay, AsideWay, Test, Body, Step, FirstBody, LastTest}
+use Rattle.fk_lower.specs.Building.{Opening, Building}
 use Rattle.fk_lower.specs.Tree as t
 use Rattle.fk_lower.specs.Tree.{PieceTree, Pieces, Part, code_of}
 use Rattle.fk_lower.specs.Lowered.{total}
@@ -16,8 +19,9 @@ use Rattle.fk_lower.specs.Lowered.{total}
 abbrev pub ShowsNoCode : List Event → Type 0
 ShowsNoCode events = (code : Code Place) → IsUnbegun code → events_of code ≡ events → ⊥
 
--- Each operation has three entries of a list at most: itself and two jumps. So many would be too many, those of the sites before
--- it included; what is shown is no code; or memory is refused, which no clause can say
+-- Each operation has three entries of a list at most: itself and two jumps. So many would be too
+-- many, those of the sites before it included; what is shown is no code; or memory is refused,
+-- which no clause can say
 abbrev pub IsBuildFault : (site : ℕ) → List Event → LowerFault → Type 0
 IsBuildFault site events TooLong = 2 ^ 32 ≤ 3 * (site + count_by has_site events)
 IsBuildFault site events Misplaced = ShowsNoCode events
@@ -58,11 +62,15 @@ pub record IsFew (b : Building) : Type 0 where
 abbrev pub HaveNumbers : {A : Type 0} → Code A → Type 0
 HaveNumbers c.done = Unit {0}
 HaveNumbers (c.perform n op rest) = HasNumber op × HaveNumbers rest
-HaveNumbers (c.choose n op x y rest) = HasNumber op × HaveNumbers x × HaveNumbers y × HaveNumbers rest
-HaveNumbers (c.while test body step rest) = HaveNumbers test × HaveNumbers body × HaveNumbers step × HaveNumbers rest
+HaveNumbers (c.choose n op x y rest) = HasNumber op × HaveNumbers x × HaveNumbers y
+    × HaveNumbers rest
+HaveNumbers (c.while test body step rest) = HaveNumbers test × HaveNumbers body × HaveNumbers step
+    × HaveNumbers rest
 HaveNumbers (c.until body test rest) = HaveNumbers body × HaveNumbers test × HaveNumbers rest
-HaveNumbers (c.turn test body step rest) = HaveNumbers test × HaveNumbers body × HaveNumbers step × HaveNumbers rest
-HaveNumbers (c.again test body step rest) = HaveNumbers test × HaveNumbers body × HaveNumbers step × HaveNumbers rest
+HaveNumbers (c.turn test body step rest) = HaveNumbers test × HaveNumbers body × HaveNumbers step
+    × HaveNumbers rest
+HaveNumbers (c.again test body step rest) = HaveNumbers test × HaveNumbers body × HaveNumbers step
+    × HaveNumbers rest
 HaveNumbers (c.quit n op rest) = HasNumber op × HaveNumbers rest
 HaveNumbers (c.break rest) = HaveNumbers rest
 HaveNumbers (c.continue rest) = HaveNumbers rest
@@ -78,12 +86,14 @@ abbrev mutual
   pub IsNumbered : PieceTree → Type 0
   IsNumbered (t.Perform act) = HasNumber act.operation
   IsNumbered (t.Choose act x of_x y of_y) = HasNumber act.operation × AreNumbered x × AreNumbered y
-  IsNumbered (t.While test of_test body of_body step of_step) = AreNumbered test × AreNumbered body × AreNumbered step
+  IsNumbered (t.While test of_test body of_body step of_step) = AreNumbered test × AreNumbered body
+      × AreNumbered step
   IsNumbered (t.Until body of_body test of_test) = AreNumbered body × AreNumbered test
   IsNumbered (t.Quit act) = HasNumber act.operation
   IsNumbered t.Break = Unit {0}
   IsNumbered t.Continue = Unit {0}
-  IsNumbered (t.Call act function opening of_opening) = HasNumber act.operation × AreNumbered opening
+  IsNumbered (t.Call act function opening of_opening) = HasNumber act.operation
+      × AreNumbered opening
   IsNumbered (t.Ends act) = HasNumber act.operation
 
 abbrev pub AllNumbered : List Part → Type 0

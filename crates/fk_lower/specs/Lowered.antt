@@ -1,5 +1,6 @@
 -- The functions of a program, each at its binding, one behind the other in one list.
-use Rattle.std.specs.Prelude.{◌≡◌, ℕ, ◌+◌, List, [], ◌∷◌, ◌++◌, length, slice_get, Option, Some, None, false}
+use Rattle.std.specs.Prelude.{◌≡◌, ℕ, ◌+◌, List, [], ◌∷◌, ◌++◌, length, slice_get, Option, Some}
+use Rattle.std.specs.Prelude.{None, false}
 use Rattle.fk_meaning_forms.specs.Code.{Code, done}
 use Rattle.fk_core.specs.declared.op.CoreOp.{CoreOp}
 use Rattle.fk_core_flat.specs.Items.{Item, Has}
@@ -28,16 +29,20 @@ total (part ∷ parts) = part.spans.far.extent + total parts
 -- where functions begin that are written from an index on, in a list with this end
 abbrev pub entries_from : (at end : ℕ) → List Part → List ℕ
 entries_from at end [] = []
-entries_from at end (part ∷ parts) = place part.spans.far.start None at end ∷ entries_from (at + part.spans.far.extent) end parts
+entries_from at end (part ∷ parts) =
+    place part.spans.far.start None at end ∷ entries_from (at + part.spans.far.extent) end parts
 
-abbrev pub written_from : (entry : (binding : ℕ) → ℕ) → (at end : ℕ) → List Part → List (Option Item)
+abbrev pub written_from : (entry : (binding : ℕ) → ℕ) → (at end : ℕ) → List Part
+    → List (Option Item)
 written_from entry at end [] = []
-written_from entry at end (part ∷ parts) = written entry false None at end part.pieces ++ written_from entry (at + part.spans.far.extent) end parts
+written_from entry at end (part ∷ parts) = written entry false None at end part.pieces
+    ++ written_from entry (at + part.spans.far.extent) end parts
 
 -- their flat lists one behind the other
 abbrev pub all_flat : (entry : (binding : ℕ) → ℕ) → (at end : ℕ) → List Part → List Item
 all_flat entry at end [] = []
-all_flat entry at end (part ∷ parts) = flat entry false None at end (code_of part.pieces) ++ all_flat entry (at + part.spans.far.extent) end parts
+all_flat entry at end (part ∷ parts) = flat entry false None at end (code_of part.pieces)
+    ++ all_flat entry (at + part.spans.far.extent) end parts
 
 -- a list has these items and no others
 abbrev pub IsListOf : List CoreOp → List Item → Type 0

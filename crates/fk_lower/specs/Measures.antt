@@ -6,7 +6,8 @@ use Rattle.fk_lower.specs.declared.span.Start.TheVariants.{At, Next, Behind, Onw
 use Rattle.fk_lower.specs.declared.span.Span.{Span}
 use Rattle.fk_lower.specs.declared.span.Spans.{Spans}
 use Rattle.fk_lower.specs.Spans.{round, span_in}
-use Rattle.fk_lower.specs.Tree.{PieceTree, Perform, Choose, While, Until, Quit, Break, Continue, Call, Ends, Pieces, no_pieces, piece}
+use Rattle.fk_lower.specs.Tree.{PieceTree, Perform, Choose, While, Until, Quit, Break, Continue}
+use Rattle.fk_lower.specs.Tree.{Call, Ends, Pieces, no_pieces, piece}
 
 -- of nothing
 abbrev pub nothing : (near : Bool) → Span
@@ -16,14 +17,15 @@ nothing near = record { here = near; extent = 0; start = Next }
 abbrev pub beginning : (extent : ℕ) → Span
 beginning extent = record { here = true; extent = extent; start = At 0 }
 
--- the first way of a choice goes on behind the second one. That is directly behind it where the second one has nothing in the
--- list and the rest begins here
+-- the first way of a choice goes on behind the second one. That is directly behind it where the
+-- second one has nothing in the list and the rest begins here
 abbrev pub is_beside : Spans → (rest : Span) → Bool
 is_beside of_y rest = rest.here && ((span_in of_y rest.here).extent == 0)
 
 -- of a piece and the code behind it, by the measures of that code
 abbrev pub before : PieceTree → (rest : Span) → Span
-before (Perform act) rest = beginning (1 + gap (goes_away (way_of act.operation) || rest.here) + rest.extent)
+before (Perform act) rest =
+    beginning (1 + gap (goes_away (way_of act.operation) || rest.here) + rest.extent)
 before (Choose act x of_x y of_y) rest =
     let first = span_in of_x (is_beside of_y rest) in
     beginning (1 + gap first.here + first.extent + (span_in of_y rest.here).extent + rest.extent)
@@ -33,11 +35,16 @@ before (While test of_test body of_body step of_step) rest =
 before (Until body of_body test of_test) rest =
     let turn = of_body.near in
     let whole = turn.extent + of_test.far.extent in
-    record { here = turn.here; extent = whole + rest.extent; start = round turn.start turn.extent whole rest.start }
+    record {
+      here = turn.here;
+      extent = whole + rest.extent;
+      start = round turn.start turn.extent whole rest.start;
+    }
 before (Quit act) rest = beginning (1 + gap rest.here + rest.extent)
 before Break rest = record { here = false; extent = rest.extent; start = Behind }
 before Continue rest = record { here = false; extent = rest.extent; start = Onward }
-before (Call act function opening of_opening) rest = beginning (2 + of_opening.near.extent + gap rest.here + rest.extent)
+before (Call act function opening of_opening) rest =
+    beginning (2 + of_opening.near.extent + gap rest.here + rest.extent)
 before (Ends act) rest = beginning (1 + rest.extent)
 
 abbrev pub measured : (near : Bool) → Pieces → Span

@@ -1,4 +1,5 @@
--- What is known of code before its place is: whether it begins where it is written, how long its list is, and where it begins.
+-- What is known of code before its place is: whether it begins where it is written, how long its
+-- list is, and where it begins.
 use Rattle.std.specs.Prelude.{ℕ, ◌+◌, ◌≤◌, Bool, true, false, if◌then◌else◌}
 use Rattle.fk_meaning_forms.specs.Code.{Code, done, until, break, continue}
 use Rattle.fk_core.specs.Stands.{Around}
@@ -22,7 +23,8 @@ moved by s.Next = s.Next
 moved by s.Behind = s.Behind
 moved by s.Onward = s.Onward
 
--- the beginning of a loop whose body so begins, and has such an extent; where the body is left at once, it is that of the rest
+-- the beginning of a loop whose body so begins, and has such an extent; where the body is left at
+-- once, it is that of the rest
 abbrev pub round : Start → (body whole : ℕ) → (rest : Start) → Start
 round (s.At offset) body whole rest = s.At offset
 round s.Next body whole rest = s.At body
@@ -31,13 +33,15 @@ round s.Behind body whole rest = moved whole rest
 
 abbrev pub start_of : Code ℕ → Start
 start_of done = s.Next
-start_of (until body test rest) = round (start_of body) (extent true body) (extent true body + extent false test) (start_of rest)
+start_of (until body test rest) =
+    round (start_of body) (extent true body) (extent true body + extent false test) (start_of rest)
 start_of (break rest) = s.Behind
 start_of (continue rest) = s.Onward
 start_of code = s.At 0
 
 abbrev pub span_of : (near : Bool) → Code ℕ → Span
-span_of near code = record { here = begins_here near code; extent = extent near code; start = start_of code }
+span_of near code =
+    record { here = begins_here near code; extent = extent near code; start = start_of code }
 
 abbrev pub spans_of : Code ℕ → Spans
 spans_of code = record { far = span_of false code; near = span_of true code }

@@ -10,7 +10,8 @@ mutual
   pub data PieceTree : Type 0 where
     Perform : (act : Act) → PieceTree
     Choose : (act : Act) (x : Pieces) (of_x : Spans) (y : Pieces) (of_y : Spans) → PieceTree
-    While : (test : Pieces) (of_test : Spans) (body : Pieces) (of_body : Spans) (step : Pieces) (of_step : Spans) → PieceTree
+    While : (test : Pieces) (of_test : Spans) (body : Pieces) (of_body : Spans) (step : Pieces)
+        (of_step : Spans) → PieceTree
     Until : (body : Pieces) (of_body : Spans) (test : Pieces) (of_test : Spans) → PieceTree
     Quit : (act : Act) → PieceTree
     Break : PieceTree
@@ -39,13 +40,16 @@ abbrev mutual
 
   pub code_before : PieceTree → (rest : Code ℕ) → Code ℕ
   code_before (Perform act) rest = c.perform act.site act.operation rest
-  code_before (Choose act x of_x y of_y) rest = c.choose act.site act.operation (code_of x) (code_of y) rest
-  code_before (While test of_test body of_body step of_step) rest = c.while (code_of test) (code_of body) (code_of step) rest
+  code_before (Choose act x of_x y of_y) rest =
+      c.choose act.site act.operation (code_of x) (code_of y) rest
+  code_before (While test of_test body of_body step of_step) rest =
+      c.while (code_of test) (code_of body) (code_of step) rest
   code_before (Until body of_body test of_test) rest = c.until (code_of body) (code_of test) rest
   code_before (Quit act) rest = c.quit act.site act.operation rest
   code_before Break rest = c.break rest
   code_before Continue rest = c.continue rest
-  code_before (Call act function opening of_opening) rest = c.call act.site act.operation function (code_of opening) rest
+  code_before (Call act function opening of_opening) rest =
+      c.call act.site act.operation function (code_of opening) rest
   code_before (Ends act) rest = c.ends act.site act.operation rest
 
 -- the measures of all blocks in it are those of their code
@@ -55,12 +59,16 @@ abbrev mutual
   IsMeasured (piece first others) = IsPieceMeasured first × IsMeasured others
 
   pub IsPieceMeasured : PieceTree → Type 0
-  IsPieceMeasured (Choose act x of_x y of_y) = (of_x ≡ spans_of (code_of x)) × IsMeasured x × (of_y ≡ spans_of (code_of y)) × IsMeasured y
+  IsPieceMeasured (Choose act x of_x y of_y) = (of_x ≡ spans_of (code_of x)) × IsMeasured x
+      × (of_y ≡ spans_of (code_of y)) × IsMeasured y
   IsPieceMeasured (While test of_test body of_body step of_step) =
-      (of_test ≡ spans_of (code_of test)) × IsMeasured test × (of_body ≡ spans_of (code_of body)) × IsMeasured body
+      (of_test ≡ spans_of (code_of test)) × IsMeasured test × (of_body ≡ spans_of (code_of body))
+      × IsMeasured body
       × (of_step ≡ spans_of (code_of step)) × IsMeasured step
-  IsPieceMeasured (Until body of_body test of_test) = (of_body ≡ spans_of (code_of body)) × IsMeasured body × (of_test ≡ spans_of (code_of test)) × IsMeasured test
-  IsPieceMeasured (Call act function opening of_opening) = (of_opening ≡ spans_of (code_of opening)) × IsMeasured opening
+  IsPieceMeasured (Until body of_body test of_test) = (of_body ≡ spans_of (code_of body))
+      × IsMeasured body × (of_test ≡ spans_of (code_of test)) × IsMeasured test
+  IsPieceMeasured (Call act function opening of_opening) = (of_opening ≡ spans_of (code_of opening))
+      × IsMeasured opening
   IsPieceMeasured other = Unit {0}
 
 abbrev pub IsPartMeasured : Part → Type 0

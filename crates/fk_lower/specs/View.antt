@@ -11,7 +11,8 @@ use Rattle.fk_lower.specs.Tree as t
 abbrev pub piece_step : Piece-F PieceTree Part → PieceTree
 piece_step (p.Perform act) = t.Perform act
 piece_step (p.Choose act x y) = t.Choose act x.pieces x.spans y.pieces y.spans
-piece_step (p.While test body step) = t.While test.pieces test.spans body.pieces body.spans step.pieces step.spans
+piece_step (p.While test body step) =
+    t.While test.pieces test.spans body.pieces body.spans step.pieces step.spans
 piece_step (p.Until body test) = t.Until body.pieces body.spans test.pieces test.spans
 piece_step (p.Quit act) = t.Quit act
 piece_step p.Break = t.Break

@@ -1,5 +1,6 @@
 -- The flat list of pieces, by the measures of the blocks in them.
-use Rattle.std.specs.Prelude.{ℕ, ◌+◌, ◌||◌, Bool, true, false, List, [], ◌∷◌, ◌++◌, map, slice_get, unwrap_or, Option, Some, None, if◌then◌else◌}
+use Rattle.std.specs.Prelude.{ℕ, ◌+◌, ◌||◌, Bool, true, false, List, [], ◌∷◌, ◌++◌, map, slice_get}
+use Rattle.std.specs.Prelude.{unwrap_or, Option, Some, None, if◌then◌else◌}
 use Rattle.fk_meaning_operation.specs.declared.operation.Operation.{Operation}
 use Rattle.fk_core.specs.declared.op.CoreOp.{CoreOp}
 use Rattle.fk_core.specs.Numbers.{operation_of}
@@ -12,7 +13,8 @@ use Rattle.fk_lower.specs.declared.block.Act.{Act}
 use Rattle.fk_lower.specs.declared.span.Span.{Span}
 use Rattle.fk_lower.specs.declared.write.Loop.{Loop}
 use Rattle.fk_lower.specs.Spans.{place, span_in}
-use Rattle.fk_lower.specs.Tree.{PieceTree, Perform, Choose, While, Until, Quit, Break, Continue, Call, Ends, Pieces, no_pieces, piece}
+use Rattle.fk_lower.specs.Tree.{PieceTree, Perform, Choose, While, Until, Quit, Break, Continue}
+use Rattle.fk_lower.specs.Tree.{Call, Ends, Pieces, no_pieces, piece}
 use Rattle.fk_lower.specs.Measures.{is_beside, measured}
 
 -- what an operation of a list is
@@ -50,14 +52,17 @@ past here i = i + (1 + gap here)
 abbrev pub behind_of : PieceTree → (rest : Span) → ℕ → ℕ
 behind_of (Perform a) rest i = past (goes_away (way_of a.operation) || rest.here) i
 behind_of (Choose a x of_x y of_y) rest i =
-    let first = span_in of_x (is_beside of_y rest) in past first.here i + first.extent + (span_in of_y rest.here).extent
+    let first = span_in of_x (is_beside of_y rest) in
+    past first.here i + first.extent + (span_in of_y rest.here).extent
 behind_of (While test of_test body of_body step of_step) rest i =
-    let turn = span_in of_body of_step.far.here in i + (span_in of_test turn.here).extent + turn.extent + of_step.far.extent
+    let turn = span_in of_body of_step.far.here in
+    i + (span_in of_test turn.here).extent + turn.extent + of_step.far.extent
 behind_of (Until body of_body test of_test) rest i = i + of_body.near.extent + of_test.far.extent
 behind_of (Quit a) rest i = past rest.here i
 behind_of Break rest i = i
 behind_of Continue rest i = i
-behind_of (Call a function opening of_opening) rest i = past rest.here (i + 1 + of_opening.near.extent)
+behind_of (Call a function opening of_opening) rest i =
+    past rest.here (i + 1 + of_opening.near.extent)
 behind_of (Ends a) rest i = i + 1
 
 -- an operation that goes on, and one that may leave the loop round it
@@ -67,7 +72,8 @@ perform_written a rest c i k =
     an_act a (aim (way_of a.operation) k) ++ a_skip here (place rest.start c (past here i) k)
 
 abbrev pub quit_written : Act → (rest : Span) → Around → (i k : ℕ) → List (Option Item)
-quit_written a rest c i k = an_act a (behind c) ++ a_skip rest.here (place rest.start c (past rest.here i) k)
+quit_written a rest c i k =
+    an_act a (behind c) ++ a_skip rest.here (place rest.start c (past rest.here i) k)
 
 -- where functions have these entries
 module _ (entry : (binding : ℕ) → ℕ) where
@@ -75,7 +81,8 @@ module _ (entry : (binding : ℕ) → ℕ) where
     pub written : (near : Bool) → Around → (i k : ℕ) → Pieces → List (Option Item)
     written near c i k no_pieces = []
     written near c i k (piece first others) =
-        let rest = measured near others in piece_written first rest c i k ++ written near c (behind_of first rest i) k others
+        let rest = measured near others in
+        piece_written first rest c i k ++ written near c (behind_of first rest i) k others
 
     pub piece_written : PieceTree → (rest : Span) → Around → (i k : ℕ) → List (Option Item)
     piece_written (Perform a) rest c i k = perform_written a rest c i k
@@ -94,14 +101,17 @@ module _ (entry : (binding : ℕ) → ℕ) where
         let b = i + (span_in of_test turn.here).extent in
         let t = b + turn.extent in
         let o : ℕ = if steps then t else i in
-        let loop : core.Loop = record { behind = place rest.start c (t + of_step.far.extent) k; onward = o } in
+        let loop : core.Loop =
+        record { behind = place rest.start c (t + of_step.far.extent) k; onward = o } in
         written turn.here (Some loop) i (place turn.start (Some loop) b o) test
         ++ written steps (Some loop) b o body ++ written false (Some loop) t i step
     piece_written (Until body of_body test of_test) rest c i k =
         let turn = of_body.near in
         let t = i + turn.extent in
-        let loop : core.Loop = record { behind = place rest.start c (t + of_test.far.extent) k; onward = t } in
-        written true (Some loop) i t body ++ written false (Some loop) t (place turn.start (Some loop) i t) test
+        let loop : core.Loop =
+        record { behind = place rest.start c (t + of_test.far.extent) k; onward = t } in
+        written true (Some loop) i t body
+        ++ written false (Some loop) t (place turn.start (Some loop) i t) test
     piece_written (Quit a) rest c i k = quit_written a rest c i k
     piece_written Break rest c i k = []
     piece_written Continue rest c i k = []

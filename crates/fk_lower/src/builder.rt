@@ -1,6 +1,7 @@
 //! Builds blocks of code that is shown step by step.
 
-ghost use Rattle.std.specs.Prelude.{◌≡◌, true, suc, ◌+◌, ◌*◌, ◌^◌, ◌<◌, ◌≤◌, ◌∷◌, [], map, OnOk, IfOk, IfErr};
+ghost use Rattle.std.specs.Prelude.{◌≡◌, true, suc, ◌+◌, ◌*◌, ◌^◌, ◌<◌, ◌≤◌, ◌∷◌, [], map, OnOk};
+ghost use Rattle.std.specs.Prelude.{IfOk, IfErr};
 ghost use Rattle.fk_meaning_forms.specs.Code as c;
 ghost use Rattle.fk_meaning_forms.specs.Code.{size};
 ghost use Rattle.fk_lower.specs.Tree.{code_before, IsPieceMeasured};
@@ -8,7 +9,9 @@ ghost use Rattle.fk_lower.specs.View.{piece_of};
 ghost use Rattle.fk_lower.specs.Building.{after, has_site, IsShown};
 ghost use Rattle.fk_lower.specs.Faults.{IsFew, IsEventFault, IsBuildFault};
 ghost use Rattle.fk_lower.specs.Building as b;
-ghost use Rattle.fk_lower.specs.BuilderView.{event_of, building_of, open_by, outer_of, shown_code, block_code, IsBlockMeasured, IsOpenedMeasured, IsBuilderMeasured};
+ghost use Rattle.fk_lower.specs.BuilderView.{event_of, building_of, open_by, outer_of, shown_code};
+ghost use Rattle.fk_lower.specs.BuilderView.{block_code, IsBlockMeasured, IsOpenedMeasured};
+ghost use Rattle.fk_lower.specs.BuilderView.{IsBuilderMeasured};
 
 use crate::block::{Act, Block, Piece};
 use crate::event::CodeEvent;
@@ -208,7 +211,8 @@ impl Builder {
             (building_of self.new ≡ after (building_of self.old) (b.Call operation function)) }
         ensures measured { OnOk result (IsBuilderMeasured self.new) }
         ensures low { OnOk result (3 * (self.old.site + 1) < 2 ^ 32) }
-        ensures refused { IfErr result (IsEventFault (building_of self.old) (b.Call operation function)) }
+        ensures refused { IfErr result
+            (IsEventFault (building_of self.old) (b.Call operation function)) }
     {
         let act = self.act(operation)?;
         self.open(Opened::Opening(act, function))
@@ -279,7 +283,8 @@ impl Builder {
         ensures built { OnOk result
             (building_of self.new ≡ after (building_of self.old) (event_of event)) }
         ensures measured { OnOk result (IsBuilderMeasured self.new) }
-        ensures low { OnOk result (has_site (event_of event) ≡ true → 3 * (self.old.site + 1) < 2 ^ 32) }
+        ensures low { OnOk result (has_site (event_of event) ≡ true
+            → 3 * (self.old.site + 1) < 2 ^ 32) }
         ensures refused { IfErr result (IsEventFault (building_of self.old) (event_of event)) }
     {
         match event {

@@ -6,7 +6,8 @@ ghost use Rattle.fk_lower.specs.View.{part_of};
 ghost use Rattle.fk_lower.specs.Written.{items_of, entry_of};
 ghost use Rattle.fk_lower.specs.Depths.{AreTold};
 ghost use Rattle.fk_lower.specs.Faults.{AllNumbered, IsListFault, IsWriteFault};
-ghost use Rattle.fk_lower.specs.Lowered.{bodies_in, AreMeasured, total, entries_from, written_from, all_flat, IsListOf};
+ghost use Rattle.fk_lower.specs.Lowered.{bodies_in, AreMeasured, total, entries_from, written_from};
+ghost use Rattle.fk_lower.specs.Lowered.{all_flat, IsListOf};
 
 use crate::block::Block;
 use crate::depths::tell;
@@ -74,7 +75,8 @@ fn write_all(writer: &mut Writer, entries: &Entries, bodies: &[Block]) -> Result
     ensures items { OnOk result (items_of writer.new.ops.items ≡ items_of writer.old.ops.items
         ++ written_from (entry_of entries.now.of_bindings.items entries.now.end) 0 entries.now.end
         (map part_of bodies.now)) }
-    ensures fault { AllNumbered (map part_of bodies.now) → IfErr result (λ fault. fault ≡ LowerFault.Memory) }
+    ensures fault { AllNumbered (map part_of bodies.now)
+        → IfErr result (λ fault. fault ≡ LowerFault.Memory) }
 {
     let mut at = 0;
     for body in bodies {

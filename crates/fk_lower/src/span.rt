@@ -29,8 +29,8 @@ impl Start {
         }
     }
 
-    // Where a `do` loop begins: with its body, which so begins and so long is, or where that is left
-    // at once, with the test behind it or the code behind the whole loop.
+    // Where a `do` loop begins: with its body, which so begins and so long is, or where that is
+    // left at once, with the test behind it or the code behind the whole loop.
     pub(crate) fn round(self, body: u32, whole: u32, rest: Start) -> Start
         requires { whole + offset rest < 2 ^ 32 }
         ensures { result ≡ round self body whole rest }

@@ -1,6 +1,7 @@
 //! Writes the flat list of measured code, each target known.
 
-ghost use Rattle.std.specs.Prelude.{◌≡◌, ◌+◌, ◌^◌, ◌<◌, if◌then◌else◌, ◌∷◌, ◌++◌, [], Some, IfOk, IfErr, OnOk, IsTrue, ◌↔◌};
+ghost use Rattle.std.specs.Prelude.{◌≡◌, ◌+◌, ◌^◌, ◌<◌, if◌then◌else◌, ◌∷◌, ◌++◌, [], Some, IfOk};
+ghost use Rattle.std.specs.Prelude.{IfErr, OnOk, IsTrue, ◌↔◌};
 ghost use Rattle.fk_core.specs.Numbers.{HasNumber, IsNear, IsKnownNear};
 ghost use Rattle.fk_core_flat.specs.Items.{jump};
 ghost use Rattle.fk_core_flat.specs.Flat.{behind, onward};
@@ -10,7 +11,8 @@ ghost use Rattle.fk_lower.specs.Tree.{IsPieceMeasured, IsPartMeasured};
 ghost use Rattle.fk_lower.specs.View.{piece_of, part_of};
 ghost use Rattle.fk_lower.specs.Measures.{before};
 ghost use Rattle.fk_lower.specs.Faults.{AreNumbered, IsNumbered};
-ghost use Rattle.fk_lower.specs.Written.{items_of, around_of, entry_of, an_act, a_skip, behind_of, perform_written, quit_written, written, piece_written};
+ghost use Rattle.fk_lower.specs.Written.{items_of, around_of, entry_of, an_act, a_skip, behind_of};
+ghost use Rattle.fk_lower.specs.Written.{perform_written, quit_written, written, piece_written};
 
 use crate::block::{Act, Block, Piece};
 use crate::fault::LowerFault;
@@ -169,7 +171,8 @@ impl Writer {
     fn act(&mut self, act: Act, target: u32) -> Result<(), LowerFault>
         ensures items { OnOk result (items_of self.new.ops.items
             ≡ items_of self.old.ops.items ++ an_act act target) }
-        ensures fault { HasNumber act.operation → IfErr result (λ fault. fault ≡ LowerFault.Memory) }
+        ensures fault { HasNumber act.operation
+            → IfErr result (λ fault. fault ≡ LowerFault.Memory) }
     {
         if !has_number(act.operation) {
             return Err(LowerFault::OutOfRange);
@@ -204,7 +207,8 @@ impl Writer {
             (λ index. index ≡ behind_of (t.Perform act) rest place.at) }
         ensures items { OnOk result (items_of self.new.ops.items ≡ items_of self.old.ops.items
             ++ perform_written act rest (around_of place.around) place.at place.next) }
-        ensures fault { HasNumber act.operation → IfErr result (λ fault. fault ≡ LowerFault.Memory) }
+        ensures fault { HasNumber act.operation
+            → IfErr result (λ fault. fault ≡ LowerFault.Memory) }
     {
         let away = goes_away(act.operation);
         let here = away || rest.here;
@@ -220,7 +224,8 @@ impl Writer {
         ensures index { IfOk result (λ index. index ≡ behind_of (t.Quit act) rest place.at) }
         ensures items { OnOk result (items_of self.new.ops.items ≡ items_of self.old.ops.items
             ++ quit_written act rest (around_of place.around) place.at place.next) }
-        ensures fault { HasNumber act.operation → IfErr result (λ fault. fault ≡ LowerFault.Memory) }
+        ensures fault { HasNumber act.operation
+            → IfErr result (λ fault. fault ≡ LowerFault.Memory) }
     {
         let index = place.at + (1 + gap(rest.here));
         self.act(act, place.behind())?;
@@ -233,7 +238,8 @@ impl Writer {
         ensures index { IfOk result (λ index. index ≡ at + 1) }
         ensures items { OnOk result (items_of self.new.ops.items
             ≡ items_of self.old.ops.items ++ an_act act 0) }
-        ensures fault { HasNumber act.operation → IfErr result (λ fault. fault ≡ LowerFault.Memory) }
+        ensures fault { HasNumber act.operation
+            → IfErr result (λ fault. fault ≡ LowerFault.Memory) }
     {
         self.act(act, 0)?;
         Ok(at + 1)
@@ -258,7 +264,8 @@ impl Writer {
         ensures items { OnOk result (items_of self.new.ops.items ≡ items_of self.old.ops.items
             ++ written (entry_of entries.now.of_bindings.items entries.now.end) near
             (around_of place.around) place.at place.next (part_of block.now).pieces) }
-        ensures fault { AreNumbered (part_of block.now).pieces → IfErr result (λ fault. fault ≡ LowerFault.Memory) }
+        ensures fault { AreNumbered (part_of block.now).pieces
+            → IfErr result (λ fault. fault ≡ LowerFault.Memory) }
     {
         let mut rests = block.rests(self.alloc, near)?;
         let mut at = place.at;
@@ -284,11 +291,13 @@ impl Writer {
         requires measured { IsPieceMeasured (piece_of piece.now) }
         requires within { StartsWithin rest }
         requires room { place.at + (before (piece_of piece.now) rest).extent < 2 ^ 32 }
-        ensures index { IfOk result (λ index. index ≡ behind_of (piece_of piece.now) rest place.at) }
+        ensures index { IfOk result
+            (λ index. index ≡ behind_of (piece_of piece.now) rest place.at) }
         ensures items { OnOk result (items_of self.new.ops.items ≡ items_of self.old.ops.items
             ++ piece_written (entry_of entries.now.of_bindings.items entries.now.end)
             (piece_of piece.now) rest (around_of place.around) place.at place.next) }
-        ensures fault { IsNumbered (piece_of piece.now) → IfErr result (λ fault. fault ≡ LowerFault.Memory) }
+        ensures fault { IsNumbered (piece_of piece.now)
+            → IfErr result (λ fault. fault ≡ LowerFault.Memory) }
     {
         match piece {
             Piece::Perform(act) => self.perform(*act, rest, place),
@@ -322,16 +331,19 @@ impl Writer {
             IsPieceMeasured (t.Choose act x.pieces x.spans y.pieces y.spans) }
         requires within { StartsWithin rest }
         requires room { let x = part_of first.now in let y = part_of second.now in
-            place.at + (before (t.Choose act x.pieces x.spans y.pieces y.spans) rest).extent < 2 ^ 32 }
+            place.at
+            + (before (t.Choose act x.pieces x.spans y.pieces y.spans) rest).extent < 2 ^ 32 }
         ensures index { let x = part_of first.now in let y = part_of second.now in
-            IfOk result (λ index. index ≡ behind_of (t.Choose act x.pieces x.spans y.pieces y.spans) rest place.at) }
+            IfOk result (λ index.
+            index ≡ behind_of (t.Choose act x.pieces x.spans y.pieces y.spans) rest place.at) }
         ensures items { let x = part_of first.now in let y = part_of second.now in
             OnOk result (items_of self.new.ops.items ≡ items_of self.old.ops.items
             ++ piece_written (entry_of entries.now.of_bindings.items entries.now.end)
             (t.Choose act x.pieces x.spans y.pieces y.spans) rest
             (around_of place.around) place.at place.next) }
         ensures fault { let x = part_of first.now in let y = part_of second.now in
-            IsNumbered (t.Choose act x.pieces x.spans y.pieces y.spans) → IfErr result (λ fault. fault ≡ LowerFault.Memory) }
+            IsNumbered (t.Choose act x.pieces x.spans y.pieces y.spans)
+            → IfErr result (λ fault. fault ≡ LowerFault.Memory) }
     {
         let beside = is_beside(second, rest);
         let onward = first.span(beside);
@@ -366,20 +378,28 @@ impl Writer {
         rest: Span,
         place: InsertPoint,
     ) -> Result<u32, LowerFault>
-        requires measured { let x = part_of test.now in let y = part_of body.now in let z = part_of step.now in
+        requires measured { let x = part_of test.now in let y = part_of body.now in
+            let z = part_of step.now in
             IsPieceMeasured (t.While x.pieces x.spans y.pieces y.spans z.pieces z.spans) }
         requires within { StartsWithin rest }
-        requires room { let x = part_of test.now in let y = part_of body.now in let z = part_of step.now in
-            place.at + (before (t.While x.pieces x.spans y.pieces y.spans z.pieces z.spans) rest).extent < 2 ^ 32 }
-        ensures index { let x = part_of test.now in let y = part_of body.now in let z = part_of step.now in
-            IfOk result (λ index. index ≡ behind_of (t.While x.pieces x.spans y.pieces y.spans z.pieces z.spans) rest place.at) }
-        ensures items { let x = part_of test.now in let y = part_of body.now in let z = part_of step.now in
+        requires room { let x = part_of test.now in let y = part_of body.now in
+            let z = part_of step.now in
+            place.at + (before
+            (t.While x.pieces x.spans y.pieces y.spans z.pieces z.spans) rest).extent < 2 ^ 32 }
+        ensures index { let x = part_of test.now in let y = part_of body.now in
+            let z = part_of step.now in
+            IfOk result (λ index. index ≡ behind_of
+            (t.While x.pieces x.spans y.pieces y.spans z.pieces z.spans) rest place.at) }
+        ensures items { let x = part_of test.now in let y = part_of body.now in
+            let z = part_of step.now in
             OnOk result (items_of self.new.ops.items ≡ items_of self.old.ops.items
             ++ piece_written (entry_of entries.now.of_bindings.items entries.now.end)
             (t.While x.pieces x.spans y.pieces y.spans z.pieces z.spans) rest
             (around_of place.around) place.at place.next) }
-        ensures fault { let x = part_of test.now in let y = part_of body.now in let z = part_of step.now in
-            IsNumbered (t.While x.pieces x.spans y.pieces y.spans z.pieces z.spans) → IfErr result (λ fault. fault ≡ LowerFault.Memory) }
+        ensures fault { let x = part_of test.now in let y = part_of body.now in
+            let z = part_of step.now in
+            IsNumbered (t.While x.pieces x.spans y.pieces y.spans z.pieces z.spans)
+            → IfErr result (λ fault. fault ≡ LowerFault.Memory) }
     {
         let steps = step.spans.far.here;
         let turn = body.span(steps);
@@ -432,14 +452,16 @@ impl Writer {
         requires room { let x = part_of body.now in let y = part_of test.now in
             place.at + (before (t.Until x.pieces x.spans y.pieces y.spans) rest).extent < 2 ^ 32 }
         ensures index { let x = part_of body.now in let y = part_of test.now in
-            IfOk result (λ index. index ≡ behind_of (t.Until x.pieces x.spans y.pieces y.spans) rest place.at) }
+            IfOk result
+            (λ index. index ≡ behind_of (t.Until x.pieces x.spans y.pieces y.spans) rest place.at) }
         ensures items { let x = part_of body.now in let y = part_of test.now in
             OnOk result (items_of self.new.ops.items ≡ items_of self.old.ops.items
             ++ piece_written (entry_of entries.now.of_bindings.items entries.now.end)
             (t.Until x.pieces x.spans y.pieces y.spans) rest
             (around_of place.around) place.at place.next) }
         ensures fault { let x = part_of body.now in let y = part_of test.now in
-            IsNumbered (t.Until x.pieces x.spans y.pieces y.spans) → IfErr result (λ fault. fault ≡ LowerFault.Memory) }
+            IsNumbered (t.Until x.pieces x.spans y.pieces y.spans)
+            → IfErr result (λ fault. fault ≡ LowerFault.Memory) }
     {
         let turn = body.span(true);
         let onward = place.at + turn.extent;
@@ -481,14 +503,16 @@ impl Writer {
         requires room { let x = part_of opening.now in
             place.at + (before (t.Call act function x.pieces x.spans) rest).extent < 2 ^ 32 }
         ensures index { let x = part_of opening.now in
-            IfOk result (λ index. index ≡ behind_of (t.Call act function x.pieces x.spans) rest place.at) }
+            IfOk result
+            (λ index. index ≡ behind_of (t.Call act function x.pieces x.spans) rest place.at) }
         ensures items { let x = part_of opening.now in
             OnOk result (items_of self.new.ops.items ≡ items_of self.old.ops.items
             ++ piece_written (entry_of entries.now.of_bindings.items entries.now.end)
             (t.Call act function x.pieces x.spans) rest
             (around_of place.around) place.at place.next) }
         ensures fault { let x = part_of opening.now in
-            IsNumbered (t.Call act function x.pieces x.spans) → IfErr result (λ fault. fault ≡ LowerFault.Memory) }
+            IsNumbered (t.Call act function x.pieces x.spans)
+            → IfErr result (λ fault. fault ≡ LowerFault.Memory) }
     {
         let entry = entries.of(function);
         let at = place.at + 1;

@@ -1,6 +1,9 @@
--- What is asked of a program so that its code is well typed: where a value is needed, there is one, what is assigned to has a
--- place, calls have their arguments and a function, and constant addresses are those of shared data. Nothing is asked of group variables, of which no text with plain operations has one.
-use Rattle.std.specs.Prelude.{◌≡◌, ℕ, ◌==◌, Bool, true, false, not, List, [], ◌∷◌, Option, Some, None, if◌then◌else◌}
+-- What is asked of a program so that its code is well typed: where a value is needed, there is one,
+-- what is assigned to has a place, calls have their arguments and a function, and constant
+-- addresses are those of shared data. Nothing is asked of group variables, of which no text with
+-- plain operations has one.
+use Rattle.std.specs.Prelude.{◌≡◌, ℕ, ◌==◌, Bool, true, false, not, List, [], ◌∷◌, Option, Some}
+use Rattle.std.specs.Prelude.{None, if◌then◌else◌}
 use Rattle.fk_meaning_store.specs.Serve.{may_use}
 use Rattle.fk_syntax.specs.declared.sign.Sign.{Sign}
 use Rattle.fk_syntax.specs.declared.sign.Sign.TheVariants as g
@@ -15,7 +18,9 @@ use Rattle.fk_meaning_forms.specs.Program.{functions_of, binding_of, signature_i
 use Rattle.fk_meaning.specs.Calls.{TakesEnough}
 use Rattle.fk_core_liveness.specs.declared.places.FunctionKind.{FunctionKind}
 use Rattle.fk_core_liveness.specs.declared.places.FunctionKind.TheVariants.{Main, Called}
-use Rattle.fk_lower_laws.specs.Ways.{Way, Unchecked, Constant, Array, Grouped, Word, Function, Valued, gives, named_way, called_way, dotted_way, joined_way, way}
+use Rattle.fk_lower_laws.specs.Ways.{Way, Unchecked, Constant, Array, Grouped, Word, Function}
+use Rattle.fk_lower_laws.specs.Ways.{Valued, gives, named_way, called_way, dotted_way, joined_way}
+use Rattle.fk_lower_laws.specs.Ways.{way}
 
 -- it has a place to which is assigned; and an address
 abbrev pub IsTarget : Way → Type 0
@@ -49,7 +54,8 @@ abbrev pub IsCalled : FunctionKind → Type 0
 IsCalled Main = ⊥
 IsCalled (Called gives) = Unit {0}
 
-module _ (tables : Tables) (functions : (binding : ℕ) → Signature) (place_of : (binding : ℕ) → FunctionKind) where
+module _ (tables : Tables) (functions : (binding : ℕ) → Signature)
+    (place_of : (binding : ℕ) → FunctionKind) where
   -- a constant address is one of shared data
   abbrev pub NameAsks : (at : ℕ) → Way → Type 0
   NameAsks at (Constant address) = may_use true address ≡ true
@@ -62,7 +68,8 @@ module _ (tables : Tables) (functions : (binding : ℕ) → Signature) (place_of
   DotAsks at (Constant address) = NameAsks at (dotted_way tables place_of at (Constant address))
   DotAsks at w = ⊥
 
-  -- a sign between two needs the values of both. A comma drops the left one, where by its type there is one
+  -- a sign between two needs the values of both. A comma drops the left one, where by its
+  -- type there is one
   abbrev pub JoinAsks : Sign → (left : Way) → (at : ℕ) → (right : Way) → Type 0
   JoinAsks g.Comma l at r = gives l ≡ not (is_void tables at)
   JoinAsks sign l at r = (gives l ≡ true) × (gives r ≡ true)
@@ -77,20 +84,26 @@ module _ (tables : Tables) (functions : (binding : ℕ) → Signature) (place_of
   NameTakes false name arguments = TakesAll (note tables name.at).binding arguments
 
   abbrev pub CallAsks : Way → Trees → Type 0
-  CallAsks (Function name) arguments = NameTakes ((note tables name.at).binding == no_binding) name arguments
+  CallAsks (Function name) arguments =
+      NameTakes ((note tables name.at).binding == no_binding) name arguments
   CallAsks w arguments = ⊥
 
   abbrev mutual
     pub Asked : Tree → Type 0
     Asked (t.Variable name) = NameAsks name.at (named_way tables place_of name)
-    Asked (t.Prefix spot sign operand) = Asked operand × PrefixAsks sign (way tables place_of operand)
+    Asked (t.Prefix spot sign operand) = Asked operand
+        × PrefixAsks sign (way tables place_of operand)
     Asked (t.Cast spot type operand) = Asked operand × (gives (way tables place_of operand) ≡ true)
-    Asked (t.Chain first links) = Asked first × LinksAsked (way tables place_of first) (token first) links
-    Asked (t.Postfix whole suffixes) = Asked whole × SuffixesAsked (way tables place_of whole) suffixes
+    Asked (t.Chain first links) = Asked first
+        × LinksAsked (way tables place_of first) (token first) links
+    Asked (t.Postfix whole suffixes) = Asked whole
+        × SuffixesAsked (way tables place_of whole) suffixes
     Asked (t.Assign spot sign target value) =
-        Asked target × IsTarget (way tables place_of target) × Asked value × (gives (way tables place_of value) ≡ true)
+        Asked target × IsTarget (way tables place_of target) × Asked value
+        × (gives (way tables place_of value) ≡ true)
     Asked (t.Choose spot condition first second) =
-        Asked condition × (gives (way tables place_of condition) ≡ true) × Asked first × Asked second
+        Asked condition × (gives (way tables place_of condition) ≡ true)
+        × Asked first × Asked second
         × (gives (way tables place_of second) ≡ gives (way tables place_of first))
     Asked e = Unit {0}
 
@@ -103,9 +116,11 @@ module _ (tables : Tables) (functions : (binding : ℕ) → Signature) (place_of
     pub SuffixesAsked : Way → Suffixes → Type 0
     SuffixesAsked w t.no_suffixes = Unit {0}
     SuffixesAsked w (t.index spot by others) =
-        (gives w ≡ true) × Asked by × (gives (way tables place_of by) ≡ true) × SuffixesAsked Unchecked others
+        (gives w ≡ true) × Asked by × (gives (way tables place_of by) ≡ true)
+        × SuffixesAsked Unchecked others
     SuffixesAsked w (t.call spot arguments others) =
-        CallAsks w arguments × AllAsked arguments × SuffixesAsked (called_way tables place_of w) others
+        CallAsks w arguments × AllAsked arguments
+        × SuffixesAsked (called_way tables place_of w) others
     SuffixesAsked w (t.dot spot name others) =
         DotAsks name.at w × SuffixesAsked (dotted_way tables place_of name.at w) others
     SuffixesAsked w (t.arrow spot name others) = (gives w ≡ true) × SuffixesAsked Unchecked others
@@ -115,7 +130,8 @@ module _ (tables : Tables) (functions : (binding : ℕ) → Signature) (place_of
     -- arguments have values
     pub AllAsked : Trees → Type 0
     AllAsked t.no_trees = Unit {0}
-    AllAsked (t.tree first others) = Asked first × (gives (way tables place_of first) ≡ true) × AllAsked others
+    AllAsked (t.tree first others) = Asked first × (gives (way tables place_of first) ≡ true)
+        × AllAsked others
 
   -- an expression with a value; and one of which a value is dropped, where by its type there is one
   abbrev pub ValueAsked : Tree → Type 0
@@ -135,7 +151,8 @@ module _ (tables : Tables) (functions : (binding : ℕ) → Signature) (place_of
   -- a scalar that is declared is one to which is assigned
   abbrev pub ScalarAsked : (scalar : Bool) → DeclaredTree → Type 0
   ScalarAsked false x = Unit {0}
-  ScalarAsked true x = Asked (t.Variable x.name) × IsTarget (named_way tables place_of x.name) × OptionValueAsked x.first
+  ScalarAsked true x = Asked (t.Variable x.name) × IsTarget (named_way tables place_of x.name)
+      × OptionValueAsked x.first
 
   abbrev pub VariablesAsked : List DeclaredTree → Type 0
   VariablesAsked [] = Unit {0}
@@ -155,11 +172,15 @@ module _ (tables : Tables) (functions : (binding : ℕ) → Signature) (place_of
       StatementAsked l (p.Block statements) = StatementsAsked l statements
       StatementAsked l (p.Declare variables) = VariablesAsked variables
       StatementAsked l (p.If spot condition first) = ValueAsked condition × StatementAsked l first
-      StatementAsked l (p.IfElse spot condition first second) = ValueAsked condition × StatementAsked l first × StatementAsked l second
-      StatementAsked l (p.While spot condition body) = ValueAsked condition × StatementAsked true body
-      StatementAsked l (p.DoWhile spot body condition) = ValueAsked condition × StatementAsked true body
+      StatementAsked l (p.IfElse spot condition first second) = ValueAsked condition
+          × StatementAsked l first × StatementAsked l second
+      StatementAsked l (p.While spot condition body) = ValueAsked condition
+          × StatementAsked true body
+      StatementAsked l (p.DoWhile spot body condition) = ValueAsked condition
+          × StatementAsked true body
       StatementAsked l (p.For spot before condition after body) =
-          OptionUsedAsked before × OptionValueAsked condition × OptionUsedAsked after × StatementAsked true body
+          OptionUsedAsked before × OptionValueAsked condition × OptionUsedAsked after
+          × StatementAsked true body
       StatementAsked l (p.Start spot count body) = OptionValueAsked count × StatementAsked l body
       StatementAsked l (p.Farm spot body) = StatementAsked l body
       StatementAsked l (p.Seq spot body) = StatementAsked l body
@@ -172,7 +193,8 @@ module _ (tables : Tables) (functions : (binding : ℕ) → Signature) (place_of
 
       pub StatementsAsked : (in_loop : Bool) → Statements → Type 0
       StatementsAsked l p.no_statements = Unit {0}
-      StatementsAsked l (p.statement first others) = StatementAsked l first × StatementsAsked l others
+      StatementsAsked l (p.statement first others) = StatementAsked l first
+          × StatementsAsked l others
 
   abbrev pub BodyAsked : FunctionKind → Option Statements → Type 0
   BodyAsked place None = Unit {0}
@@ -190,11 +212,14 @@ place_in tables (f ∷ fs) b = if binding_of tables f == b then place_by f else 
 abbrev pub place_of : Tables → ProgramTree → (binding : ℕ) → FunctionKind
 place_of tables program b = place_in tables (functions_of program.items) b
 
-abbrev pub FunctionsAsked : Tables → (functions : (binding : ℕ) → Signature) → (place_of : (binding : ℕ) → FunctionKind) → List FunctionTree → Type 0
+abbrev pub FunctionsAsked : Tables → (functions : (binding : ℕ) → Signature)
+    → (place_of : (binding : ℕ) → FunctionKind) → List FunctionTree → Type 0
 FunctionsAsked tables functions places [] = Unit {0}
 FunctionsAsked tables functions places (f ∷ fs) =
-    BodyAsked tables functions places (place_by f) f.body × FunctionsAsked tables functions places fs
+    BodyAsked tables functions places (place_by f) f.body
+    × FunctionsAsked tables functions places fs
 
 abbrev pub ProgramAsked : Tables → ProgramTree → Type 0
 ProgramAsked tables program =
-    let fs = functions_of program.items in FunctionsAsked tables (signature_in tables fs) (place_of tables program) fs
+    let fs = functions_of program.items in
+    FunctionsAsked tables (signature_in tables fs) (place_of tables program) fs

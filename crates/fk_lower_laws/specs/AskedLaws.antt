@@ -13,7 +13,8 @@ use Rattle.fk_lower_laws.specs.Proper.{ProgramIsProper}
 
 abbrev pub CorrectProgramsAreAsked : Type 0
 CorrectProgramsAreAsked =
-    (program : ProgramTree) (facts : Facts) → IsCorrect program facts → ProgramIsTrim program → ProgramIsProper program
+    (program : ProgramTree) (facts : Facts) → IsCorrect program facts → ProgramIsTrim program
+    → ProgramIsProper program
     → Fits (tables_by program facts) program.items → ProgramAsked (tables_by program facts) program
 
 -- the binding of `main` means `main`, and every other one a function that is called

@@ -15,7 +15,8 @@ use Rattle.fk_core_typing.specs.Laws.{LeadsWithin}
 use Rattle.fk_lower_laws.specs.Asked.{ProgramAsked}
 
 -- an index lies in the code of a function that is written from a place on
-abbrev pub LiesIn : (bodies : (binding : ℕ) → Code ℕ) → (place : ℕ → ℕ) → (index binding : ℕ) → Type 0
+abbrev pub LiesIn : (bodies : (binding : ℕ) → Code ℕ) → (place : ℕ → ℕ)
+    → (index binding : ℕ) → Type 0
 LiesIn bodies place i f = (place f ≤ i) × (i < place f + extent false (bodies f))
 
 abbrev pub AreApart : (bodies : (binding : ℕ) → Code ℕ) → (place : ℕ → ℕ) → Type 0
@@ -24,17 +25,20 @@ AreApart bodies place = (i f g : ℕ) → LiesIn bodies place i f → LiesIn bod
 abbrev pub FlatListsAreApart : Type 0
 FlatListsAreApart =
     (tables : Tables) (program : ProgramTree) (core : List CoreOp) (entry : ℕ → ℕ)
-    → (flat : IsFlat (bodies_of tables program) core entry) → AreApart (bodies_of tables program) flat.place
+    → (flat : IsFlat (bodies_of tables program) core entry)
+    → AreApart (bodies_of tables program) flat.place
 
 -- each operation of a list is plain
 abbrev pub IsPlain : List CoreOp → Type 0
 IsPlain core =
-    (i : ℕ) (op : CoreOp) (operation : Operation) → slice_get core i ≡ Some op → operation_of op.kind op.number ≡ Some operation
+    (i : ℕ) (op : CoreOp) (operation : Operation) → slice_get core i ≡ Some op
+    → operation_of op.kind op.number ≡ Some operation
     → is_plain operation ≡ true
 
 abbrev pub ListsArePlain : Type 0
 ListsArePlain =
-    (tables : Tables) (program : ProgramTree) (core : List CoreOp) (entry : ℕ → ℕ) → ArePlain tables program
+    (tables : Tables) (program : ProgramTree) (core : List CoreOp) (entry : ℕ → ℕ)
+    → ArePlain tables program
     → IsFlat (bodies_of tables program) core entry → IsPlain core
 
 -- a list that goes on within itself from `main` on
@@ -44,6 +48,8 @@ pub record GoesOnWithin (core : List CoreOp) (main : ℕ) : Type 0 where
 
 abbrev pub ListsGoOnWithin : Type 0
 ListsGoOnWithin =
-    (tables : Tables) (program : ProgramTree) (core : List CoreOp) (entry : ℕ → ℕ) → ProgramAsked tables program → ArePlain tables program
+    (tables : Tables) (program : ProgramTree) (core : List CoreOp) (entry : ℕ → ℕ)
+    → ProgramAsked tables program → ArePlain tables program
     → AreShaped (bodies_of tables program) → IsFlat (bodies_of tables program) core entry
-    → is_closed (bodies_of tables program (main_of tables program)) ≡ true → GoesOnWithin core (entry (main_of tables program))
+    → is_closed (bodies_of tables program (main_of tables program)) ≡ true
+    → GoesOnWithin core (entry (main_of tables program))

@@ -17,7 +17,8 @@ use Rattle.fk_lower_laws.specs.Asked.{place_of}
 -- so where the code is well typed, and all its operations are plain
 abbrev pub ListsHaveHeights : Type 0
 ListsHaveHeights =
-    (known : ProgramTables) (program : ProgramTree) (core : List CoreOp) → program.items ≡ items_in known
+    (known : ProgramTables) (program : ProgramTree) (core : List CoreOp)
+    → program.items ≡ items_in known
     → ProgramFits (tables_of known) program → ArePlain (tables_of known) program
     → AreTyped (place_of (tables_of known) program) (bodies_of (tables_of known) program)
     → AreTold (depths_of known (functions_in known)) core

@@ -26,8 +26,10 @@ use Rattle.fk_lower_laws.specs.Proper.{ProgramIsProper}
 use Rattle.fk_lower_laws.specs.LoweringLaws.{IsKnownOf}
 use Rattle.fk_lower_laws.specs.Certain.{IsSteady, HasEnough, HasFrames}
 
--- the code of each function stands at its entry in a list, with its depths, and these words are those that are live in it
-pub record IsLowered (tables : Tables) (program : ProgramTree) (core : List CoreOp) (entry : (binding : ℕ) → ℕ) (kept : List Set) : Type 0 where
+-- the code of each function stands at its entry in a list, with its depths, and these words are
+-- those that are live in it
+pub record IsLowered (tables : Tables) (program : ProgramTree) (core : List CoreOp)
+    (entry : (binding : ℕ) → ℕ) (kept : List Set) : Type 0 where
   pub flat : IsFlat (bodies_of tables program) core entry
   pub tall : HasHeightsOf (bodies_of tables program) core (place_of tables program)
   pub live : IsLive core (words_in kept)
@@ -35,35 +37,44 @@ pub record IsLowered (tables : Tables) (program : ProgramTree) (core : List Core
 
 abbrev pub CorrectListsAreSteady : Type 0
 CorrectListsAreSteady =
-    (program : ProgramTree) (facts : Facts) → IsCorrect program facts → ProgramIsTrim program → ProgramIsProper program
+    (program : ProgramTree) (facts : Facts) → IsCorrect program facts → ProgramIsTrim program
+    → ProgramIsProper program
     → let tables = tables_by program facts in
     Fits tables program.items → ArePlain tables program
-    → (core : List CoreOp) (entry : (binding : ℕ) → ℕ) → IsFlat (bodies_of tables program) core entry → IsSteady core (entry (main_of tables program))
+    → (core : List CoreOp) (entry : (binding : ℕ) → ℕ)
+    → IsFlat (bodies_of tables program) core entry → IsSteady core (entry (main_of tables program))
 
 -- how many private variables of file scope a text has
 abbrev pub count_of_file : ProgramTree → Facts → ℕ
-count_of_file program facts = length (firsts (told facts.notes.items facts.kinds.items) program.items)
+count_of_file program facts =
+    length (firsts (told facts.notes.items facts.kinds.items) program.items)
 
 abbrev pub CorrectListsHaveFrames : Type 0
 CorrectListsHaveFrames =
-    (program : ProgramTree) (facts : Facts) → IsCorrect program facts → ProgramIsTrim program → ProgramIsProper program
+    (program : ProgramTree) (facts : Facts) → IsCorrect program facts → ProgramIsTrim program
+    → ProgramIsProper program
     → let tables = tables_by program facts in
     Fits tables program.items → ArePlain tables program
-    → (core : List CoreOp) (entry : (binding : ℕ) → ℕ) (kept : List Set) → IsLowered tables program core entry kept
+    → (core : List CoreOp) (entry : (binding : ℕ) → ℕ) (kept : List Set)
+    → IsLowered tables program core entry kept
     → HasFrames core kept (entry (main_of tables program)) (count_of_file program facts)
 
--- what code is made of: the depths of a list are those of all runs, each operation finds its values, and the list is steady and has
--- frames that keep the words that are live in it
+-- what code is made of: the depths of a list are those of all runs, each operation finds its
+-- values, and the list is steady and has frames that keep the words that are live in it
 pub record CanHaveGroups (core : List CoreOp) (main firsts : ℕ) : Type 0 where
   pub depths : HasDepths core main
   pub enough : HasEnough core
   pub steady : IsSteady core main
-  pub held : (kept : List Set) → IsLive core (words_in kept) → IsLeast core (words_in kept) → HasFrames core kept main firsts
+  pub held : (kept : List Set) → IsLive core (words_in kept) → IsLeast core (words_in kept)
+      → HasFrames core kept main firsts
 
 abbrev pub LoweredListsCanHaveGroups : Type 0
 LoweredListsCanHaveGroups =
-    (program : ProgramTree) (facts : Facts) (known : ProgramTables) → IsKnownOf program facts known → IsCorrect program facts → ProgramIsTrim program → ProgramIsProper program
+    (program : ProgramTree) (facts : Facts) (known : ProgramTables) → IsKnownOf program facts known
+    → IsCorrect program facts → ProgramIsTrim program → ProgramIsProper program
     → let tables = tables_by program facts in
     Fits tables program.items → ArePlain tables program
-    → (core : List CoreOp) (entry : (binding : ℕ) → ℕ) → IsFlat (bodies_of tables program) core entry → AreTold (depths_of known (functions_in known)) core
+    → (core : List CoreOp) (entry : (binding : ℕ) → ℕ)
+    → IsFlat (bodies_of tables program) core entry
+    → AreTold (depths_of known (functions_in known)) core
     → CanHaveGroups core (entry (main_of tables program)) (count_of_file program facts)

@@ -20,16 +20,19 @@ pub record IsKnownOf (program : ProgramTree) (facts : Facts) (known : ProgramTab
 
 -- the bindings of the functions go up in the order of the text
 abbrev pub BindingsGoUp : Type 0
-BindingsGoUp = (program : ProgramTree) (facts : Facts) (known : ProgramTables) → IsCorrect program facts → IsKnownOf program facts known → GoUp known 0 (functions_in known)
+BindingsGoUp = (program : ProgramTree) (facts : Facts) (known : ProgramTables)
+    → IsCorrect program facts → IsKnownOf program facts known → GoUp known 0 (functions_in known)
 
 -- the private variables of file scope are few
 abbrev pub FirstsAreFew : Type 0
 FirstsAreFew =
-    (program : ProgramTree) (facts : Facts) → IsCorrect program facts → Fits (tables_by program facts) program.items
+    (program : ProgramTree) (facts : Facts) → IsCorrect program facts
+    → Fits (tables_by program facts) program.items
     → length (firsts (told facts.notes.items facts.kinds.items) program.items) ≤ 56
 
 -- the functions can be laid where each number of an operation has room in a word
 abbrev pub TextsCanBeLaid : Type 0
 TextsCanBeLaid =
-    (program : ProgramTree) (facts : Facts) (known : ProgramTables) → IsCorrect program facts → IsKnownOf program facts known → Fits (tables_by program facts) program.items
+    (program : ProgramTree) (facts : Facts) (known : ProgramTables) → IsCorrect program facts
+    → IsKnownOf program facts known → Fits (tables_by program facts) program.items
     → AreWhole known (functions_in known) → CanBeLaid known 0 0 (functions_in known)

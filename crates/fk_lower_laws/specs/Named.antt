@@ -1,8 +1,10 @@
 -- What is asked of a program so that its code names private words that are there.
-use Rattle.std.specs.Prelude.{◌≡◌, ℕ, ◌<◌, ◌≤◌, ◌==◌, false, List, [], ◌∷◌, ◌++◌, length, if◌then◌else◌}
+use Rattle.std.specs.Prelude.{◌≡◌, ℕ, ◌<◌, ◌≤◌, ◌==◌, false, List, [], ◌∷◌, ◌++◌, length}
+use Rattle.std.specs.Prelude.{if◌then◌else◌}
 use Rattle.fk_syntax.specs.Tree.{Named}
 use Rattle.fk_syntax.specs.Program.{FunctionTree, ProgramTree}
-use Rattle.fk_types_names.specs.Outline.{MarkTree, Variable, Declares, Uses, variables_marks, body_marks}
+use Rattle.fk_types_names.specs.Outline.{MarkTree, Variable, Declares, Uses, variables_marks}
+use Rattle.fk_types_names.specs.Outline.{body_marks}
 use Rattle.fk_meaning_forms.specs.declared.tables.Home.{Home}
 use Rattle.fk_meaning_forms.specs.declared.tables.Home.TheVariants as h
 use Rattle.fk_meaning_forms.specs.Tables.{Tables, no_binding, note, slot}
@@ -50,11 +52,14 @@ module _ (tables : Tables) (words : FunctionTree → ℕ) (firsts : ℕ) where
 -- so many private words has the function of a binding
 abbrev pub words_in : Tables → (words : FunctionTree → ℕ) → List FunctionTree → (binding : ℕ) → ℕ
 words_in tables words [] b = 0
-words_in tables words (f ∷ fs) b = if binding_of tables f == b then words f else words_in tables words fs b
+words_in tables words (f ∷ fs) b = if binding_of tables f == b then words f
+    else words_in tables words fs b
 
 -- such programs of which all operations are plain come to code that names words that are there
 abbrev pub CodeNamesWords : Type 0
 CodeNamesWords =
     (tables : Tables) (program : ProgramTree) (words : FunctionTree → ℕ) (firsts : ℕ)
-    → ProgramFits tables program → ArePlain tables program → FunctionsName tables words firsts (functions_of program.items)
-    → (binding : ℕ) → HasWords firsts (words_in tables words (functions_of program.items) binding) (bodies_of tables program binding)
+    → ProgramFits tables program → ArePlain tables program
+    → FunctionsName tables words firsts (functions_of program.items)
+    → (binding : ℕ) → HasWords firsts (words_in tables words (functions_of program.items) binding)
+    (bodies_of tables program binding)

@@ -14,5 +14,7 @@ use Rattle.fk_lower_laws.specs.LoweringLaws.{IsKnownOf}
 -- where all are plain, each operation of a program that keeps all rules and has a layout has one
 abbrev pub OperationsHaveNumbers : Type 0
 OperationsHaveNumbers =
-    (program : ProgramTree) (facts : Facts) (known : ProgramTables) → IsCorrect program facts → ProgramIsTrim program → Fits (tables_by program facts) program.items
-    → ArePlain (tables_by program facts) program → IsKnownOf program facts known → AreNumbered known (functions_in known)
+    (program : ProgramTree) (facts : Facts) (known : ProgramTables) → IsCorrect program facts
+    → ProgramIsTrim program → Fits (tables_by program facts) program.items
+    → ArePlain (tables_by program facts) program → IsKnownOf program facts known
+    → AreNumbered known (functions_in known)

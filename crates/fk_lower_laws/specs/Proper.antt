@@ -1,6 +1,7 @@
 -- Programs whose structs have members, and whose parameters have no lengths.
 use Rattle.std.specs.Prelude.{◌≡◌, ℕ, List, [], ◌∷◌, None}
-use Rattle.fk_syntax.specs.Program.{DeclaredTree, ItemTree, StructItem, VariablesItem, FunctionItem, ProgramTree}
+use Rattle.fk_syntax.specs.Program.{DeclaredTree, ItemTree, StructItem, VariablesItem, FunctionItem}
+use Rattle.fk_syntax.specs.Program.{ProgramTree}
 use Rattle.fk_lex.specs.Reading.{Spelled, Tokens}
 use Rattle.fk_parse.specs.Parses.{SpellsProgram}
 

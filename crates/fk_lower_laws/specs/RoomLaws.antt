@@ -20,33 +20,41 @@ use Rattle.fk_lower_laws.specs.Proper.{ProgramIsProper}
 
 -- so many private words has the function of a binding, those of file scope apart
 abbrev pub words_of : Tables → ProgramTree → (binding : ℕ) → ℕ
-words_of tables program b = words_in tables (own_words tables program.items) (functions_of program.items) b
+words_of tables program b =
+    words_in tables (own_words tables program.items) (functions_of program.items) b
 
--- the private words of each function, and its values, have room beside what stands ahead and the 8 words that a layout counts
-pub record HaveValues (bodies : (binding : ℕ) → Code ℕ) (place_of : (binding : ℕ) → FunctionKind) (firsts : ℕ) (words : (binding : ℕ) → ℕ) : Type 0 where
+-- the private words of each function, and its values, have room beside what stands ahead and the 8
+-- words that a layout counts
+pub record HaveValues (bodies : (binding : ℕ) → Code ℕ) (place_of : (binding : ℕ) → FunctionKind)
+    (firsts : ℕ) (words : (binding : ℕ) → ℕ) : Type 0 where
   pub most : (binding : ℕ) → ℕ
   pub room : (f : ℕ) → ahead_in firsts (place_of f) + 8 + words f + most f ≤ 64
   pub few : (f : ℕ) → HasFew place_of (most f) 0 (bodies f)
 
 abbrev pub ValuesHaveRoom : Type 0
 ValuesHaveRoom =
-    (program : ProgramTree) (facts : Facts) → IsCorrect program facts → ProgramIsTrim program → ProgramIsProper program
+    (program : ProgramTree) (facts : Facts) → IsCorrect program facts → ProgramIsTrim program
+    → ProgramIsProper program
     → let tables = tables_by program facts in
     Fits tables program.items → ArePlain tables program
-    → HaveValues (bodies_of tables program) (place_of tables program) (file_privates program.items) (words_of tables program)
+    → HaveValues (bodies_of tables program) (place_of tables program) (file_privates program.items)
+    (words_of tables program)
 
--- and each private word that is named in the code of a function is there, among its own or those of file scope
+-- and each private word that is named in the code of a function is there, among its own or
+-- those of file scope
 abbrev pub NamesHaveWords : Type 0
 NamesHaveWords =
     (program : ProgramTree) (facts : Facts) → IsCorrect program facts → ProgramIsTrim program
     → let tables = tables_by program facts in
     Fits tables program.items → ArePlain tables program
-    → (binding : ℕ) → HasWords (file_privates program.items) (words_of tables program binding) (bodies_of tables program binding)
+    → (binding : ℕ) → HasWords (file_privates program.items) (words_of tables program binding)
+    (bodies_of tables program binding)
 
 -- so both have room in frames
 abbrev pub CorrectProgramsHaveRoom : Type 0
 CorrectProgramsHaveRoom =
-    (program : ProgramTree) (facts : Facts) → IsCorrect program facts → ProgramIsTrim program → ProgramIsProper program
+    (program : ProgramTree) (facts : Facts) → IsCorrect program facts → ProgramIsTrim program
+    → ProgramIsProper program
     → let tables = tables_by program facts in
     Fits tables program.items → ArePlain tables program
     → HaveRoom (bodies_of tables program) (place_of tables program) (file_privates program.items)

@@ -1,11 +1,13 @@
--- Functions whose private words and values have room in frames of 64 words, told by the structure of code.
+-- Functions whose private words and values have room in frames of 64 words, told by the
+-- structure of code.
 use Rattle.std.specs.Prelude.{◌≡◌, ℕ, ◌+◌, ◌<◌, ◌≤◌, true}
 use Rattle.fk_meaning_operation.specs.declared.operation.Operation.{Operation}
 use Rattle.fk_meaning_operation.specs.declared.operation.Operation.TheVariants.{Get, Set}
 use Rattle.fk_meaning_operation.specs.declared.operation.OwnValue.TheVariants.{Value}
 use Rattle.fk_meaning_operation.specs.declared.operation.Variable.TheVariants.{Private, OfFile}
 use Rattle.fk_layout_sizes.specs.Operations.{takes}
-use Rattle.fk_meaning_forms.specs.Code.{Code, done, perform, choose, while, until, quit, break, continue, call, ends}
+use Rattle.fk_meaning_forms.specs.Code.{Code, done, perform, choose, while, until, quit, break}
+use Rattle.fk_meaning_forms.specs.Code.{continue, call, ends}
 use Rattle.fk_core_flat.specs.Shape.{is_done}
 use Rattle.fk_core_liveness.specs.declared.places.FunctionKind.{FunctionKind}
 use Rattle.fk_core_liveness.specs.declared.places.FunctionKind.TheVariants.{Main, Called}
@@ -26,7 +28,8 @@ module _ (firsts words : ℕ) where
   HasWords done = Unit {0}
   HasWords (perform n op rest) = HasWord op × HasWords rest
   HasWords (choose n op x y rest) = HasWord op × HasWords x × HasWords y × HasWords rest
-  HasWords (while test body step rest) = HasWords test × HasWords body × HasWords step × HasWords rest
+  HasWords (while test body step rest) = HasWords test × HasWords body
+      × HasWords step × HasWords rest
   HasWords (until body test rest) = HasWords body × HasWords test × HasWords rest
   HasWords (quit n op rest) = HasWord op × HasWords rest
   HasWords (break rest) = HasWords rest
@@ -40,9 +43,11 @@ abbrev pub ahead_in : (firsts : ℕ) → FunctionKind → ℕ
 ahead_in firsts Main = firsts
 ahead_in firsts (Called gives) = 0
 
--- The private words of each function and its values have room beside what stands ahead and the 8 words that a layout counts for each
--- frame: a header of 7, and one for a result behind each call, also where the function that is called gives none
-pub record HaveRoom (bodies : (binding : ℕ) → Code ℕ) (place_of : (binding : ℕ) → FunctionKind) (firsts : ℕ) : Type 0 where
+-- The private words of each function and its values have room beside what stands ahead and the 8
+-- words that a layout counts for each frame: a header of 7, and one for a result behind each call,
+-- also where the function that is called gives none
+pub record HaveRoom (bodies : (binding : ℕ) → Code ℕ) (place_of : (binding : ℕ) → FunctionKind)
+    (firsts : ℕ) : Type 0 where
   pub words : (binding : ℕ) → ℕ
   pub most : (binding : ℕ) → ℕ
   pub room : (f : ℕ) → ahead_in firsts (place_of f) + 8 + words f + most f ≤ 64

@@ -9,12 +9,15 @@ use Rattle.fk_core_liveness.specs.Live.{IsLive, IsLeast}
 use Rattle.fk_core_typing.specs.Laws.{IsTypedList, HasHeightsOf}
 use Rattle.fk_lower_laws.specs.Rooms.{HaveRoom}
 
--- a flat list of well typed functions, with depths as its code has them and room in frames: the fewest words that are live in it
--- are those that its frames hold
+-- a flat list of well typed functions, with depths as its code has them and room in frames: the
+-- fewest words that are live in it are those that its frames hold
 abbrev pub LiveWordsSuit : Type 0
 LiveWordsSuit =
-    (bodies : (binding : ℕ) → Code ℕ) (core : List CoreOp) (entry : ℕ → ℕ) (place_of : (binding : ℕ) → FunctionKind) (firsts : ℕ)
-    → IsTypedList bodies core entry place_of → HasHeightsOf bodies core place_of → HaveRoom bodies place_of firsts
+    (bodies : (binding : ℕ) → Code ℕ) (core : List CoreOp) (entry : ℕ → ℕ)
+    (place_of : (binding : ℕ) → FunctionKind) (firsts : ℕ)
+    → IsTypedList bodies core entry place_of → HasHeightsOf bodies core place_of
+    → HaveRoom bodies place_of firsts
     → (keeps : (index word : ℕ) → Bool) → IsLive core keeps → IsLeast core keeps
     → (main : ℕ) → place_of main ≡ Main
-    → (is_main : (index : ℕ) → Bool) × Suits core (record { keeps = keeps; is_main = is_main; of_file = firsts }) (entry main)
+    → (is_main : (index : ℕ) → Bool)
+    × Suits core (record { keeps = keeps; is_main = is_main; of_file = firsts }) (entry main)

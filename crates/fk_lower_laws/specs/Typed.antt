@@ -1,4 +1,5 @@
--- Expressions that have a type, and what else is asked of them: what their names, members and calls are.
+-- Expressions that have a type, and what else is asked of them: what their names,
+-- members and calls are.
 use Rattle.std.specs.Prelude.{◌≡◌, ℕ, Bool, true, false, Some, None, is_some}
 use Rattle.fk_meaning_store.specs.Serve.{may_use}
 use Rattle.fk_syntax.specs.declared.place.Spot.{Spot}
@@ -8,7 +9,8 @@ use Rattle.fk_syntax.specs.Tree as t
 use Rattle.fk_syntax.specs.Tree.{Named, Tree, Links, Trees, Suffixes}
 use Rattle.fk_types_structs.specs.declared.types.DataType.{DataType}
 use Rattle.fk_types_operators.specs.declared.values.ExpressionType.{ExpressionType}
-use Rattle.fk_types_operators.specs.declared.values.ExpressionType.TheVariants.{Stored, Computed, Nothing}
+use Rattle.fk_types_operators.specs.declared.values.ExpressionType.TheVariants.{Stored, Computed}
+use Rattle.fk_types_operators.specs.declared.values.ExpressionType.TheVariants.{Nothing}
 use Rattle.fk_types_judgments.specs.Term as e
 use Rattle.fk_types_judgments.specs.Term.{Term, no_terms, term_of, with_arguments, joined_term}
 use Rattle.fk_types_judgments.specs.Names.{Env}
@@ -16,7 +18,8 @@ use Rattle.fk_types_judgments.specs.Typing.{type_of, struct_of_root, left_of}
 use Rattle.fk_meaning_forms.specs.Tables.{Tables, is_void}
 use Rattle.fk_meaning_forms.specs.Expressions.{Signature, token}
 use Rattle.fk_core_liveness.specs.declared.places.FunctionKind.{FunctionKind}
-use Rattle.fk_lower_laws.specs.Ways.{Way, Valued, Absent, Unchecked, Constant, Array, Grouped, Word, behind_member, named_way, called_way, dotted_way, way}
+use Rattle.fk_lower_laws.specs.Ways.{Way, Valued, Absent, Unchecked, Constant, Array, Grouped, Word}
+use Rattle.fk_lower_laws.specs.Ways.{behind_member, named_way, called_way, dotted_way, way}
 use Rattle.fk_lower_laws.specs.Asked.{CallAsks, NameAsks, Asked}
 
 abbrev pub IsNothing : ExpressionType → Bool
@@ -34,7 +37,8 @@ PrefixIs sign w = Unit {0}
 
 -- where there is room for what is stored at a constant address
 module _ (Room : (address : ℕ) → DataType → Type 0) where
-  -- an expression of a type stands in such a way. What is in a private word is no array and no struct
+  -- an expression of a type stands in such a way. What is in a private word is no
+  -- array and no struct
   abbrev pub StandsAs : Way → ExpressionType → Type 0
   StandsAs Valued (Computed value) = Unit {0}
   StandsAs Absent Nothing = Unit {0}
@@ -42,35 +46,43 @@ module _ (Room : (address : ℕ) → DataType → Type 0) where
   StandsAs (Constant address) (Stored type) = Room address type
   StandsAs Array (Stored type) = is_some type.length ≡ true
   StandsAs Grouped (Stored type) = Unit {0}
-  StandsAs Word (Stored type) = (is_some type.length ≡ false) × (struct_of_root type.root type.stars ≡ None)
+  StandsAs Word (Stored type) = (is_some type.length ≡ false)
+      × (struct_of_root type.root type.stars ≡ None)
   StandsAs w type = ⊥
 
-  module _ (env : Env) (tables : Tables) (functions : (binding : ℕ) → Signature) (place_of : (binding : ℕ) → FunctionKind) where
+  module _ (env : Env) (tables : Tables) (functions : (binding : ℕ) → Signature)
+      (place_of : (binding : ℕ) → FunctionKind) where
     -- by its type a name stands so; and what is called is a function with its arguments
     abbrev pub NameIs : Named → Type 0
     NameIs name =
         (type : ExpressionType) → type_of env (e.Use name) ≡ Some type
-        → NameAsks tables functions place_of name.at (named_way tables place_of name) × StandsAs (named_way tables place_of name) type
+        → NameAsks tables functions place_of name.at (named_way tables place_of name)
+        × StandsAs (named_way tables place_of name) type
 
     -- a type is noted at the token of what a comma drops, which is no struct
     abbrev pub CommaIs : Sign → Term → (at : ℕ) → Type 0
     CommaIs g.Comma before at =
-        (type : ExpressionType) → type_of env before ≡ Some type → is_some (left_of type) ≡ true → is_void tables at ≡ IsNothing type
+        (type : ExpressionType) → type_of env before ≡ Some type → is_some (left_of type) ≡ true
+        → is_void tables at ≡ IsNothing type
     CommaIs sign before at = Unit {0}
 
     -- a member has room where its struct has
     abbrev pub MemberIs : Spot → Term → Named → Type 0
     MemberIs spot before name =
-        (address : ℕ) (type member : DataType) → type_of env before ≡ Some (Stored type) → type_of env (e.Member spot before name) ≡ Some (Stored member)
+        (address : ℕ) (type member : DataType) → type_of env before ≡ Some (Stored type)
+        → type_of env (e.Member spot before name) ≡ Some (Stored member)
         → Room address type → Room (behind_member tables place_of name.at address) member
 
     abbrev mutual
       pub Known : Tree → Type 0
       Known (t.Variable name) = NameIs name
-      Known (t.Prefix spot sign operand) = Known operand × PrefixIs sign (way tables place_of operand)
+      Known (t.Prefix spot sign operand) = Known operand
+          × PrefixIs sign (way tables place_of operand)
       Known (t.Cast spot type operand) = Known operand
       Known (t.Chain first links) = Known first × LinksKnown (term_of first) (token first) links
-      Known (t.Postfix whole suffixes) = Known whole × SuffixesKnown (Asked tables functions place_of whole) (term_of whole) (way tables place_of whole) suffixes
+      Known (t.Postfix whole suffixes) = Known whole
+          × SuffixesKnown (Asked tables functions place_of whole) (term_of whole)
+          (way tables place_of whole) suffixes
       Known (t.Assign spot sign target value) = Known target × Known value
       Known (t.Choose spot condition first second) = Known condition × Known first × Known second
       Known x = Unit {0}
@@ -78,22 +90,31 @@ module _ (Room : (address : ℕ) → DataType → Type 0) where
       pub LinksKnown : Term → (at : ℕ) → Links → Type 0
       LinksKnown before at t.no_links = Unit {0}
       LinksKnown before at (t.link spot sign right others) =
-          Known right × CommaIs sign before at × LinksKnown (joined_term spot sign before (term_of right)) spot.at others
+          Known right × CommaIs sign before at
+          × LinksKnown (joined_term spot sign before (term_of right)) spot.at others
 
       -- a call that has a type is one of a function, of which so much is asked before
       pub SuffixesKnown : (before_asked : Type 0) → Term → Way → Suffixes → Type 0
       SuffixesKnown A before w t.no_suffixes = Unit {0}
-      SuffixesKnown A before w (t.index spot by others) = Known by × SuffixesKnown A (e.Index spot before (term_of by)) Unchecked others
+      SuffixesKnown A before w (t.index spot by others) = Known by
+          × SuffixesKnown A (e.Index spot before (term_of by)) Unchecked others
       SuffixesKnown A before w (t.call spot given others) =
           AllKnown given
-          × ((type : ExpressionType) → type_of env (e.Call spot before (with_arguments no_terms given)) ≡ Some type
-          → A × CallAsks tables functions place_of w given × StandsAs (called_way tables place_of w) type)
-          × SuffixesKnown A (e.Call spot before (with_arguments no_terms given)) (called_way tables place_of w) others
+          × ((type : ExpressionType)
+          → type_of env (e.Call spot before (with_arguments no_terms given)) ≡ Some type
+          → A × CallAsks tables functions place_of w given
+          × StandsAs (called_way tables place_of w) type)
+          × SuffixesKnown A (e.Call spot before (with_arguments no_terms given))
+          (called_way tables place_of w) others
       SuffixesKnown A before w (t.dot spot name others) =
-          MemberIs spot before name × SuffixesKnown A (e.Member spot before name) (dotted_way tables place_of name.at w) others
-      SuffixesKnown A before w (t.arrow spot name others) = SuffixesKnown A (e.Through spot before name) Unchecked others
-      SuffixesKnown A before w (t.up spot others) = SuffixesKnown A (e.Count spot false before) Valued others
-      SuffixesKnown A before w (t.down spot others) = SuffixesKnown A (e.Count spot false before) Valued others
+          MemberIs spot before name × SuffixesKnown A (e.Member spot before name)
+          (dotted_way tables place_of name.at w) others
+      SuffixesKnown A before w (t.arrow spot name others) =
+          SuffixesKnown A (e.Through spot before name) Unchecked others
+      SuffixesKnown A before w (t.up spot others) =
+          SuffixesKnown A (e.Count spot false before) Valued others
+      SuffixesKnown A before w (t.down spot others) =
+          SuffixesKnown A (e.Count spot false before) Valued others
 
       pub AllKnown : Trees → Type 0
       AllKnown t.no_trees = Unit {0}
@@ -104,7 +125,9 @@ abbrev pub TypedIsAsked : Type 0
 TypedIsAsked =
     (has_room : (address : ℕ) → DataType → Bool)
     → ((address : ℕ) (type : DataType) → has_room address type ≡ true → may_use true address ≡ true)
-    → (env : Env) (tables : Tables) (functions : (binding : ℕ) → Signature) (place_of : (binding : ℕ) → FunctionKind) (x : Tree)
+    → (env : Env) (tables : Tables) (functions : (binding : ℕ) → Signature)
+    (place_of : (binding : ℕ) → FunctionKind) (x : Tree)
     → Known (λ address type. has_room address type ≡ true) env tables functions place_of x
     → (type : ExpressionType) → type_of env (term_of x) ≡ Some type
-    → Asked tables functions place_of x × StandsAs (λ address type'. has_room address type' ≡ true) (way tables place_of x) type
+    → Asked tables functions place_of x
+    × StandsAs (λ address type'. has_room address type' ≡ true) (way tables place_of x) type

@@ -1,4 +1,5 @@
--- Such programs of which all operations are plain come to well typed code; and `main` is where it begins.
+-- Such programs of which all operations are plain come to well typed code; and `main` is
+-- where it begins.
 use Rattle.std.specs.Prelude.{◌≡◌, ◌⊎◌, ℕ, ◌==◌, true, List, [], ◌∷◌}
 use Rattle.fk_syntax.specs.Program.{FunctionTree, ProgramTree}
 use Rattle.fk_meaning_forms.specs.Tables.{Tables}
@@ -10,7 +11,8 @@ use Rattle.fk_lower_laws.specs.Asked.{place_of, ProgramAsked}
 
 abbrev pub FormsAreTyped : Type 0
 FormsAreTyped =
-    (tables : Tables) (program : ProgramTree) → ProgramAsked tables program → ArePlain tables program
+    (tables : Tables) (program : ProgramTree) → ProgramAsked tables program
+    → ArePlain tables program
     → AreTyped (place_of tables program) (bodies_of tables program)
 
 -- there is a `main`, and no other function has its binding
@@ -20,12 +22,14 @@ HasMain (f ∷ fs) = (is_main f ≡ true) ⊎ HasMain fs
 
 abbrev pub IsMainAlone : Tables → (main : ℕ) → List FunctionTree → Type 0
 IsMainAlone tables main [] = Unit {0}
-IsMainAlone tables main (f ∷ fs) = ((binding_of tables f == main) ≡ is_main f) × IsMainAlone tables main fs
+IsMainAlone tables main (f ∷ fs) = ((binding_of tables f == main) ≡ is_main f)
+    × IsMainAlone tables main fs
 
 -- so its binding means `main`, and every other one a function that is called
 abbrev pub MainHasItsPlace : Type 0
 MainHasItsPlace =
     (tables : Tables) (program : ProgramTree)
-    → HasMain (functions_of program.items) → IsMainAlone tables (main_of tables program) (functions_of program.items)
+    → HasMain (functions_of program.items)
+    → IsMainAlone tables (main_of tables program) (functions_of program.items)
     → (place_of tables program (main_of tables program) ≡ Main)
     × ((binding : ℕ) → place_of tables program binding ≡ Main → binding ≡ main_of tables program)

@@ -19,8 +19,8 @@ pub data Way : Type 0 where
   -- as a value, or as none
   Valued : Way
   Absent : Way
-  -- at an address that is checked before it is used; at a constant one, which needs no check; at that of an array, which is its
-  -- value; or in a group frame
+  -- at an address that is checked before it is used; at a constant one, which needs no check; at
+  -- that of an array, which is its value; or in a group frame
   Unchecked : Way
   Constant : (address : ℕ) → Way
   Array : Way
@@ -42,7 +42,8 @@ result false = Absent
 -- a predeclared function gives a value, but for those that print
 abbrev pub predeclared_gives : Named → Bool
 predeclared_gives name =
-    takes_two name || (is_name name (codes "groupsize") || not (is_name name (codes "putint") || is_name name (codes "putchar")))
+    takes_two name || (is_name name (codes "groupsize")
+    || not (is_name name (codes "putint") || is_name name (codes "putchar")))
 
 abbrev pub place_gives : FunctionKind → Bool
 place_gives Main = false
@@ -78,7 +79,8 @@ module _ (tables : Tables) (place_of : (binding : ℕ) → FunctionKind) where
   abbrev pub named_way : Named → Way
   named_way name =
       let b = (note tables name.at).binding in
-      if b == no_binding then predeclared_way name else placed_way (slot tables b).home (slot tables b).index name
+      if b == no_binding then predeclared_way name
+      else placed_way (slot tables b).home (slot tables b).index name
 
   abbrev pub call_gives : Named → Bool
   call_gives name =

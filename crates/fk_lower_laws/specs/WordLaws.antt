@@ -14,11 +14,15 @@ use Rattle.fk_check_laws.specs.Correct.{IsCorrect}
 
 -- the words before members are few, and so are the parameters of functions
 abbrev pub MembersAreClose : Type 0
-MembersAreClose = (program : ProgramTree) (facts : Facts) → IsCorrect program facts → ItemsAreNear (tables_by program facts) program.items
+MembersAreClose = (program : ProgramTree) (facts : Facts) → IsCorrect program facts
+    → ItemsAreNear (tables_by program facts) program.items
 
--- each number that an operation takes has room in a word, where those that are written in the text have
+-- each number that an operation takes has room in a word, where those that are written
+-- in the text have
 abbrev pub NumbersHaveRoom : Type 0
 NumbersHaveRoom =
-    (program : ProgramTree) (facts : Facts) (known : ProgramTables) → IsCorrect program facts → Fits (tables_by program facts) program.items
-    → NumbersAreWords program → tables_of known ≡ tables_by program facts → items_in known ≡ program.items
+    (program : ProgramTree) (facts : Facts) (known : ProgramTables) → IsCorrect program facts
+    → Fits (tables_by program facts) program.items
+    → NumbersAreWords program → tables_of known ≡ tables_by program facts
+    → items_in known ≡ program.items
     → AreWhole known (functions_in known)

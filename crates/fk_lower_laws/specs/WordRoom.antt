@@ -1,4 +1,5 @@
--- Programs of which each number that an operation takes has room in a word: what is asked of their tables, and of the trees.
+-- Programs of which each number that an operation takes has room in a word: what is asked of their
+-- tables, and of the trees.
 use Rattle.std.specs.Prelude.{ℕ, ◌<◌, ◌^◌, List, [], ◌∷◌, All, Option, Some, None, length}
 use Rattle.fk_syntax.specs.declared.facts.Kind.{Kind}
 use Rattle.fk_syntax.specs.declared.facts.Note.{Note}
@@ -34,7 +35,8 @@ module _ (tables : Tables) where
     MembersAreNear (t.Chain first links) = MembersAreNear first × AreNearInLinks links
     MembersAreNear (t.Postfix whole suffixes) = MembersAreNear whole × AreNearInSuffixes suffixes
     MembersAreNear (t.Assign spot sign target value) = MembersAreNear target × MembersAreNear value
-    MembersAreNear (t.Choose spot condition first second) = MembersAreNear condition × MembersAreNear first × MembersAreNear second
+    MembersAreNear (t.Choose spot condition first second) = MembersAreNear condition
+        × MembersAreNear first × MembersAreNear second
     MembersAreNear other = Unit {0}
 
     pub AreNearInLinks : Links → Type 0
@@ -48,7 +50,8 @@ module _ (tables : Tables) where
     pub AreNearInSuffixes : Suffixes → Type 0
     AreNearInSuffixes t.no_suffixes = Unit {0}
     AreNearInSuffixes (t.index spot by others) = MembersAreNear by × AreNearInSuffixes others
-    AreNearInSuffixes (t.call spot arguments others) = AreNearInTrees arguments × AreNearInSuffixes others
+    AreNearInSuffixes (t.call spot arguments others) = AreNearInTrees arguments
+        × AreNearInSuffixes others
     AreNearInSuffixes (t.dot spot member others) = IsNear member × AreNearInSuffixes others
     AreNearInSuffixes (t.arrow spot member others) = IsNear member × AreNearInSuffixes others
     AreNearInSuffixes (t.up spot others) = AreNearInSuffixes others
@@ -69,15 +72,18 @@ module _ (tables : Tables) where
     StatementIsNear (p.Block statements) = StatementsAreNear statements
     StatementIsNear (p.Declare variables) = VariablesAreNear variables
     StatementIsNear (p.If spot condition first) = MembersAreNear condition × StatementIsNear first
-    StatementIsNear (p.IfElse spot condition first second) = MembersAreNear condition × StatementIsNear first × StatementIsNear second
+    StatementIsNear (p.IfElse spot condition first second) = MembersAreNear condition
+        × StatementIsNear first × StatementIsNear second
     StatementIsNear (p.While spot condition body) = MembersAreNear condition × StatementIsNear body
-    StatementIsNear (p.DoWhile spot body condition) = StatementIsNear body × MembersAreNear condition
+    StatementIsNear (p.DoWhile spot body condition) = StatementIsNear body
+        × MembersAreNear condition
     StatementIsNear (p.For spot before condition after body) =
         OptionIsNear before × OptionIsNear condition × OptionIsNear after × StatementIsNear body
     StatementIsNear (p.Start spot count body) = OptionIsNear count × StatementIsNear body
     StatementIsNear (p.Farm spot body) = StatementIsNear body
     StatementIsNear (p.Seq spot body) = StatementIsNear body
-    StatementIsNear (p.Fork spot parts part rank body) = MembersAreNear parts × MembersAreNear part × OptionIsNear rank × StatementIsNear body
+    StatementIsNear (p.Fork spot parts part rank body) = MembersAreNear parts × MembersAreNear part
+        × OptionIsNear rank × StatementIsNear body
     StatementIsNear (p.Return spot e) = OptionIsNear e
     StatementIsNear other = Unit {0}
 

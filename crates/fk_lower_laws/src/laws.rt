@@ -9,11 +9,13 @@ ghost use Rattle.fk_lower_laws.specs.Proper.{TextsAreProper};
 ghost use Rattle.fk_lower_laws.specs.AskedLaws.{CorrectProgramsAreAsked, MainsHaveTheirPlace};
 ghost use Rattle.fk_lower_laws.specs.FreeLaws.{FlatListsAreApart, ListsArePlain, ListsGoOnWithin};
 ghost use Rattle.fk_lower_laws.specs.Suiting.{LiveWordsSuit};
-ghost use Rattle.fk_lower_laws.specs.RoomLaws.{ValuesHaveRoom, NamesHaveWords, CorrectProgramsHaveRoom};
+ghost use Rattle.fk_lower_laws.specs.RoomLaws.{ValuesHaveRoom, NamesHaveWords};
+ghost use Rattle.fk_lower_laws.specs.RoomLaws.{CorrectProgramsHaveRoom};
 ghost use Rattle.fk_lower_laws.specs.Named.{CodeNamesWords};
 ghost use Rattle.fk_lower_laws.specs.NumberLaws.{OperationsHaveNumbers};
 ghost use Rattle.fk_lower_laws.specs.HeightLaws.{ListsHaveHeights};
-ghost use Rattle.fk_lower_laws.specs.Laws.{CorrectListsAreSteady, CorrectListsHaveFrames, LoweredListsCanHaveGroups};
+ghost use Rattle.fk_lower_laws.specs.Laws.{CorrectListsAreSteady, CorrectListsHaveFrames};
+ghost use Rattle.fk_lower_laws.specs.Laws.{LoweredListsCanHaveGroups};
 
 /// The code of a program of which all operations are plain is well typed, where there is a value
 /// wherever one is needed, a place where something is assigned, each call has its arguments, and
@@ -92,9 +94,9 @@ pub fn lists_are_plain()
     ensures { ListsArePlain }
 {}
 
-/// The flat list of a program with well typed code, of which all operations are plain, goes on within
-/// itself: its jumps lead to operations, none but an end goes on outside it, and its `main` begins in
-/// it.
+/// The flat list of a program with well typed code, of which all operations are plain, goes on
+/// within itself: its jumps lead to operations, none but an end goes on outside it, and its
+/// `main` begins in it.
 pub fn lists_go_on_within()
     ensures { ListsGoOnWithin }
 {}
@@ -117,8 +119,8 @@ pub fn code_names_words()
     ensures { CodeNamesWords }
 {}
 
-/// A program that keeps all rules and has a layout has code that names private words that are there:
-/// each is below the number of its function's own words, or among those of file scope.
+/// A program that keeps all rules and has a layout has code that names private words that are
+/// there: each is below the number of its function's own words, or among those of file scope.
 pub fn names_have_words()
     ensures { NamesHaveWords }
 {}
@@ -143,22 +145,23 @@ pub fn lists_have_heights()
 {}
 
 /// A flat list of a program that keeps all rules, as a text spells it, and has a layout, has plain
-/// operations alone, goes on within itself from `main` on, and may do each operation in every run, with
-/// groups too, where all operations are plain.
+/// operations alone, goes on within itself from `main` on, and may do each operation in every run,
+/// with groups too, where all operations are plain.
 pub fn correct_lists_are_steady()
     ensures { CorrectListsAreSteady }
 {}
 
 /// A flat list of a program that keeps all rules, as a text spells it, and has a layout, with the
-/// depths of its code and its live words, suits frames that hold these words, where all operations are
-/// plain.
+/// depths of its code and its live words, suits frames that hold these words, where all
+/// operations are plain.
 pub fn correct_lists_have_frames()
     ensures { CorrectListsHaveFrames }
 {}
 
-/// A flat list of a program that keeps all rules, as a text spells it, and has a layout, with the
-/// depths that lowering tells of the text, has the depths of all runs, finds the values that each
-/// operation needs, is steady, and has frames that hold its live words, where all operations are plain.
+/// A flat list of a program that keeps all rules, as a text spells it, and has a layout, with
+/// the depths that lowering tells of the text, has the depths of all runs, finds the values that
+/// each operation needs, is steady, and has frames that hold its live words, where all
+/// operations are plain.
 pub fn lowered_lists_can_have_groups()
     ensures { LoweredListsCanHaveGroups }
 {}

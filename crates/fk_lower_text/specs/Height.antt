@@ -1,4 +1,5 @@
--- How many values the running call has at a place in code. Numbers above the greatest one stay at it.
+-- How many values the running call has at a place in code. Numbers above the
+-- greatest one stay at it.
 use Rattle.std.specs.Prelude.{ℕ, ◌-◌, ◌^◌, min, Option, Some, None}
 use Rattle.fk_syntax.specs.declared.place.Place.{Place}
 use Rattle.fk_meaning_operation.specs.declared.operation.Operation.{Operation}
@@ -35,8 +36,9 @@ abbrev pub with_operation : Height → Option (Operation × Place) → Height
 with_operation height None = height
 with_operation height (Some operation) = performed height operation.0
 
--- a call begins without values. Behind it there is its result, where it has one, in place of its arguments. The second way of a
--- choice begins as the first one did, and what stands behind both goes on from the end of the first one
+-- a call begins without values. Behind it there is its result, where it has one, in place of its
+-- arguments. The second way of a choice begins as the first one did, and what stands behind both
+-- goes on from the end of the first one
 abbrev pub after : Height → Event → Height
 after height (Call op place function) = high (behind height.values op) (Some 0)
 after height (Returned entered void) = high (plus entered.values (results void)) None

@@ -1,5 +1,6 @@
 -- The code of functions, each at its binding.
-use Rattle.std.specs.Prelude.{ℕ, suc, ◌+◌, ◌-◌, ◌*◌, ◌^◌, ◌<◌, ◌≤◌, List, [], ◌∷◌, ◌++◌, map, replicate}
+use Rattle.std.specs.Prelude.{ℕ, suc, ◌+◌, ◌-◌, ◌*◌, ◌^◌, ◌<◌, ◌≤◌, List, [], ◌∷◌, ◌++◌, map}
+use Rattle.std.specs.Prelude.{replicate}
 use Rattle.fk_syntax.specs.Program.{FunctionTree}
 use Rattle.fk_meaning_forms.specs.Code.{Code, done, size, numbered}
 use Rattle.fk_meaning_forms.specs.Program.{binding_of}
@@ -14,25 +15,29 @@ abbrev pub codes_of : List Block → List (Code ℕ)
 codes_of blocks = map block_code blocks
 
 module _ (known : ProgramTables) where
-  -- the code of functions, each at its binding, where there are so many bindings before, and the next operation has a site
+  -- the code of functions, each at its binding, where there are so many bindings before, and the
+  -- next operation has a site
   abbrev pub laid : (count site : ℕ) → List FunctionTree → List (Code ℕ)
   laid count site [] = []
   laid count site (f ∷ fs) =
       replicate (binding_of (tables_of known) f - count) done
-      ++ numbered site (code_in known f) ∷ laid (suc (binding_of (tables_of known) f)) (site + size (code_in known f)) fs
+      ++ numbered site (code_in known f) ∷ laid (suc (binding_of (tables_of known) f))
+      (site + size (code_in known f)) fs
 
   -- the bindings of functions go up, from so many on
   abbrev pub GoUp : (count : ℕ) → List FunctionTree → Type 0
   GoUp count [] = Unit {0}
-  GoUp count (f ∷ fs) = (count ≤ binding_of (tables_of known) f) × GoUp (suc (binding_of (tables_of known) f)) fs
+  GoUp count (f ∷ fs) = (count ≤ binding_of (tables_of known) f)
+      × GoUp (suc (binding_of (tables_of known) f)) fs
 
   -- how many operations their code has
   abbrev pub sizes : List FunctionTree → ℕ
   sizes [] = 0
   sizes (f ∷ fs) = size (code_in known f) + sizes fs
 
-  -- functions whose code can be shown, each at its binding, so many bindings and operations behind the first ones: their bindings
-  -- go up, and three entries of a list for each of their operations have indices
+  -- functions whose code can be shown, each at its binding, so many bindings and operations
+  -- behind the first ones: their bindings go up, and three entries of a list for each of their
+  -- operations have indices
   pub record CanBeLaid (count site : ℕ) (fs : List FunctionTree) : Type 0 where
     pub up : GoUp count fs
     pub plain : ArePlain known fs

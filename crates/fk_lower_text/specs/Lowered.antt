@@ -16,24 +16,28 @@ use Rattle.fk_core.specs.KeepsRuns.{HasCodeOf}
 use Rattle.fk_core_flat.specs.Items.{Item, acts, jumps, calls}
 use Rattle.fk_core_flat.specs.Laws.{AreShaped, IsFlat}
 use Rattle.fk_lower.specs.declared.fault.LowerFault.{LowerFault}
-use Rattle.fk_lower.specs.declared.fault.LowerFault.TheVariants.{TooLong, OutOfRange, Misplaced, Memory}
+use Rattle.fk_lower.specs.declared.fault.LowerFault.TheVariants.{TooLong, OutOfRange, Misplaced}
+use Rattle.fk_lower.specs.declared.fault.LowerFault.TheVariants.{Memory}
 use Rattle.fk_lower.specs.Lowered.{IsListOf}
 use Rattle.fk_lower_text.specs.Whole.{AreWhole, AreNumbered}
 
--- a program of these items, of whose code is asked that it has the shape of flat lists, and that each number of its operations has
--- room in a word
+-- a program of these items, of whose code is asked that it has the shape of flat lists, and that
+-- each number of its operations has room in a word
 pub record IsLowerable (known : ProgramTables) (program : ProgramTree) : Type 0 where
   pub items : program.items ≡ items_in known
   pub shaped : AreShaped (bodies_of (tables_of known) program)
   pub whole : AreWhole known (functions_in known)
 
-module _ (known : ProgramTables) (program : ProgramTree) (core : List CoreOp) (entry : (binding : ℕ) → ℕ) where
-  -- the list is flat, with the code of each function at its entry; and so the code of the program stands in it
+module _ (known : ProgramTables) (program : ProgramTree) (core : List CoreOp)
+    (entry : (binding : ℕ) → ℕ) where
+  -- the list is flat, with the code of each function at its entry; and so the code of the
+  -- program stands in it
   pub record HasProgram : Type 0 where
     pub flat : IsFlat (bodies_of (tables_of known) program) core entry
     pub code : HasCodeOf (tables_of known) program core entry
 
-  -- a schedule is lawful for the program and the list or for neither, and under it the stores and the stands are equal
+  -- a schedule is lawful for the program and the list or for neither, and under it the stores and
+  -- the stands are equal
   abbrev pub HasItsRuns : Type 0
   HasItsRuns =
       (words firsts input : List ℕ) (p : ℕ) (setting : Setting) (schedule : Schedule)
@@ -41,15 +45,16 @@ module _ (known : ProgramTables) (program : ProgramTree) (core : List CoreOp) (e
       (source.program_opening (tables_of known) program words firsts input p)
       (list_opening (entry (main_of (tables_of known) program)) words firsts input p)
 
--- the operations of the list are those of the text in their order, each with its rank as its site, and there are few jumps
--- between them
+-- the operations of the list are those of the text in their order, each with its rank as its site,
+-- and there are few jumps between them
 pub record HasSites (known : ProgramTables) (core : List CoreOp) : Type 0 where
   pub items : List Item
   pub are : IsListOf core items
   pub sites : acts items ≡ ranked 0 (sites_of_text known)
   pub few : jumps items ≤ length (acts items) + calls items
 
--- Why functions that can be laid have no list: an operation has no number, or memory is refused, which no clause can say
+-- Why functions that can be laid have no list: an operation has no number, or memory is refused,
+-- which no clause can say
 abbrev pub IsTextFault : ProgramTables → LowerFault → Type 0
 IsTextFault known TooLong = ⊥
 IsTextFault known OutOfRange = AreNumbered known (functions_in known) → ⊥

@@ -32,7 +32,8 @@ written noting event = record noting {
 }
 
 abbrev pub noted : Noting → CodeEvent → Noting
-noted noting event = if nat_lt noting.filled (length noting.events.items) then written noting event else noting
+noted noting event =
+    if nat_lt noting.filled (length noting.events.items) then written noting event else noting
 
 abbrev pub noting_after : Noting → Event → Noting
 noting_after noting event = noted noting (told event)

@@ -21,14 +21,16 @@ deeper depths = record depths {
 }
 
 abbrev pub told_depth : Depths → Depths
-told_depth depths = if nat_lt depths.filled (length depths.told.items) then deeper depths else depths
+told_depth depths =
+    if nat_lt depths.filled (length depths.told.items) then deeper depths else depths
 
 abbrev pub with_depth : Depths → Option (Operation × Place) → Depths
 with_depth depths None = depths
 with_depth depths (Some operation) = told_depth depths
 
 abbrev pub depths_after : Depths → Event → Depths
-depths_after depths event = record (with_depth depths (operation_of event)) { height = after depths.height event }
+depths_after depths event =
+    record (with_depth depths (operation_of event)) { height = after depths.height event }
 
 abbrev pub depths_mark : Depths → Mark
 depths_mark depths = mark_of depths.height
@@ -40,4 +42,5 @@ begun depths = record depths { height = high 0 None }
 abbrev pub through_functions : ProgramTables → Depths → List FunctionTree → Depths
 through_functions known depths [] = depths
 through_functions known depths (f ∷ fs) =
-    through_functions known (through depths_after depths_mark (functions_of known) (begun depths) (code_in known f)) fs
+    through_functions known
+    (through depths_after depths_mark (functions_of known) (begun depths) (code_in known f)) fs

@@ -1,6 +1,7 @@
 //! The blocks of the functions of a text.
 
-ghost use Rattle.std.specs.Prelude.{◌≡◌, ◌+◌, ◌-◌, ◌*◌, ◌^◌, ◌<◌, ◌≤◌, ◌∷◌, ◌++◌, [], List, IfOk, IfErr, OnOk, length, map, replicate};
+ghost use Rattle.std.specs.Prelude.{◌≡◌, ◌+◌, ◌-◌, ◌*◌, ◌^◌, ◌<◌, ◌≤◌, ◌∷◌, ◌++◌, [], List, IfOk};
+ghost use Rattle.std.specs.Prelude.{IfErr, OnOk, length, map, replicate};
 ghost use Rattle.std.specs.List.{count_by};
 ghost use Rattle.fk_syntax.specs.Program.{FunctionTree, ItemTree};
 ghost use Rattle.fk_syntax.specs.ProgramView.{function_of, item_of};
@@ -116,7 +117,8 @@ impl Bodies {
         requires sound { IsSound known.now }
         requires measured { AreMeasured (map part_of self.now.blocks.items) }
         requires plain { IsPlain (code_in known.now (function_of whole.now)) }
-        requires few { 3 * (self.now.site + size (code_in known.now (function_of whole.now))) < 2 ^ 32 }
+        requires few { 3
+            * (self.now.site + size (code_in known.now (function_of whole.now))) < 2 ^ 32 }
         ensures count { OnOk result
             (length self.new.blocks.items ≡ length self.old.blocks.items + 1) }
         ensures codes { OnOk result (codes_of self.new.blocks.items ≡ codes_of self.old.blocks.items
@@ -141,10 +143,12 @@ impl Bodies {
         requires laid { CanBeLaid known.now (length self.now.blocks.items) self.now.site
             (function_of whole.now ∷ []) }
         ensures next { OnOk result ((fs : List FunctionTree)
-            → CanBeLaid known.now (length self.old.blocks.items) self.old.site (function_of whole.now ∷ fs)
+            → CanBeLaid known.now (length self.old.blocks.items) self.old.site
+            (function_of whole.now ∷ fs)
             → CanBeLaid known.now (length self.new.blocks.items) self.new.site fs) }
         ensures codes { OnOk result ((fs : List FunctionTree) → codes_of self.old.blocks.items
-            ++ laid known.now (length self.old.blocks.items) self.old.site (function_of whole.now ∷ fs)
+            ++ laid known.now (length self.old.blocks.items) self.old.site
+            (function_of whole.now ∷ fs)
             ≡ codes_of self.new.blocks.items
             ++ laid known.now (length self.new.blocks.items) self.new.site fs) }
         ensures measured { AreMeasured (map part_of self.new.blocks.items) }
@@ -164,7 +168,8 @@ impl Bodies {
         ensures next { OnOk result ((others : List ItemTree)
             → CanBeLaid known.now (length self.old.blocks.items) self.old.site
             (functions_of (item_of whole.now ∷ others))
-            → CanBeLaid known.now (length self.new.blocks.items) self.new.site (functions_of others)) }
+            → CanBeLaid known.now (length self.new.blocks.items) self.new.site
+            (functions_of others)) }
         ensures codes { OnOk result ((others : List ItemTree)
             → codes_of self.old.blocks.items
             ++ laid known.now (length self.old.blocks.items) self.old.site

@@ -8,7 +8,8 @@ ghost use Rattle.fk_lower.specs.Depths.{AreTold};
 ghost use Rattle.fk_lower.specs.Written.{entry_of};
 ghost use Rattle.fk_lower_text.specs.Depths as d;
 ghost use Rattle.fk_lower_text.specs.Laid.{CanBeLaid};
-ghost use Rattle.fk_lower_text.specs.Lowered.{IsLowerable, HasProgram, HasItsRuns, HasSites, IsTextFault};
+ghost use Rattle.fk_lower_text.specs.Lowered.{IsLowerable, HasProgram, HasItsRuns, HasSites};
+ghost use Rattle.fk_lower_text.specs.Lowered.{IsTextFault};
 
 use crate::bodies::Bodies;
 use crate::depths::depths_of;
@@ -35,7 +36,8 @@ pub fn lower_text(alloc: Global, known: &ProgramTables) -> Result<Lowered, Lower
     ensures sites { (program : ProgramTree) → IsLowerable known.now program
         → IfOk result (λ lowered. HasSites known.now lowered.ops.items) }
     ensures told { (program : ProgramTree) → IsLowerable known.now program
-        → IfOk result (λ lowered. AreTold (d.depths_of known.now (functions_in known.now)) lowered.ops.items) }
+        → IfOk result
+        (λ lowered. AreTold (d.depths_of known.now (functions_in known.now)) lowered.ops.items) }
     ensures refused { IfErr result (IsTextFault known.now) }
 {
     let bodies = Bodies::of(alloc, known)?;

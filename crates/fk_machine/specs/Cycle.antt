@@ -1,5 +1,6 @@
 -- Machines, and one cycle.
-use Rattle.std.specs.Prelude.{ℕ, suc, ◌+◌, List, [], ◌∷◌, ◌++◌, Option, Some, None, Bool, true, false, ◌&&◌, cond, map, length, replicate, slice_index}
+use Rattle.std.specs.Prelude.{ℕ, suc, ◌+◌, List, [], ◌∷◌, ◌++◌, Option, Some, None, Bool, true}
+use Rattle.std.specs.Prelude.{false, ◌&&◌, cond, map, length, replicate, slice_index}
 use Rattle.fk_num.specs.Word.{Memory}
 use Rattle.fk_image.specs.declared.Image.{Image}
 use Rattle.fk_isa.specs.declared.instruction.Instruction.{Instruction}
@@ -9,8 +10,8 @@ use Rattle.fk_machine.specs.declared.stand.Stand.TheVariants.{Running, Finished,
 use Rattle.fk_machine.specs.Hart.{Hart, Shared, Setting, Effect, Goes, Stops}
 use Rattle.fk_machine.specs.Step.{step}
 
--- what the harts from one on do in a cycle: the harts and the shared state after it, the address that each
--- ran, none for one that was not served, and the stand that ended the cycle, if one did
+-- what the harts from one on do in a cycle: the harts and the shared state after it, the address
+-- that each ran, none for one that was not served, and the stand that ended the cycle, if one did
 pub record Turns : Type 0 where
   pub harts : List Hart
   pub shared : Shared
@@ -18,7 +19,8 @@ pub record Turns : Type 0 where
   pub stop : Option Stand
 
 abbrev pub before : Hart → Option ℕ → Turns → Turns
-before h pc rest = record { harts = h ∷ rest.harts; shared = rest.shared; ran = pc ∷ rest.ran; stop = rest.stop }
+before h pc rest =
+    record { harts = h ∷ rest.harts; shared = rest.shared; ran = pc ∷ rest.ran; stop = rest.stop }
 
 abbrev pub no_address : Hart → Option ℕ
 no_address h = None
@@ -49,7 +51,8 @@ pub record Machine : Type 0 where
   pub stand : Stand
 
 abbrev pub setting_of : Machine → Setting
-setting_of m = record { code = m.code; harts = length m.harts; inputs = m.inputs; finished = m.begun }
+setting_of m =
+    record { code = m.code; harts = length m.harts; inputs = m.inputs; finished = m.begun }
 
 -- a cycle begins with nothing printed
 abbrev pub unprinted : Shared → Shared
@@ -99,7 +102,12 @@ machine_opening image input p =
     record {
       code = map row image.code.items;
       harts = replicate p first_hart;
-      shared = record { words = first_words image input; control = λ i. 0; output = []; reserved = λ number. None };
+      shared = record {
+        words = first_words image input;
+        control = λ i. 0;
+        output = [];
+        reserved = λ number. None;
+      };
       inputs = length input;
       begun = 0;
       stand = Running;

@@ -1,5 +1,6 @@
 -- What the code of one turn, and of the turns of a cycle, does.
-use Rattle.std.specs.Prelude.{◌≡◌, ℕ, ◌+◌, ◌-◌, ◌≤◌, List, Option, Some, None, length, slice_index, vec_len, vec_capacity}
+use Rattle.std.specs.Prelude.{◌≡◌, ℕ, ◌+◌, ◌-◌, ◌≤◌, List, Option, Some, None, length, slice_index}
+use Rattle.std.specs.Prelude.{vec_len, vec_capacity}
 use Rattle.fk_isa.specs.declared.hart.Hart.{Hart as HartState}
 use Rattle.fk_machine.specs.declared.bus.HartBus.{HartBus}
 use Rattle.fk_machine.specs.declared.shared.SharedState.{SharedState}
@@ -21,7 +22,11 @@ pub record PrintsUpTo (bytes : ℕ) (old new : SharedState) : Type 0 where
 
 -- a hart's bus as what the hart reaches
 abbrev pub reach_of : HartBus → Reach
-reach_of b = record { setting = setting_of b.setting.now; local = slice_index b.local.now; shared = shared_of b.shared.now }
+reach_of b = record {
+  setting = setting_of b.setting.now;
+  local = slice_index b.local.now;
+  shared = shared_of b.shared.now;
+}
 
 -- a bus is ready for its hart: it has the hart's whole memory, and room for a line
 pub record IsReady (b : HartBus) : Type 0 where
@@ -41,18 +46,23 @@ Gives effect h s None h' s' = effect ≡ Goes h' s'
 Gives effect h s (Some stand) h' s' = (effect ≡ Stops stand) × (h' ≡ h) × (s' ≡ s)
 
 -- an instruction, on a hart with its local memory and on the shared state, before and after
-abbrev pub Does : (Hart → Shared → Effect) → HartState → List ℕ → SharedState → Option Stand → HartState → List ℕ → SharedState → Type 0
+abbrev pub Does : (Hart → Shared → Effect) → HartState → List ℕ → SharedState → Option Stand
+    → HartState → List ℕ → SharedState → Type 0
 Does instruction h local s stop h' local' s' =
     let hart = hart_of h (slice_index local) in
-    Gives (instruction hart (shared_of s)) hart (shared_of s) stop (hart_of h' (slice_index local')) (shared_of s')
+    Gives (instruction hart (shared_of s)) hart (shared_of s) stop
+    (hart_of h' (slice_index local')) (shared_of s')
 
 -- turns leave these harts and this shared state, and end with this stand, if they do
-pub record TurnsGive (t : Turns) (stop : Option Stand) (harts : List Hart) (shared : Shared) : Type 0 where
+pub record TurnsGive (t : Turns) (stop : Option Stand) (harts : List Hart)
+    (shared : Shared) : Type 0 where
   pub harts_are : t.harts ≡ harts
   pub shared_is : t.shared ≡ shared
   pub stop_is : t.stop ≡ stop
 
 -- the turns of all harts, before and after
-abbrev pub TakesTurns : (List Hart → Shared → Turns) → List HartState → List ℕ → SharedState → Option Stand → List HartState → List ℕ → SharedState → Type 0
+abbrev pub TakesTurns : (List Hart → Shared → Turns) → List HartState → List ℕ → SharedState
+    → Option Stand → List HartState → List ℕ → SharedState → Type 0
 TakesTurns turns hs locals s stop hs' locals' s' =
-    TurnsGive (turns (harts_of 0 hs (local_of locals)) (shared_of s)) stop (harts_of 0 hs' (local_of locals')) (shared_of s')
+    TurnsGive (turns (harts_of 0 hs (local_of locals)) (shared_of s)) stop
+    (harts_of 0 hs' (local_of locals')) (shared_of s')

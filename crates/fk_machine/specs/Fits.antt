@@ -1,7 +1,8 @@
 -- Places that fit the machine.
 use Rattle.std.specs.Prelude.{◌<◌, ◌^◌, ◌+◌}
 use Rattle.fk_machine.specs.declared.place.Location.{Location}
-use Rattle.fk_machine.specs.declared.place.Location.TheVariants.{SharedWord, ControlWord, LocalWord, DeviceWord, Nowhere}
+use Rattle.fk_machine.specs.declared.place.Location.TheVariants.{SharedWord, ControlWord, LocalWord}
+use Rattle.fk_machine.specs.declared.place.Location.TheVariants.{DeviceWord, Nowhere}
 
 -- a word of a memory lies within it
 abbrev pub IsInMachine : Location → Type 0

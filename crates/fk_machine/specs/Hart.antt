@@ -4,7 +4,8 @@ use Rattle.fk_num.specs.Word.{Memory}
 use Rattle.fk_isa.specs.declared.instruction.Instruction.{Instruction}
 use Rattle.fk_machine.specs.declared.stand.Stand.{Stand}
 
--- a hart: the word of each register, the address of its next instruction, its own memory, whether it has ended
+-- a hart: the word of each register, the address of its next instruction, its own memory,
+-- whether it has ended
 pub record Hart : Type 0 where
   pub registers : Memory
   pub pc : ℕ

@@ -1,8 +1,11 @@
 -- The map of addresses.
-use Rattle.std.specs.Prelude.{ℕ, ◌+◌, ◌-◌, ◌*◌, ◌/◌, ◌^◌, ◌==◌, nat_lt, nat_le, ◌&&◌, if◌then◌else◌, Bool}
-use Rattle.fk_machine.specs.declared.place.Device.TheVariants.{OutInt, OutChar, Fault, Halt, Cycle, HartId, Harts, Inputs}
+use Rattle.std.specs.Prelude.{ℕ, ◌+◌, ◌-◌, ◌*◌, ◌/◌, ◌^◌, ◌==◌, nat_lt, nat_le, ◌&&◌, if◌then◌else◌}
+use Rattle.std.specs.Prelude.{Bool}
+use Rattle.fk_machine.specs.declared.place.Device.TheVariants.{OutInt, OutChar, Fault, Halt, Cycle}
+use Rattle.fk_machine.specs.declared.place.Device.TheVariants.{HartId, Harts, Inputs}
 use Rattle.fk_machine.specs.declared.place.Location.{Location}
-use Rattle.fk_machine.specs.declared.place.Location.TheVariants.{SharedWord, ControlWord, LocalWord, DeviceWord, Nowhere}
+use Rattle.fk_machine.specs.declared.place.Location.TheVariants.{SharedWord, ControlWord, LocalWord}
+use Rattle.fk_machine.specs.declared.place.Location.TheVariants.{DeviceWord, Nowhere}
 
 -- whether an address lies in a memory of so many words from a start on
 abbrev pub is_in : ℕ → ℕ → ℕ → Bool
@@ -21,7 +24,8 @@ device_at a =
     else if a == 0x3000001c then DeviceWord Inputs
     else Nowhere
 
--- the word that holds an address: of 2^20 words of shared data, 64 more of shared control, 32,768 of the hart's own
+-- the word that holds an address: of 2^20 words of shared data, 64 more of shared control, 32,768
+-- of the hart's own
 unfoldable pub place_of : ℕ → Location
 place_of a =
     if is_in a 0x10000000 (2 ^ 20) then SharedWord ((a - 0x10000000) / 4)

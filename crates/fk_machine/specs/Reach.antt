@@ -1,16 +1,20 @@
 -- What a hart reaches beyond its registers, and what it is told there.
-use Rattle.std.specs.Prelude.{ℕ, ◌+◌, ◌*◌, ◌/◌, ◌%◌, ◌^◌, ◌==◌, if◌then◌else◌, List, [], ◌∷◌, ◌++◌, Option, Some, None, Bool, true, false}
+use Rattle.std.specs.Prelude.{ℕ, ◌+◌, ◌*◌, ◌/◌, ◌%◌, ◌^◌, ◌==◌, if◌then◌else◌, List, [], ◌∷◌, ◌++◌}
+use Rattle.std.specs.Prelude.{Option, Some, None, Bool, true, false}
 use Rattle.fk_num.specs.Word.{Memory, put, signed_line}
 use Rattle.fk_isa.specs.Tells.{Answer, Gives, Traps, Stored, GoesOn, Ends, FaultsAt, Tells}
 use Rattle.fk_isa.specs.Atomic.{unless, combined}
 use Rattle.fk_machine.specs.declared.place.Device.{Device}
-use Rattle.fk_machine.specs.declared.place.Device.TheVariants.{OutInt, OutChar, Fault, Halt, Cycle, HartId, Harts, Inputs}
+use Rattle.fk_machine.specs.declared.place.Device.TheVariants.{OutInt, OutChar, Fault, Halt, Cycle}
+use Rattle.fk_machine.specs.declared.place.Device.TheVariants.{HartId, Harts, Inputs}
 use Rattle.fk_machine.specs.declared.place.Location.{Location}
-use Rattle.fk_machine.specs.declared.place.Location.TheVariants.{SharedWord, ControlWord, LocalWord, DeviceWord, Nowhere}
+use Rattle.fk_machine.specs.declared.place.Location.TheVariants.{SharedWord, ControlWord, LocalWord}
+use Rattle.fk_machine.specs.declared.place.Location.TheVariants.{DeviceWord, Nowhere}
 use Rattle.fk_machine.specs.Hart.{Reservations, Shared, Setting}
 use Rattle.fk_machine.specs.Place.{place_of}
 
--- what a hart reaches: its own local memory, what all harts share, and the numbers that devices give
+-- what a hart reaches: its own local memory, what all harts share, and the numbers
+-- that devices give
 pub record Reach : Type 0 where
   pub setting : Setting
   pub local : Memory
@@ -24,7 +28,8 @@ part w byte size = if size == 4 then w else w / 2 ^ (8 * byte) % 2 ^ (8 * size)
 abbrev pub with_part : ℕ → ℕ → ℕ → ℕ → ℕ
 with_part w byte size v =
     if size == 4 then v
-    else w % 2 ^ (8 * byte) + v % 2 ^ (8 * size) * 2 ^ (8 * byte) + w / 2 ^ (8 * (byte + size)) * 2 ^ (8 * (byte + size))
+    else w % 2 ^ (8 * byte) + v % 2 ^ (8 * size) * 2 ^ (8 * byte) + w / 2 ^ (8 * (byte + size))
+    * 2 ^ (8 * (byte + size))
 
 -- an access whose address is no multiple of its size is the trap Misaligned, before Access
 abbrev pub aligned : {A : Type 0} → ℕ → ℕ → Answer Reach A → Answer Reach A
@@ -75,16 +80,24 @@ cleared reserved word = λ hart. unless word (reserved hart)
 abbrev pub reserves : Reservations → ℕ → Option ℕ → Reservations
 reserves reserved number r = λ hart. if hart == number then r else reserved hart
 
--- after a hart has stored a word, whose reservations are cleared; a local word can be reserved by its own hart alone
+-- after a hart has stored a word, whose reservations are cleared; a local word can be reserved by
+-- its own hart alone
 abbrev pub stored : Reach → ℕ → ℕ → Location → ℕ → Reach
 stored r number word (SharedWord i) v =
-    record r { shared = record r.shared { words = put r.shared.words i v; reserved = cleared r.shared.reserved word } }
+    record r {
+      shared = record r.shared
+          { words = put r.shared.words i v; reserved = cleared r.shared.reserved word };
+    }
 stored r number word (ControlWord i) v =
-    record r { shared = record r.shared { control = put r.shared.control i v; reserved = cleared r.shared.reserved word } }
+    record r {
+      shared = record r.shared
+          { control = put r.shared.control i v; reserved = cleared r.shared.reserved word };
+    }
 stored r number word (LocalWord i) v =
     record r {
       local = put r.local i v;
-      shared = record r.shared { reserved = reserves r.shared.reserved number (unless word (r.shared.reserved number)) };
+      shared = record r.shared
+          { reserved = reserves r.shared.reserved number (unless word (r.shared.reserved number)) };
     }
 stored r number word place v = r
 
@@ -97,27 +110,33 @@ load r number a size place = on_word (word_at r place) (λ w. Gives (part w (a %
 abbrev pub store : Reach → ℕ → ℕ → ℕ → ℕ → Location → Answer Reach Stored
 store r number a size v (DeviceWord device) = whole size (store_device r v device)
 store r number a size v place =
-    on_word (word_at r place) (λ w. Gives GoesOn (stored r number (a / 4 * 4) place (with_part w (a % 4) size v)))
+    on_word (word_at r place)
+    (λ w. Gives GoesOn (stored r number (a / 4 * 4) place (with_part w (a % 4) size v)))
 
 -- after a hart has reserved a word, or has none reserved any more
 abbrev pub reserving : Reach → ℕ → Option ℕ → Reach
-reserving r number word = record r { shared = record r.shared { reserved = reserves r.shared.reserved number word } }
+reserving r number word =
+    record r { shared = record r.shared { reserved = reserves r.shared.reserved number word } }
 
 -- whether a reservation is of a word
 abbrev pub is_of : ℕ → Option ℕ → Bool
 is_of word None = false
 is_of word (Some reserved) = reserved == word
 
--- sc.w stores where the hart has reserved the word, and gives 0, else 1; the hart has none reserved any more
+-- sc.w stores where the hart has reserved the word, and gives 0, else 1; the hart has none
+-- reserved any more
 abbrev pub conditional : Bool → Reach → ℕ → ℕ → Location → ℕ → Answer Reach ℕ
-conditional true r number word place v = Gives 0 (stored (reserving r number None) number word place v)
+conditional true r number word place v =
+    Gives 0 (stored (reserving r number None) number word place v)
 conditional false r number word place v = Gives 1 (reserving r number None)
 
--- atomic instructions on a word w: lr.w reserves it; all but lr.w and sc.w give it, and store it combined with v
+-- atomic instructions on a word w: lr.w reserves it; all but lr.w and sc.w give it, and store
+-- it combined with v
 abbrev pub atomic : Reach → ℕ → ℕ → ℕ → ℕ → Location → ℕ → Answer Reach ℕ
 atomic r number word what v place w =
     if what == 0b00010 then Gives w (reserving r number (Some word))
-    else if what == 0b00011 then conditional (is_of word (r.shared.reserved number)) r number word place v
+    else if what == 0b00011
+    then conditional (is_of word (r.shared.reserved number)) r number word place v
     else Gives w (stored r number word place (combined what w v))
 
 -- what the bus of a hart tells
@@ -125,5 +144,6 @@ abbrev pub tells : Tells Reach
 tells = record {
   loads = λ r number a size. aligned a size (load r number a size (place_of a));
   stores = λ r number a size v. aligned a size (store r number a size v (place_of a));
-  atomics = λ r number a what v. aligned a 4 (on_word (word_at r (place_of a)) (atomic r number a what v (place_of a)));
+  atomics = λ r number a what v.
+      aligned a 4 (on_word (word_at r (place_of a)) (atomic r number a what v (place_of a)));
 }

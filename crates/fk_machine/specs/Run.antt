@@ -1,5 +1,6 @@
 -- Whole runs of a machine, and the schedule that is read off a run.
-use Rattle.std.specs.Prelude.{ℕ, zero, suc, ◌==◌, List, [], ◌∷◌, ◌++◌, Option, Some, None, cond, if◌then◌else◌, map}
+use Rattle.std.specs.Prelude.{ℕ, zero, suc, ◌==◌, List, [], ◌∷◌, ◌++◌, Option, Some, None, cond}
+use Rattle.std.specs.Prelude.{if◌then◌else◌, map}
 use Rattle.fk_image.specs.declared.Image.{Image}
 use Rattle.fk_image.specs.Limits.{count_of_word}
 use Rattle.fk_machine.specs.Cycle.{Machine, turns_of, is_running, cycle, machine_opening}
@@ -26,7 +27,8 @@ after (suc n) m = cycle (after n m)
 abbrev pub output_in : ℕ → Machine → List ℕ
 output_in zero m = []
 output_in (suc n) m =
-    cond (is_running (after n m).stand) (output_in n m ++ (after (suc n) m).shared.output) (output_in n m)
+    cond (is_running (after n m).stand)
+    (output_in n m ++ (after (suc n) m).shared.output) (output_in n m)
 
 -- the count of an address in the commit table, 0 where it has none
 abbrev pub count_in : List (ℕ × ℕ) → ℕ → ℕ

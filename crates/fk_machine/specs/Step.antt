@@ -7,7 +7,8 @@ use Rattle.fk_machine.specs.declared.stand.Stand.TheVariants.{Faulted, Trapped}
 use Rattle.fk_machine.specs.Hart.{Hart, Shared, Setting, Effect, Goes, Stops}
 use Rattle.fk_machine.specs.Reach.{Reach, tells}
 
--- traps: 1 Fetch, 2 Unknown, 3 Misaligned, 4 Access, 5 Ecall, 6 Ebreak. A trapping instruction changes nothing
+-- traps: 1 Fetch, 2 Unknown, 3 Misaligned, 4 Access, 5 Ecall, 6 Ebreak. A trapping
+-- instruction changes nothing
 abbrev pub trap : ℕ → Hart → ℕ → Effect
 trap number h kind = Stops (Trapped number h.pc kind)
 
@@ -21,7 +22,8 @@ reach_of t h s = record { setting = t; local = h.local; shared = s }
 
 -- the hart goes on with what it has reached
 abbrev pub goes : HartState → Reach → Effect
-goes h r = Goes (record { registers = h.registers; pc = h.pc; local = r.local; ended = h.ended }) r.shared
+goes h r =
+    Goes (record { registers = h.registers; pc = h.pc; local = r.local; ended = h.ended }) r.shared
 
 -- a fault or a trap ends the machine
 abbrev pub on_outcome : ℕ → Hart → Outcome Reach → Effect

@@ -1,5 +1,6 @@
 -- The states of the code as those of the definitions.
-use Rattle.std.specs.Prelude.{ℕ, suc, ◌+◌, ◌*◌, List, [], ◌∷◌, Option, Some, None, if◌then◌else◌, map, slice_index, slice_index_or, slice_range}
+use Rattle.std.specs.Prelude.{ℕ, suc, ◌+◌, ◌*◌, List, [], ◌∷◌, Option, Some, None, if◌then◌else◌}
+use Rattle.std.specs.Prelude.{map, slice_index, slice_index_or, slice_range}
 use Rattle.fk_num.specs.Word.{Memory}
 use Rattle.fk_isa.specs.declared.hart.Hart.{Hart as HartState}
 use Rattle.fk_machine.specs.declared.shared.SharedState.{SharedState}
@@ -12,9 +13,11 @@ use Rattle.fk_machine.specs.Cycle.{Machine}
 
 -- a hart with its local memory
 abbrev pub hart_of : HartState → Memory → Hart
-hart_of h local = record { registers = slice_index h.registers; pc = h.pc; local = local; ended = h.ended }
+hart_of h local =
+    record { registers = slice_index h.registers; pc = h.pc; local = local; ended = h.ended }
 
--- the local memory of the hart with a number, in those of all harts: 32,768 words each, and 16 unused ones after them
+-- the local memory of the hart with a number, in those of all harts: 32,768 words each, and 16
+-- unused ones after them
 abbrev pub local_of : List ℕ → ℕ → Memory
 local_of locals number = slice_index (slice_range locals (32784 * number) (32784 * number + 32768))
 
@@ -36,7 +39,12 @@ abbrev pub row_of : CodeWord → Option Instruction
 row_of w = if w.is_known then Some w.instruction else None
 
 abbrev pub setting_of : SettingState → Setting
-setting_of t = record { code = map row_of t.code.items; harts = t.harts; inputs = t.inputs; finished = t.finished }
+setting_of t = record {
+  code = map row_of t.code.items;
+  harts = t.harts;
+  inputs = t.inputs;
+  finished = t.finished;
+}
 
 -- the machine of the definitions that a machine of the code is
 unfoldable pub machine_of : MachineState → Machine

@@ -54,13 +54,15 @@ impl HartBus<'_> {
     ghost use Rattle.std.specs.Prelude.{length, vec_len};
     ghost use Rattle.fk_isa.specs.Tells.{Told, ToldStore};
     ghost use Rattle.fk_machine.specs.Fits.{IsInMachine};
-    ghost use Rattle.fk_machine.specs.Reach.{load_device, store_device, word_at, stored, conditional, is_of};
+    ghost use Rattle.fk_machine.specs.Reach.{load_device, store_device, word_at, stored};
+    ghost use Rattle.fk_machine.specs.Reach.{conditional, is_of};
     ghost use Rattle.fk_machine.specs.Does.{IsReady, Keeps, reach_of};
 
     // A load from a device, or the number of its trap.
     #[inline(always)]
     fn load_device(&self, number: u32, device: Device) -> Result<u32, u8>
-        ensures { Told (load_device (reach_of self.now) number device) result (reach_of self.now) (reach_of self.now) }
+        ensures { Told (load_device (reach_of self.now) number device) result (reach_of self.now)
+            (reach_of self.now) }
     {
         match device {
             Device::Cycle => Ok(self.setting.finished),
@@ -75,7 +77,8 @@ impl HartBus<'_> {
     #[inline(always)]
     fn store_device(&mut self, device: Device, value: u32) -> Result<Effect, u8>
         requires { IsReady self.old }
-        ensures told { ToldStore (store_device (reach_of self.old) value device) result (reach_of self.old) (reach_of self.new) }
+        ensures told { ToldStore (store_device (reach_of self.old) value device) result
+            (reach_of self.old) (reach_of self.new) }
         ensures keeps { Keeps self.old self.new }
     {
         match device {
@@ -136,7 +139,8 @@ impl HartBus<'_> {
         requires number { number < vec_len self.old.shared.now.reserved }
         requires within { IsInMachine place }
         requires own { length self.old.local.now ≡ 32768 }
-        ensures told { Told (conditional (is_of word ((reach_of self.old).shared.reserved number)) (reach_of self.old) number word place value)
+        ensures told { Told (conditional (is_of word ((reach_of self.old).shared.reserved number))
+            (reach_of self.old) number word place value)
             (Ok result) (reach_of self.old) (reach_of self.new) }
         ensures keeps { Keeps self.old self.new }
     {

@@ -70,9 +70,9 @@ impl Machine {
         })
     }
 
-    /// One cycle: every hart that has not ended runs one instruction, in ascending number. A fault or
-    /// a trap ends the machine at once, and the harts above are not served. A machine that doesn't
-    /// run stays as it is. The answer is how it stands then. A cycle takes no memory.
+    /// One cycle: every hart that has not ended runs one instruction, in ascending number. A fault
+    /// or a trap ends the machine at once, and the harts above are not served. A machine that
+    /// doesn't run stays as it is. The answer is how it stands then. A cycle takes no memory.
     pub fn cycle(&mut self) -> Stand
         requires { (machine_of self.old).begun < 2 ^ 32 - 1 }
         ensures cycle { machine_of self.new ≡ cycle (machine_of self.old) }
@@ -135,13 +135,16 @@ impl Machine {
     /// Runs so many cycles, or fewer where the machine ends before, and appends what each prints to
     /// `output`, in order. No other memory is taken.
     ///
-    /// Where there is none for what a cycle has printed it answers [`AllocError`]: that cycle is the last
-    /// that the machine has run, and its bytes alone were not appended. They stand in [`Machine::output`].
+    /// Where there is none for what a cycle has printed it answers [`AllocError`]: that cycle is
+    /// the last that the machine has run, and its bytes alone were not appended. They stand in
+    /// [`Machine::output`].
     pub fn run(&mut self, cycles: u32, output: &mut Vec<u8>) -> Result<(), AllocError>
         requires { (machine_of self.old).begun + cycles < 2 ^ 32 }
         ensures machine { OnOk result (machine_of self.new ≡ after cycles (machine_of self.old)) }
-        ensures output { OnOk result (output.new.items ≡ output.old.items ++ output_in cycles (machine_of self.old)) }
-        ensures early { OnErr result (StoppedEarly cycles (machine_of self.old) output.old.items (machine_of self.new) output.new.items) }
+        ensures output { OnOk result
+            (output.new.items ≡ output.old.items ++ output_in cycles (machine_of self.old)) }
+        ensures early { OnErr result (StoppedEarly cycles (machine_of self.old) output.old.items
+            (machine_of self.new) output.new.items) }
     {
         let mut left = cycles;
         while left > 0 && self.stand == Stand::Running {

@@ -1,6 +1,7 @@
 //! What all harts share.
 
-ghost use Rattle.std.specs.Prelude.{◌≡◌, ℕ, ◌+◌, ◌≤◌, ◌<◌, ◌^◌, ◌++◌, None, false, length, map, slice_index, slice_index_or, vec_len, IfOk};
+ghost use Rattle.std.specs.Prelude.{◌≡◌, ℕ, ◌+◌, ◌≤◌, ◌<◌, ◌^◌, ◌++◌, None, false, length, map};
+ghost use Rattle.std.specs.Prelude.{slice_index, slice_index_or, vec_len, IfOk};
 ghost use Rattle.fk_isa.specs.Atomic.{unless};
 
 use crate::place::{CONTROL_WORDS, SHARED_WORDS};
@@ -20,12 +21,13 @@ pub struct SharedState {
     pub output: Vec<u8>,
     /// The address of the word that each hart has reserved, in the order of their numbers.
     pub reserved: Vec<Option<u32>>,
-    /// Whether some hart may have reserved a word. It stays where a reservation is lost, until a store to
-    /// what is shared finds none left.
+    /// Whether some hart may have reserved a word. It stays where a reservation is lost, until a
+    /// store to what is shared finds none left.
     pub has_reserved: bool,
     ghost sized: { vec_len words ≡ 2 ^ 20 },
     ghost control_sized: { vec_len control ≡ 2 ^ 20 + 64 },
-    ghost unreserved: { has_reserved ≡ false → (number : ℕ) → slice_index_or reserved.items number None ≡ None },
+    ghost unreserved: { has_reserved ≡ false → (number : ℕ)
+        → slice_index_or reserved.items number None ≡ None },
 }
 
 impl SharedState {
@@ -68,20 +70,22 @@ impl SharedState {
     // There is room, so no memory is taken, and nothing can fail.
     fn print(&mut self, bytes: &[u8])
         requires { length bytes.now ≤ room_of self.old }
-        ensures bytes { shared_of self.new ≡ record (shared_of self.old) { output = (shared_of self.old).output ++ bytes.now } }
+        ensures bytes { shared_of self.new
+            ≡ record (shared_of self.old) { output = (shared_of self.old).output ++ bytes.now } }
         ensures room { PrintsUpTo (length bytes.now) self.old self.new }
     {
         self.output.extend_from_slice(bytes).unwrap();
     }
 
-    /// Prints the decimal of a word's signed value, and a newline. Turns print seldom, so printing is
-    /// kept out of their code.
+    /// Prints the decimal of a word's signed value, and a newline. Turns print seldom, so printing
+    /// is kept out of their code.
     #[cold]
     #[inline(never)]
     #[tactic(auto, unfolding(fk_num::specs::Word::signed_line))]
     pub fn print_number(&mut self, word: u32)
         requires { LINE_BYTES ≤ room_of self.old }
-        ensures line { shared_of self.new ≡ record (shared_of self.old) { output = (shared_of self.old).output ++ signed_line word } }
+        ensures line { shared_of self.new ≡ record (shared_of self.old)
+            { output = (shared_of self.old).output ++ signed_line word } }
         ensures room { PrintsUpTo LINE_BYTES self.old self.new }
     {
         self.print(signed_text(word).as_slice());
@@ -93,7 +97,8 @@ impl SharedState {
     #[inline(never)]
     pub fn print_byte(&mut self, word: u32)
         requires { LINE_BYTES ≤ room_of self.old }
-        ensures byte { shared_of self.new ≡ record (shared_of self.old) { output = (shared_of self.old).output ++ word % 256 ∷ [] } }
+        ensures byte { shared_of self.new ≡ record (shared_of self.old)
+            { output = (shared_of self.old).output ++ word % 256 ∷ [] } }
         ensures room { PrintsUpTo LINE_BYTES self.old self.new }
     {
         self.print(&[(word % 256) as u8]);
@@ -102,7 +107,8 @@ impl SharedState {
     /// Sets or clears the reservation of the hart with a number.
     pub fn reserve(&mut self, number: u32, word: Option<u32>)
         requires { number < vec_len self.old.reserved }
-        ensures reserved { shared_of self.new ≡ record (shared_of self.old) { reserved = reserves (shared_of self.old).reserved number word } }
+        ensures reserved { shared_of self.new ≡ record (shared_of self.old)
+            { reserved = reserves (shared_of self.old).reserved number word } }
         ensures rest { PrintsUpTo 0 self.old self.new }
     {
         self.has_reserved |= word.is_some();
@@ -113,7 +119,10 @@ impl SharedState {
     #[inline(always)]
     pub fn clear_own(&mut self, number: u32, word: u32)
         requires { number < vec_len self.old.reserved }
-        ensures reserved { shared_of self.new ≡ record (shared_of self.old) { reserved = reserves (shared_of self.old).reserved number (unless word ((shared_of self.old).reserved number)) } }
+        ensures reserved { shared_of self.new ≡ record (shared_of self.old) {
+          reserved = reserves (shared_of self.old).reserved number
+              (unless word ((shared_of self.old).reserved number));
+        } }
         ensures rest { PrintsUpTo 0 self.old self.new }
     {
         if self.has_reserved {
@@ -124,7 +133,8 @@ impl SharedState {
     /// Clears all reservations of a word.
     #[inline(always)]
     pub fn clear(&mut self, word: u32)
-        ensures reserved { shared_of self.new ≡ record (shared_of self.old) { reserved = cleared (shared_of self.old).reserved word } }
+        ensures reserved { shared_of self.new ≡ record (shared_of self.old)
+            { reserved = cleared (shared_of self.old).reserved word } }
         ensures rest { PrintsUpTo 0 self.old self.new }
     {
         if self.has_reserved {

@@ -19,7 +19,8 @@ fn perform(word: &CodeWord, number: u32, hart: &mut Hart, bus: &mut HartBus) -> 
     requires number { number < vec_len bus.old.shared.now.reserved }
     requires ready { IsReady bus.old }
     ensures effect { Does (on_row (setting_of bus.old.setting.now) number (row_of word.now))
-        hart.old bus.old.local.now bus.old.shared.now result hart.new bus.new.local.now bus.new.shared.now }
+        hart.old bus.old.local.now bus.old.shared.now result hart.new bus.new.local.now
+        bus.new.shared.now }
     ensures keeps { Keeps bus.old bus.new }
 {
     let pc = hart.pc;

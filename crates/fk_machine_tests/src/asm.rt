@@ -78,7 +78,8 @@ impl Blocks<u8> for Stores {
 
     ghost has_block = { λ number. number < 2 ^ 8 };
 
-    ghost block = { λ number. plain (straight (Addi 5 0 number)) ∷ committing (straight (Sw 6 5 0)) 1 ∷ [] };
+    ghost block = { λ number. plain (straight (Addi 5 0 number))
+        ∷ committing (straight (Sw 6 5 0)) 1 ∷ [] };
 
     fn emit_op(&self, op: &u8, into: &mut Assembler) -> Result<(), AllocError> {
         into.emit(Instruction::Addi(5, 0, u32::from(*op)))?;

@@ -76,8 +76,8 @@ fn images_are_read_and_written_back(rt: HostRuntime) -> Result<(), Fail> {
     Ok(())
 }
 
-/// Bytes that are no image: so many of these, cut off or with zeros behind them, of which one byte is
-/// another. And why.
+/// Bytes that are no image: so many of these, cut off or with zeros behind them, of which one byte
+/// is another. And why.
 struct Refused {
     of: &'static [u8],
     length: usize,

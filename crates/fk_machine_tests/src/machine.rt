@@ -248,7 +248,8 @@ const ALL_HARTS: Case = Case {
     ..ALONE
 };
 
-// Harts that come to a barrier at different times print in one and the same cycle behind it, three times.
+// Harts that come to a barrier at different times print in one and the same cycle behind
+// it, three times.
 const BARRIER: Case = Case {
     name: "all print in one cycle",
     code: &[
@@ -407,7 +408,8 @@ fn appends(
     Ok(bytes.as_slice() == expected.as_slice())
 }
 
-// A case comes to what it says, cycle by cycle and in one call, which adds to what was printed before.
+// A case comes to what it says, cycle by cycle and in one call, which adds to what
+// was printed before.
 fn comes_true(
     rt: &impl Abort,
     alloc: Global,

@@ -2,7 +2,8 @@
 use fk_num::{Op, apply, read_unsigned, signed_text, unsigned_text};
 use std::process::Abort;
 
-// Of the suites rv32um and rv32ui of riscv-tests: the operator, its operands and the word that it gives.
+// Of the suites rv32um and rv32ui of riscv-tests: the operator, its operands and the
+// word that it gives.
 const RISCV_TESTS: [(Op, u32, u32, u32); 41] = [
     (Op::Mul, 0x0000_7e00, 0xb6db_6db7, 0x0000_1200),
     (Op::Mul, 0xaaaa_aaab, 0x0002_fe7d, 0x0000_ff7f),

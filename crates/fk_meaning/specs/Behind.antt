@@ -4,7 +4,8 @@ use Rattle.fk_meaning_operation.specs.declared.operation.Operation.{Operation}
 use Rattle.fk_meaning_operation.specs.declared.operation.Operation.TheVariants as o
 use Rattle.fk_meaning_operation.specs.declared.operation.SplitKind.TheVariants.{IfElse}
 use Rattle.fk_meaning.specs.Round.{Step}
-use Rattle.fk_meaning_forms.specs.Code.{Code, done, perform, choose, while, until, turn, again, quit, break, continue, call, ends}
+use Rattle.fk_meaning_forms.specs.Code.{Code, done, perform, choose, while, until, turn, again}
+use Rattle.fk_meaning_forms.specs.Code.{quit, break, continue, call, ends}
 use Rattle.fk_meaning.specs.Left.{settled}
 use Rattle.fk_meaning.specs.Next.{Work}
 
@@ -45,12 +46,14 @@ abbrev pub fallen : {X : Type 0} → Bool → List X → List X
 fallen b xs = if b then tail xs else xs
 
 -- an end leads behind its part, and a meeting stands at the end of its body
-abbrev pub marked : {A : Type 0} → Operation → (here behind : Code A) → List (Code A) → List (Code A)
+abbrev pub marked : {A : Type 0} → Operation → (here behind : Code A)
+    → List (Code A) → List (Code A)
 marked o.End here behind codes = behind ∷ codes
 marked (o.Meet true) here behind codes = here ∷ codes
 marked op here behind codes = codes
 
--- what is left behind the innermost part, or from the end of the innermost body on, then behind the next one, and so on
+-- what is left behind the innermost part, or from the end of the innermost body on, then behind the
+-- next one, and so on
 abbrev pub past : {A : Type 0} → Code A → List (Code A)
 past done = []
 past (perform t op rest) = marked op (perform t op rest) (settled rest) (past rest)
@@ -67,7 +70,8 @@ past (ends t op rest) = past rest
 
 -- so of a processor: first in the running function, then in those that wait for a call
 abbrev pub works : List (Code ℕ) → List (Code ℕ) → List Work
-works callers codes = map (λ code. let work : Work = record { left = code; callers = callers } in work) codes
+works callers codes =
+    map (λ code. let work : Work = record { left = code; callers = callers } in work) codes
 
 abbrev pub waiting : List (Code ℕ) → List Work
 waiting [] = []
@@ -76,17 +80,24 @@ waiting (code ∷ callers) = works callers (past code) ++ waiting callers
 abbrev pub outs : Work → List Work
 outs work = works work.callers (past work.left) ++ waiting work.callers
 
--- how an operation goes on: into a part, behind which there is what those have left who wait for it; into a body, at the end
--- of which there is what those have who wait there; behind the part, or from the end of the body on; or as before
+-- how an operation goes on: into a part, behind which there is what those have left who wait for
+-- it; into a body, at the end of which there is what those have who wait there; behind the part, or
+-- from the end of the body on; or as before
 abbrev pub GoesOn : Operation → (here : Work) → (behind : List Work) → (rest : Bool → Work) → Type 0
 GoesOn (o.Split IfElse) here behind rest =
-    (parent : Work) × (outs parent ≡ behind) × (outs (rest true) ≡ parent ∷ behind) × (outs (rest false) ≡ parent ∷ behind)
-GoesOn (o.Split by) here behind rest = (outs (rest false) ≡ behind) × (outs (rest true) ≡ rest false ∷ behind)
-GoesOn o.Begin here behind rest = (outs (rest false) ≡ behind) × (outs (rest true) ≡ rest false ∷ behind)
-GoesOn o.Shrink here behind rest = (outs (rest true) ≡ behind) × (behind ≡ rest false ∷ outs (rest false))
+    (parent : Work) × (outs parent ≡ behind) × (outs (rest true) ≡ parent ∷ behind)
+    × (outs (rest false) ≡ parent ∷ behind)
+GoesOn (o.Split by) here behind rest = (outs (rest false) ≡ behind)
+    × (outs (rest true) ≡ rest false ∷ behind)
+GoesOn o.Begin here behind rest = (outs (rest false) ≡ behind)
+    × (outs (rest true) ≡ rest false ∷ behind)
+GoesOn o.Shrink here behind rest = (outs (rest true) ≡ behind)
+    × (behind ≡ rest false ∷ outs (rest false))
 GoesOn o.End here behind rest = behind ≡ rest true ∷ outs (rest true)
-GoesOn o.Farm here behind rest = (outs (rest false) ≡ rest false ∷ behind) × (outs (rest true) ≡ rest false ∷ behind)
-GoesOn o.Seq here behind rest = (outs (rest false) ≡ rest false ∷ behind) × (outs (rest true) ≡ rest false ∷ behind)
+GoesOn o.Farm here behind rest = (outs (rest false) ≡ rest false ∷ behind)
+    × (outs (rest true) ≡ rest false ∷ behind)
+GoesOn o.Seq here behind rest = (outs (rest false) ≡ rest false ∷ behind)
+    × (outs (rest true) ≡ rest false ∷ behind)
 GoesOn (o.Meet true) here behind rest = behind ≡ here ∷ outs (rest true)
 GoesOn op here behind rest = (onward : Bool) → outs (rest onward) ≡ behind
 

@@ -1,15 +1,18 @@
--- Expressions whose calls are such as the rules of types allow: what is called is the name of a function, at once, with
--- arguments that it takes.
-use Rattle.std.specs.Prelude.{◌≡◌, ℕ, Bool, true, false, ◌||◌, List, [], ◌∷◌, Option, Some, None, codes}
+-- Expressions whose calls are such as the rules of types allow: what is called is the name of a
+-- function, at once, with arguments that it takes.
+use Rattle.std.specs.Prelude.{◌≡◌, ℕ, Bool, true, false, ◌||◌, List, [], ◌∷◌, Option, Some, None}
+use Rattle.std.specs.Prelude.{codes}
 use Rattle.fk_syntax.specs.Tree as t
 use Rattle.fk_syntax.specs.Tree.{Named, Tree, Links, Trees, Suffixes}
 use Rattle.fk_syntax.specs.Program.{DeclaredTree}
 use Rattle.fk_meaning_forms.specs.Tables.{Tables}
-use Rattle.fk_meaning_forms.specs.Expressions.{Coded, Standing, ToCall, Signature, is_name, variable}
+use Rattle.fk_meaning_forms.specs.Expressions.{Coded, Standing, ToCall, Signature, is_name}
+use Rattle.fk_meaning_forms.specs.Expressions.{variable}
 
 abbrev pub takes_two : Named → Bool
 takes_two name =
-    is_name name (codes "mpadd") || (is_name name (codes "mpmax") || (is_name name (codes "mpand") || is_name name (codes "mpor")))
+    is_name name (codes "mpadd") || (is_name name (codes "mpmax")
+    || (is_name name (codes "mpand") || is_name name (codes "mpor")))
 
 -- a predeclared function has the arguments that it takes, or more
 abbrev pub TakesEnough : Named → Trees → Type 0
@@ -18,11 +21,14 @@ TakesEnough name (t.tree first t.no_trees) = takes_two name ≡ false
 TakesEnough name (t.tree first (t.tree second others)) = Unit {0}
 
 -- where it is told which arguments a name takes
-module _ (tables : Tables) (functions : (binding : ℕ) → Signature) (Takes : Named → Trees → Type 0) where
-  -- what is called is the name of a function. A chain without signs, and an expression without suffixes, are what they hold
+module _ (tables : Tables) (functions : (binding : ℕ) → Signature)
+    (Takes : Named → Trees → Type 0) where
+  -- what is called is the name of a function. A chain without signs, and an expression without
+  -- suffixes, are what they hold
   abbrev pub CallFits : Tree → Trees → Type 0
   CallFits (t.Variable name) arguments =
-      ((k : Standing → Coded) → variable tables functions name k ≡ k (ToCall name)) × Takes name arguments
+      ((k : Standing → Coded) → variable tables functions name k ≡ k (ToCall name))
+      × Takes name arguments
   CallFits (t.Chain first t.no_links) arguments = CallFits first arguments
   CallFits (t.Postfix whole t.no_suffixes) arguments = CallFits whole arguments
   CallFits e arguments = ⊥
@@ -50,7 +56,8 @@ module _ (tables : Tables) (functions : (binding : ℕ) → Signature) (Takes : 
     pub FirstFits : Tree → Suffixes → Type 0
     FirstFits whole t.no_suffixes = Unit {0}
     FirstFits whole (t.index spot by others) = Fits by × SuffixesFit others
-    FirstFits whole (t.call spot arguments others) = CallFits whole arguments × AllFit arguments × SuffixesFit others
+    FirstFits whole (t.call spot arguments others) = CallFits whole arguments × AllFit arguments
+        × SuffixesFit others
     FirstFits whole (t.dot spot member others) = SuffixesFit others
     FirstFits whole (t.arrow spot member others) = SuffixesFit others
     FirstFits whole (t.up spot others) = SuffixesFit others

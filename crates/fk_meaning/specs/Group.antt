@@ -1,15 +1,23 @@
--- The steps of the tree of groups: what each member does by itself, which way it goes, and what becomes of the tree.
-use Rattle.std.specs.Prelude.{ℕ, zero, suc, ◌==◌, ◌^◌, nat_lt, min, Bool, true, false, not, List, ◌∷◌, length, Option, Some, None, is_some, if◌then◌else◌}
+-- The steps of the tree of groups: what each member does by itself, which way it goes, and what
+-- becomes of the tree.
+use Rattle.std.specs.Prelude.{ℕ, zero, suc, ◌==◌, ◌^◌, nat_lt, min, Bool, true, false, not, List}
+use Rattle.std.specs.Prelude.{◌∷◌, length, Option, Some, None, is_some, if◌then◌else◌}
 use Rattle.fk_num.specs.Word.{put}
 use Rattle.fk_space.specs.Space.{Space, share, child, frame, block}
 use Rattle.fk_tree.specs.Tree as t
 use Rattle.fk_meaning_operation.specs.declared.operation.SplitKind.{SplitKind}
-use Rattle.fk_meaning_operation.specs.declared.operation.SplitKind.TheVariants.{IfAlone, IfElse, AndThen, OrElse, Loop, Fork}
+use Rattle.fk_meaning_operation.specs.declared.operation.SplitKind.TheVariants.{IfAlone, IfElse}
+use Rattle.fk_meaning_operation.specs.declared.operation.SplitKind.TheVariants.{AndThen, OrElse}
+use Rattle.fk_meaning_operation.specs.declared.operation.SplitKind.TheVariants.{Loop, Fork}
 use Rattle.fk_meaning_operation.specs.declared.operation.Operation.{Operation}
-use Rattle.fk_meaning_operation.specs.declared.operation.Operation.TheVariants.{Begin, Agree, Frame, Block, Split, Shrink, End, Resume, Farm, Seq, Meet}
+use Rattle.fk_meaning_operation.specs.declared.operation.Operation.TheVariants.{Begin, Agree, Frame}
+use Rattle.fk_meaning_operation.specs.declared.operation.Operation.TheVariants.{Block, Split}
+use Rattle.fk_meaning_operation.specs.declared.operation.Operation.TheVariants.{Shrink, End, Resume}
+use Rattle.fk_meaning_operation.specs.declared.operation.Operation.TheVariants.{Farm, Seq, Meet}
 use Rattle.fk_meaning_store.specs.Store.{address_of}
 use Rattle.fk_meaning_store.specs.Serve.{words_of}
-use Rattle.fk_meaning.specs.Processor.{Level, Processor, values, with_values, with_space, last, before, drop_last, in_place, enter_level, leave_level}
+use Rattle.fk_meaning.specs.Processor.{Level, Processor, values, with_values, with_space, last}
+use Rattle.fk_meaning.specs.Processor.{before, drop_last, in_place, enter_level, leave_level}
 
 -- a word read as a signed number, and 0 for one below 0
 abbrev pub not_negative : ℕ → ℕ
@@ -65,8 +73,8 @@ abbrev pub divided : SplitKind → (size : ℕ) → Processor → Option ℕ →
 divided by size p None = with_values p (waits_with by (before (taken_by by) (values p)))
 divided by size p (Some i) = enter_level (part_level by p size i) (drop_last (taken_by by) p)
 
--- the group of `start` has the number 0 and the whole group space. It takes as many processors as the value says, from
--- the lowest on
+-- the group of `start` has the number 0 and the whole group space. It takes as many processors as
+-- the value says, from the lowest on
 abbrev pub start_level : Processor → (size : ℕ) → Level
 start_level p size = record { number = 0; rank = p.number; size = size; space = p.level.space }
 
@@ -77,7 +85,8 @@ is_taken v p = nat_lt p.number (not_negative v)
 abbrev pub framed : (nesting : ℕ) → Processor → Option Space → Processor
 framed nesting p None = p
 framed nesting p (Some s) =
-    with_space (record p { call = record (p.call) { frames = put p.call.frames nesting p.level.space.frames } }) s
+    with_space (record p
+    { call = record (p.call) { frames = put p.call.frames nesting p.level.space.frames } }) s
 
 -- `shalloc`: a block of the group's space, or 0
 abbrev pub allotted : Processor → Option (ℕ × Space) → Processor
@@ -93,8 +102,8 @@ with_size size p = record p { level = record (p.level) { size = size } }
 abbrev pub stays : Processor → Bool
 stays p = not (last (values p) == 0)
 
--- what a member does by itself, where the last value of the highest member and the size of the group that the member is in
--- after the step are known
+-- what a member does by itself, where the last value of the highest member and the size of the
+-- group that the member is in after the step are known
 abbrev pub does : Operation → (highest size : ℕ) → Processor → Processor
 does Begin highest size p =
     if is_taken highest p then enter_level (start_level p size) (drop_last 1 p) else drop_last 1 p
@@ -102,12 +111,13 @@ does Agree highest size p = in_place highest p
 does (Frame nesting words) highest size p = framed nesting p (frame p.level.space words)
 does Block highest size p = with_block (words_of (last (values p))) p
 does (Split by) highest size p = divided by size p (part by (values p))
-does Shrink highest size p = if stays p then with_size size (drop_last 1 p) else leave_level (drop_last 1 p)
+does Shrink highest size p = if stays p then with_size size (drop_last 1 p)
+    else leave_level (drop_last 1 p)
 does End highest size p = leave_level p
 does operation highest size p = p
 
--- which way it goes: into the only or the first of two parts, and on in the loop; or the other way. In a `seq` the lowest
--- member goes into the body
+-- which way it goes: into the only or the first of two parts, and on in the loop; or the other way.
+-- In a `seq` the lowest member goes into the body
 abbrev pub is_first : Option ℕ → Bool
 is_first None = false
 is_first (Some i) = i == 0
@@ -123,10 +133,11 @@ goes_onward Shrink highest lowest p = stays p
 goes_onward Seq highest lowest p = p.number == lowest
 goes_onward operation highest lowest p = true
 
--- what becomes of the tree by a step at node n, where the processor of each number, the last value of the highest member
--- and the lowest member are known
+-- what becomes of the tree by a step at node n, where the processor of each number, the last value
+-- of the highest member and the lowest member are known
 abbrev pub changes : Operation → (n : ℕ) → (ℕ → Processor) → (highest lowest : ℕ) → t.Tree → t.Tree
-changes Begin n who highest lowest tree = t.begin (min (not_negative highest) (length (t.members tree n))) tree
+changes Begin n who highest lowest tree =
+    t.begin (min (not_negative highest) (length (t.members tree n))) tree
 changes (Split by) n who highest lowest tree =
     t.split n (parts by (values (who lowest))) (λ h. part by (values (who h))) tree
 changes Shrink n who highest lowest tree = t.shrink n (λ h. stays (who h)) tree

@@ -1,5 +1,6 @@
 -- Loops under way: what is left where a turn ends, or where `break` or `continue` stands first.
-use Rattle.fk_meaning_forms.specs.Code.{Code, done, perform, choose, while, until, turn, again, quit, break, continue, call, ends, append}
+use Rattle.fk_meaning_forms.specs.Code.{Code, done, perform, choose, while, until, turn, again}
+use Rattle.fk_meaning_forms.specs.Code.{quit, break, continue, call, ends, append}
 
 -- what is left after the innermost loop that is under way
 abbrev pub broken : {A : Type 0} → Code A → Code A
@@ -31,7 +32,8 @@ continued (continue rest) = continued rest
 continued (call t op f opening rest) = continued rest
 continued (ends t op rest) = continued rest
 
--- code before a loop that is under way, with everything that is no operation taken away at its beginning
+-- code before a loop that is under way, with everything that is no operation taken away
+-- at its beginning
 abbrev pub settled_turn : {A : Type 0} → Code A → Code A
 settled_turn (turn test body step rest) = append step (again test body step rest)
 settled_turn code = code

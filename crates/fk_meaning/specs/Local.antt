@@ -1,19 +1,32 @@
 -- What a local operation does to its processor.
-use Rattle.std.specs.Prelude.{ℕ, ◌+◌, ◌-◌, ◌*◌, ◌^◌, ◌==◌, nat_lt, Bool, true, false, not, List, [], ◌∷◌, if◌then◌else◌}
+use Rattle.std.specs.Prelude.{ℕ, ◌+◌, ◌-◌, ◌*◌, ◌^◌, ◌==◌, nat_lt, Bool, true, false, not, List, []}
+use Rattle.std.specs.Prelude.{◌∷◌, if◌then◌else◌}
 use Rattle.fk_num.specs.Word.{word, put}
 use Rattle.fk_num.specs.Op.{applied}
 use Rattle.fk_num.specs.declared.operator.Op.TheVariants.{Sub, Xor, Eq}
 use Rattle.fk_meaning_operation.specs.declared.operation.Variable.{Variable}
 use Rattle.fk_meaning_operation.specs.declared.operation.Variable.TheVariants.{Private, OfFile}
 use Rattle.fk_meaning_operation.specs.declared.operation.OwnValue.{OwnValue}
-use Rattle.fk_meaning_operation.specs.declared.operation.OwnValue.TheVariants.{Value, Rank, GroupNumber, ProcessorNumber, Processors, GroupSize, InputLength, FrameAddress, InputAddress}
+use Rattle.fk_meaning_operation.specs.declared.operation.OwnValue.TheVariants.{Value, Rank}
+use Rattle.fk_meaning_operation.specs.declared.operation.OwnValue.TheVariants.{GroupNumber}
+use Rattle.fk_meaning_operation.specs.declared.operation.OwnValue.TheVariants.{ProcessorNumber}
+use Rattle.fk_meaning_operation.specs.declared.operation.OwnValue.TheVariants.{Processors}
+use Rattle.fk_meaning_operation.specs.declared.operation.OwnValue.TheVariants.{GroupSize}
+use Rattle.fk_meaning_operation.specs.declared.operation.OwnValue.TheVariants.{InputLength}
+use Rattle.fk_meaning_operation.specs.declared.operation.OwnValue.TheVariants.{FrameAddress}
+use Rattle.fk_meaning_operation.specs.declared.operation.OwnValue.TheVariants.{InputAddress}
 use Rattle.fk_meaning_operation.specs.declared.operation.Unary.{Unary}
 use Rattle.fk_meaning_operation.specs.declared.operation.Unary.TheVariants.{Negate, Complement, Not}
 use Rattle.fk_meaning_operation.specs.declared.operation.Operation.{Operation}
-use Rattle.fk_meaning_operation.specs.declared.operation.Operation.TheVariants.{Push, Get, Set, DropLast, CopyLast, Apply, Binary, Index, Branch, Take, Leave}
+use Rattle.fk_meaning_operation.specs.declared.operation.Operation.TheVariants.{Push, Get, Set}
+use Rattle.fk_meaning_operation.specs.declared.operation.Operation.TheVariants.{DropLast, CopyLast}
+use Rattle.fk_meaning_operation.specs.declared.operation.Operation.TheVariants.{Apply, Binary}
+use Rattle.fk_meaning_operation.specs.declared.operation.Operation.TheVariants.{Index, Branch, Take}
+use Rattle.fk_meaning_operation.specs.declared.operation.Operation.TheVariants.{Leave}
 use Rattle.fk_meaning_store.specs.Store.{address_of, private_words, private_address}
 use Rattle.fk_meaning_store.specs.Serve.{words_of}
-use Rattle.fk_meaning.specs.Processor.{Call, Processor, Setting, values, last, with_values, with_space, push, drop_last, in_place}
+use Rattle.fk_meaning.specs.Processor.{Call, Processor, Setting, values, last, with_values}
+use Rattle.fk_meaning.specs.Processor.{with_space, push, drop_last, in_place}
 
 abbrev pub value_of : Processor → Variable → ℕ
 value_of p (Private i) = p.call.privates i
@@ -55,7 +68,8 @@ taken words p =
     else if nat_lt (private_words - p.top) words then in_place 0 p
     else in_place (private_address p.top) (record p { top = p.top + words })
 
--- the call that waits goes on, with a value or without. Where the function took a frame, its words are free again
+-- the call that waits goes on, with a value or without. Where the function took a frame, its
+-- words are free again
 abbrev pub handed : (gives : Bool) → ℕ → Call → Call
 handed true v c = record c { values = v ∷ c.values }
 handed false v c = c
@@ -75,8 +89,10 @@ local set (Set variable) p = stored (last (values p)) variable p
 local set DropLast p = drop_last 1 p
 local set CopyLast p = push (last (values p)) p
 local set (Apply sign) p = in_place (applied_to sign (last (values p))) p
-local set (Binary sign turned) p = with_values p (joined (in_order turned (applied sign)) (values p))
-local set (Index size) p = with_values p (joined (λ address i. word (address + i * size)) (values p))
+local set (Binary sign turned) p =
+    with_values p (joined (in_order turned (applied sign)) (values p))
+local set (Index size) p =
+    with_values p (joined (λ address i. word (address + i * size)) (values p))
 local set (Branch onward) p = drop_last 1 p
 local set Take p = taken (words_of (last (values p))) p
 local set (Leave gives framed) p = to_caller gives (last (values p)) (unframed framed p) p.callers

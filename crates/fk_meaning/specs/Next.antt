@@ -1,7 +1,8 @@
 -- The next operation of a processor, and what is left after it on either way.
 use Rattle.std.specs.Prelude.{ℕ, List, [], ◌∷◌, Option, Some, None, if◌then◌else◌}
 use Rattle.fk_meaning.specs.Round.{Step}
-use Rattle.fk_meaning_forms.specs.Code.{Code, done, perform, choose, turn, again, quit, call, ends, append}
+use Rattle.fk_meaning_forms.specs.Code.{Code, done, perform, choose, turn, again, quit, call, ends}
+use Rattle.fk_meaning_forms.specs.Code.{append}
 use Rattle.fk_meaning.specs.Left.{broken, settled}
 
 -- what is left of the running function, and of those that wait for a call, the last one first
@@ -19,19 +20,26 @@ returned (code ∷ callers) = going code callers
 -- the code of the function that a binding means
 module _ (bodies : (binding : ℕ) → Code ℕ) where
   abbrev pub step : Code ℕ → List (Code ℕ) → Option (Step Work)
-  step (perform n op rest) callers = Some (record { operation = op; site = n; rest = λ onward. going rest callers })
+  step (perform n op rest) callers =
+      Some (record { operation = op; site = n; rest = λ onward. going rest callers })
   step (choose n op a b rest) callers =
       Some (record { operation = op; site = n; rest = λ onward. going (append (if onward then a else b) rest) callers })
   step (quit n op rest) callers =
-      Some (record { operation = op; site = n; rest = λ onward. going (if onward then rest else broken rest) callers })
+      Some (record {
+        operation = op;
+        site = n;
+        rest = λ onward. going (if onward then rest else broken rest) callers;
+      })
   step (call n op function opening rest) callers =
       Some (record { operation = op; site = n; rest = λ onward. going (append opening (bodies function)) (rest ∷ callers) })
-  step (ends n op rest) callers = Some (record { operation = op; site = n; rest = λ onward. returned callers })
+  step (ends n op rest) callers =
+      Some (record { operation = op; site = n; rest = λ onward. returned callers })
   step code callers = None
 
   -- a loop begins again with its test
   abbrev pub step_of : Code ℕ → List (Code ℕ) → Option (Step Work)
-  step_of (again test body after rest) callers = step (append test (append body (turn test body after rest))) callers
+  step_of (again test body after rest) callers =
+      step (append test (append body (turn test body after rest))) callers
   step_of code callers = step code callers
 
   abbrev pub next : Work → Option (Step Work)

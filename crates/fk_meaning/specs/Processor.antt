@@ -24,15 +24,16 @@ pub record Level : Type 0 where
   pub size : ℕ
   pub space : Space
 
--- a call: its value list, the last value first; its private words; and the first word of the frame that was taken at
--- each nesting, 0 for that of the function
+-- a call: its value list, the last value first; its private words; and the first word of the frame
+-- that was taken at each nesting, 0 for that of the function
 pub record Call : Type 0 where
   pub values : List ℕ
   pub privates : Memory
   pub frames : Memory
 
--- a processor: its number, its level in the innermost group and those in the groups round it, the running call and
--- those that wait for it, its private variables of file scope, and how many words of its private heap it has taken
+-- a processor: its number, its level in the innermost group and those in the groups round it, the
+-- running call and those that wait for it, its private variables of file scope, and how many words
+-- of its private heap it has taken
 pub record Processor : Type 0 where
   pub number : ℕ
   pub level : Level

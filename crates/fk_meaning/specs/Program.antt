@@ -15,7 +15,9 @@ next_in tables program = next (bodies_of tables program)
 abbrev pub main_work : Tables → ProgramTree → Work
 main_work tables program = going (bodies_of tables program (main_of tables program)) []
 
--- p processors at the beginning of `main`, over the first values of shared data and of the private variables of file scope
-abbrev pub program_opening : Tables → ProgramTree → (words firsts input : List ℕ) → (p : ℕ) → State Work
+-- p processors at the beginning of `main`, over the first values of shared data and of the private
+-- variables of file scope
+abbrev pub program_opening : Tables → ProgramTree → (words firsts input : List ℕ)
+    → (p : ℕ) → State Work
 program_opening tables program words firsts input p =
     run.opening p words input (slice_index firsts) (main_work tables program)

@@ -3,7 +3,11 @@ use Rattle.std.specs.Prelude.{ℕ, zero, suc, List, [], ◌∷◌, length}
 use Rattle.fk_num.specs.Word.{Memory, put}
 use Rattle.fk_meaning_operation.specs.Kinds.{multiprefix_kind}
 use Rattle.fk_meaning_operation.specs.declared.operation.Operation.{Operation}
-use Rattle.fk_meaning_operation.specs.declared.operation.Operation.TheVariants.{Check, Read, Write, Combine, PrintNumber, PrintByte, Heap, Enter}
+use Rattle.fk_meaning_operation.specs.declared.operation.Operation.TheVariants.{Check, Read, Write}
+use Rattle.fk_meaning_operation.specs.declared.operation.Operation.TheVariants.{Combine}
+use Rattle.fk_meaning_operation.specs.declared.operation.Operation.TheVariants.{PrintNumber}
+use Rattle.fk_meaning_operation.specs.declared.operation.Operation.TheVariants.{PrintByte, Heap}
+use Rattle.fk_meaning_operation.specs.declared.operation.Operation.TheVariants.{Enter}
 use Rattle.fk_meaning_store.specs.declared.request.Request.{Request}
 use Rattle.fk_meaning_store.specs.declared.request.Request.TheVariants as r
 use Rattle.fk_meaning.specs.Processor.{Processor, values, last, before, drop_last, in_place}

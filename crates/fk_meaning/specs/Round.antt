@@ -1,5 +1,8 @@
--- Rounds: some processors act, each with a count. What is left to do may be of any form that tells its next operation.
-use Rattle.std.specs.Prelude.{◌≡◌, ℕ, zero, suc, ◌==◌, nat_lt, Bool, true, false, ◌&&◌, List, [], ◌∷◌, length, slice_index, Option, Some, None, is_none, is_some, map, if◌then◌else◌}
+-- Rounds: some processors act, each with a count. What is left to do may be of any form that tells
+-- its next operation.
+use Rattle.std.specs.Prelude.{◌≡◌, ℕ, zero, suc, ◌==◌, nat_lt, Bool, true, false, ◌&&◌, List, []}
+use Rattle.std.specs.Prelude.{◌∷◌, length, slice_index, Option, Some, None, is_none, is_some, map}
+use Rattle.std.specs.Prelude.{if◌then◌else◌}
 use Rattle.std.specs.List.{list_all}
 use Rattle.fk_tree.specs.Tree as t
 use Rattle.fk_tree.specs.declared.node.Kind.{Kind}
@@ -9,7 +12,8 @@ use Rattle.fk_meaning_operation.specs.declared.operation.Operation.{Operation}
 use Rattle.fk_meaning_operation.specs.declared.kinds.Class.{Class}
 use Rattle.fk_meaning_operation.specs.declared.kinds.Class.TheVariants.{Local, Request, Tree}
 use Rattle.fk_meaning_operation.specs.declared.kinds.Joint.{Joint}
-use Rattle.fk_meaning_operation.specs.declared.kinds.Joint.TheVariants.{Alone, Starting, AtBarrier, Closing, Resuming}
+use Rattle.fk_meaning_operation.specs.declared.kinds.Joint.TheVariants.{Alone, Starting, AtBarrier}
+use Rattle.fk_meaning_operation.specs.declared.kinds.Joint.TheVariants.{Closing, Resuming}
 use Rattle.fk_meaning_store.specs.Store.{Store}
 use Rattle.fk_meaning_store.specs.Serve.{Answer, Served, Faults, serve}
 use Rattle.fk_meaning.specs.Processor.{Processor, Setting, values, last}
@@ -65,8 +69,8 @@ done step onward p = record { due = None; runner = record { left = step.rest onw
 abbrev pub runner_of : {W : Type 0} → Acting W → Runner W
 runner_of a = a.runner
 
--- the phase of requests. One processor passes it, or its site faults: a request that is refused, or a step of the tree that
--- finds no words
+-- the phase of requests. One processor passes it, or its site faults: a request that is refused, or
+-- a step of the tree that finds no words
 pub data Phase (W : Type 0) : Type 0 where
   Passes : (store : Store) (acting : Acting W) → Phase W
   Breaks : (site : ℕ) → Phase W
@@ -79,7 +83,8 @@ abbrev pub do_request : {W : Type 0} → Store → Acting W → Class → Step W
 do_request s a Local step = Passes s a
 do_request s a Request step =
     let p = a.runner.has in answered step p (serve (request step.operation p) s p.number)
-do_request s a Tree step = if has_room step.operation a.runner.has then Passes s a else Breaks step.site
+do_request s a Tree step = if has_room step.operation a.runner.has then Passes s a
+    else Breaks step.site
 
 abbrev pub request_phase : {W : Type 0} → Store → Acting W → Option (Step W) → Phase W
 request_phase s a None = Passes s a
@@ -94,17 +99,23 @@ pub record Phases (W : Type 0) : Type 0 where
 abbrev pub before_others : {W : Type 0} → Acting W → Phases W → Phases W
 before_others a after = record after { acting = a ∷ after.acting }
 
-abbrev pub after_phase : {W : Type 0} → (number : ℕ) → Store → Acting W → List (Acting W) → (Store → Phases W) → Phase W → Phases W
+abbrev pub after_phase : {W : Type 0} → (number : ℕ) → Store → Acting W → List (Acting W)
+    → (Store → Phases W) → Phase W → Phases W
 after_phase number s a actings others (Passes s' a') = before_others a' (others s')
 after_phase number s a actings others (Breaks site) =
-    record { store = s; acting = a ∷ actings; fault = Some (record { site = site; processor = number }) }
+    record {
+      store = s;
+      acting = a ∷ actings;
+      fault = Some (record { site = site; processor = number });
+    }
 
 abbrev pub all_requests : {W : Type 0} → (number : ℕ) → List (Acting W) → Store → Phases W
 all_requests number [] s = record { store = s; acting = []; fault = None }
 all_requests number (a ∷ actings) s =
     after_phase number s a actings (all_requests (suc number) actings) (request_phase s a a.due)
 
--- the phase of the tree. The lowest and the highest member of a group, and the processor of a number
+-- the phase of the tree. The lowest and the highest member of a group, and the
+-- processor of a number
 abbrev pub lowest : List ℕ → ℕ
 lowest [] = 0
 lowest (h ∷ hs) = h
@@ -117,7 +128,12 @@ highest (h ∷ g ∷ hs) = highest (g ∷ hs)
 abbrev pub nobody : Processor
 nobody = record {
   number = 0;
-  level = record { number = 0; rank = 0; size = 0; space = record { low = 0; high = 0; frames = 0; blocks = 0 } };
+  level = record {
+    number = 0;
+    rank = 0;
+    size = 0;
+    space = record { low = 0; high = 0; frames = 0; blocks = 0 };
+  };
   outer = [];
   call = record { values = []; privates = λ i. 0; frames = λ i. 0 };
   callers = [];
@@ -135,20 +151,24 @@ abbrev pub agreed : {W : Type 0} → List (Acting W) → (members : List ℕ) �
 agreed actings members = last (values (who actings (highest members)))
 
 -- a step at a node is one for all its members: the lowest of them brings it to the tree
-abbrev pub change_by : {W : Type 0} → List (Acting W) → (old : t.Tree) → (h : ℕ) → Option (Step W) → t.Tree → t.Tree
+abbrev pub change_by : {W : Type 0} → List (Acting W) → (old : t.Tree) → (h : ℕ) → Option (Step W)
+    → t.Tree → t.Tree
 change_by actings old h None tree = tree
 change_by actings old h (Some step) tree =
     let n = old.places h in
     let members = t.members old n in
-    if h == lowest members then changes step.operation n (who actings) (agreed actings members) h tree else tree
+    if h == lowest members then changes step.operation n (who actings)
+    (agreed actings members) h tree else tree
 
-abbrev pub all_changes : {W : Type 0} → List (Acting W) → (old : t.Tree) → List (Acting W) → t.Tree → t.Tree
+abbrev pub all_changes : {W : Type 0} → List (Acting W) → (old : t.Tree) → List (Acting W)
+    → t.Tree → t.Tree
 all_changes actings old [] tree = tree
 all_changes actings old (a ∷ others) tree =
     all_changes actings old others (change_by actings old a.runner.has.number a.due tree)
 
 -- each member does its own part, in the group that the new tree has for it
-abbrev pub settled_by : {W : Type 0} → List (Acting W) → (old new : t.Tree) → Runner W → Option (Step W) → Runner W
+abbrev pub settled_by : {W : Type 0} → List (Acting W) → (old new : t.Tree) → Runner W
+    → Option (Step W) → Runner W
 settled_by actings old new r None = r
 settled_by actings old new r (Some step) =
     let h = r.has.number in
@@ -159,16 +179,19 @@ settled_by actings old new r (Some step) =
       has = does step.operation value (length (t.members new (new.places h))) r.has;
     }
 
-abbrev pub settled : {W : Type 0} → List (Acting W) → (old new : t.Tree) → List (Acting W) → List (Runner W)
+abbrev pub settled : {W : Type 0} → List (Acting W) → (old new : t.Tree) → List (Acting W)
+    → List (Runner W)
 settled actings old new [] = []
-settled actings old new (a ∷ others) = settled_by actings old new a.runner a.due ∷ settled actings old new others
+settled actings old new (a ∷ others) =
+    settled_by actings old new a.runner a.due ∷ settled actings old new others
 
 -- the steps of the tree take place where nothing has faulted
 abbrev pub tree_phase : {W : Type 0} → t.Tree → Store → List (Acting W) → Option Fault → State W
 tree_phase tree s actings None =
     let new = all_changes actings tree actings tree in
     record { store = s; tree = new; runners = settled actings tree new actings; fault = None }
-tree_phase tree s actings (Some fault) = record { store = s; tree = tree; runners = map runner_of actings; fault = Some fault }
+tree_phase tree s actings (Some fault) =
+    record { store = s; tree = tree; runners = map runner_of actings; fault = Some fault }
 
 -- which rounds are allowed. What each processor is about to do with others
 abbrev pub joint_due : {W : Type 0} → Option (Step W) → Joint
@@ -195,28 +218,34 @@ body_of (Some kind) members = t.runs kind members
 
 -- a joint operation is done by all who do it together, each with count 1, where it is due
 abbrev pub all_do : Round → (ℕ → Joint) → Joint → List ℕ → Bool
-all_do round does joint members = list_all (λ h. (slice_index round h == 1) && same_joint joint (does h)) members
+all_do round does joint members =
+    list_all (λ h. (slice_index round h == 1) && same_joint joint (does h)) members
 
 abbrev pub joins : Round → (ℕ → Joint) → t.Tree → (n : ℕ) → Joint → Bool
 joins round does tree n Alone = true
 joins round does tree n Starting = all_do round does Starting (t.members tree n)
-joins round does tree n AtBarrier = all_do round does AtBarrier (body_of (t.kind tree n) (t.members tree n))
+joins round does tree n AtBarrier =
+    all_do round does AtBarrier (body_of (t.kind tree n) (t.members tree n))
 joins round does tree n Closing = all_do round does Closing (t.members tree n)
 joins round does tree n Resuming = t.ready tree n && all_do round does Resuming (t.members tree n)
 
--- a group in lockstep acts whole and with one count. At every other node each acts by itself, joint operations aside
+-- a group in lockstep acts whole and with one count. At every other node each acts by itself, joint
+-- operations aside
 abbrev pub fits_kind : Round → (ℕ → Joint) → t.Tree → (h n : ℕ) → Option Kind → Bool
-fits_kind round does tree h n (Some Lockstep) = list_all (λ m. slice_index round m == slice_index round h) (t.members tree n)
+fits_kind round does tree h n (Some Lockstep) =
+    list_all (λ m. slice_index round m == slice_index round h) (t.members tree n)
 fits_kind round does tree h n kind = joins round does tree n (does h)
 
 -- one that is not in the round fits always
 abbrev pub fits : Round → (ℕ → Joint) → t.Tree → (h count : ℕ) → Bool
 fits round does tree h zero = true
-fits round does tree h (suc c) = let n = tree.places h in fits_kind round does tree h n (t.kind tree n)
+fits round does tree h (suc c) = let n = tree.places h in
+    fits_kind round does tree h n (t.kind tree n)
 
 abbrev pub all_fit : Round → (ℕ → Joint) → t.Tree → (h : ℕ) → (counts : List ℕ) → Bool
 all_fit round does tree h [] = true
-all_fit round does tree h (c ∷ counts) = fits round does tree h c && all_fit round does tree (suc h) counts
+all_fit round does tree h (c ∷ counts) =
+    fits round does tree h c && all_fit round does tree (suc h) counts
 
 abbrev pub is_local : Class → Bool
 is_local Local = true
@@ -226,7 +255,8 @@ is_local Tree = false
 module _ {W : Type 0} (next : W → Option (Step W)) (setting : Setting) where
   -- the phase of local operations
   abbrev pub do_local : Acting W → Class → Step W → Acting W
-  do_local a Local step = done step (is_onward step.operation a.runner.has) (local setting step.operation a.runner.has)
+  do_local a Local step =
+      done step (is_onward step.operation a.runner.has) (local setting step.operation a.runner.has)
   do_local a Request step = a
   do_local a Tree step = a
 
@@ -287,13 +317,15 @@ module _ {W : Type 0} (next : W → Option (Step W)) (setting : Setting) where
   -- a round is allowed where each may be in it by itself, and all of them together
   abbrev pub is_allowed : Round → State W → Bool
   is_allowed round s =
-      all_may_act round s.runners && all_fit round (joint_at (begin_all round s.runners)) s.tree 0 round
+      all_may_act round s.runners
+      && all_fit round (joint_at (begin_all round s.runners)) s.tree 0 round
 
   -- an allowed round is possible where it has no fault
   abbrev pub is_possible : Round → State W → Bool
   is_possible round s = is_none s.fault && is_allowed round s && is_none (result round s).fault
 
-  -- what is left of an allowed round with a first fault when all processors above that of the fault are taken out
+  -- what is left of an allowed round with a first fault when all processors above that of the
+  -- fault are taken out
   pub record IsStopped (round : Round) (s : State W) : Type 0 where
     pub running : s.fault ≡ None
     pub whole : Round

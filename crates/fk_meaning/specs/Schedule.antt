@@ -1,12 +1,16 @@
 -- Schedules, runs and their stand.
-use Rattle.std.specs.Prelude.{◌≡◌, ℕ, zero, suc, ◌+◌, ◌<◌, ◌≤◌, List, [], ◌∷◌, Bool, true, ◌&&◌, take, length, slice_get, slice_index, Option, Some, None, is_none, if◌then◌else◌, ◌⊎◌}
+use Rattle.std.specs.Prelude.{◌≡◌, ℕ, zero, suc, ◌+◌, ◌<◌, ◌≤◌, List, [], ◌∷◌, Bool, true, ◌&&◌}
+use Rattle.std.specs.Prelude.{take, length, slice_get, slice_index, Option, Some, None, is_none}
+use Rattle.std.specs.Prelude.{if◌then◌else◌, ◌⊎◌}
 use Rattle.fk_num.specs.Word.{Memory}
 use Rattle.fk_tree.specs.Tree.{root}
 use Rattle.fk_meaning_store.specs.Store.{opening_store}
 use Rattle.fk_meaning.specs.Processor.{Level, Call, Processor, Setting, setting_of, group_space}
-use Rattle.fk_meaning.specs.Round.{Step, Runner, Fault, State, Round, result, is_allowed, is_possible, IsStopped}
+use Rattle.fk_meaning.specs.Round.{Step, Runner, Fault, State, Round, result, is_allowed}
+use Rattle.fk_meaning.specs.Round.{is_possible, IsStopped}
 
--- at the beginning `@` is 0, `$` is the processor's number, and the whole group space is there for a `start`
+-- at the beginning `@` is 0, `$` is the processor's number, and the whole group space is
+-- there for a `start`
 abbrev pub first_level : Setting → (h : ℕ) → Level
 first_level set h = record { number = 0; rank = h; size = set.processors; space = group_space set }
 
@@ -26,12 +30,16 @@ first_processor set firsts h = record {
 }
 
 -- so many processors from number h on, each with the same left to do
-abbrev pub beginners : {W : Type 0} → Setting → (firsts : Memory) → (left : W) → (h count : ℕ) → List (Runner W)
+abbrev pub beginners : {W : Type 0} → Setting → (firsts : Memory) → (left : W) → (h count : ℕ)
+    → List (Runner W)
 beginners set firsts left h zero = []
-beginners set firsts left h (suc p) = record { left = left; has = first_processor set firsts h } ∷ beginners set firsts left (suc h) p
+beginners set firsts left h (suc p) =
+    record { left = left; has = first_processor set firsts h } ∷ beginners set firsts left (suc h) p
 
--- the state before the first round, of a program with these globals and first values, all of which is left to do
-abbrev pub opening : {W : Type 0} → (processors : ℕ) → (globals input : List ℕ) → (firsts : Memory) → (left : W) → State W
+-- the state before the first round, of a program with these globals and first values, all of
+-- which is left to do
+abbrev pub opening : {W : Type 0} → (processors : ℕ) → (globals input : List ℕ) → (firsts : Memory)
+    → (left : W) → State W
 opening processors globals input firsts left =
     record {
       store = opening_store globals input;
@@ -60,9 +68,11 @@ module _ {W : Type 0} (next : W → Option (Step W)) (setting : Setting) where
   -- each round is possible in the state before it, or is the last one and stopped
   abbrev pub ArePossible : Schedule → State W → Type 0
   ArePossible [] s = Unit {0}
-  ArePossible (round ∷ []) s = (is_possible next setting round s ≡ true) ⊎ IsStopped next setting round s
+  ArePossible (round ∷ []) s = (is_possible next setting round s ≡ true)
+      ⊎ IsStopped next setting round s
   ArePossible (round ∷ other ∷ schedule) s =
-      (is_possible next setting round s ≡ true) × ArePossible (other ∷ schedule) (result next setting round s)
+      (is_possible next setting round s ≡ true)
+      × ArePossible (other ∷ schedule) (result next setting round s)
 
   -- some allowed round has processor h in it
   pub record CouldAct (h : ℕ) (s : State W) : Type 0 where
@@ -75,7 +85,8 @@ module _ {W : Type 0} (next : W → Option (Step W)) (setting : Setting) where
   KeepsPace schedule s =
       (h t : ℕ) → t + 256 ≤ length schedule
       → ((i : ℕ) → i < 256 → CouldAct h (run (take (t + i) schedule) s))
-      → (i : ℕ) × (i < 256) × (round : Round) × (slice_get schedule (t + i) ≡ Some round) × IsIn h round
+      → (i : ℕ) × (i < 256) × (round : Round)
+      × (slice_get schedule (t + i) ≡ Some round) × IsIn h round
 
   pub record IsLawful (schedule : Schedule) (s : State W) : Type 0 where
     pub possible : ArePossible schedule s

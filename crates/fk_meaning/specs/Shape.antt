@@ -3,11 +3,12 @@ use Rattle.std.specs.Prelude.{◌≡◌, Bool, true, false, not, ◌||◌, if◌
 use Rattle.fk_meaning_operation.specs.declared.operation.Operation.{Operation}
 use Rattle.fk_meaning_operation.specs.declared.operation.Operation.TheVariants as o
 use Rattle.fk_meaning_operation.specs.declared.operation.SplitKind.TheVariants.{IfElse}
-use Rattle.fk_meaning_forms.specs.Code.{Code, done, perform, choose, while, until, turn, again, quit, break, continue, call, ends}
+use Rattle.fk_meaning_forms.specs.Code.{Code, done, perform, choose, while, until, turn, again}
+use Rattle.fk_meaning_forms.specs.Code.{quit, break, continue, call, ends}
 use Rattle.fk_meaning.specs.Behind.{opens_body, is_shrink}
 
--- what code may do to lead out of what it stands in: `break`, `continue`, `return`. A test of a loop ends with what leaves
--- the loop, by a shrink or by a branch
+-- what code may do to lead out of what it stands in: `break`, `continue`, `return`. A test of a
+-- loop ends with what leaves the loop, by a shrink or by a branch
 pub record Exits : Type 0 where
   pub breaks : Bool
   pub continues : Bool
@@ -16,7 +17,8 @@ pub record Exits : Type 0 where
   pub shrinking : Bool
 
 abbrev pub none : Exits
-none = record { breaks = false; continues = false; returns = false; tests = false; shrinking = false }
+none =
+    record { breaks = false; continues = false; returns = false; tests = false; shrinking = false }
 
 abbrev pub of_function : Exits
 of_function = record none { returns = true }
@@ -67,7 +69,8 @@ abbrev pub ends_part : Operation → Bool
 ends_part o.End = true
 ends_part op = false
 
--- where an operation may stand: on its own; before a choice; at the end of a test; at a call, and at the end of a function
+-- where an operation may stand: on its own; before a choice; at the end of a test; at a call, and
+-- at the end of a function
 abbrev pub is_performed : Operation → Bool
 is_performed (o.Split by) = false
 is_performed o.Begin = false
@@ -112,15 +115,18 @@ abbrev pub Either : Bool → Type 0 → Type 0 → Type 0
 Either true ended goes_on = ended
 Either false ended goes_on = goes_on
 
--- code of a part ends with its part, and other code doesn't; directly behind a body there is the meeting that closes it, and
--- behind parts an operation at which those wait who don't enter one
+-- code of a part ends with its part, and other code doesn't; directly behind a body there is the
+-- meeting that closes it, and behind parts an operation at which those wait who don't enter one
 abbrev pub Shape : {A : Type 0} → (part closing : Bool) → Exits → Code A → Type 0
 Shape part closing x done = (closing ≡ false) × (part ≡ false) × (x.tests ≡ false)
 Shape part closing x (perform t op rest) =
-    (closes op ≡ closing) × (is_performed op ≡ true) × Either (ends_part op) ((part ≡ true) × (x.tests ≡ false) × (rest ≡ done)) (Shape part false x rest)
+    (closes op ≡ closing) × (is_performed op ≡ true) × Either (ends_part op)
+    ((part ≡ true) × (x.tests ≡ false) × (rest ≡ done)) (Shape part false x rest)
 Shape part closing x (choose t op a b rest) =
-    (closing ≡ false) × (is_chosen op ≡ true) × Shape (splits op) false (of_way op x) a × Shape (has_two_parts op) false (of_way op x) b
-    × (waits op ≡ true → b ≡ done) × (splits op ≡ true → begins rest ≡ true) × Shape part (opens_body op) x rest
+    (closing ≡ false) × (is_chosen op ≡ true) × Shape (splits op) false (of_way op x) a
+    × Shape (has_two_parts op) false (of_way op x) b
+    × (waits op ≡ true → b ≡ done) × (splits op ≡ true → begins rest ≡ true)
+    × Shape part (opens_body op) x rest
 Shape part closing x (while test body step rest) =
     (closing ≡ false) × (shrinking : Bool) × Shape false false (of_test shrinking) test
     × Shape false false (of_turn shrinking x) body × Shape false false none step
@@ -132,10 +138,13 @@ Shape part closing x (until body test rest) =
 Shape part closing x (turn test body step rest) = ⊥
 Shape part closing x (again test body step rest) = ⊥
 Shape part closing x (quit t op rest) =
-    (closing ≡ false) × (is_quit op ≡ true) × (part ≡ false) × (x.tests ≡ true) × (is_shrink op ≡ x.shrinking) × (rest ≡ done)
+    (closing ≡ false) × (is_quit op ≡ true) × (part ≡ false) × (x.tests ≡ true)
+    × (is_shrink op ≡ x.shrinking) × (rest ≡ done)
 Shape part closing x (break rest) = (closing ≡ false) × (x.breaks ≡ true) × Shape part false x rest
-Shape part closing x (continue rest) = (closing ≡ false) × (x.continues ≡ true) × Shape part false x rest
+Shape part closing x (continue rest) = (closing ≡ false) × (x.continues ≡ true)
+    × Shape part false x rest
 Shape part closing x (call t op f opening rest) =
-    (closing ≡ false) × (is_of_call op ≡ true) × Shape false false none opening × Shape part false x rest
+    (closing ≡ false) × (is_of_call op ≡ true) × Shape false false none opening
+    × Shape part false x rest
 Shape part closing x (ends t op rest) =
     (closing ≡ false) × (is_of_call op ≡ true) × (x.returns ≡ true) × Shape part false x rest

@@ -1,6 +1,7 @@
--- What is asked of the functions of a program, and what then is so of its runs: nothing leads out of parts and bodies, and
--- calls are such as the rules of types allow.
-use Rattle.std.specs.Prelude.{◌≡◌, ℕ, Bool, true, false, ◌==◌, List, [], ◌∷◌, Option, Some, None, if◌then◌else◌}
+-- What is asked of the functions of a program, and what then is so of its runs: nothing leads out
+-- of parts and bodies, and calls are such as the rules of types allow.
+use Rattle.std.specs.Prelude.{◌≡◌, ℕ, Bool, true, false, ◌==◌, List, [], ◌∷◌, Option, Some, None}
+use Rattle.std.specs.Prelude.{if◌then◌else◌}
 use Rattle.fk_syntax.specs.Tree.{Named, Tree, Trees}
 use Rattle.fk_syntax.specs.Program as p
 use Rattle.fk_syntax.specs.Program.{DeclaredTree, Statement, Statements, FunctionTree, ProgramTree}
@@ -18,7 +19,8 @@ use Rattle.fk_meaning.specs.Calls.{TakesEnough}
 
 -- a function of the program takes any arguments
 abbrev pub Takes : Tables → Named → Trees → Type 0
-Takes tables name arguments = ((note tables name.at).binding == no_binding) ≡ true → TakesEnough name arguments
+Takes tables name arguments = ((note tables name.at).binding == no_binding) ≡ true
+    → TakesEnough name arguments
 
 module _ (tables : Tables) (functions : (binding : ℕ) → Signature) where
   abbrev pub is_split : (at : ℕ) → Bool
@@ -42,17 +44,23 @@ module _ (tables : Tables) (functions : (binding : ℕ) → Signature) where
     StatementShaped x (p.Expression e) = Fits e
     StatementShaped x (p.Block statements) = StatementsShaped x statements
     StatementShaped x (p.Declare variables) = VariablesFit variables
-    StatementShaped x (p.If spot condition first) = Fits condition × StatementShaped (of_branch (is_split spot.at) x) first
+    StatementShaped x (p.If spot condition first) = Fits condition
+        × StatementShaped (of_branch (is_split spot.at) x) first
     StatementShaped x (p.IfElse spot condition first second) =
-        Fits condition × StatementShaped (of_branch (is_split spot.at) x) first × StatementShaped (of_branch (is_split spot.at) x) second
-    StatementShaped x (p.While spot condition body) = Fits condition × StatementShaped (of_turn (is_split spot.at) x) body
-    StatementShaped x (p.DoWhile spot body condition) = Fits condition × StatementShaped (of_turn (is_split spot.at) x) body
+        Fits condition × StatementShaped (of_branch (is_split spot.at) x) first
+        × StatementShaped (of_branch (is_split spot.at) x) second
+    StatementShaped x (p.While spot condition body) = Fits condition
+        × StatementShaped (of_turn (is_split spot.at) x) body
+    StatementShaped x (p.DoWhile spot body condition) = Fits condition
+        × StatementShaped (of_turn (is_split spot.at) x) body
     StatementShaped x (p.For spot before condition after body) =
-        OptionFits before × OptionFits condition × OptionFits after × StatementShaped (of_turn (is_split spot.at) x) body
+        OptionFits before × OptionFits condition × OptionFits after
+        × StatementShaped (of_turn (is_split spot.at) x) body
     StatementShaped x (p.Start spot count body) = OptionFits count × StatementShaped none body
     StatementShaped x (p.Farm spot body) = StatementShaped none body
     StatementShaped x (p.Seq spot body) = StatementShaped none body
-    StatementShaped x (p.Fork spot parts part rank body) = Fits parts × Fits part × OptionFits rank × StatementShaped none body
+    StatementShaped x (p.Fork spot parts part rank body) = Fits parts × Fits part × OptionFits rank
+        × StatementShaped none body
     StatementShaped x (p.Barrier spot) = Unit {0}
     StatementShaped x (p.Break spot) = x.breaks ≡ true
     StatementShaped x (p.Continue spot) = x.continues ≡ true
@@ -60,7 +68,8 @@ module _ (tables : Tables) (functions : (binding : ℕ) → Signature) where
 
     pub StatementsShaped : Exits → Statements → Type 0
     StatementsShaped x p.no_statements = Unit {0}
-    StatementsShaped x (p.statement first others) = StatementShaped x first × StatementsShaped x others
+    StatementsShaped x (p.statement first others) = StatementShaped x first
+        × StatementsShaped x others
 
   abbrev pub BodyShaped : Option Statements → Type 0
   BodyShaped None = Unit {0}
@@ -80,11 +89,12 @@ ProgramsAreNested =
     (tables : Tables) (program : ProgramTree) → ProgramShaped tables program
     → (binding : ℕ) → Shape false false of_function (bodies_of tables program binding)
 
--- and whichever ways a run of such code goes, an operation goes on as they are nested: who comes to the end of a part has
--- left what those have who waited for it, and so for a body
+-- and whichever ways a run of such code goes, an operation goes on as they are nested: who comes to
+-- the end of a part has left what those have who waited for it, and so for a body
 abbrev pub PartsEndWhereOthersWait : Type 0
 PartsEndWhereOthersWait =
-    (bodies : (binding : ℕ) → Code ℕ) → ((binding : ℕ) → Shape false false of_function (bodies binding))
+    (bodies : (binding : ℕ) → Code ℕ)
+    → ((binding : ℕ) → Shape false false of_function (bodies binding))
     → (main : ℕ) (ways : List Bool) (step : Step Work)
     → next bodies (after_ways (next bodies) ways (going (bodies main) [])) ≡ Some step
     → GoesOnFrom (after_ways (next bodies) ways (going (bodies main) [])) step

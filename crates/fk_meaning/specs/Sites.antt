@@ -1,5 +1,6 @@
 -- The sites of the operations that a run comes to.
-use Rattle.std.specs.Prelude.{◌≡◌, ℕ, Bool, List, [], ◌∷◌, Option, Some, None, option_map, slice_get}
+use Rattle.std.specs.Prelude.{◌≡◌, ℕ, Bool, List, [], ◌∷◌, Option, Some, None, option_map}
+use Rattle.std.specs.Prelude.{slice_get}
 use Rattle.fk_syntax.specs.declared.place.Place.{Place}
 use Rattle.fk_syntax.specs.Program.{ProgramTree}
 use Rattle.fk_meaning_operation.specs.Kinds.{kind_of}
@@ -22,9 +23,11 @@ abbrev pub after_ways : (next : Work → Option (Step Work)) → (ways : List Bo
 after_ways next [] work = work
 after_ways next (onward ∷ ways) work = after_ways next ways (rest_of work onward (next work))
 
--- whichever ways they go, the next operation has among the sites of the text, at its own number, its own kind
+-- whichever ways they go, the next operation has among the sites of the text, at its own
+-- number, its own kind
 abbrev pub SitesHaveTheirKinds : Type 0
 SitesHaveTheirKinds =
     (tables : Tables) (program : ProgramTree) (ways : List Bool) (step : Step Work)
-    → next_in tables program (after_ways (next_in tables program) ways (main_work tables program)) ≡ Some step
+    → next_in tables program
+    (after_ways (next_in tables program) ways (main_work tables program)) ≡ Some step
     → kind_at (sites_of tables program) step.site ≡ Some (kind_of step.operation)

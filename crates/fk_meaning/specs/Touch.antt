@@ -1,5 +1,6 @@
 -- What becomes of one word of shared data in a round, and what those who touch it are answered.
-use Rattle.std.specs.Prelude.{◌≡◌, ℕ, ◌==◌, ◌&&◌, Bool, true, false, List, [], ◌∷◌, Option, Some, None, option_map, is_some, slice_get, take, fold, if◌then◌else◌}
+use Rattle.std.specs.Prelude.{◌≡◌, ℕ, ◌==◌, ◌&&◌, Bool, true, false, List, [], ◌∷◌, Option, Some}
+use Rattle.std.specs.Prelude.{None, option_map, is_some, slice_get, take, fold, if◌then◌else◌}
 use Rattle.fk_num.specs.Op.{applied}
 use Rattle.fk_tree.specs.Tree as t
 use Rattle.fk_tree.specs.declared.node.Kind.TheVariants.{Lockstep}
@@ -29,7 +30,8 @@ touches x other = false
 -- the request with which a processor touches word x, if it stands at one
 abbrev pub touch_by : (x : ℕ) → Processor → Class → Operation → Option request.Request
 touch_by x p Local operation = None
-touch_by x p Request operation = let q = request_of operation p in if touches x q then Some q else None
+touch_by x p Request operation = let q = request_of operation p in
+    if touches x q then Some q else None
 touch_by x p Tree operation = None
 
 abbrev pub touch_of : (x : ℕ) → Processor → Option Operation → Option request.Request
@@ -93,11 +95,13 @@ last_of runners h = option_map (λ r. last (values r.has)) (slice_get runners h)
 module _ {W : Type 0} (next : W → Option (Step W)) (setting : Setting) where
   -- in a round processor h touches word x by a request
   abbrev pub Touches : Round → State W → (x h : ℕ) → request.Request → Type 0
-  Touches round s x h q = (a : Acting W) × (slice_get (asking next setting round s.runners) h ≡ Some a) × (touch x a ≡ Some q)
+  Touches round s x h q = (a : Acting W)
+      × (slice_get (asking next setting round s.runners) h ≡ Some a) × (touch x a ≡ Some q)
 
   -- what those below processor h have made of word x, and the values that they have brought
   abbrev pub word_before : Round → State W → (x h : ℕ) → ℕ
-  word_before round s x h = word_after x (take h (asking next setting round s.runners)) (s.store.words x)
+  word_before round s x h =
+      word_after x (take h (asking next setting round s.runners)) (s.store.words x)
 
   abbrev pub brought_below : Round → State W → (x h : ℕ) → List ℕ
   brought_below round s x h = brought x (take h (asking next setting round s.runners))
@@ -105,17 +109,23 @@ module _ {W : Type 0} (next : W → Option (Step W)) (setting : Setting) where
   abbrev pub all_brought : Round → State W → (x : ℕ) → List ℕ
   all_brought round s x = brought x (asking next setting round s.runners)
 
-  -- each who touches a word in a round without a fault is answered by it as those below have left it
+  -- each who touches a word in a round without a fault is answered by it as those
+  -- below have left it
   pub record GoesInTurn (round : Round) (s : State W) (x : ℕ) : Type 0 where
     pub answers : (h : ℕ) (q : request.Request) → Touches round s x h q
-        → last_of (result next setting round s).runners h ≡ Some (answer q (word_before round s x h))
-    pub word : (result next setting round s).store.words x ≡ word_after x (asking next setting round s.runners) (s.store.words x)
+        → last_of (result next setting round s).runners h
+        ≡ Some (answer q (word_before round s x h))
+    pub word : (result next setting round s).store.words x
+        ≡ word_after x (asking next setting round s.runners) (s.store.words x)
 
-  -- in a round without a fault the members of group n, in lockstep, alone touch word x, all of them by one operation
-  pub record IsGroupStep (round : Round) (s : State W) (n x : ℕ) (operation : Operation) : Type 0 where
+  -- in a round without a fault the members of group n, in lockstep, alone touch word x, all of them
+  -- by one operation
+  pub record IsGroupStep (round : Round) (s : State W) (n x : ℕ)
+      (operation : Operation) : Type 0 where
     pub lockstep : t.kind s.tree n ≡ Some Lockstep
     pub no_fault : (result next setting round s).fault ≡ None
-    pub alone : (h : ℕ) (q : request.Request) → Touches round s x h q → t.is_member h (t.members s.tree n) ≡ true
+    pub alone : (h : ℕ) (q : request.Request) → Touches round s x h q
+        → t.is_member h (t.members s.tree n) ≡ true
     pub one : (h : ℕ) (a : Acting W) → slice_get (asking next setting round s.runners) h ≡ Some a
         → (q : request.Request) → touch x a ≡ Some q → operation_due a.due ≡ Some operation
 
@@ -127,14 +137,17 @@ module _ {W : Type 0} (next : W → Option (Step W)) (setting : Setting) where
 
   -- writes leave the value of the highest writer
   abbrev pub Writes : Round → State W → (x : ℕ) → Type 0
-  Writes round s x = (result next setting round s).store.words x ≡ last_or (s.store.words x) (all_brought round s x)
+  Writes round s x = (result next setting round s).store.words x ≡ last_or (s.store.words x)
+      (all_brought round s x)
 
-  -- each multiprefix answers the former word combined with the values of the lower ones, and the word becomes the former
-  -- one combined with all of them
+  -- each multiprefix answers the former word combined with the values of the lower ones, and the
+  -- word becomes the former one combined with all of them
   pub record Combines (by : Multiprefix) (round : Round) (s : State W) (x : ℕ) : Type 0 where
     pub answers : (h : ℕ) (q : request.Request) → Touches round s x h q
-        → last_of (result next setting round s).runners h ≡ Some (fold (applied (operator_of by)) (s.store.words x) (brought_below round s x h))
-    pub word : (result next setting round s).store.words x ≡ fold (applied (operator_of by)) (s.store.words x) (all_brought round s x)
+        → last_of (result next setting round s).runners h
+        ≡ Some (fold (applied (operator_of by)) (s.store.words x) (brought_below round s x h))
+    pub word : (result next setting round s).store.words x ≡ fold (applied (operator_of by))
+        (s.store.words x) (all_brought round s x)
 
 abbrev pub RequestsGoInTurn : (W : Type 0) → Type 0
 RequestsGoInTurn W =
@@ -142,9 +155,12 @@ RequestsGoInTurn W =
     → (result next setting round s).fault ≡ None → GoesInTurn next setting round s x
 
 pub record GroupStep (W : Type 0) : Type 0 where
-  pub read : (next : W → Option (Step W)) (setting : Setting) (round : Round) (s : State W) (n x : ℕ)
+  pub read : (next : W → Option (Step W)) (setting : Setting) (round : Round)
+      (s : State W) (n x : ℕ)
       → IsGroupStep next setting round s n x o.Read → Reads next setting round s x
-  pub write : (next : W → Option (Step W)) (setting : Setting) (round : Round) (s : State W) (n x : ℕ)
+  pub write : (next : W → Option (Step W)) (setting : Setting) (round : Round)
+      (s : State W) (n x : ℕ)
       → IsGroupStep next setting round s n x o.Write → Writes next setting round s x
-  pub combine : (next : W → Option (Step W)) (setting : Setting) (round : Round) (s : State W) (n x : ℕ) (by : Multiprefix)
+  pub combine : (next : W → Option (Step W)) (setting : Setting) (round : Round) (s : State W)
+      (n x : ℕ) (by : Multiprefix)
       → IsGroupStep next setting round s n x (o.Combine by) → Combines next setting by round s x

@@ -1,5 +1,6 @@
--- Code: what is left to do, as a list of operations with choices, loops and calls. It is what the forms of a program
--- come to, each operation with a tag: its place at first, its site once all of them are numbered.
+-- Code: what is left to do, as a list of operations with choices, loops and calls. It is what the
+-- forms of a program come to, each operation with a tag: its place at first, its site once all of
+-- them are numbered.
 use Rattle.std.specs.Prelude.{ℕ, suc, ◌+◌, List, [], ◌∷◌, ◌++◌}
 use Rattle.fk_meaning_operation.specs.Kinds.{kind_of}
 use Rattle.fk_meaning_operation.specs.declared.operation.Operation.{Operation}
@@ -11,7 +12,8 @@ pub data Code (A : Type 0) : Type 0 where
   perform : (tag : A) (op : Operation) (rest : Code A) → Code A
   -- an operation that goes one of two ways, and what is left after both
   choose : (tag : A) (op : Operation) (onward aside rest : Code A) → Code A
-  -- loops: what is tested, then what a turn does, then the step to the next turn; the second one begins with a turn
+  -- loops: what is tested, then what a turn does, then the step to the next turn; the second one
+  -- begins with a turn
   while : (test body step rest : Code A) → Code A
   until : (body test rest : Code A) → Code A
   -- a loop that is under way, at the end of its turn and at the beginning of its test
@@ -76,20 +78,26 @@ abbrev pub numbered : {A : Type 0} → ℕ → Code A → Code ℕ
 numbered n done = done
 numbered n (perform t op rest) = perform n op (numbered (suc n) rest)
 numbered n (choose t op a b rest) =
-    choose n op (numbered (suc n) a) (numbered (suc n + size a) b) (numbered (suc n + size a + size b) rest)
+    choose n op (numbered (suc n) a) (numbered (suc n + size a) b)
+    (numbered (suc n + size a + size b) rest)
 numbered n (while test body step rest) =
-    while (numbered n test) (numbered (n + size test) body) (numbered (n + size test + size body) step)
+    while (numbered n test) (numbered (n + size test) body)
+    (numbered (n + size test + size body) step)
     (numbered (n + size test + size body + size step) rest)
 numbered n (until body test rest) =
-    until (numbered n body) (numbered (n + size body) test) (numbered (n + size body + size test) rest)
+    until (numbered n body) (numbered (n + size body) test)
+    (numbered (n + size body + size test) rest)
 numbered n (turn test body step rest) =
-    turn (numbered n test) (numbered (n + size test) body) (numbered (n + size test + size body) step)
+    turn (numbered n test) (numbered (n + size test) body)
+    (numbered (n + size test + size body) step)
     (numbered (n + size test + size body + size step) rest)
 numbered n (again test body step rest) =
-    again (numbered n test) (numbered (n + size test) body) (numbered (n + size test + size body) step)
+    again (numbered n test) (numbered (n + size test) body)
+    (numbered (n + size test + size body) step)
     (numbered (n + size test + size body + size step) rest)
 numbered n (quit t op rest) = quit n op (numbered (suc n) rest)
 numbered n (break rest) = break (numbered n rest)
 numbered n (continue rest) = continue (numbered n rest)
-numbered n (call t op f opening rest) = call n op f (numbered (suc n) opening) (numbered (suc n + size opening) rest)
+numbered n (call t op f opening rest) =
+    call n op f (numbered (suc n) opening) (numbered (suc n + size opening) rest)
 numbered n (ends t op rest) = ends n op (numbered (suc n) rest)

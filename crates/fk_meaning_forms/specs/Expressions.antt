@@ -1,5 +1,6 @@
 -- The operations of expressions.
-use Rattle.std.specs.Prelude.{ℕ, suc, ◌+◌, ◌*◌, ◌==◌, ◌||◌, Bool, true, false, List, [], ◌∷◌, length, codes, bytes_eq, Option, Some, None, if◌then◌else◌}
+use Rattle.std.specs.Prelude.{ℕ, suc, ◌+◌, ◌*◌, ◌==◌, ◌||◌, Bool, true, false, List, [], ◌∷◌}
+use Rattle.std.specs.Prelude.{length, codes, bytes_eq, Option, Some, None, if◌then◌else◌}
 use Rattle.fk_num.specs.declared.operator.Op.TheVariants as f
 use Rattle.fk_syntax.specs.declared.place.Place.{Place}
 use Rattle.fk_syntax.specs.declared.place.Spot.{Spot}
@@ -15,16 +16,19 @@ use Rattle.fk_meaning_operation.specs.declared.operation.Variable.TheVariants as
 use Rattle.fk_meaning_operation.specs.declared.operation.OwnValue.TheVariants as n
 use Rattle.fk_meaning_operation.specs.declared.operation.Unary.TheVariants as u
 use Rattle.fk_meaning_operation.specs.declared.operation.Multiprefix.{Multiprefix}
-use Rattle.fk_meaning_operation.specs.declared.operation.Multiprefix.TheVariants.{MpAdd, MpMax, MpAnd, MpOr}
+use Rattle.fk_meaning_operation.specs.declared.operation.Multiprefix.TheVariants.{MpAdd, MpMax}
+use Rattle.fk_meaning_operation.specs.declared.operation.Multiprefix.TheVariants.{MpAnd, MpOr}
 use Rattle.fk_meaning_operation.specs.declared.operation.SplitKind.{SplitKind}
-use Rattle.fk_meaning_operation.specs.declared.operation.SplitKind.TheVariants.{IfElse, AndThen, OrElse}
+use Rattle.fk_meaning_operation.specs.declared.operation.SplitKind.TheVariants.{IfElse, AndThen}
+use Rattle.fk_meaning_operation.specs.declared.operation.SplitKind.TheVariants.{OrElse}
 use Rattle.fk_meaning_forms.specs.declared.tables.Home.{Home}
 use Rattle.fk_meaning_forms.specs.declared.tables.Home.TheVariants as h
 use Rattle.fk_meaning_forms.specs.declared.tables.Region.{Region}
 use Rattle.fk_meaning_forms.specs.declared.signs.Move.{Move}
 use Rattle.fk_meaning_forms.specs.declared.signs.Move.TheVariants.{Forth, Back, NoMove}
 use Rattle.fk_meaning_forms.specs.Code.{Code, done, perform, choose, call}
-use Rattle.fk_meaning_forms.specs.Tables.{Tables, no_binding, note, kind_at, is_array, is_void, is_unsigned, slot, region, frame_at}
+use Rattle.fk_meaning_forms.specs.Tables.{Tables, no_binding, note, kind_at, is_array, is_void}
+use Rattle.fk_meaning_forms.specs.Tables.{is_unsigned, slot, region, frame_at}
 use Rattle.fk_meaning_forms.specs.Signs.{operator_of, is_shift, move_of}
 use Rattle.fk_meaning_forms.specs.Texts.{text_of}
 
@@ -38,8 +42,8 @@ nowhere = record { line = 0; column = 0 }
 abbrev pub plain : Operation → (rest : Coded) → Coded
 plain op rest = perform nowhere op rest
 
--- how an expression stands when its operations are done: as a value; at an address that is not checked yet, behind a
--- dereference or an index or not; in a private word; or as a function's name
+-- how an expression stands when its operations are done: as a value; at an address that is not
+-- checked yet, behind a dereference or an index or not; in a private word; or as a function's name
 pub data Standing : Type 0 where
   OnList : Standing
   AtAddress : (deep : Bool) (spot : Spot) → Standing
@@ -50,7 +54,8 @@ pub data Standing : Type 0 where
 abbrev pub Stands : Type 0
 Stands = (Standing → Coded) → Coded
 
--- the token by which an expression is known: its sign, its name or its number; the last one of a chain or of suffixes
+-- the token by which an expression is known: its sign, its name or its number; the last one of a
+-- chain or of suffixes
 abbrev pub last_link : (at : ℕ) → Links → ℕ
 last_link at t.no_links = at
 last_link at (t.link spot sign right others) = last_link spot.at others
@@ -84,7 +89,8 @@ spot_of name = record { at = name.at; place = name.place }
 abbrev pub is_name : Named → (bytes : List ℕ) → Bool
 is_name name bytes = bytes_eq name.bytes bytes
 
--- a function, as its calls see it: the token of its name, its parameters, and whether it has no result
+-- a function, as its calls see it: the token of its name, its parameters, and whether
+-- it has no result
 pub record Signature : Type 0 where
   pub at : ℕ
   pub parameters : List DeclaredTree
@@ -111,7 +117,8 @@ module _ (tables : Tables) (functions : (binding : ℕ) → Signature) where
 
   -- an expression as a value. An array is its address without a check
   abbrev pub valued : Standing → Coded → Coded
-  valued (AtAddress deep spot) rest = if is_array tables spot.at then rest else checked deep spot (plain o.Read rest)
+  valued (AtAddress deep spot) rest = if is_array tables spot.at then rest
+      else checked deep spot (plain o.Read rest)
   valued (InWord variable) rest = plain (o.Get (n.Value variable)) rest
   valued standing rest = rest
 
@@ -144,32 +151,39 @@ module _ (tables : Tables) (functions : (binding : ℕ) → Signature) where
       if is_name name (codes "__PROC_NR__") then plain (o.Get n.ProcessorNumber) (k OnList)
       else if is_name name (codes "__STARTED_PROCS__") then plain (o.Get n.Processors) (k OnList)
       else if is_name name (codes "__inputs") then plain (o.Get n.InputLength) (k OnList)
-      else if is_name name (codes "__input") then plain (o.Get n.InputAddress) (k (AtAddress false (spot_of name)))
+      else if is_name name (codes "__input") then plain (o.Get n.InputAddress)
+      (k (AtAddress false (spot_of name)))
       else k (ToCall name)
 
   abbrev pub placed : Home → (index : ℕ) → Named → Stands
-  placed h.Global i name k = plain (o.Push (0x10000000 + 4 * i)) (k (AtAddress false (spot_of name)))
+  placed h.Global i name k =
+      plain (o.Push (0x10000000 + 4 * i)) (k (AtAddress false (spot_of name)))
   placed h.FilePrivate i name k = k (InWord (v.OfFile i))
   placed h.Private i name k = k (InWord (v.Private i))
-  placed (h.Group r) i name k = plain (o.Get (n.FrameAddress (region tables r).level i)) (k (AtAddress false (spot_of name)))
+  placed (h.Group r) i name k =
+      plain (o.Get (n.FrameAddress (region tables r).level i)) (k (AtAddress false (spot_of name)))
   placed h.NoWord i name k = k (ToCall name)
 
   abbrev pub variable : Named → Stands
   variable name k =
       let b = (note tables name.at).binding in
-      if b == no_binding then predeclared name k else placed (slot tables b).home (slot tables b).index name k
+      if b == no_binding then predeclared name k
+      else placed (slot tables b).home (slot tables b).index name k
 
   -- `a op b`: an operator on two values, the types of which the tokens tell
   abbrev pub operate : Sign → (left right : ℕ) → Coded → Coded
   operate sign left right rest =
-      let unsigned = if is_shift sign then is_unsigned tables left else is_unsigned tables left || is_unsigned tables right in
+      let unsigned = if is_shift sign then is_unsigned tables left
+      else is_unsigned tables left || is_unsigned tables right in
       let step = (kind_at tables left).step in
-      if step == 0 then plain (operator_of sign unsigned) rest else moved (move_of sign) step (operator_of sign unsigned) rest
+      if step == 0 then plain (operator_of sign unsigned) rest
+      else moved (move_of sign) step (operator_of sign unsigned) rest
 
   -- `v op= e`: the value, [e], the operator, the new value
   abbrev pub updated : Sign → Stands → (left right : ℕ) → (e : Coded → Coded) → Stands
   updated sign target left right e k =
-      target (λ standing. fetched standing (e (operate sign left right (assigned standing (k OnList)))))
+      target
+      (λ standing. fetched standing (e (operate sign left right (assigned standing (k OnList)))))
 
   abbrev pub one : Coded → Coded
   one rest = plain (o.Push 1) rest
@@ -185,8 +199,9 @@ module _ (tables : Tables) (functions : (binding : ℕ) → Signature) where
   prefixed spot g.Decrement e at k = updated g.Minus e at spot.at one k
   prefixed spot sign e at k = value_of e (k OnList)
 
-  -- `&&` and `||` go on with their right side, whose value becomes 0 or 1, or with another value; `?:` goes one of two ways.
-  -- In a synchronous region the group agrees before it branches, or splits
+  -- `&&` and `||` go on with their right side, whose value becomes 0 or 1, or with another
+  -- value; `?:` goes one of two ways. In a synchronous region the group agrees before it
+  -- branches, or splits
   abbrev pub truth : Stands → Coded → Coded
   truth e rest = value_of e (plain (o.Push 0) (plain (o.Binary f.Ne false) rest))
 
@@ -194,15 +209,19 @@ module _ (tables : Tables) (functions : (binding : ℕ) → Signature) where
   logical spot split onward other a b k =
       let here = note tables spot.at in
       value_of a (if here.splits
-      then choose spot.place (o.Split split) (truth b (plain o.End done)) done (plain o.Resume (k OnList))
-      else agreed here.sync (choose nowhere (o.Branch onward) (truth b done) (plain (o.Push other) done) (k OnList)))
+      then choose spot.place (o.Split split)
+      (truth b (plain o.End done)) done (plain o.Resume (k OnList))
+      else agreed here.sync
+      (choose nowhere (o.Branch onward) (truth b done) (plain (o.Push other) done) (k OnList)))
 
   abbrev pub chosen : Spot → Stands → Stands → Stands → Stands
   chosen spot condition a b k =
       let here = note tables spot.at in
       value_of condition (if here.splits
-      then choose spot.place (o.Split IfElse) (value_of a (plain o.End done)) (value_of b (plain o.End done)) (plain o.Resume (k OnList))
-      else agreed here.sync (choose nowhere (o.Branch true) (value_of a done) (value_of b done) (k OnList)))
+      then choose spot.place (o.Split IfElse) (value_of a (plain o.End done))
+      (value_of b (plain o.End done)) (plain o.Resume (k OnList))
+      else agreed here.sync
+      (choose nowhere (o.Branch true) (value_of a done) (value_of b done) (k OnList)))
 
   -- signs between two expressions
   abbrev pub joined : Spot → Sign → Stands → (left : ℕ) → Stands → (right : ℕ) → Stands
@@ -216,7 +235,8 @@ module _ (tables : Tables) (functions : (binding : ℕ) → Signature) where
       target (λ standing. addressed standing (value_of value (assigned standing (k OnList))))
   assignment sign target left value right k = updated sign target left right (value_of value) k
 
-  -- suffixes. A member lies so many words behind the beginning of its struct, as the note of its name says
+  -- suffixes. A member lies so many words behind the beginning of its struct, as the note
+  -- of its name says
   abbrev pub member : (at : ℕ) → Coded → Coded
   member at rest = plain (o.Push (4 * (note tables at).binding)) (plain (o.Binary f.Add false) rest)
 
@@ -225,7 +245,8 @@ module _ (tables : Tables) (functions : (binding : ℕ) → Signature) where
   is_deep standing = false
 
   abbrev pub indexed : Spot → Stands → Stands → Stands
-  indexed spot e by k = value_of e (value_of by (plain (o.Index (4 * (kind_at tables spot.at).words)) (k (AtAddress true spot))))
+  indexed spot e by k = value_of e
+      (value_of by (plain (o.Index (4 * (kind_at tables spot.at).words)) (k (AtAddress true spot))))
 
   abbrev pub dotted : Spot → (at : ℕ) → Stands → Stands
   dotted spot at e k = e (λ standing. member at (k (AtAddress (is_deep standing) spot)))
@@ -239,9 +260,11 @@ module _ (tables : Tables) (functions : (binding : ℕ) → Signature) where
 
   abbrev pub raised : Sign → (back : Sign) → Stands → (at : ℕ) → Stands
   raised sign back e at k =
-      updated sign e at 0 one (λ standing. plain (o.Push (step_back at)) (plain (operator_of back false) (k OnList)))
+      updated sign e at 0 one
+      (λ standing. plain (o.Push (step_back at)) (plain (operator_of back false) (k OnList)))
 
-  -- a call: the arguments, agreed for `sh` parameters; enter; the frame, and the `sh` parameters put into it
+  -- a call: the arguments, agreed for `sh` parameters; enter; the frame, and the `sh`
+  -- parameters put into it
   abbrev pub arguments : List DeclaredTree → List Stands → Coded → Coded
   arguments (x ∷ xs) (e ∷ es) rest = value_of e (agreed x.shared (arguments xs es rest))
   arguments xs es rest = rest
@@ -255,7 +278,8 @@ module _ (tables : Tables) (functions : (binding : ℕ) → Signature) where
   parameters i (x ∷ xs) =
       if x.shared
       then plain (o.Get (n.FrameAddress 0 (slot tables (note tables x.name.at).binding).index))
-      (plain (o.Get (n.Value (v.Private i))) (plain o.Write (plain o.DropLast (parameters (suc i) xs))))
+      (plain (o.Get (n.Value (v.Private i)))
+      (plain o.Write (plain o.DropLast (parameters (suc i) xs))))
       else parameters (suc i) xs
 
   abbrev pub called : Named → List Stands → Stands
@@ -264,11 +288,13 @@ module _ (tables : Tables) (functions : (binding : ℕ) → Signature) where
       let function = functions b in
       arguments function.parameters es
       (call name.place (o.Enter (length function.parameters)) b
-      (framed (frame_at tables function.at 0) name.place (parameters 0 function.parameters)) (k OnList))
+      (framed (frame_at tables function.at 0) name.place (parameters 0 function.parameters))
+      (k OnList))
 
   -- calls of predeclared names
   abbrev pub multiprefix : Named → Multiprefix → List Stands → Stands
-  multiprefix name by (a ∷ b ∷ es) k = value_of a (perform name.place (o.Check true) (value_of b (plain (o.Combine by) (k OnList))))
+  multiprefix name by (a ∷ b ∷ es) k =
+      value_of a (perform name.place (o.Check true) (value_of b (plain (o.Combine by) (k OnList))))
   multiprefix name by es k = done
 
   abbrev pub with_one : (Coded → Coded) → List Stands → Stands
@@ -290,7 +316,8 @@ module _ (tables : Tables) (functions : (binding : ℕ) → Signature) where
 
   abbrev pub calling : List Stands → (Standing → Coded) → Standing → Coded
   calling es k (ToCall name) =
-      if (note tables name.at).binding == no_binding then called_predeclared name es k else called name es k
+      if (note tables name.at).binding == no_binding then called_predeclared name es k
+      else called name es k
   calling es k standing = done
 
   -- expressions
@@ -308,7 +335,8 @@ module _ (tables : Tables) (functions : (binding : ℕ) → Signature) where
     stands (t.Postfix whole suffixes) k = suffixed (stands whole) (token whole) suffixes k
     stands (t.Assign spot sign target value) k =
         assignment sign (stands target) (token target) (stands value) (token value) k
-    stands (t.Choose spot condition first second) k = chosen spot (stands condition) (stands first) (stands second) k
+    stands (t.Choose spot condition first second) k =
+        chosen spot (stands condition) (stands first) (stands second) k
 
     pub linked : Stands → (at : ℕ) → Links → Stands
     linked e at t.no_links k = e k
@@ -317,8 +345,10 @@ module _ (tables : Tables) (functions : (binding : ℕ) → Signature) where
 
     pub suffixed : Stands → (at : ℕ) → Suffixes → Stands
     suffixed e at t.no_suffixes k = e k
-    suffixed e at (t.index spot by others) k = suffixed (indexed spot e (stands by)) spot.at others k
-    suffixed e at (t.call spot arguments others) k = suffixed (λ j. e (calling (all_stand arguments) j)) spot.at others k
+    suffixed e at (t.index spot by others) k =
+        suffixed (indexed spot e (stands by)) spot.at others k
+    suffixed e at (t.call spot arguments others) k =
+        suffixed (λ j. e (calling (all_stand arguments) j)) spot.at others k
     suffixed e at (t.dot spot name others) k = suffixed (dotted spot name.at e) spot.at others k
     suffixed e at (t.arrow spot name others) k = suffixed (pointed spot name.at e) spot.at others k
     suffixed e at (t.up spot others) k = suffixed (raised g.Plus g.Minus e at) spot.at others k

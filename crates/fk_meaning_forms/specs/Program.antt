@@ -1,7 +1,9 @@
 -- Programs: the code of their functions, and their sites.
-use Rattle.std.specs.Prelude.{ℕ, ◌+◌, ◌==◌, Bool, true, List, [], ◌∷◌, ◌++◌, codes, bytes_eq, Option, Some, None, is_some, if◌then◌else◌}
+use Rattle.std.specs.Prelude.{ℕ, ◌+◌, ◌==◌, Bool, true, List, [], ◌∷◌, ◌++◌, codes, bytes_eq}
+use Rattle.std.specs.Prelude.{Option, Some, None, is_some, if◌then◌else◌}
 use Rattle.fk_syntax.specs.declared.place.Place.{Place}
-use Rattle.fk_syntax.specs.Program.{Statements, FunctionTree, ItemTree, StructItem, VariablesItem, FunctionItem, ProgramTree}
+use Rattle.fk_syntax.specs.Program.{Statements, FunctionTree, ItemTree, StructItem, VariablesItem}
+use Rattle.fk_syntax.specs.Program.{FunctionItem, ProgramTree}
 use Rattle.fk_meaning_forms.specs.Code.{Code, done, size, sites, numbered}
 use Rattle.fk_meaning_forms.specs.Tables.{Tables, note, frame_at}
 use Rattle.fk_meaning_forms.specs.Expressions.{Coded, Signature}
@@ -30,7 +32,8 @@ no_signature = record { at = 0; parameters = []; void = true }
 
 abbrev pub signature_in : Tables → List FunctionTree → (binding : ℕ) → Signature
 signature_in tables [] b = no_signature
-signature_in tables (f ∷ fs) b = if binding_of tables f == b then signature_of f else signature_in tables fs b
+signature_in tables (f ∷ fs) b = if binding_of tables f == b then signature_of f
+    else signature_in tables fs b
 
 abbrev pub is_main : FunctionTree → Bool
 is_main f = bytes_eq f.name.bytes (codes "main")
@@ -44,7 +47,8 @@ code_of tables all f = code f.body
 
     code : Option Statements → Coded
     code None = done
-    code (Some statements) = body_of tables (signature_in tables all) inside (is_nothing f.result) statements
+    code (Some statements) =
+        body_of tables (signature_in tables all) inside (is_nothing f.result) statements
 
 -- the sites of a text: all its operations, each by its kind and its place, function by function
 abbrev pub sites_in : Tables → (all fs : List FunctionTree) → List (ℕ × Place)
@@ -55,7 +59,8 @@ abbrev pub sites_of : Tables → ProgramTree → List (ℕ × Place)
 sites_of tables program = let fs = functions_of program.items in sites_in tables fs fs
 
 -- the code of the function that a binding means. Each operation has the number of its site
-abbrev pub body_in : Tables → (all : List FunctionTree) → (first : ℕ) → List FunctionTree → (binding : ℕ) → Code ℕ
+abbrev pub body_in : Tables → (all : List FunctionTree) → (first : ℕ) → List FunctionTree
+    → (binding : ℕ) → Code ℕ
 body_in tables all n [] b = done
 body_in tables all n (f ∷ fs) b =
     let code = code_of tables all f in

@@ -1,5 +1,6 @@
 -- The operations of statements and functions.
-use Rattle.std.specs.Prelude.{ℕ, ◌==◌, ◌&&◌, Bool, true, false, not, List, [], ◌∷◌, Option, Some, None, is_some, if◌then◌else◌}
+use Rattle.std.specs.Prelude.{ℕ, ◌==◌, ◌&&◌, Bool, true, false, not, List, [], ◌∷◌, Option, Some}
+use Rattle.std.specs.Prelude.{None, is_some, if◌then◌else◌}
 use Rattle.fk_syntax.specs.declared.facts.Note.{Note}
 use Rattle.fk_syntax.specs.declared.place.Spot.{Spot}
 use Rattle.fk_syntax.specs.Tree as t
@@ -8,11 +9,14 @@ use Rattle.fk_syntax.specs.Program as p
 use Rattle.fk_syntax.specs.Program.{DeclaredTree, Statement, Statements}
 use Rattle.fk_meaning_operation.specs.declared.operation.Operation.TheVariants as o
 use Rattle.fk_meaning_operation.specs.declared.operation.OwnValue.TheVariants as n
-use Rattle.fk_meaning_operation.specs.declared.operation.SplitKind.TheVariants.{IfAlone, IfElse, Loop, Fork}
+use Rattle.fk_meaning_operation.specs.declared.operation.SplitKind.TheVariants.{IfAlone, IfElse}
+use Rattle.fk_meaning_operation.specs.declared.operation.SplitKind.TheVariants.{Loop, Fork}
 use Rattle.fk_meaning_forms.specs.Code as c
 use Rattle.fk_meaning_forms.specs.Code.{done, choose, quit, ends}
 use Rattle.fk_meaning_forms.specs.Tables.{Tables, note, frame_at}
-use Rattle.fk_meaning_forms.specs.Expressions.{Coded, nowhere, plain, agreed, token, Signature, addressed, assigned, dropped, variable, framed, value}
+use Rattle.fk_meaning_forms.specs.Expressions.{Coded, nowhere, plain, agreed, token, Signature}
+use Rattle.fk_meaning_forms.specs.Expressions.{addressed, assigned, dropped, variable, framed}
+use Rattle.fk_meaning_forms.specs.Expressions.{value}
 
 -- the running function: whether it is `main`, and whether it has a group frame of its own
 pub record Inside : Type 0 where
@@ -50,12 +54,14 @@ module _ (tables : Tables) (functions : (binding : ℕ) → Signature) where
   value_or absent None rest = absent rest
   value_or absent (Some e) rest = value tables functions e rest
 
-  -- a scalar that is declared gets its value, or 0. An array and a struct keep what their words hold
+  -- a scalar that is declared gets its value, or 0. An array and a struct keep what
+  -- their words hold
   abbrev pub declared : DeclaredTree → Coded → Coded
   declared x rest =
       if is_scalar x
       then variable tables functions x.name (λ standing. addressed tables functions standing
-      (value_or (plain (o.Push 0)) x.first (assigned tables functions standing (plain o.DropLast rest))))
+      (value_or (plain (o.Push 0)) x.first
+      (assigned tables functions standing (plain o.DropLast rest))))
       else rest
 
   abbrev pub all_declared : List DeclaredTree → Coded → Coded
@@ -66,9 +72,11 @@ module _ (tables : Tables) (functions : (binding : ℕ) → Signature) where
   abbrev pub part_frame : Spot → (part : ℕ) → Coded → Coded
   part_frame spot part rest = framed tables functions (frame_at tables spot.at part) spot.place rest
 
-  -- loops: a condition, and what leaves the loop by it. An absent condition is 1. A private loop runs in a part
+  -- loops: a condition, and what leaves the loop by it. An absent condition is 1. A private
+  -- loop runs in a part
   abbrev pub leaving : Note → Coded
-  leaving here = if here.splits then quit nowhere o.Shrink done else agreed here.sync (quit nowhere (o.Branch true) done)
+  leaving here = if here.splits then quit nowhere o.Shrink done
+      else agreed here.sync (quit nowhere (o.Branch true) done)
 
   abbrev pub tested : Spot → Option Tree → Coded
   tested spot condition = value_or (plain (o.Push 1)) condition (leaving (note tables spot.at))
@@ -76,14 +84,17 @@ module _ (tables : Tables) (functions : (binding : ℕ) → Signature) where
   abbrev pub looping : Spot → (loop : Coded → Coded) → Coded → Coded
   looping spot loop rest =
       if (note tables spot.at).splits
-      then choose spot.place (o.Split Loop) (part_frame spot 0 (loop done)) done (plain o.Resume rest)
+      then choose spot.place (o.Split Loop)
+      (part_frame spot 0 (loop done)) done (plain o.Resume rest)
       else loop rest
 
   -- the end of a call by `return`, which ends `main` too
   abbrev pub left_by : Inside → Option Tree → Coded → Coded
-  left_by inside None rest = ends nowhere (if inside.main then o.Halt else o.Leave false inside.framed) rest
+  left_by inside None rest =
+      ends nowhere (if inside.main then o.Halt else o.Leave false inside.framed) rest
   left_by inside (Some e) rest = value tables functions e
-      (if inside.main then plain o.DropLast (ends nowhere o.Halt rest) else ends nowhere (o.Leave true inside.framed) rest)
+      (if inside.main then plain o.DropLast (ends nowhere o.Halt rest)
+      else ends nowhere (o.Leave true inside.framed) rest)
 
   -- statements
   abbrev mutual
@@ -99,7 +110,8 @@ module _ (tables : Tables) (functions : (binding : ℕ) → Signature) where
         (part_frame spot 0 (executed inside first (plain o.End done)))
         done
         (plain o.Resume rest)
-        else agreed here.sync (choose nowhere (o.Branch true) (executed inside first done) done rest))
+        else agreed here.sync
+        (choose nowhere (o.Branch true) (executed inside first done) done rest))
     executed inside (p.IfElse spot condition first second) rest =
         let here = note tables spot.at in
         value tables functions condition (if here.splits
@@ -107,22 +119,29 @@ module _ (tables : Tables) (functions : (binding : ℕ) → Signature) where
         (part_frame spot 0 (executed inside first (plain o.End done)))
         (part_frame spot 1 (executed inside second (plain o.End done)))
         (plain o.Resume rest)
-        else agreed here.sync (choose nowhere (o.Branch true) (executed inside first done) (executed inside second done) rest))
+        else agreed here.sync (choose nowhere (o.Branch true) (executed inside first done)
+        (executed inside second done) rest))
     executed inside (p.While spot condition body) rest =
         looping spot (c.while (tested spot (Some condition)) (executed inside body done) done) rest
     executed inside (p.DoWhile spot body condition) rest =
         looping spot (c.until (executed inside body done) (tested spot (Some condition))) rest
     executed inside (p.For spot before condition after body) rest =
         used_or before
-        (looping spot (c.while (tested spot condition) (executed inside body done) (used_or after done)) rest)
+        (looping spot
+        (c.while (tested spot condition) (executed inside body done) (used_or after done)) rest)
     executed inside (p.Start spot count body) rest =
         value_or (plain (o.Get n.Processors)) count
-        (choose nowhere o.Begin (part_frame spot 0 (executed inside body (plain o.End done))) done (plain o.Resume rest))
+        (choose nowhere o.Begin (part_frame spot 0 (executed inside body (plain o.End done))) done
+        (plain o.Resume rest))
     executed inside (p.Fork spot parts part rank body) rest =
-        value tables functions parts (plain o.Agree (value tables functions part (value_or (plain (o.Get n.Rank)) rank
-        (choose spot.place (o.Split Fork) (part_frame spot 0 (executed inside body (plain o.End done))) done (plain o.Resume rest)))))
-    executed inside (p.Farm spot body) rest = choose nowhere o.Farm (executed inside body done) done (plain (o.Meet true) rest)
-    executed inside (p.Seq spot body) rest = choose nowhere o.Seq (executed inside body done) done (plain (o.Meet true) rest)
+        value tables functions parts
+        (plain o.Agree (value tables functions part (value_or (plain (o.Get n.Rank)) rank
+        (choose spot.place (o.Split Fork)
+        (part_frame spot 0 (executed inside body (plain o.End done))) done (plain o.Resume rest)))))
+    executed inside (p.Farm spot body) rest =
+        choose nowhere o.Farm (executed inside body done) done (plain (o.Meet true) rest)
+    executed inside (p.Seq spot body) rest =
+        choose nowhere o.Seq (executed inside body done) done (plain (o.Meet true) rest)
     executed inside (p.Barrier spot) rest = plain (o.Meet false) rest
     executed inside (p.Break spot) rest = c.break rest
     executed inside (p.Continue spot) rest = c.continue rest
@@ -130,7 +149,8 @@ module _ (tables : Tables) (functions : (binding : ℕ) → Signature) where
 
     pub all_executed : Inside → Statements → Coded → Coded
     all_executed inside p.no_statements rest = rest
-    all_executed inside (p.statement first others) rest = executed inside first (all_executed inside others rest)
+    all_executed inside (p.statement first others) rest =
+        executed inside first (all_executed inside others rest)
 
   -- a function: its statements, and its end, where one with a result gives 0
   abbrev pub end_of : Inside → (void : Bool) → Coded

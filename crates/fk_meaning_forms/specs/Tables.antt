@@ -1,12 +1,14 @@
 -- What the forms of a program need to know of its names, its types and its places in memory.
-use Rattle.std.specs.Prelude.{ℕ, zero, suc, ◌-◌, ◌^◌, ◌==◌, ◌&&◌, ◌||◌, Bool, false, List, [], ◌∷◌, Option, Some, None, if◌then◌else◌}
+use Rattle.std.specs.Prelude.{ℕ, zero, suc, ◌-◌, ◌^◌, ◌==◌, ◌&&◌, ◌||◌, Bool, false, List, [], ◌∷◌}
+use Rattle.std.specs.Prelude.{Option, Some, None, if◌then◌else◌}
 use Rattle.fk_syntax.specs.declared.facts.Note.{Note}
 use Rattle.fk_syntax.specs.declared.facts.Kind.{Kind}
 use Rattle.fk_meaning_forms.specs.declared.tables.Home.TheVariants.{NoWord}
 use Rattle.fk_meaning_forms.specs.declared.tables.Slot.{Slot}
 use Rattle.fk_meaning_forms.specs.declared.tables.Region.{Region}
 
--- a note for each token; the types; a slot for each declaration; and the group frames that have words
+-- a note for each token; the types; a slot for each declaration; and the group
+-- frames that have words
 pub record Tables : Type 0 where
   pub notes : List Note
   pub kinds : List Kind
@@ -61,7 +63,8 @@ module _ (tables : Tables) where
   -- the group frame at a token, where it has words
   abbrev pub frame_in : List Region → (at part : ℕ) → Option Region
   frame_in [] at part = None
-  frame_in (r ∷ rs) at part = if (r.at == at) && (r.part == part) then Some r else frame_in rs at part
+  frame_in (r ∷ rs) at part = if (r.at == at) && (r.part == part) then Some r
+      else frame_in rs at part
 
   abbrev pub frame_at : (at part : ℕ) → Option Region
   frame_at at part = frame_in tables.regions at part

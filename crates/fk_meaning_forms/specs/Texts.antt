@@ -9,7 +9,8 @@ escaped b = if b == 110 then 10 else if b == 116 then 9 else if b == 48 then 0 e
 abbrev pub up_to_quote : List ℕ → List ℕ
 up_to_quote [] = []
 up_to_quote (b ∷ []) = []
-up_to_quote (b ∷ x ∷ bytes) = if b == 92 then escaped x ∷ up_to_quote bytes else b ∷ up_to_quote (x ∷ bytes)
+up_to_quote (b ∷ x ∷ bytes) = if b == 92 then escaped x ∷ up_to_quote bytes
+    else b ∷ up_to_quote (x ∷ bytes)
 
 -- a token of a text, with its quotes
 abbrev pub text_of : (token : List ℕ) → List ℕ

@@ -1,7 +1,8 @@
 //! What a sign does to two values.
 
 ghost use Rattle.std.specs.Prelude.{◌≡◌};
-ghost use Rattle.fk_meaning_forms.specs.Signs.{operator_of as operator_by, is_shift as is_a_shift, move_of as move_by};
+ghost use Rattle.fk_meaning_forms.specs.Signs.{operator_of as operator_by, is_shift as is_a_shift};
+ghost use Rattle.fk_meaning_forms.specs.Signs.{move_of as move_by};
 
 use fk_meaning_operation::Operation;
 use fk_num::Op;

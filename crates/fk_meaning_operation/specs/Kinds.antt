@@ -1,15 +1,30 @@
 -- The kinds of operations by their numbers, and what is so of each kind.
 use Rattle.std.specs.Prelude.{ℕ, ◌==◌, ◌||◌, nat_lt, true, false, Option, Some, None, if◌then◌else◌}
 use Rattle.fk_meaning_operation.specs.declared.operation.Multiprefix.{Multiprefix}
-use Rattle.fk_meaning_operation.specs.declared.operation.Multiprefix.TheVariants.{MpAdd, MpMax, MpAnd, MpOr}
+use Rattle.fk_meaning_operation.specs.declared.operation.Multiprefix.TheVariants.{MpAdd, MpMax}
+use Rattle.fk_meaning_operation.specs.declared.operation.Multiprefix.TheVariants.{MpAnd, MpOr}
 use Rattle.fk_meaning_operation.specs.declared.operation.Operation.{Operation}
-use Rattle.fk_meaning_operation.specs.declared.operation.Operation.TheVariants.{Push, Get, Set, DropLast, CopyLast, Apply, Binary, Index, Branch, Take, Leave, Check, Read, Write, Combine, PrintNumber, PrintByte, Heap, Enter, Begin, Agree, Frame, Block, Split, Shrink, End, Resume, Farm, Seq, Meet, Halt}
+use Rattle.fk_meaning_operation.specs.declared.operation.Operation.TheVariants.{Push, Get, Set}
+use Rattle.fk_meaning_operation.specs.declared.operation.Operation.TheVariants.{DropLast, CopyLast}
+use Rattle.fk_meaning_operation.specs.declared.operation.Operation.TheVariants.{Apply, Binary}
+use Rattle.fk_meaning_operation.specs.declared.operation.Operation.TheVariants.{Index, Branch, Take}
+use Rattle.fk_meaning_operation.specs.declared.operation.Operation.TheVariants.{Leave, Check, Read}
+use Rattle.fk_meaning_operation.specs.declared.operation.Operation.TheVariants.{Write, Combine}
+use Rattle.fk_meaning_operation.specs.declared.operation.Operation.TheVariants.{PrintNumber}
+use Rattle.fk_meaning_operation.specs.declared.operation.Operation.TheVariants.{PrintByte, Heap}
+use Rattle.fk_meaning_operation.specs.declared.operation.Operation.TheVariants.{Enter, Begin, Agree}
+use Rattle.fk_meaning_operation.specs.declared.operation.Operation.TheVariants.{Frame, Block, Split}
+use Rattle.fk_meaning_operation.specs.declared.operation.Operation.TheVariants.{Shrink, End, Resume}
+use Rattle.fk_meaning_operation.specs.declared.operation.Operation.TheVariants.{Farm, Seq, Meet}
+use Rattle.fk_meaning_operation.specs.declared.operation.Operation.TheVariants.{Halt}
 use Rattle.fk_meaning_operation.specs.declared.kinds.Class.{Class}
 use Rattle.fk_meaning_operation.specs.declared.kinds.Class.TheVariants.{Local, Request, Tree}
 use Rattle.fk_meaning_operation.specs.declared.kinds.Joint.{Joint}
-use Rattle.fk_meaning_operation.specs.declared.kinds.Joint.TheVariants.{Alone, Starting, AtBarrier, Closing, Resuming}
+use Rattle.fk_meaning_operation.specs.declared.kinds.Joint.TheVariants.{Alone, Starting, AtBarrier}
+use Rattle.fk_meaning_operation.specs.declared.kinds.Joint.TheVariants.{Closing, Resuming}
 use Rattle.fk_meaning_operation.specs.declared.kinds.FaultKind.{FaultKind}
-use Rattle.fk_meaning_operation.specs.declared.kinds.FaultKind.TheVariants.{BadAddress, CallDepth, GroupSpace}
+use Rattle.fk_meaning_operation.specs.declared.kinds.FaultKind.TheVariants.{BadAddress, CallDepth}
+use Rattle.fk_meaning_operation.specs.declared.kinds.FaultKind.TheVariants.{GroupSpace}
 
 abbrev pub multiprefix_kind : Multiprefix → ℕ
 multiprefix_kind MpAdd = 15

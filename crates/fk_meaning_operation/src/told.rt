@@ -1,7 +1,8 @@
 //! What is told of an operation: its kind, its class, what it is done with, and how it may fault.
 
 ghost use Rattle.std.specs.Prelude.{◌≡◌};
-ghost use Rattle.fk_meaning_operation.specs.Kinds.{kind_of, class_of, joint_of, fault_of, multiprefix_kind, multiprefix_of};
+ghost use Rattle.fk_meaning_operation.specs.Kinds.{kind_of, class_of, joint_of, fault_of};
+ghost use Rattle.fk_meaning_operation.specs.Kinds.{multiprefix_kind, multiprefix_of};
 
 use crate::kinds::{Class, FaultKind, Joint};
 use crate::operation::{Multiprefix, Operation};

@@ -23,4 +23,5 @@ module _ (program : ProgramTree) (facts : Facts) where
 
   -- p processors at the beginning of `main`, over these and the input numbers
   abbrev pub opening_of : (input : List ℕ) → (p : ℕ) → State Work
-  opening_of input p = program_opening (tables_by program facts) program first_words first_privates input p
+  opening_of input p =
+      program_opening (tables_by program facts) program first_words first_privates input p

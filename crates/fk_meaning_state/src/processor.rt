@@ -3,7 +3,8 @@
 ghost use Rattle.std.specs.Prelude.{◌≡◌, map, slice_index, IfOk};
 ghost use Rattle.fk_meaning.specs.Schedule as run;
 ghost use Rattle.fk_meaning.specs.Next.{Work};
-ghost use Rattle.fk_meaning_state.specs.View.{setting_of, level_of, call_of, processor_of, runner_of};
+ghost use Rattle.fk_meaning_state.specs.View.{setting_of, level_of, call_of, processor_of};
+ghost use Rattle.fk_meaning_state.specs.View.{runner_of};
 
 use crate::setting::Setting;
 use fk_space::Space;

@@ -1,18 +1,23 @@
 -- How a request is served.
-use Rattle.std.specs.Prelude.{ℕ, ◌+◌, ◌-◌, ◌*◌, ◌/◌, ◌%◌, ◌^◌, ◌==◌, nat_le, nat_lt, Bool, true, false, not, ◌&&◌, ◌||◌, List, [], ◌∷◌, ◌++◌, Option, Some, None, is_some, if◌then◌else◌}
+use Rattle.std.specs.Prelude.{ℕ, ◌+◌, ◌-◌, ◌*◌, ◌/◌, ◌%◌, ◌^◌, ◌==◌, nat_le, nat_lt, Bool, true}
+use Rattle.std.specs.Prelude.{false, not, ◌&&◌, ◌||◌, List, [], ◌∷◌, ◌++◌, Option, Some, None}
+use Rattle.std.specs.Prelude.{is_some, if◌then◌else◌}
 use Rattle.fk_num.specs.Word.{put, signed_line}
 use Rattle.fk_num.specs.Op.{applied}
 use Rattle.fk_num.specs.declared.operator.Op.{Op}
 use Rattle.fk_num.specs.declared.operator.Op.TheVariants.{Add, MaxS, And, Or}
 use Rattle.fk_meaning_operation.specs.declared.operation.Multiprefix.{Multiprefix}
-use Rattle.fk_meaning_operation.specs.declared.operation.Multiprefix.TheVariants.{MpAdd, MpMax, MpAnd, MpOr}
+use Rattle.fk_meaning_operation.specs.declared.operation.Multiprefix.TheVariants.{MpAdd, MpMax}
+use Rattle.fk_meaning_operation.specs.declared.operation.Multiprefix.TheVariants.{MpAnd, MpOr}
 use Rattle.fk_meaning_operation.specs.declared.kinds.FaultKind.{FaultKind}
 use Rattle.fk_meaning_operation.specs.declared.kinds.FaultKind.TheVariants.{BadAddress, CallDepth}
 use Rattle.fk_meaning_operation.specs.Kinds.{multiprefix_of}
 use Rattle.fk_space.specs.Space.{heap}
 use Rattle.fk_meaning_store.specs.declared.request.Request.{Request}
-use Rattle.fk_meaning_store.specs.declared.request.Request.TheVariants.{Read, Write, Multi, Print, Byte, Heap, Check, Depth}
-use Rattle.fk_meaning_store.specs.Store.{Store, shared_words, private_words, address_of, private_address}
+use Rattle.fk_meaning_store.specs.declared.request.Request.TheVariants.{Read, Write, Multi, Print}
+use Rattle.fk_meaning_store.specs.declared.request.Request.TheVariants.{Byte, Heap, Check, Depth}
+use Rattle.fk_meaning_store.specs.Store.{Store, shared_words, private_words, address_of}
+use Rattle.fk_meaning_store.specs.Store.{private_address}
 
 -- a request is served, with an answer, or it is a fault, and changes nothing
 pub data Answer : Type 0 where
@@ -28,7 +33,8 @@ is_shared address = is_in address (address_of 0) shared_words
 abbrev pub is_private : (address : ℕ) → Bool
 is_private address = is_in address (private_address 0) private_words
 
--- which addresses may be used: the words of shared data, and, but for a multiprefix, those of the private heap
+-- which addresses may be used: the words of shared data, and, but for a multiprefix, those of
+-- the private heap
 abbrev pub may_use : (shared_alone : Bool) (address : ℕ) → Bool
 may_use shared_alone address =
     (address % 4 == 0) && (is_shared address || (not shared_alone && is_private address))
@@ -59,7 +65,8 @@ operator_of MpOr = Or
 
 abbrev pub combined : Option Multiprefix → Store → (h address value : ℕ) → Answer
 combined None s h a v = Served s 0
-combined (Some by) s h a v = Served (write s h a (applied (operator_of by) (read s h a) v)) (read s h a)
+combined (Some by) s h a v =
+    Served (write s h a (applied (operator_of by) (read s h a) v)) (read s h a)
 
 abbrev pub printed : (bytes : List ℕ) → Store → Answer
 printed bytes s = Served (record s { output = s.output ++ bytes }) 0
@@ -77,7 +84,8 @@ abbrev pub hired : (words : ℕ) → Store → Answer
 hired words s =
     if words == 0
     then Served s 0
-    else let block = heap s.top shared_words words in Served (record s { top = block.0 }) (block_address block.1)
+    else let block = heap s.top shared_words words in
+    Served (record s { top = block.0 }) (block_address block.1)
 
 -- a read gives the word, and a write replaces it. There is no call from depth 256
 abbrev pub serve : Request → Store → (h : ℕ) → Answer
@@ -90,8 +98,8 @@ serve (Heap bytes) s h = hired (words_of bytes) s
 serve (Check a shared_alone) s h = if may_use shared_alone a then Served s 0 else Faults BadAddress
 serve (Depth depth) s h = if nat_lt depth 256 then Served s 0 else Faults CallDepth
 
--- what can be asked for where there is room for so many bytes of output: addresses that their check allows, and texts that
--- fit
+-- what can be asked for where there is room for so many bytes of output: addresses that their check
+-- allows, and texts that fit
 abbrev pub can_serve : (room : ℕ) → Request → Bool
 can_serve room (Read a) = may_use false a
 can_serve room (Write a v) = may_use false a

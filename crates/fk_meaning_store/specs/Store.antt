@@ -3,7 +3,8 @@ use Rattle.std.specs.Prelude.{ℕ, ◌+◌, ◌-◌, ◌*◌, ◌/◌, ◌^◌, 
 use Rattle.fk_num.specs.Word.{Memory}
 use Rattle.fk_space.specs.Space.{Space, whole}
 
--- shared data, the private heap of each processor, the top of the global heap, and the bytes printed so far
+-- shared data, the private heap of each processor, the top of the global heap, and the
+-- bytes printed so far
 pub record Store : Type 0 where
   pub words : Memory
   pub heaps : ℕ → Memory
@@ -23,8 +24,8 @@ address_of index = 0x10000000 + 4 * index
 abbrev pub private_address : (index : ℕ) → ℕ
 private_address index = 0x20010000 + 4 * index
 
--- shared data has the globals and the input numbers first. Of the words behind these the group space has one half, rounded
--- down, and the global heap the others
+-- shared data has the globals and the input numbers first. Of the words behind these the group
+-- space has one half, rounded down, and the global heap the others
 abbrev pub group_words : (taken : ℕ) → ℕ
 group_words taken = (shared_words - taken) / 2
 
@@ -34,7 +35,8 @@ group_space taken = whole taken (group_words taken)
 abbrev pub heap_start : (taken : ℕ) → ℕ
 heap_start taken = taken + group_words taken
 
--- at the beginning: the globals, the input numbers and then zeros; private heaps of zeros; nothing hired, nothing printed
+-- at the beginning: the globals, the input numbers and then zeros; private heaps of zeros; nothing
+-- hired, nothing printed
 abbrev pub opening_store : (globals input : List ℕ) → Store
 opening_store globals input = record {
   words = slice_index (globals ++ input);

@@ -1,5 +1,6 @@
 -- The store that a `Store32` holds.
-use Rattle.std.specs.Prelude.{◌≡◌, ℕ, length, ◌+◌, ◌*◌, nat_lt, List, Result, Ok, Err, slice_index, if◌then◌else◌}
+use Rattle.std.specs.Prelude.{◌≡◌, ℕ, length, ◌+◌, ◌*◌, nat_lt, List, Result, Ok, Err, slice_index}
+use Rattle.std.specs.Prelude.{if◌then◌else◌}
 use Rattle.fk_num.specs.Word.{Memory}
 use Rattle.fk_meaning_operation.specs.declared.kinds.FaultKind.{FaultKind}
 use Rattle.fk_meaning_store.specs.declared.store.Store32.{Store32}

@@ -1,7 +1,10 @@
 //! Addresses of shared data and of private heaps.
 
 ghost use Rattle.std.specs.Prelude.{◌≡◌, ◌<◌, ◌^◌, IsTrue};
-ghost use Rattle.fk_meaning_store.specs.Serve.{is_shared as is_shared_at, is_private as is_private_at, may_use as may_be_used, shared_index as index_at, private_index as private_index_at};
+ghost use Rattle.fk_meaning_store.specs.Serve.{is_shared as is_shared_at};
+ghost use Rattle.fk_meaning_store.specs.Serve.{is_private as is_private_at, may_use as may_be_used};
+ghost use Rattle.fk_meaning_store.specs.Serve.{shared_index as index_at};
+ghost use Rattle.fk_meaning_store.specs.Serve.{private_index as private_index_at};
 ghost use Rattle.fk_meaning_store.specs.Store.{address_of as address_at};
 
 /// The words of shared data.

@@ -1,8 +1,11 @@
 //! How a request is served.
 
 ghost use Rattle.std.specs.Prelude.{◌≡◌, ◌<◌, IsTrue, OnErr, if◌then◌else◌};
-ghost use Rattle.fk_meaning_store.specs.Serve.{serve as served_by, can_serve, combined, words_of as words_in, operator_of as operator_by, Served};
-ghost use Rattle.fk_meaning_store.specs.View.{store_of, processors_of, room_of, answer_of, KeepsRoom};
+ghost use Rattle.fk_meaning_store.specs.Serve.{serve as served_by, can_serve, combined};
+ghost use Rattle.fk_meaning_store.specs.Serve.{words_of as words_in, operator_of as operator_by};
+ghost use Rattle.fk_meaning_store.specs.Serve.{Served};
+ghost use Rattle.fk_meaning_store.specs.View.{store_of, processors_of, room_of, answer_of};
+ghost use Rattle.fk_meaning_store.specs.View.{KeepsRoom};
 ghost use Rattle.fk_meaning_operation.specs.Kinds.{multiprefix_of};
 
 use crate::addresses::may_use;

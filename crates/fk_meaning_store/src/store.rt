@@ -1,6 +1,7 @@
 //! The store.
 
-ghost use Rattle.std.specs.Prelude.{◌≡◌, ℕ, ◌+◌, ◌*◌, ◌^◌, ◌≤◌, ◌<◌, ◌++◌, ◌%◌, length, vec_len, vec_capacity, slice_index, IsTrue, IfOk};
+ghost use Rattle.std.specs.Prelude.{◌≡◌, ℕ, ◌+◌, ◌*◌, ◌^◌, ◌≤◌, ◌<◌, ◌++◌, ◌%◌, length, vec_len};
+ghost use Rattle.std.specs.Prelude.{vec_capacity, slice_index, IsTrue, IfOk};
 
 use crate::addresses::{
     PRIVATE_WORDS, SHARED_WORDS, address_of, is_shared, private_index, shared_index,

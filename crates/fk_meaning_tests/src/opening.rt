@@ -1,4 +1,5 @@
-//! How seven processors begin texts with variables of file scope, of which only the names are tokens.
+//! How seven processors begin texts with variables of file scope, of which only the
+//! names are tokens.
 
 ghost use Rattle.std.specs.Prelude.{◌≡◌};
 ghost use Rattle.fk_meaning_store.specs.View.{processors_of};

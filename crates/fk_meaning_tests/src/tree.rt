@@ -41,8 +41,8 @@ fn is_split(rt: &impl Abort, tree: &Tree)
     }
 }
 
-// The tree of `start fork (3; @=$%3; $=$/3) ..` on seven processors: the part with each number has those
-// whose number has it as its rest, so the sizes of the parts are 3, 2 and 2.
+// The tree of `start fork (3; @=$%3; $=$/3) ..` on seven processors: the part with each number has
+// those whose number has it as its rest, so the sizes of the parts are 3, 2 and 2.
 #[test]
 fn a_group_is_split_by_the_rest(rt: HostRuntime) -> Result<(), AllocError> {
     let mut tree = Tree::root(rt.alloc(), 7)?;

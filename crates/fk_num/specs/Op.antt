@@ -1,9 +1,15 @@
--- What each operator gives, on words of 32 bits: the instructions of these names of RV32I and of its M extension.
-use Rattle.std.specs.Prelude.{ℕ, ℤ, pos, ◌-◌, ◌*◌, ◌/◌, ◌%◌, ◌^◌, ◌-ℤ◌, ◌*ℤ◌, ◌==◌, not, bit_and, bit_or, bit_xor, int_div, int_le, int_lt, int_rem, max, min, nat_le, nat_lt, unsigned_abs, if◌then◌else◌}
+-- What each operator gives, on words of 32 bits: the instructions of these names of RV32I and of
+-- its M extension.
+use Rattle.std.specs.Prelude.{ℕ, ℤ, pos, ◌-◌, ◌*◌, ◌/◌, ◌%◌, ◌^◌, ◌-ℤ◌, ◌*ℤ◌, ◌==◌, not, bit_and}
+use Rattle.std.specs.Prelude.{bit_or, bit_xor, int_div, int_le, int_lt, int_rem, max, min, nat_le}
+use Rattle.std.specs.Prelude.{nat_lt, unsigned_abs, if◌then◌else◌}
 use Rattle.std.specs.Int.{from_bool, int_rem_euclid, int_shr}
 use Rattle.fk_num.specs.Word.{signed, word, word_sum}
 use Rattle.fk_num.specs.declared.operator.Op.{Op}
-use Rattle.fk_num.specs.declared.operator.Op.TheVariants.{Add, Sub, Mul, MulHS, MulHSU, MulHU, DivS, DivU, RemS, RemU, And, Or, Xor, Shl, ShrS, ShrU, LtS, LtU, LeS, LeU, Eq, Ne, MinS, MaxS, MinU, MaxU}
+use Rattle.fk_num.specs.declared.operator.Op.TheVariants.{Add, Sub, Mul, MulHS, MulHSU, MulHU, DivS}
+use Rattle.fk_num.specs.declared.operator.Op.TheVariants.{DivU, RemS, RemU, And, Or, Xor, Shl, ShrS}
+use Rattle.fk_num.specs.declared.operator.Op.TheVariants.{ShrU, LtS, LtU, LeS, LeU, Eq, Ne, MinS}
+use Rattle.fk_num.specs.declared.operator.Op.TheVariants.{MaxS, MinU, MaxU}
 
 -- the number below 2^bits that is congruent to z modulo 2^bits
 abbrev pub residue : ℕ → ℤ → ℕ

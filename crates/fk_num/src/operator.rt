@@ -18,10 +18,12 @@ pub enum Op {
     MulHSU,
     /// The high word of the product of two unsigned operands.
     MulHU,
-    /// The quotient, rounded towards zero. By zero it is all ones, and that of -2^31 by -1 is -2^31.
+    /// The quotient, rounded towards zero. By zero it is all ones, and that of
+    /// -2^31 by -1 is -2^31.
     DivS,
     DivU,
-    /// The remainder, with the dividend's sign. By zero it is the dividend, and that of -2^31 by -1 is 0.
+    /// The remainder, with the dividend's sign. By zero it is the dividend, and that of
+    /// -2^31 by -1 is 0.
     RemS,
     RemU,
     And,

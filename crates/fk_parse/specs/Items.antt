@@ -3,7 +3,8 @@ use Rattle.std.specs.Prelude.{ℕ, List, ◌∷◌, Option, Some, None, length}
 use Rattle.fk_syntax.specs.declared.program.Mode.{Mode}
 use Rattle.fk_syntax.specs.declared.program.Mode.TheVariants as mode
 use Rattle.fk_syntax.specs.Program.{Statements, ItemTree, StructItem, VariablesItem, FunctionItem}
-use Rattle.fk_parse_combinators.specs.Languages.{Placed, Language, token, telling, ◌then◌, ◌or◌, making, many, maybe, name}
+use Rattle.fk_parse_combinators.specs.Languages.{Placed, Language, token, telling, ◌then◌, ◌or◌}
+use Rattle.fk_parse_combinators.specs.Languages.{making, many, maybe, name}
 use Rattle.fk_parse_combinators.specs.Reads.{Family}
 use Rattle.fk_expr.specs.Grammar.{base}
 use Rattle.fk_parse.specs.Kinds.{mode_told}
@@ -16,8 +17,10 @@ use Rattle.fk_parse_statements.specs.Statements.{block, statement_within}
 -- "struct" Name "{" member { member } "}" ";"
 abbrev pub struct_item : Language ItemTree
 struct_item =
-    making (λ (word, (called, (opening, (first, (others, (closing, end)))))). StructItem (name called) (joined_lists (first ∷ others)))
-    (token 0 kind.Struct then token 0 kind.Word then token 0 kind.OpenBrace then member 0 then many (member 0) then token 0 kind.CloseBrace then token 0 kind.Semicolon)
+    making (λ (word, (called, (opening, (first, (others, (closing, end)))))).
+    StructItem (name called) (joined_lists (first ∷ others)))
+    (token 0 kind.Struct then token 0 kind.Word then token 0 kind.OpenBrace then member 0
+    then many (member 0) then token 0 kind.CloseBrace then token 0 kind.Semicolon)
 
 -- a function's mode, and that of one without a word
 abbrev pub mode_of : Option (Placed × Mode) → Mode
@@ -26,12 +29,14 @@ mode_of (Some x) = x.1
 
 -- ";" | block
 abbrev pub body : ℕ → Language (Option Statements)
-body bound = making (λ t. None) (token 0 kind.Semicolon) or making Some (block (statement_within bound) 1)
+body bound =
+    making (λ t. None) (token 0 kind.Semicolon) or making Some (block (statement_within bound) 1)
 
 -- [ "sync" | "async" | "straight" ] type stars Name "(" params ")" ( ";" | block )
 abbrev pub function_item : ℕ → Language ItemTree
 function_item bound =
-    making (λ (mode, (words, (stars, (word, (opening, (list, (closing, inside))))))). FunctionItem (record {
+    making (λ (mode, (words, (stars, (word, (opening, (list, (closing, inside))))))).
+    FunctionItem (record {
       mode = mode_of mode;
       result = record { base = words; stars = length stars };
       name = name word;
@@ -39,7 +44,8 @@ function_item bound =
       body = inside;
     }))
     (maybe (telling 0 mode_told) then base 0 then many (token 0 kind.Star) then token 0 kind.Word
-    then token 0 kind.OpenParenthesis then parameters 0 then token 0 kind.CloseParenthesis then body bound)
+    then token 0 kind.OpenParenthesis then parameters 0 then token 0 kind.CloseParenthesis
+    then body bound)
 
 abbrev pub item : ℕ → Language ItemTree
 item bound = struct_item or making VariablesItem (variables bound 0) or function_item bound

@@ -4,7 +4,8 @@ use Rattle.fk_syntax.specs.declared.place.Place.{Place}
 use Rattle.fk_syntax.specs.Program.{ItemTree, ProgramTree}
 use Rattle.fk_lex.specs.Reading.{Spelled}
 use Rattle.fk_parse_combinators.specs.Languages.{Placed, Stretch, tokens_of, numbered}
-use Rattle.fk_parse_combinators.specs.Reads.{Stop, Unexpected, EndOfText, Nesting, Spell, Spells, IsShallow, IsLongest, ReadsNothing, ReadsDeep}
+use Rattle.fk_parse_combinators.specs.Reads.{Stop, Unexpected, EndOfText, Nesting, Spell, Spells}
+use Rattle.fk_parse_combinators.specs.Reads.{IsShallow, IsLongest, ReadsNothing, ReadsDeep}
 use Rattle.fk_parse.specs.Items.{Items}
 
 -- the longest stretch that begins a text ends before a token, and nests within the bound
@@ -21,8 +22,8 @@ pub record SpellsItems (tokens : List Placed) (items : List ItemTree) : Type 0 w
   pub spelled : Spells Items stretch items
   pub shallow : IsShallow stretch
 
--- all tokens are those of a text; no text goes on with a token; all tokens begin a text and are none; a token
--- opens a level past the bound
+-- all tokens are those of a text; no text goes on with a token; all tokens begin a text and are
+-- none; a token opens a level past the bound
 abbrev pub ReadsText : List Placed → Result (List ItemTree) Stop → Type 0
 ReadsText tokens (Ok items) = SpellsItems tokens items
 ReadsText tokens (Err (Unexpected rest)) = ReadsUnexpected tokens rest
@@ -32,7 +33,8 @@ ReadsText tokens (Err (Nesting rest)) = ReadsDeep Items tokens rest
 -- the place directly behind the last token, 1:1 where there is none
 abbrev pub end_of : Place → List Spelled → Place
 end_of end [] = end
-end_of end (t ∷ tokens) = end_of (record { line = t.place.line; column = t.place.column + length t.bytes }) tokens
+end_of end (t ∷ tokens) =
+    end_of (record { line = t.place.line; column = t.place.column + length t.bytes }) tokens
 
 abbrev pub beginning : Place
 beginning = record { line = 1; column = 1 }
@@ -45,12 +47,15 @@ pub record SpellsProgram (tokens : List Spelled) (program : ProgramTree) : Type 
 
 -- tokens have one answer as a text
 abbrev pub OneText : Type 0
-OneText = (tokens : List Placed) → (answer : Result (List ItemTree) Stop) × ReadsText tokens answer × ((other : Result (List ItemTree) Stop) → ReadsText tokens other → other ≡ answer)
+OneText = (tokens : List Placed) → (answer : Result (List ItemTree) Stop) × ReadsText tokens answer
+    × ((other : Result (List ItemTree) Stop) → ReadsText tokens other → other ≡ answer)
 
 -- tokens spell at most one list of items, however deep they nest
 abbrev pub OneTree : Type 0
-OneTree = (tokens : List Placed) (a b : List ItemTree) → Spell Items tokens a → Spell Items tokens b → a ≡ b
+OneTree = (tokens : List Placed) (a b : List ItemTree) → Spell Items tokens a
+    → Spell Items tokens b → a ≡ b
 
 -- tokens are those of at most one program
 abbrev pub OneProgram : Type 0
-OneProgram = (tokens : List Spelled) (p q : ProgramTree) → SpellsProgram tokens p → SpellsProgram tokens q → p ≡ q
+OneProgram = (tokens : List Spelled) (p q : ProgramTree) → SpellsProgram tokens p
+    → SpellsProgram tokens q → p ≡ q

@@ -20,18 +20,24 @@ read_body_within left = read_block (statements_with (left - 1))
 
 -- ";" | block
 abbrev pub read_optional_body : Reader Statements → Reader (Option Statements)
-read_optional_body B = by_next (just kind.OpenBrace) (giving Some B) (giving (λ t. None) (expect kind.Semicolon))
+read_optional_body B =
+    by_next (just kind.OpenBrace) (giving Some B) (giving (λ t. None) (expect kind.Semicolon))
 
 abbrev pub read_item_within : ℕ → Reader ItemTree
 read_item_within left = read_item (inner left) (read_body_within left)
 
 -- a function, by its mode, type and name, and what stands behind its name
-abbrev pub function_made : Mode → TypeTree → Named → List DeclaredTree × Option Statements → ItemTree
-function_made mode result name (list, inside) = FunctionItem (record { mode = mode; result = result; name = name; parameters = list; body = inside })
+abbrev pub function_made : Mode → TypeTree → Named
+    → List DeclaredTree × Option Statements → ItemTree
+function_made mode result name (list, inside) = FunctionItem
+    (record { mode = mode; result = result; name = name; parameters = list; body = inside })
 
--- variables, by the first words of their type, the stars and the name of the first, and what stands behind its name
-abbrev pub variables_made : BaseType → ℕ → Named → (Option ℕ × Option Tree) × List Declarator → ItemTree
-variables_made base stars name ((size, first), others) = made_of base stars name (OfVariables size first others)
+-- variables, by the first words of their type, the stars and the name of the first, and what
+-- stands behind its name
+abbrev pub variables_made : BaseType → ℕ → Named
+    → (Option ℕ × Option Tree) × List Declarator → ItemTree
+variables_made base stars name ((size, first), others) =
+    made_of base stars name (OfVariables size first others)
 
 abbrev pub read_text_within : ℕ → List Placed → Result (List ItemTree) Stop
 read_text_within left tokens = ended (repeated begins_item (read_item_within left) tokens)

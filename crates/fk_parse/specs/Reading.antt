@@ -1,13 +1,16 @@
--- How items and programs are read, token by token. What is read so is what the grammar says: that is proved, and the
--- contracts of the public functions speak of the grammar alone.
+-- How items and programs are read, token by token. What is read so is what the grammar says: that
+-- is proved, and the contracts of the public functions speak of the grammar alone.
 use Rattle.fk_parse_combinators.specs.declared.limits.TheConstants.{LEVELS}
-use Rattle.std.specs.Prelude.{◌-◌, ℕ, List, [], ◌∷◌, map, Option, Some, None, Bool, false, Result, Ok, Err, length, ◌||◌, ◌&&◌}
+use Rattle.std.specs.Prelude.{◌-◌, ℕ, List, [], ◌∷◌, map, Option, Some, None, Bool, false, Result}
+use Rattle.std.specs.Prelude.{Ok, Err, length, ◌||◌, ◌&&◌}
 use Rattle.fk_syntax.specs.Tree.{Named, BaseType, Tree}
-use Rattle.fk_syntax.specs.Program.{DeclaredTree, Statements, ItemTree, StructItem, VariablesItem, FunctionItem}
+use Rattle.fk_syntax.specs.Program.{DeclaredTree, Statements, ItemTree, StructItem, VariablesItem}
+use Rattle.fk_syntax.specs.Program.{FunctionItem}
 use Rattle.fk_lex.specs.declared.token.TokenKind.{TokenKind}
 use Rattle.fk_parse_combinators.specs.Languages.{Placed, name}
 use Rattle.fk_parse_combinators.specs.Reads.{Stop, Unexpected, Answer}
-use Rattle.fk_parse_combinators.specs.Readers.{Reader, giving, ◌and◌, tells, expect, expect_told, either, by_next, repeated}
+use Rattle.fk_parse_combinators.specs.Readers.{Reader, giving, ◌and◌, tells, expect, expect_told}
+use Rattle.fk_parse_combinators.specs.Readers.{either, by_next, repeated}
 use Rattle.fk_expr.specs.Reading.{read_base, begins_type, Readers, inner}
 use Rattle.fk_parse_declarations.specs.Kinds.{sharing_told}
 use Rattle.fk_parse.specs.Kinds.{mode_told}
@@ -15,41 +18,49 @@ use Rattle.fk_parse_declarations.specs.Grammar.{Declarator, declared, joined_lis
 use Rattle.fk_parse.specs.Items.{mode_of}
 use Rattle.fk_parse_combinators.specs.Kinds.{just}
 use Rattle.fk_lex.specs.declared.token.TokenKind.TheVariants as kind
-use Rattle.fk_parse_declarations.specs.Reading.{read_rest, read_variable, read_variables, read_member, begins_parameter, read_parameters}
+use Rattle.fk_parse_declarations.specs.Reading.{read_rest, read_variable, read_variables}
+use Rattle.fk_parse_declarations.specs.Reading.{read_member, begins_parameter, read_parameters}
 use Rattle.fk_parse_statements.specs.Reading.{read_block, statements_with}
 
 -- ---- items: E reads expressions with all levels left, B a function's body
 
 -- "struct", a name and an opening brace come next
 abbrev pub struct_is_next : List Placed → Bool
-struct_is_next (s ∷ n ∷ t ∷ ts) = just kind.Struct s.kind && just kind.Word n.kind && just kind.OpenBrace t.kind
+struct_is_next (s ∷ n ∷ t ∷ ts) =
+    just kind.Struct s.kind && just kind.Word n.kind && just kind.OpenBrace t.kind
 struct_is_next ts = false
 
 unfoldable pub read_struct : Reader ItemTree
 read_struct =
-    giving (λ (word, (called, (opening, (first, (others, (closing, end)))))). StructItem (name called) (joined_lists (first ∷ others)))
-    (expect kind.Struct and expect kind.Word and expect kind.OpenBrace and read_member and repeated begins_type read_member
+    giving (λ (word, (called, (opening, (first, (others, (closing, end)))))).
+    StructItem (name called) (joined_lists (first ∷ others)))
+    (expect kind.Struct and expect kind.Word and expect kind.OpenBrace and read_member
+    and repeated begins_type read_member
     and expect kind.CloseBrace and expect kind.Semicolon)
 
 -- behind a function's name
-unfoldable pub read_function_tail : Reader Statements → Reader (List DeclaredTree × Option Statements)
+unfoldable pub read_function_tail : Reader Statements
+    → Reader (List DeclaredTree × Option Statements)
 read_function_tail B =
     giving (λ (opening, (list, (closing, inside))). (list, inside))
     (expect kind.OpenParenthesis and read_parameters and expect kind.CloseParenthesis
     and by_next (just kind.OpenBrace) (giving Some B) (giving (λ t. None) (expect kind.Semicolon)))
 
 -- behind the name of the first variable: what belongs to it, and the other variables
-unfoldable pub read_variables_tail : Option Readers → Reader ((Option ℕ × Option Tree) × List Declarator)
+unfoldable pub read_variables_tail : Option Readers
+    → Reader ((Option ℕ × Option Tree) × List Declarator)
 read_variables_tail E =
     giving (λ (rest, (others, end)). (rest, others))
-    (read_rest E and repeated (just kind.Comma) (giving (λ (comma, next). next) (expect kind.Comma and read_variable E)) and expect kind.Semicolon)
+    (read_rest E and repeated (just kind.Comma) (giving (λ (comma, next). next)
+    (expect kind.Comma and read_variable E)) and expect kind.Semicolon)
 
 -- what stands behind the first name of an item: that of a function, or that of variables
 pub data Tail : Type 0 where
   OfFunction : (parameters : List DeclaredTree) (body : Option Statements) → Tail
   OfVariables : (length : Option ℕ) (first : Option Tree) (others : List Declarator) → Tail
 
--- an item without a word before its type, by the first words of the type, its stars, its name, and what stands behind it
+-- an item without a word before its type, by the first words of the type, its stars, its name, and
+-- what stands behind it
 abbrev pub made_of : BaseType → ℕ → Named → Tail → ItemTree
 made_of base stars name (OfFunction parameters body) =
     FunctionItem (record {
@@ -60,18 +71,21 @@ made_of base stars name (OfFunction parameters body) =
       body = body;
     })
 made_of base stars name (OfVariables length first others) =
-    VariablesItem (map (declared false base) (record { stars = stars; name = name; length = length; first = first } ∷ others))
+    VariablesItem (map (declared false base)
+    (record { stars = stars; name = name; length = length; first = first } ∷ others))
 
 -- a parenthesis behind the name says that it is a function
 unfoldable pub read_tail : Option Readers → Reader Statements → Reader Tail
 read_tail E B =
-    by_next (just kind.OpenParenthesis) (giving (λ (list, inside). OfFunction list inside) (read_function_tail B))
+    by_next (just kind.OpenParenthesis)
+    (giving (λ (list, inside). OfFunction list inside) (read_function_tail B))
     (giving (λ ((size, first), others). OfVariables size first others) (read_variables_tail E))
 
 unfoldable pub read_bare : Option Readers → Reader Statements → Reader ItemTree
 read_bare E B =
     giving (λ (words, (stars, (word, tail))). made_of words (length stars) (name word) tail)
-    (read_base and repeated (just kind.Star) (expect kind.Star) and expect kind.Word and read_tail E B)
+    (read_base and repeated (just kind.Star) (expect kind.Star) and expect kind.Word
+    and read_tail E B)
 
 unfoldable pub read_moded : Reader Statements → Reader ItemTree
 read_moded B =
@@ -82,7 +96,8 @@ read_moded B =
       parameters = list;
       body = inside;
     }))
-    (expect_told mode_told and read_base and repeated (just kind.Star) (expect kind.Star) and expect kind.Word and read_function_tail B)
+    (expect_told mode_told and read_base and repeated (just kind.Star) (expect kind.Star)
+    and expect kind.Word and read_function_tail B)
 
 unfoldable pub read_item : Option Readers → Reader Statements → Reader ItemTree
 read_item E B ts =

@@ -1,5 +1,6 @@
 -- Tokens of the code as those of the definitions.
-use Rattle.std.specs.Prelude.{◌^◌, ◌<◌, ◌≤◌, length, List, [], ◌∷◌, Option, Some, None, Bool, false, ◌&&◌}
+use Rattle.std.specs.Prelude.{◌^◌, ◌<◌, ◌≤◌, length, List, [], ◌∷◌, Option, Some, None, Bool, false}
+use Rattle.std.specs.Prelude.{◌&&◌}
 use Rattle.fk_lex.specs.declared.token.TokenKind.{TokenKind}
 use Rattle.fk_lex.specs.View.{spelled}
 use Rattle.fk_parse_combinators.specs.declared.cursor.Numbered.{Numbered}
@@ -34,5 +35,6 @@ pair_is first second [] = false
 pair_is first second (t ∷ ts) = just first t.kind && next_is (just second) ts
 
 abbrev pub triple_is : TokenKind → TokenKind → TokenKind → List Placed → Bool
-triple_is first second third (s ∷ n ∷ t ∷ ts) = just first s.kind && just second n.kind && just third t.kind
+triple_is first second third (s ∷ n ∷ t ∷ ts) =
+    just first s.kind && just second n.kind && just third t.kind
 triple_is first second third ts = false

@@ -3,7 +3,8 @@ use Rattle.std.specs.Prelude.{◌≡◌, ℕ, List, ◌∷◌, map, drop}
 use Rattle.fk_lex.specs.declared.token.Token.{Token}
 use Rattle.fk_lex.specs.View.{spelled}
 use Rattle.fk_parse_combinators.specs.declared.fault.SyntaxFault.{SyntaxFault}
-use Rattle.fk_parse_combinators.specs.declared.fault.SyntaxFault.TheVariants.{Unexpected, EndOfText, Nesting, Memory}
+use Rattle.fk_parse_combinators.specs.declared.fault.SyntaxFault.TheVariants.{Unexpected, EndOfText}
+use Rattle.fk_parse_combinators.specs.declared.fault.SyntaxFault.TheVariants.{Nesting, Memory}
 use Rattle.fk_parse_combinators.specs.Languages.{Placed, numbered}
 use Rattle.fk_parse_combinators.specs.Reads.{Stop}
 use Rattle.fk_parse_combinators.specs.Reads as stop
@@ -15,9 +16,11 @@ IsMemory fault = ⊥
 
 -- a fault says why nothing is read, by the place of the token at fault; memory may run out at any
 abbrev pub Tells : (Stop → Type 0) → SyntaxFault → Type 0
-Tells why (Unexpected place) = (t : Placed) × (rest : List Placed) × (t.place ≡ place) × why (stop.Unexpected (t ∷ rest))
+Tells why (Unexpected place) = (t : Placed) × (rest : List Placed) × (t.place ≡ place)
+    × why (stop.Unexpected (t ∷ rest))
 Tells why EndOfText = why stop.EndOfText
-Tells why (Nesting place) = (t : Placed) × (rest : List Placed) × (t.place ≡ place) × why (stop.Nesting (t ∷ rest))
+Tells why (Nesting place) = (t : Placed) × (rest : List Placed) × (t.place ≡ place)
+    × why (stop.Nesting (t ∷ rest))
 Tells why (Memory error) = Unit {0}
 
 -- the tokens of a text from one on

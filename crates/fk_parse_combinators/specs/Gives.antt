@@ -1,8 +1,10 @@
--- What the code reads, as the readers of the definitions tell it: one clause for a value and for a fault.
+-- What the code reads, as the readers of the definitions tell it: one clause for a value
+-- and for a fault.
 use Rattle.std.specs.Prelude.{◌≡◌, List, [], ◌∷◌, Option, Some, None, Result, Ok, Err}
 use Rattle.fk_syntax.specs.declared.place.Place.{Place}
 use Rattle.fk_parse_combinators.specs.declared.fault.SyntaxFault.{SyntaxFault}
-use Rattle.fk_parse_combinators.specs.declared.fault.SyntaxFault.TheVariants.{Unexpected, EndOfText, Nesting, Memory}
+use Rattle.fk_parse_combinators.specs.declared.fault.SyntaxFault.TheVariants.{Unexpected, EndOfText}
+use Rattle.fk_parse_combinators.specs.declared.fault.SyntaxFault.TheVariants.{Nesting, Memory}
 use Rattle.fk_parse_combinators.specs.Languages.{Placed}
 use Rattle.fk_parse_combinators.specs.Reads.{Answer}
 use Rattle.fk_parse_combinators.specs.Reads as stop
@@ -12,9 +14,11 @@ abbrev pub next_place : List Placed → Option Place
 next_place [] = None
 next_place (t ∷ ts) = Some t.place
 
--- a reader stops with the fault of the code at the tokens that are left; memory may run out at any answer
+-- a reader stops with the fault of the code at the tokens that are left; memory may run
+-- out at any answer
 abbrev pub Halts : {A : Type 0} → Answer A → SyntaxFault → List Placed → Type 0
-Halts answer (Unexpected place) now = (answer ≡ Err (stop.Unexpected now)) × (next_place now ≡ Some place)
+Halts answer (Unexpected place) now = (answer ≡ Err (stop.Unexpected now))
+    × (next_place now ≡ Some place)
 Halts answer EndOfText now = answer ≡ Err stop.EndOfText
 Halts answer (Nesting place) now = (answer ≡ Err (stop.Nesting now)) × (next_place now ≡ Some place)
 Halts answer (Memory error) now = Unit {0}
@@ -25,6 +29,7 @@ Gives view (Ok a) now answer = answer ≡ Ok (view a, now)
 Gives view (Err fault) now answer = Halts answer fault now
 
 -- the same where something is made of what a reader reads
-abbrev pub Makes : {A B C : Type 0} → (B → A) → (C → A) → Result C SyntaxFault → List Placed → Answer B → Type 0
+abbrev pub Makes : {A B C : Type 0} → (B → A) → (C → A) → Result C SyntaxFault → List Placed
+    → Answer B → Type 0
 Makes {B = B} made view (Ok c) now answer = (b : B) × (answer ≡ Ok (b, now)) × (made b ≡ view c)
 Makes made view (Err fault) now answer = Halts answer fault now

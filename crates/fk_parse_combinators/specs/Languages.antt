@@ -54,7 +54,8 @@ token level kind s t = (s ≡ record { token = t; level = level } ∷ []) × (t.
 
 -- one token, at a level, whose kind tells something
 abbrev pub telling : {A : Type 0} → ℕ → (TokenKind → Option A) → Language (Placed × A)
-telling level told s x = (s ≡ record { token = x.0; level = level } ∷ []) × (told x.0.kind ≡ Some x.1)
+telling level told s x = (s ≡ record { token = x.0; level = level } ∷ [])
+    × (told x.0.kind ≡ Some x.1)
 
 -- one after the other
 infixr 40 ◌then◌
@@ -72,7 +73,8 @@ making f L s b = (a : _) × L s a × (b ≡ f a)
 -- any number, one after the other
 abbrev pub many : {A : Type 0} → Language A → Language (List A)
 many L s [] = s ≡ []
-many L s (a ∷ others) = (front back : Stretch) × (s ≡ front ++ back) × L front a × many L back others
+many L s (a ∷ others) = (front back : Stretch) × (s ≡ front ++ back) × L front a
+    × many L back others
 
 -- one or nothing
 abbrev pub maybe : {A : Type 0} → Language A → Language (Option A)

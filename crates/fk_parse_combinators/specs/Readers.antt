@@ -1,5 +1,7 @@
--- Readers of tokens, and how they are put together. The contracts of private functions say by them what is read.
-use Rattle.std.specs.Prelude.{ℕ, zero, suc, List, [], ◌∷◌, Option, Some, None, Bool, true, false, Ok, Err, length}
+-- Readers of tokens, and how they are put together. The contracts of private functions say by
+-- them what is read.
+use Rattle.std.specs.Prelude.{ℕ, zero, suc, List, [], ◌∷◌, Option, Some, None, Bool, true, false}
+use Rattle.std.specs.Prelude.{Ok, Err, length}
 use Rattle.fk_lex.specs.declared.token.TokenKind.{TokenKind}
 use Rattle.fk_parse_combinators.specs.Languages.{Placed}
 use Rattle.fk_parse_combinators.specs.Reads.{Unexpected, EndOfText, Nesting, Answer}
@@ -50,7 +52,8 @@ unexpected (t ∷ ts) = Err (Unexpected (t ∷ ts))
 -- the next token, which is of this kind
 abbrev pub expect : TokenKind → Reader Placed
 expect kind [] = Err EndOfText
-expect kind (t ∷ ts) = elim (just kind t.kind) [ true ↦ Ok (t, ts) | false ↦ Err (Unexpected (t ∷ ts)) ]
+expect kind (t ∷ ts) =
+    elim (just kind t.kind) [ true ↦ Ok (t, ts) | false ↦ Err (Unexpected (t ∷ ts)) ]
 
 -- the next token, which tells something
 abbrev pub told_by : {A : Type 0} → Placed → List Placed → Option A → Answer (Placed × A)
@@ -77,7 +80,8 @@ optional is P = by_next is (giving Some P) (λ ts. Ok (None, ts))
 abbrev pub repeated_within : {A : Type 0} → ℕ → (TokenKind → Bool) → Reader A → Reader (List A)
 repeated_within zero is P ts = Ok ([], ts)
 repeated_within (suc most) is P ts =
-    by_next is (giving (λ (first, others). first ∷ others) (P and repeated_within most is P)) (λ rest. Ok ([], rest)) ts
+    by_next is (giving (λ (first, others). first ∷ others) (P and repeated_within most is P))
+    (λ rest. Ok ([], rest)) ts
 
 -- as many as come: there are no more than tokens, since each has one
 unfoldable pub repeated : {A : Type 0} → (TokenKind → Bool) → Reader A → Reader (List A)

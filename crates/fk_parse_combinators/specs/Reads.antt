@@ -39,27 +39,32 @@ abbrev pub IsShallow : Stretch → Type 0
 IsShallow s = All (λ m. m.level ≤ LEVELS) s
 
 -- this stretch comes first, and with the token after it no stretch begins
-pub record IsLongest {A : Type 0} (L : Family A) (tokens : List Placed) (s : Stretch) (rest : List Placed) : Type 0 where
+pub record IsLongest {A : Type 0} (L : Family A) (tokens : List Placed) (s : Stretch)
+    (rest : List Placed) : Type 0 where
   pub first : tokens ≡ tokens_of s ++ rest
   pub begins : Begins L s
-  pub longest : (t : Placed) (others : List Placed) → rest ≡ t ∷ others → ¬ Begin L (tokens_of s ++ t ∷ [])
+  pub longest : (t : Placed) (others : List Placed) → rest ≡ t ∷ others
+      → ¬ Begin L (tokens_of s ++ t ∷ [])
 
 -- the longest stretch spells this value, and nests within the bound
-pub record ReadsValue {A : Type 0} (L : Family A) (tokens : List Placed) (a : A) (rest : List Placed) : Type 0 where
+pub record ReadsValue {A : Type 0} (L : Family A) (tokens : List Placed) (a : A)
+    (rest : List Placed) : Type 0 where
   pub stretch : Stretch
   pub longest : IsLongest L tokens stretch rest
   pub spelled : Spells L stretch a
   pub shallow : IsShallow stretch
 
 -- the longest stretch spells nothing, and nests within the bound
-pub record ReadsNothing {A : Type 0} (L : Family A) (tokens : List Placed) (rest : List Placed) : Type 0 where
+pub record ReadsNothing {A : Type 0} (L : Family A) (tokens : List Placed)
+    (rest : List Placed) : Type 0 where
   pub stretch : Stretch
   pub longest : IsLongest L tokens stretch rest
   pub unspelled : (a : A) → ¬ Spell L (tokens_of stretch) a
   pub shallow : IsShallow stretch
 
 -- a token of the longest stretch opens a level past the bound, and none before it does
-pub record ReadsDeep {A : Type 0} (L : Family A) (tokens : List Placed) (rest : List Placed) : Type 0 where
+pub record ReadsDeep {A : Type 0} (L : Family A) (tokens : List Placed)
+    (rest : List Placed) : Type 0 where
   pub stretch : Stretch
   pub deep : Marked
   pub others : List Placed
@@ -77,4 +82,5 @@ Reads L tokens (Err (Nesting rest)) = ReadsDeep L tokens rest
 
 -- a list of tokens has one answer
 abbrev pub HasOneAnswer : {A : Type 0} → Family A → Type 0
-HasOneAnswer {A} L = (tokens : List Placed) → (answer : Answer A) × Reads L tokens answer × ((other : Answer A) → Reads L tokens other → other ≡ answer)
+HasOneAnswer {A} L = (tokens : List Placed) → (answer : Answer A) × Reads L tokens answer
+    × ((other : Answer A) → Reads L tokens other → other ≡ answer)

@@ -1,8 +1,11 @@
--- The grammar of declarations. A stretch is given with the levels that are open at each of its tokens.
-use Rattle.std.specs.Prelude.{ℕ, ◌+◌, List, [], ◌∷◌, ◌++◌, map, Option, Some, None, Bool, false, length}
+-- The grammar of declarations. A stretch is given with the levels that are open at
+-- each of its tokens.
+use Rattle.std.specs.Prelude.{ℕ, ◌+◌, List, [], ◌∷◌, ◌++◌, map, Option, Some, None, Bool, false}
+use Rattle.std.specs.Prelude.{length}
 use Rattle.fk_syntax.specs.Tree.{Named, BaseType, Tree}
 use Rattle.fk_syntax.specs.Program.{DeclaredTree}
-use Rattle.fk_parse_combinators.specs.Languages.{Placed, Language, token, telling, ◌then◌, ◌or◌, making, many, maybe, name}
+use Rattle.fk_parse_combinators.specs.Languages.{Placed, Language, token, telling, ◌then◌, ◌or◌}
+use Rattle.fk_parse_combinators.specs.Languages.{making, many, maybe, name}
 use Rattle.fk_expr.specs.Kinds.{number_told}
 use Rattle.fk_expr.specs.Grammar.{base, Assignment}
 use Rattle.fk_parse_declarations.specs.Kinds.{sharing_told}
@@ -10,13 +13,16 @@ use Rattle.fk_lex.specs.declared.token.TokenKind.TheVariants as kind
 
 -- a list of one or more, with commas between
 abbrev pub separated : {A : Type 0} → ℕ → Language A → Language (List A)
-separated l L = making (λ (first, others). first ∷ others) (L then many (making (λ (comma, next). next) (token l kind.Comma then L)))
+separated l L = making (λ (first, others). first ∷ others)
+    (L then many (making (λ (comma, next). next) (token l kind.Comma then L)))
 
 -- length = "[" Number "]"
 abbrev pub length_of : ℕ → Language ℕ
-length_of l = making (λ (opening, ((at, (value, unsigned)), closing)). value) (token l kind.OpenBracket then telling l number_told then token l kind.CloseBracket)
+length_of l = making (λ (opening, ((at, (value, unsigned)), closing)). value)
+    (token l kind.OpenBracket then telling l number_told then token l kind.CloseBracket)
 
--- what is declared, but for its sharing and the first words of its type: stars, name, length, initial value
+-- what is declared, but for its sharing and the first words of its type: stars, name,
+-- length, initial value
 pub record Declarator : Type 0 where
   pub stars : ℕ
   pub name : Named
@@ -26,18 +32,27 @@ pub record Declarator : Type 0 where
 -- stars Name [ length ] [ "=" assign ]
 abbrev pub variable : ℕ → ℕ → Language Declarator
 variable bound l =
-    making (λ (stars, (word, (size, first))). record { stars = length stars; name = name word; length = size; first = first })
-    (many (token l kind.Star) then token l kind.Word then maybe (length_of l) then maybe (making (λ (equals, value). value) (token l kind.Assign then Assignment l bound)))
+    making (λ (stars, (word, (size, first))).
+    record { stars = length stars; name = name word; length = size; first = first })
+    (many (token l kind.Star) then token l kind.Word then maybe (length_of l)
+    then maybe (making (λ (equals, value). value) (token l kind.Assign then Assignment l bound)))
 
 -- stars Name [ length ]
 abbrev pub member_name : ℕ → Language Declarator
 member_name l =
-    making (λ (stars, (word, size)). record { stars = length stars; name = name word; length = size; first = None })
+    making (λ (stars, (word, size)).
+    record { stars = length stars; name = name word; length = size; first = None })
     (many (token l kind.Star) then token l kind.Word then maybe (length_of l))
 
 abbrev pub declared : Bool → BaseType → Declarator → DeclaredTree
 declared shared base d =
-    record { shared = shared; kind = record { base = base; stars = d.stars }; name = d.name; length = d.length; first = d.first }
+    record {
+      shared = shared;
+      kind = record { base = base; stars = d.stars };
+      name = d.name;
+      length = d.length;
+      first = d.first;
+    }
 
 -- without a word, a variable isn't shared
 abbrev pub is_shared : Option (Placed × Bool) → Bool
@@ -48,11 +63,13 @@ is_shared (Some x) = x.1
 abbrev pub variables : ℕ → ℕ → Language (List DeclaredTree)
 variables bound l =
     making (λ (sharing, (words, (list, end))). map (declared (is_shared sharing) words) list)
-    (maybe (telling l sharing_told) then base l then separated l (variable bound l) then token l kind.Semicolon)
+    (maybe (telling l sharing_told) then base l then separated l (variable bound l)
+    then token l kind.Semicolon)
 
 -- member = type stars Name [ length ] { "," stars Name [ length ] } ";"
 abbrev pub member : ℕ → Language (List DeclaredTree)
-member l = making (λ (words, (list, end)). map (declared false words) list) (base l then separated l (member_name l) then token l kind.Semicolon)
+member l = making (λ (words, (list, end)). map (declared false words) list)
+    (base l then separated l (member_name l) then token l kind.Semicolon)
 
 -- the members of declarations, one after the other
 abbrev pub joined_lists : {A : Type 0} → List (List A) → List A
@@ -62,8 +79,15 @@ joined_lists (list ∷ lists) = list ++ joined_lists lists
 -- param = [ "sh" | "pr" ] type stars Name
 abbrev pub parameter : ℕ → Language DeclaredTree
 parameter l =
-    making (λ (sharing, (words, (stars, word))). record { shared = is_shared sharing; kind = record { base = words; stars = length stars }; name = name word; length = None; first = None })
-    (maybe (telling l sharing_told) then base l then many (token l kind.Star) then token l kind.Word)
+    making (λ (sharing, (words, (stars, word))). record {
+      shared = is_shared sharing;
+      kind = record { base = words; stars = length stars };
+      name = name word;
+      length = None;
+      first = None;
+    })
+    (maybe (telling l sharing_told) then base l then many (token l kind.Star)
+    then token l kind.Word)
 
 -- params = [ "void" ] | param { "," param }
 abbrev pub parameters : ℕ → Language (List DeclaredTree)

@@ -31,7 +31,8 @@ headed (OfFork at parts part rank) body = Fork at parts part rank body
 -- "while" "(" comma ")"
 abbrev pub read_while_header : ℕ → Reader Header
 read_while_header left =
-    giving (λ (word, condition). OfWhile (spot word) condition) (expect kind.While and read_condition (inner left))
+    giving (λ (word, condition). OfWhile (spot word) condition)
+    (expect kind.While and read_condition (inner left))
 
 -- [ comma ], and the token behind it
 abbrev pub read_part : ℕ → TokenKind → Reader (Option Tree)
@@ -44,8 +45,10 @@ read_last_parts left = read_part left kind.Semicolon and read_part left kind.Clo
 -- "for" "(" [ comma ] ";" [ comma ] ";" [ comma ] ")"
 abbrev pub read_for_header : ℕ → Reader Header
 read_for_header left =
-    giving (λ (word, (opening, (before, (condition, after)))). OfFor (spot word) before condition after)
-    (expect kind.For and expect kind.OpenParenthesis and read_part left kind.Semicolon and read_last_parts left)
+    giving
+    (λ (word, (opening, (before, (condition, after)))). OfFor (spot word) before condition after)
+    (expect kind.For and expect kind.OpenParenthesis and read_part left kind.Semicolon
+    and read_last_parts left)
 
 -- "start" [ "(" comma ")" ]
 abbrev pub read_start_header : ℕ → Reader Header
@@ -55,17 +58,20 @@ read_start_header left =
 
 -- a word, "=" and comma
 abbrev pub read_assigned : ℕ → TokenKind → Reader Tree
-read_assigned left word = giving (λ (mark, (equals, value)). value) (expect word and expect kind.Assign and read_comma (inner left))
+read_assigned left word = giving (λ (mark, (equals, value)). value)
+    (expect word and expect kind.Assign and read_comma (inner left))
 
 -- "fork" "(" comma ";"
 abbrev pub read_parts : ℕ → Reader (Spot × Tree)
 read_parts left =
     giving (λ (word, (opening, (parts, end))). (spot word, parts))
-    (expect kind.Fork and expect kind.OpenParenthesis and read_comma (inner left) and expect kind.Semicolon)
+    (expect kind.Fork and expect kind.OpenParenthesis and read_comma (inner left)
+    and expect kind.Semicolon)
 
 -- [ ";" "$" "=" comma ] ")"
 abbrev pub read_last_rank : ℕ → Reader (Option Tree × Placed)
-read_last_rank left = optional (just kind.Semicolon) (read_rank (inner left)) and expect kind.CloseParenthesis
+read_last_rank left =
+    optional (just kind.Semicolon) (read_rank (inner left)) and expect kind.CloseParenthesis
 
 -- "@" "=" comma [ ";" "$" "=" comma ] ")"
 abbrev pub read_portion : ℕ → Reader (Tree × (Option Tree × Placed))
@@ -79,7 +85,8 @@ read_fork_header left =
 
 -- the words that begin a header
 abbrev pub begins_header : TokenKind → Bool
-begins_header k = just kind.While k || (just kind.For k || (just kind.Start k || (just kind.Farm k || (just kind.Seq k || just kind.Fork k))))
+begins_header k = just kind.While k || (just kind.For k
+    || (just kind.Start k || (just kind.Farm k || (just kind.Seq k || just kind.Fork k))))
 
 abbrev pub read_header : ℕ → Reader Header
 read_header left =

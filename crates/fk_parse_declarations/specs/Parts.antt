@@ -3,11 +3,14 @@ use Rattle.std.specs.Prelude.{ℕ, List, Option, Bool}
 use Rattle.fk_syntax.specs.Tree.{Tree}
 use Rattle.fk_syntax.specs.Program.{Statement, Empty, Declare, Barrier, Break, Continue}
 use Rattle.fk_parse_combinators.specs.Languages.{Placed, spot}
-use Rattle.fk_parse_combinators.specs.Readers.{Reader, giving, ◌and◌, tells, expect, expect_told, by_next, optional, repeated}
+use Rattle.fk_parse_combinators.specs.Readers.{Reader, giving, ◌and◌, tells, expect, expect_told}
+use Rattle.fk_parse_combinators.specs.Readers.{by_next, optional, repeated}
 use Rattle.fk_expr.specs.Reading.{inner, read_assignment}
 use Rattle.fk_parse_declarations.specs.Kinds.{sharing_told}
 use Rattle.fk_parse_declarations.specs.Grammar.{Declarator}
-use Rattle.fk_parse_declarations.specs.Reading.{begins_parameter, read_condition, read_length, read_variable, read_variables, read_plain, read_return, read_expression}
+use Rattle.fk_parse_declarations.specs.Reading.{begins_parameter, read_condition, read_length}
+use Rattle.fk_parse_declarations.specs.Reading.{read_variable, read_variables, read_plain}
+use Rattle.fk_parse_declarations.specs.Reading.{read_return, read_expression}
 use Rattle.fk_parse_combinators.specs.Kinds.{just}
 use Rattle.fk_lex.specs.declared.token.TokenKind.TheVariants as kind
 
@@ -21,11 +24,13 @@ read_array_length = optional (just kind.OpenBracket) read_length
 
 -- [ "=" assign ]
 abbrev pub read_first_value : ℕ → Reader (Option Tree)
-read_first_value left = optional (just kind.Assign) (giving (λ (equals, value). value) (expect kind.Assign and read_assignment (inner left)))
+read_first_value left = optional (just kind.Assign)
+    (giving (λ (equals, value). value) (expect kind.Assign and read_assignment (inner left)))
 
 -- { "," variable }
 abbrev pub read_others : ℕ → Reader (List Declarator)
-read_others left = repeated (just kind.Comma) (giving (λ (comma, next). next) (expect kind.Comma and read_variable (inner left)))
+read_others left = repeated (just kind.Comma)
+    (giving (λ (comma, next). next) (expect kind.Comma and read_variable (inner left)))
 
 -- a statement that begins with a word and has no others in it, or an expression
 abbrev pub read_worded : ℕ → Reader Statement

@@ -8,12 +8,19 @@ use Rattle.fk_parse_declarations.specs.Headers as h
 use Rattle.fk_parse_declarations.specs.Grammar as g
 
 abbrev pub declarator_of : Declarator → g.Declarator
-declarator_of d = record { stars = d.stars; name = named d.name; length = d.length; first = option_map tree_of d.first }
+declarator_of d = record {
+  stars = d.stars;
+  name = named d.name;
+  length = d.length;
+  first = option_map tree_of d.first;
+}
 
 abbrev pub header_of : Header → h.Header
 header_of (c.While at condition) = h.OfWhile at (tree_of condition)
-header_of (c.For at before condition after) = h.OfFor at (option_map tree_of before) (option_map tree_of condition) (option_map tree_of after)
+header_of (c.For at before condition after) =
+    h.OfFor at (option_map tree_of before) (option_map tree_of condition) (option_map tree_of after)
 header_of (c.Start at count) = h.OfStart at (option_map tree_of count)
 header_of (c.Farm at) = h.OfFarm at
 header_of (c.Seq at) = h.OfSeq at
-header_of (c.Fork at parts part rank) = h.OfFork at (tree_of parts) (tree_of part) (option_map tree_of rank)
+header_of (c.Fork at parts part rank) =
+    h.OfFork at (tree_of parts) (tree_of part) (option_map tree_of rank)

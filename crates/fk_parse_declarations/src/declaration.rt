@@ -9,8 +9,11 @@ ghost use Rattle.fk_parse_combinators.specs.Ahead.{Shortens, Leaves};
 ghost use Rattle.fk_parse_combinators.specs.Gives.{Gives, Makes};
 ghost use Rattle.fk_expr.specs.Reading.{inner, begins_type};
 ghost use Rattle.fk_parse_declarations.specs.Grammar.{declared, is_shared, joined_lists};
-ghost use Rattle.fk_parse_declarations.specs.Reading.{read_variables, read_variable, read_member, read_member_name, read_parameters, read_parameter, read_separated};
-ghost use Rattle.fk_parse_declarations.specs.Parts.{read_sharing, read_array_length, read_first_value, read_others};
+ghost use Rattle.fk_parse_declarations.specs.Reading.{read_variables, read_variable, read_member};
+ghost use Rattle.fk_parse_declarations.specs.Reading.{read_member_name, read_parameters};
+ghost use Rattle.fk_parse_declarations.specs.Reading.{read_parameter, read_separated};
+ghost use Rattle.fk_parse_declarations.specs.Parts.{read_sharing, read_array_length};
+ghost use Rattle.fk_parse_declarations.specs.Parts.{read_first_value, read_others};
 ghost use Rattle.fk_parse_declarations.specs.View.{declarator_of};
 
 use crate::lists::{one, put};

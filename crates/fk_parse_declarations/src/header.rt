@@ -7,7 +7,10 @@ ghost use Rattle.fk_syntax.specs.View.{tree_of};
 ghost use Rattle.fk_syntax.specs.ProgramView.{statement_of};
 ghost use Rattle.fk_parse_combinators.specs.Ahead.{Shortens};
 ghost use Rattle.fk_parse_combinators.specs.Gives.{Gives, Makes};
-ghost use Rattle.fk_parse_declarations.specs.Headers.{headed, read_header, read_while_header, read_for_header, read_last_parts, read_start_header, read_parts, read_portion, read_last_rank, read_fork_header};
+ghost use Rattle.fk_parse_declarations.specs.Headers.{headed, read_header, read_while_header};
+ghost use Rattle.fk_parse_declarations.specs.Headers.{read_for_header, read_last_parts};
+ghost use Rattle.fk_parse_declarations.specs.Headers.{read_start_header, read_parts, read_portion};
+ghost use Rattle.fk_parse_declarations.specs.Headers.{read_last_rank, read_fork_header};
 ghost use Rattle.fk_parse_declarations.specs.View.{header_of};
 
 use crate::expressions::{assigned, condition, count, part, rank};

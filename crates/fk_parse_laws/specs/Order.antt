@@ -1,12 +1,14 @@
 -- In which order the group frames of a text stand.
-use Rattle.std.specs.Prelude.{◌≡◌, ℕ, ◌<◌, ◌⊎◌, List, [], ◌∷◌, ◌++◌, flat_map, AllPairs, Option, Some, None}
+use Rattle.std.specs.Prelude.{◌≡◌, ℕ, ◌<◌, ◌⊎◌, List, [], ◌∷◌, ◌++◌, flat_map, AllPairs, Option}
+use Rattle.std.specs.Prelude.{Some, None}
 use Rattle.fk_syntax.specs.Program as p
 use Rattle.fk_syntax.specs.Program.{Statement, Statements, ItemTree}
 use Rattle.fk_meaning_forms.specs.declared.tables.Region.{Region}
 use Rattle.fk_layout_slots.specs.Told.{Told}
 use Rattle.fk_layout_slots.specs.Frames.{regions_of}
 
--- the tokens of a statement at which frames may stand, as the text has them: the first keywords of it and of those within
+-- the tokens of a statement at which frames may stand, as the text has them: the first keywords of
+-- it and of those within
 abbrev mutual
   pub tokens_in : Statement → List ℕ
   tokens_in (p.Block list) = all_tokens_in list
@@ -52,4 +54,5 @@ AreInOrder = AllPairs IsBefore
 
 -- where these tokens ascend, the frames of a text are in order
 abbrev pub FramesInOrder : Type 0
-FramesInOrder = (told : Told) (items : List ItemTree) → Ascend (frame_tokens items) → AreInOrder (regions_of told items)
+FramesInOrder = (told : Told) (items : List ItemTree) → Ascend (frame_tokens items)
+    → AreInOrder (regions_of told items)

@@ -10,9 +10,11 @@ use Rattle.fk_parse_laws.specs.Order.{AreInOrder}
 -- those of a program that tokens spell are in order, whatever is told of it
 abbrev pub FramesStandInOrder : Type 0
 FramesStandInOrder =
-    (told : Told) (tokens : List Spelled) (program : ProgramTree) → SpellsProgram tokens program → AreInOrder (regions_of told program.items)
+    (told : Told) (tokens : List Spelled) (program : ProgramTree) → SpellsProgram tokens program
+    → AreInOrder (regions_of told program.items)
 
 -- and none of them at the first token
 abbrev pub FramesStandBehindFirst : Type 0
 FramesStandBehindFirst =
-    (told : Told) (tokens : List Spelled) (program : ProgramTree) → SpellsProgram tokens program → All (λ frame. 0 < frame.at) (regions_of told program.items)
+    (told : Told) (tokens : List Spelled) (program : ProgramTree) → SpellsProgram tokens program
+    → All (λ frame. 0 < frame.at) (regions_of told program.items)

@@ -1,4 +1,5 @@
--- Programs without empty chains and empty lists of suffixes, and whose parameters have no first values.
+-- Programs without empty chains and empty lists of suffixes, and whose parameters have
+-- no first values.
 use Rattle.std.specs.Prelude.{◌≡◌, ℕ, List, [], ◌∷◌, Option, Some, None}
 use Rattle.fk_syntax.specs.Tree as t
 use Rattle.fk_syntax.specs.Tree.{Tree, Links, Trees, Suffixes}
@@ -68,7 +69,8 @@ abbrev mutual
   StatementIsTrim (p.Block statements) = StatementsAreTrim statements
   StatementIsTrim (p.Declare variables) = VariablesAreTrim variables
   StatementIsTrim (p.If spot condition first) = IsTrim condition × StatementIsTrim first
-  StatementIsTrim (p.IfElse spot condition first second) = IsTrim condition × StatementIsTrim first × StatementIsTrim second
+  StatementIsTrim (p.IfElse spot condition first second) = IsTrim condition × StatementIsTrim first
+      × StatementIsTrim second
   StatementIsTrim (p.While spot condition body) = IsTrim condition × StatementIsTrim body
   StatementIsTrim (p.DoWhile spot body condition) = StatementIsTrim body × IsTrim condition
   StatementIsTrim (p.For spot before condition after body) =
@@ -76,7 +78,8 @@ abbrev mutual
   StatementIsTrim (p.Start spot count body) = OptionIsTrim count × StatementIsTrim body
   StatementIsTrim (p.Farm spot body) = StatementIsTrim body
   StatementIsTrim (p.Seq spot body) = StatementIsTrim body
-  StatementIsTrim (p.Fork spot parts part rank body) = IsTrim parts × IsTrim part × OptionIsTrim rank × StatementIsTrim body
+  StatementIsTrim (p.Fork spot parts part rank body) = IsTrim parts × IsTrim part
+      × OptionIsTrim rank × StatementIsTrim body
   StatementIsTrim (p.Barrier spot) = Unit {0}
   StatementIsTrim (p.Break spot) = Unit {0}
   StatementIsTrim (p.Continue spot) = Unit {0}

@@ -1,9 +1,11 @@
--- Programs whose numbers have room in a word: values, characters, the lengths of arrays, and the bytes of texts.
+-- Programs whose numbers have room in a word: values, characters, the lengths of arrays, and
+-- the bytes of texts.
 use Rattle.std.specs.Prelude.{ℕ, ◌<◌, ◌^◌, List, [], ◌∷◌, All, Option, Some, None}
 use Rattle.fk_syntax.specs.Tree as t
 use Rattle.fk_syntax.specs.Tree.{Tree, Links, Trees, Suffixes}
 use Rattle.fk_syntax.specs.Program as p
-use Rattle.fk_syntax.specs.Program.{DeclaredTree, Statement, Statements, FunctionTree, ItemTree, ProgramTree}
+use Rattle.fk_syntax.specs.Program.{DeclaredTree, Statement, Statements, FunctionTree, ItemTree}
+use Rattle.fk_syntax.specs.Program.{ProgramTree}
 use Rattle.fk_lex.specs.Reading.{Spelled, Tokens}
 use Rattle.fk_parse.specs.Parses.{SpellsProgram}
 
@@ -23,7 +25,8 @@ abbrev mutual
   TreeHasWords (t.Chain first links) = TreeHasWords first × LinksHaveWords links
   TreeHasWords (t.Postfix whole suffixes) = TreeHasWords whole × SuffixesHaveWords suffixes
   TreeHasWords (t.Assign spot sign target value) = TreeHasWords target × TreeHasWords value
-  TreeHasWords (t.Choose spot condition first second) = TreeHasWords condition × TreeHasWords first × TreeHasWords second
+  TreeHasWords (t.Choose spot condition first second) = TreeHasWords condition × TreeHasWords first
+      × TreeHasWords second
 
   pub LinksHaveWords : Links → Type 0
   LinksHaveWords t.no_links = Unit {0}
@@ -36,7 +39,8 @@ abbrev mutual
   pub SuffixesHaveWords : Suffixes → Type 0
   SuffixesHaveWords t.no_suffixes = Unit {0}
   SuffixesHaveWords (t.index spot by others) = TreeHasWords by × SuffixesHaveWords others
-  SuffixesHaveWords (t.call spot arguments others) = TreesHaveWords arguments × SuffixesHaveWords others
+  SuffixesHaveWords (t.call spot arguments others) = TreesHaveWords arguments
+      × SuffixesHaveWords others
   SuffixesHaveWords (t.dot spot member others) = SuffixesHaveWords others
   SuffixesHaveWords (t.arrow spot member others) = SuffixesHaveWords others
   SuffixesHaveWords (t.up spot others) = SuffixesHaveWords others
@@ -61,15 +65,19 @@ abbrev mutual
   StatementHasWords (p.Block statements) = StatementsHaveWords statements
   StatementHasWords (p.Declare variables) = VariablesHaveWords variables
   StatementHasWords (p.If spot condition first) = TreeHasWords condition × StatementHasWords first
-  StatementHasWords (p.IfElse spot condition first second) = TreeHasWords condition × StatementHasWords first × StatementHasWords second
+  StatementHasWords (p.IfElse spot condition first second) = TreeHasWords condition
+      × StatementHasWords first × StatementHasWords second
   StatementHasWords (p.While spot condition body) = TreeHasWords condition × StatementHasWords body
-  StatementHasWords (p.DoWhile spot body condition) = StatementHasWords body × TreeHasWords condition
+  StatementHasWords (p.DoWhile spot body condition) = StatementHasWords body
+      × TreeHasWords condition
   StatementHasWords (p.For spot before condition after body) =
-      OptionHasWords before × OptionHasWords condition × OptionHasWords after × StatementHasWords body
+      OptionHasWords before × OptionHasWords condition × OptionHasWords after
+      × StatementHasWords body
   StatementHasWords (p.Start spot count body) = OptionHasWords count × StatementHasWords body
   StatementHasWords (p.Farm spot body) = StatementHasWords body
   StatementHasWords (p.Seq spot body) = StatementHasWords body
-  StatementHasWords (p.Fork spot parts part rank body) = TreeHasWords parts × TreeHasWords part × OptionHasWords rank × StatementHasWords body
+  StatementHasWords (p.Fork spot parts part rank body) = TreeHasWords parts × TreeHasWords part
+      × OptionHasWords rank × StatementHasWords body
   StatementHasWords (p.Barrier spot) = Unit {0}
   StatementHasWords (p.Break spot) = Unit {0}
   StatementHasWords (p.Continue spot) = Unit {0}
@@ -77,7 +85,8 @@ abbrev mutual
 
   pub StatementsHaveWords : Statements → Type 0
   StatementsHaveWords p.no_statements = Unit {0}
-  StatementsHaveWords (p.statement first others) = StatementHasWords first × StatementsHaveWords others
+  StatementsHaveWords (p.statement first others) = StatementHasWords first
+      × StatementsHaveWords others
 
 abbrev pub BodyHasWords : Option Statements → Type 0
 BodyHasWords None = Unit {0}

@@ -13,8 +13,8 @@ pub fn texts_have_words()
     ensures { TextsHaveWords }
 {}
 
-/// A program that is spelled by the tokens of a text has no chain without a sign, no expression with
-/// suffixes that has none, and no parameter with a first value.
+/// A program that is spelled by the tokens of a text has no chain without a sign, no expression
+/// with suffixes that has none, and no parameter with a first value.
 pub fn texts_are_trim()
     ensures { TextsAreTrim }
 {}

@@ -1,4 +1,5 @@
--- How statements are read by what stands before the last statement in them: what is read so is what Reading says.
+-- How statements are read by what stands before the last statement in them: what is read so is
+-- what Reading says.
 use Rattle.fk_parse_declarations.specs.Headers.{headed, begins_header, read_header}
 use Rattle.fk_parse_declarations.specs.Parts.{read_simple}
 use Rattle.fk_expr.specs.Reading.{inner}
@@ -15,7 +16,8 @@ read_nested left = nested (statements_with left)
 
 -- [ "else" stmt ]
 abbrev pub read_otherwise : ℕ → Reader (Option Statement)
-read_otherwise left = optional (just kind.Else) (giving (λ (mark, inside). inside) (expect kind.Else and read_nested left))
+read_otherwise left = optional (just kind.Else)
+    (giving (λ (mark, inside). inside) (expect kind.Else and read_nested left))
 
 -- stmt [ "else" stmt ]
 abbrev pub read_branches : ℕ → Reader (Statement × Option Statement)
@@ -23,7 +25,8 @@ read_branches left = read_nested left and read_otherwise left
 
 -- a header, and the statement behind it
 abbrev pub read_headed : ℕ → Reader Statement
-read_headed left = giving (λ (header, body). headed header body) (read_header left and read_nested left)
+read_headed left =
+    giving (λ (header, body). headed header body) (read_header left and read_nested left)
 
 -- any statement, where so many levels are left in it
 abbrev pub read_any : ℕ → Reader Statement

@@ -32,7 +32,8 @@ pub(crate) fn completed<'a>(
     body: Result<Box<Stmt<'a>>, SyntaxFault>,
 ) -> Result<Stmt<'a>, SyntaxFault>
     ensures read { (now : List Placed) (answer : Answer Statement)
-        → Gives (λ b. h.headed (header_of header.entry) (statement_of b.value)) body.entry now answer
+        → Gives
+        (λ b. h.headed (header_of header.entry) (statement_of b.value)) body.entry now answer
         → Gives statement_of result now answer }
     ensures both { IfOk result (λ _. IsOk body.entry) }
 {

@@ -14,7 +14,8 @@ ghost use Rattle.fk_parse_combinators.specs.Ahead.{Shortens, Leaves};
 ghost use Rattle.fk_parse_combinators.specs.Gives.{Gives};
 ghost use Rattle.fk_expr.specs.Reading.{inner};
 ghost use Rattle.fk_parse_statements.specs.Reading.{statements_with, read_block, read_if, read_do};
-ghost use Rattle.fk_parse_statements.specs.Parts.{read_nested, read_otherwise, read_branches, read_headed, read_any};
+ghost use Rattle.fk_parse_statements.specs.Parts.{read_nested, read_otherwise, read_branches};
+ghost use Rattle.fk_parse_statements.specs.Parts.{read_headed, read_any};
 
 use crate::boxes::{completed, in_box};
 use crate::told::{open_statement, statement_is_next};

@@ -1,5 +1,6 @@
 -- The files of a store, and what a fetch and a put do to them.
-use Rattle.std.specs.Prelude.{◌≡◌, ℕ, ◌≤◌, ◌⊎◌, List, ◌++◌, length, take, Option, None, IfSome, IsSomeAnd}
+use Rattle.std.specs.Prelude.{◌≡◌, ℕ, ◌≤◌, ◌⊎◌, List, ◌++◌, length, take, Option, None, IfSome}
+use Rattle.std.specs.Prelude.{IsSomeAnd}
 use Rattle.std.specs.Option.{option_map}
 use Rattle.std.specs.Ordering.{nat_cmp}
 use Rattle.std.specs.Cmp.Lexicographic.{slice_cmp}
@@ -26,9 +27,11 @@ with_file_known known name bytes = option_map (λ files. with_file files name by
 abbrev pub LacksFile : Option Files → List ℕ → Type 0
 LacksFile known name = IsSomeAnd known (λ files. file files name ≡ None)
 
--- new is old and then the first bytes of the named file, `most` of them or all, where the files are told
+-- new is old and then the first bytes of the named file, `most` of them or all, where
+-- the files are told
 abbrev pub AppendsFile : Option Files → List ℕ → ℕ → List ℕ → List ℕ → Type 0
-AppendsFile known name most old new = IfSome known (λ files. IsSomeAnd (file files name) (λ bytes. new ≡ old ++ take most bytes))
+AppendsFile known name most old new =
+    IfSome known (λ files. IsSomeAnd (file files name) (λ bytes. new ≡ old ++ take most bytes))
 
 -- new is old and then at most so many bytes
 abbrev pub AppendsAtMost : ℕ → List ℕ → List ℕ → Type 0

@@ -1,5 +1,6 @@
 -- What is seen of the objects in memory.
-use Rattle.std.specs.Prelude.{ℕ, ◌+◌, ◌-◌, Bool, ◌==◌, List, Vec, String, length, map as each, nat_eq, nat_le, string_bytes, if◌then◌else◌, refl}
+use Rattle.std.specs.Prelude.{ℕ, ◌+◌, ◌-◌, Bool, ◌==◌, List, Vec, String, length, map as each}
+use Rattle.std.specs.Prelude.{nat_eq, nat_le, string_bytes, if◌then◌else◌, refl}
 use Rattle.std.specs.Coded.{Coded, code_by, coded×, coded_list, coded_ℕ}
 use Rattle.std.specs.FinMap as map
 use Rattle.std.specs.List.{list_any}
@@ -61,9 +62,15 @@ pub record StoreState : Type 0 where
 abbrev pub store_code : Coded StoreState
 store_code =
     code_by (Files × (ℕ × (List ℕ × (ℕ × ℕ))))
-    (coded× (map.code (coded_list coded_ℕ) (coded_list coded_ℕ)) (coded× coded_ℕ (coded× (coded_list coded_ℕ) (coded× coded_ℕ coded_ℕ))))
+    (coded× (map.code (coded_list coded_ℕ) (coded_list coded_ℕ))
+    (coded× coded_ℕ (coded× (coded_list coded_ℕ) (coded× coded_ℕ coded_ℕ))))
     (λ s. (s.files, (s.calls.made, (s.calls.fails, (s.fetch_faults, s.put_faults)))))
-    (λ t. record { files = t.0; calls = record { made = t.1.0; fails = t.1.1.0 }; fetch_faults = t.1.1.1.0; put_faults = t.1.1.1.1 })
+    (λ t. record {
+      files = t.0;
+      calls = record { made = t.1.0; fails = t.1.1.0 };
+      fetch_faults = t.1.1.1.0;
+      put_faults = t.1.1.1.1;
+    })
     (λ _. refl)
 
 -- a name and its bytes, as they are stored
@@ -80,7 +87,9 @@ is_named name stored = pointwise nat_eq name (string_bytes stored.0)
 
 -- after the next fetch, and after the next put but for the files
 abbrev pub after_fetch : StoreState → StoreState
-after_fetch store = record store { calls = counted store.calls; fetch_faults = faults_after store.calls store.fetch_faults }
+after_fetch store = record store
+    { calls = counted store.calls; fetch_faults = faults_after store.calls store.fetch_faults }
 
 abbrev pub after_put : StoreState → StoreState
-after_put store = record store { calls = counted store.calls; put_faults = faults_after store.calls store.put_faults }
+after_put store = record store
+    { calls = counted store.calls; put_faults = faults_after store.calls store.put_faults }

@@ -15,7 +15,8 @@ pub record GivesAtMost (most : ℕ) (before now : Option (List ℕ)) : Type 0 wh
   pub few : length given ≤ most
   pub left : before ≡ prepend_known given now
 
--- the first bytes that such a source had left, `most` of them or all, were moved behind the old bytes
+-- the first bytes that such a source had left, `most` of them or all, were moved
+-- behind the old bytes
 pub record MovesFirst (most : ℕ) (before now : Option (List ℕ)) (old new : List ℕ) : Type 0 where
   pub bytes : List ℕ
   pub few : length bytes ≤ most

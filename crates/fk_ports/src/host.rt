@@ -2,7 +2,8 @@
 ghost use Rattle.std.specs.Prelude.{◌≡◌, ◌<◌, ◌≤◌, IfOk, None, if◌then◌else◌, is_err, length};
 ghost use Rattle.std.specs.Io.KnownBytes.{ReadConsumes, WriteAppends};
 ghost use Rattle.fk_ports.specs.Faults.{one_more};
-ghost use Rattle.fk_ports.specs.Host.{reader_of, sink_faults, source_faults, store_fetch_faults, store_put_faults, writer_of};
+ghost use Rattle.fk_ports.specs.Host.{reader_of, sink_faults, source_faults, store_fetch_faults};
+ghost use Rattle.fk_ports.specs.Host.{store_put_faults, writer_of};
 
 use crate::faults::{Failed, StoreFault};
 use crate::sink::Sink;
@@ -92,8 +93,10 @@ impl<R: Read> Source for HostSource<R> {
     /// Reads once. Each error is a fault.
     fn take(&mut self, into: &mut [u8]) -> Result<usize, Failed>
         ensures room { IfOk result (λ n. n ≤ length into.new) }
-        ensures read { ReadConsumes (R.remaining (reader_of self.old)) (R.remaining (reader_of self.new)) result into.new }
-        ensures faults { source_faults self.new ≡ (if is_err result then one_more (source_faults self.old) else source_faults self.old) }
+        ensures read { ReadConsumes (R.remaining (reader_of self.old))
+            (R.remaining (reader_of self.new)) result into.new }
+        ensures faults { source_faults self.new ≡ (if is_err result
+            then one_more (source_faults self.old) else source_faults self.old) }
         ensures never_falls { source_faults self.old ≤ source_faults self.new }
     {
         match self.reader.read(into) {
@@ -133,8 +136,10 @@ impl<W: Write> Sink for HostSink<W> {
     fn give(&mut self, bytes: &[u8]) -> Result<usize, Failed>
         ensures some { IfOk result (λ n. 0 < n) }
         ensures within { IfOk result (λ n. n ≤ length bytes.now) }
-        ensures written { WriteAppends (W.contents (writer_of self.old)) (W.contents (writer_of self.new)) result bytes.now }
-        ensures faults { sink_faults self.new ≡ (if is_err result then one_more (sink_faults self.old) else sink_faults self.old) }
+        ensures written { WriteAppends (W.contents (writer_of self.old))
+            (W.contents (writer_of self.new)) result bytes.now }
+        ensures faults { sink_faults self.new
+            ≡ (if is_err result then one_more (sink_faults self.old) else sink_faults self.old) }
         ensures never_falls { sink_faults self.old ≤ sink_faults self.new }
     {
         match self.writer.write(bytes) {

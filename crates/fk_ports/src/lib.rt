@@ -1,4 +1,5 @@
-//! The outside of the compiler and its machine: stores of files, sources of bytes and sinks of bytes.
+//! The outside of the compiler and its machine: stores of files, sources of bytes
+//! and sinks of bytes.
 #![tactic(auto)]
 
 mod faults;

@@ -1,5 +1,6 @@
 //! A sink in memory.
-ghost use Rattle.std.specs.Prelude.{◌≡◌, ◌||◌, ◌++◌, ◌≤◌, [], IfOk, OnErr, Some, is_err, length, min, take};
+ghost use Rattle.std.specs.Prelude.{◌≡◌, ◌||◌, ◌++◌, ◌≤◌, [], IfOk, OnErr, Some, is_err, length};
+ghost use Rattle.std.specs.Prelude.{min, take};
 ghost use Rattle.fk_ports.specs.Faults.{one_more};
 ghost use Rattle.fk_ports.specs.InMemory.{counted, is_full, is_to_fail, no_calls, room};
 
@@ -25,7 +26,12 @@ impl Model for MemSink {
 
     ghost Value = { SinkState };
 
-    ghost view = { λ s. record { taken = s.bytes.items; capacity = s.capacity; calls = s.calls; faults = s.faults } };
+    ghost view = { λ s. record {
+      taken = s.bytes.items;
+      capacity = s.capacity;
+      calls = s.calls;
+      faults = s.faults;
+    } };
 
     ghost invariant = { λ s. (vec_len s.bytes ≤ s.capacity) × (s.capacity ≤ vec_capacity s.bytes) };
 }

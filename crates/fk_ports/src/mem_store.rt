@@ -1,9 +1,11 @@
 //! A store in memory.
-ghost use Rattle.std.specs.Prelude.{◌≡◌, ◌≤◌, ◌↔◌, ◌⊎◌, ◌++◌, IfSome, IsErrOf, IsSomeAnd, IsTrue, None, OnErr, OnOk, Some, take};
+ghost use Rattle.std.specs.Prelude.{◌≡◌, ◌≤◌, ◌↔◌, ◌⊎◌, ◌++◌, IfSome, IsErrOf, IsSomeAnd, IsTrue};
+ghost use Rattle.std.specs.Prelude.{None, OnErr, OnOk, Some, take};
 ghost use Rattle.std.specs.List.{position};
 ghost use Rattle.std.specs.Option.{option_copied};
 ghost use Rattle.fk_ports.specs.Files.{file, with_file};
-ghost use Rattle.fk_ports.specs.InMemory.{after_fetch, after_put, is_named, is_to_fail, no_calls, stored_files};
+ghost use Rattle.fk_ports.specs.InMemory.{after_fetch, after_put, is_named, is_to_fail, no_calls};
+ghost use Rattle.fk_ports.specs.InMemory.{stored_files};
 
 use crate::faults::StoreFault;
 use crate::schedule::Schedule;
@@ -73,8 +75,10 @@ impl Store for MemStore {
     /// Appends the first `most` bytes of the named file. Memory aside it fails exactly where the
     /// number of the call is listed or no file has the name.
     fn fetch(&mut self, name: &str, most: usize, into: &mut Vec<u8>) -> Result<(), StoreFault>
-        ensures exact { IsErrOf result StoreFault.Fault ↔ (IsTrue (is_to_fail self.old.calls) ⊎ (file self.old.files name.now ≡ None)) }
-        ensures appended { OnOk result (IsSomeAnd (file self.old.files name.now) (λ bytes. into.new.items ≡ into.old.items ++ take most bytes)) }
+        ensures exact { IsErrOf result StoreFault.Fault
+            ↔ (IsTrue (is_to_fail self.old.calls) ⊎ (file self.old.files name.now ≡ None)) }
+        ensures appended { OnOk result (IsSomeAnd (file self.old.files name.now)
+            (λ bytes. into.new.items ≡ into.old.items ++ take most bytes)) }
         ensures refused { OnErr result (into.new.items ≡ into.old.items) }
         ensures after { self.new ≡ after_fetch self.old }
         ensures never_falls { self.old.fetch_faults ≤ self.new.fetch_faults }
@@ -94,7 +98,8 @@ impl Store for MemStore {
     /// call is listed.
     fn put(&mut self, name: &str, bytes: &[u8]) -> Result<(), StoreFault>
         ensures exact { IsErrOf result StoreFault.Fault ↔ IsTrue (is_to_fail self.old.calls) }
-        ensures put { OnOk result (self.new ≡ record (after_put self.old) { files = with_file self.old.files name.now bytes.now }) }
+        ensures put { OnOk result (self.new
+            ≡ record (after_put self.old) { files = with_file self.old.files name.now bytes.now }) }
         ensures refused { OnErr result (self.new ≡ after_put self.old) }
         ensures never_falls { self.old.put_faults ≤ self.new.put_faults }
     {
@@ -116,7 +121,8 @@ fn place_of(files: &[(String, Vec<u8>)], name: &str) -> Option<usize>
 
 /// Makes these the bytes of the name in a list of files.
 fn replace(files: &mut Vec<(String, Vec<u8>)>, name: &str, bytes: &[u8]) -> Result<(), AllocError>
-    ensures ok { OnOk result (stored_files files.new.items ≡ with_file (stored_files files.old.items) name.now bytes.now) }
+    ensures ok { OnOk result (stored_files files.new.items
+        ≡ with_file (stored_files files.old.items) name.now bytes.now) }
     ensures err { OnErr result (files.new.items ≡ files.old.items) }
 {
     let alloc = *files.allocator();

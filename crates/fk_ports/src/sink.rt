@@ -1,5 +1,6 @@
 //! Sinks of bytes.
-ghost use Rattle.std.specs.Prelude.{◌≡◌, ◌<◌, ◌≤◌, ℕ, List, [], Option, IfOk, IsOk, OnErr, OnOk, length, take};
+ghost use Rattle.std.specs.Prelude.{◌≡◌, ◌<◌, ◌≤◌, ℕ, List, [], Option, IfOk, IsOk, OnErr, OnOk};
+ghost use Rattle.std.specs.Prelude.{length, take};
 ghost use Rattle.std.specs.Io.KnownBytes.{append_known};
 ghost use Rattle.fk_ports.specs.Faults.{HasRisen};
 ghost use Rattle.fk_ports.specs.Known.{TakesPrefix};
@@ -8,7 +9,8 @@ use crate::faults::Failed;
 
 /// A sink of bytes, as standard output.
 ///
-/// It counts its faults. The count never falls: a fault raises it, or finds it at its end, 2^64 - 1.
+/// It counts its faults. The count never falls: a fault raises it, or finds it at
+/// its end, 2^64 - 1.
 pub trait Sink {
     /// The faults so far.
     ghost faults: { Self → ℕ };
@@ -22,7 +24,8 @@ pub trait Sink {
         requires { 0 < length bytes.now }
         ensures some { IfOk result (λ n. 0 < n) }
         ensures within { IfOk result (λ n. n ≤ length bytes.now) }
-        ensures taken { IfOk result (λ n. taken self.new ≡ append_known (taken self.old) (take n bytes.now)) }
+        ensures taken { IfOk result
+            (λ n. taken self.new ≡ append_known (taken self.old) (take n bytes.now)) }
         ensures refused { OnErr result (taken self.new ≡ taken self.old) }
 
         ensures fault { OnErr result (HasRisen (faults self.old) (faults self.new)) }

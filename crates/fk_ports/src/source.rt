@@ -1,5 +1,6 @@
 //! Sources of bytes.
-ghost use Rattle.std.specs.Prelude.{◌≡◌, ◌<◌, ◌≤◌, ◌↔◌, ℕ, List, [], Option, IfOk, IfSome, IsErrOf, OnErr, OnOk, length, take};
+ghost use Rattle.std.specs.Prelude.{◌≡◌, ◌<◌, ◌≤◌, ◌↔◌, ℕ, List, [], Option, IfOk, IfSome, IsErrOf};
+ghost use Rattle.std.specs.Prelude.{OnErr, OnOk, length, take};
 ghost use Rattle.std.specs.Io.KnownBytes.{prepend_known};
 ghost use Rattle.fk_ports.specs.Faults.{HasRisen};
 ghost use Rattle.fk_ports.specs.Known.{GivesAtMost, MovesFirst};
@@ -9,7 +10,8 @@ use std::alloc::Global;
 
 /// A source of bytes, as standard input.
 ///
-/// It counts its faults. The count never falls: a fault raises it, or finds it at its end, 2^64 - 1.
+/// It counts its faults. The count never falls: a fault raises it, or finds it at
+/// its end, 2^64 - 1.
 pub trait Source {
     /// The faults so far.
     ghost faults: { Self → ℕ };
@@ -26,7 +28,8 @@ pub trait Source {
         ensures room { IfOk result (λ n. n ≤ length into.new) }
 
         // What was left is what was written, and then what is left now.
-        ensures moved { IfOk result (λ n. left self.old ≡ prepend_known (take n into.new) (left self.new)) }
+        ensures moved { IfOk result
+            (λ n. left self.old ≡ prepend_known (take n into.new) (left self.new)) }
         ensures end { IfOk result (λ n. IfSome (left self.old) (λ bytes. (n ≡ 0) ↔ (bytes ≡ []))) }
         ensures refused { OnErr result (left self.new ≡ left self.old) }
 
@@ -44,12 +47,15 @@ pub fn take_all<S: Source>(
     source: &mut S,
     most: usize,
 ) -> Result<Vec<u8>, StoreFault>
-    ensures bytes { IfOk result (λ bytes. IfSome (S.left source.old) (λ left. bytes.items ≡ take most left)) }
-    ensures left { IfOk result (λ bytes. S.left source.old ≡ prepend_known bytes.items (S.left source.new)) }
+    ensures bytes { IfOk result
+        (λ bytes. IfSome (S.left source.old) (λ left. bytes.items ≡ take most left)) }
+    ensures left { IfOk result
+        (λ bytes. S.left source.old ≡ prepend_known bytes.items (S.left source.new)) }
     ensures at_most { IfOk result (λ bytes. length bytes.items ≤ most) }
     ensures refused { OnErr result (GivesAtMost most (S.left source.old) (S.left source.new)) }
 
-    ensures fault { IsErrOf result StoreFault.Fault → HasRisen (S.faults source.old) (S.faults source.new) }
+    ensures fault { IsErrOf result StoreFault.Fault
+        → HasRisen (S.faults source.old) (S.faults source.new) }
     ensures memory { IsErrOf result StoreFault.Memory → S.faults source.new ≡ S.faults source.old }
     ensures steady { OnOk result (S.faults source.new ≡ S.faults source.old) }
     ensures never_falls { S.faults source.old ≤ S.faults source.new }
@@ -65,11 +71,13 @@ pub(crate) fn append_all<S: Source>(
     most: usize,
     into: &mut Vec<u8>,
 ) -> Result<(), StoreFault>
-    ensures moved { OnOk result (MovesFirst most (S.left source.old) (S.left source.new) into.old.items into.new.items) }
+    ensures moved { OnOk result
+        (MovesFirst most (S.left source.old) (S.left source.new) into.old.items into.new.items) }
     ensures refused { OnErr result (GivesAtMost most (S.left source.old) (S.left source.new)) }
     ensures front { take (length into.old.items) into.new.items ≡ into.old.items }
 
-    ensures fault { IsErrOf result StoreFault.Fault → HasRisen (S.faults source.old) (S.faults source.new) }
+    ensures fault { IsErrOf result StoreFault.Fault
+        → HasRisen (S.faults source.old) (S.faults source.new) }
     ensures memory { IsErrOf result StoreFault.Memory → S.faults source.new ≡ S.faults source.old }
     ensures steady { OnOk result (S.faults source.new ≡ S.faults source.old) }
     ensures never_falls { S.faults source.old ≤ S.faults source.new }

@@ -1,7 +1,8 @@
 //! Stores of files.
 ghost use Rattle.std.specs.Prelude.{◌≡◌, ◌≤◌, ℕ, Option, IsErrOf, OnErr, OnOk};
 ghost use Rattle.fk_ports.specs.Faults.{HasRisen};
-ghost use Rattle.fk_ports.specs.Files.{AppendsAtMost, AppendsFile, FetchFaults, Files, with_file_known};
+ghost use Rattle.fk_ports.specs.Files.{AppendsAtMost, AppendsFile, FetchFaults, Files};
+ghost use Rattle.fk_ports.specs.Files.{with_file_known};
 
 use crate::faults::StoreFault;
 
@@ -24,13 +25,16 @@ pub trait Store {
     /// It answers `Fault` where the store fails, which is counted, or where it tells its files and
     /// none has the name, which is not.
     fn fetch(&mut self, name: &str, most: usize, into: &mut Vec<u8>) -> Result<(), StoreFault>
-        ensures appended { OnOk result (AppendsFile (files self.old) name.now most into.old.items into.new.items) }
+        ensures appended { OnOk result
+            (AppendsFile (files self.old) name.now most into.old.items into.new.items) }
         ensures at_most { OnOk result (AppendsAtMost most into.old.items into.new.items) }
         ensures refused { OnErr result (into.new.items ≡ into.old.items) }
         ensures files { files self.new ≡ files self.old }
 
-        ensures fault { IsErrOf result StoreFault.Fault → FetchFaults (files self.old) name.now (fetch_faults self.old) (fetch_faults self.new) }
-        ensures memory { IsErrOf result StoreFault.Memory → fetch_faults self.new ≡ fetch_faults self.old }
+        ensures fault { IsErrOf result StoreFault.Fault → FetchFaults (files self.old) name.now
+            (fetch_faults self.old) (fetch_faults self.new) }
+        ensures memory { IsErrOf result StoreFault.Memory
+            → fetch_faults self.new ≡ fetch_faults self.old }
         ensures steady { OnOk result (fetch_faults self.new ≡ fetch_faults self.old) }
         ensures never_falls { fetch_faults self.old ≤ fetch_faults self.new }
         ensures other_count { put_faults self.new ≡ put_faults self.old };
@@ -39,11 +43,14 @@ pub trait Store {
     ///
     /// It answers `Fault` only where the store fails, which is counted.
     fn put(&mut self, name: &str, bytes: &[u8]) -> Result<(), StoreFault>
-        ensures put { OnOk result (files self.new ≡ with_file_known (files self.old) name.now bytes.now) }
+        ensures put { OnOk result
+            (files self.new ≡ with_file_known (files self.old) name.now bytes.now) }
         ensures refused { OnErr result (files self.new ≡ files self.old) }
 
-        ensures fault { IsErrOf result StoreFault.Fault → HasRisen (put_faults self.old) (put_faults self.new) }
-        ensures memory { IsErrOf result StoreFault.Memory → put_faults self.new ≡ put_faults self.old }
+        ensures fault { IsErrOf result StoreFault.Fault
+            → HasRisen (put_faults self.old) (put_faults self.new) }
+        ensures memory { IsErrOf result StoreFault.Memory
+            → put_faults self.new ≡ put_faults self.old }
         ensures steady { OnOk result (put_faults self.new ≡ put_faults self.old) }
         ensures never_falls { put_faults self.old ≤ put_faults self.new }
         ensures other_count { fetch_faults self.new ≡ fetch_faults self.old };

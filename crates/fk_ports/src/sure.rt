@@ -1,5 +1,6 @@
 //! A store, a source and a sink that never fail.
-ghost use Rattle.std.specs.Prelude.{◌≡◌, ◌+◌, ◌-◌, ◌^◌, ◌++◌, IsOk, IsOkUnless, None, Ok, OnErr, OnOk, Some, drop, length, min, take};
+ghost use Rattle.std.specs.Prelude.{◌≡◌, ◌+◌, ◌-◌, ◌^◌, ◌++◌, IsOk, IsOkUnless, None, Ok, OnErr};
+ghost use Rattle.std.specs.Prelude.{OnOk, Some, drop, length, min, take};
 
 use crate::faults::{Failed, StoreFault};
 use crate::sink::Sink;
@@ -42,8 +43,10 @@ impl Source for SureSource {
     fn take(&mut self, into: &mut [u8]) -> Result<usize, Failed>
         ensures count { result ≡ Ok (min (length self.old) (length into.old)) }
         ensures left { self.new ≡ drop (min (length self.old) (length into.old)) self.old }
-        ensures moved { take (min (length self.old) (length into.old)) into.new ≡ take (min (length self.old) (length into.old)) self.old }
-        ensures beyond { drop (min (length self.old) (length into.old)) into.new ≡ drop (min (length self.old) (length into.old)) into.old }
+        ensures moved { take (min (length self.old) (length into.old)) into.new
+            ≡ take (min (length self.old) (length into.old)) self.old }
+        ensures beyond { drop (min (length self.old) (length into.old)) into.new
+            ≡ drop (min (length self.old) (length into.old)) into.old }
     {
         Ok(self.unread.move_to(into))
     }

@@ -3,7 +3,8 @@ use Rattle.std.specs.Prelude.{Bool, true, false, List, [], ◌∷◌}
 use Rattle.fk_syntax.specs.declared.program.Mode.{Mode}
 use Rattle.fk_syntax.specs.declared.program.Mode.TheVariants.{Sync, Async, Straight}
 use Rattle.fk_regions.specs.declared.around.Holder.{Holder}
-use Rattle.fk_regions.specs.declared.around.Holder.TheVariants.{Main, Function, Block, Branch, Loop, Start, Fork, Farm, Seq}
+use Rattle.fk_regions.specs.declared.around.Holder.TheVariants.{Main, Function, Block, Branch, Loop}
+use Rattle.fk_regions.specs.declared.around.Holder.TheVariants.{Start, Fork, Farm, Seq}
 use Rattle.fk_regions.specs.declared.around.Region.{Region}
 use Rattle.fk_regions.specs.declared.around.Region.TheVariants.{Synchronous, Asynchronous, Neither}
 use Rattle.fk_regions.specs.declared.around.Loops.{Loops}

@@ -1,5 +1,6 @@
 -- Which rules of regions a program breaks, and which of its tokens stand in synchronous regions.
-use Rattle.std.specs.Prelude.{◌≡◌, ◌⊎◌, ◌↔◌, ℕ, Bool, true, List, Option, Some, IsTrue, length, slice_get}
+use Rattle.std.specs.Prelude.{◌≡◌, ◌⊎◌, ◌↔◌, ℕ, Bool, true, List, Option, Some, IsTrue, length}
+use Rattle.std.specs.Prelude.{slice_get}
 use Rattle.fk_syntax.specs.declared.place.Place.{Place}
 use Rattle.fk_syntax.specs.declared.facts.Note.{Note}
 use Rattle.fk_syntax.specs.declared.facts.Facts.{Facts}
@@ -25,26 +26,31 @@ BreaksRule calls token rule = Misplaced token.around calls token.word rule
 
 -- the sum of the rules: some token of the program breaks the rule at its place
 abbrev pub Broken : ProgramTree → Place → Rule → Type 0
-Broken program place rule = (i : ℕ) × (token : Standing (List Holder)) × (slice_get (tokens program) i ≡ Some token)
+Broken program place rule = (i : ℕ) × (token : Standing (List Holder))
+    × (slice_get (tokens program) i ≡ Some token)
     × (token.spot.place ≡ place) × BreaksRule (Calls program token.spot.at) token rule
 
 -- the token of an index stands in a synchronous region
 abbrev pub IsSynchronous : ProgramTree → ℕ → Type 0
-IsSynchronous program index = (i : ℕ) × (token : Standing (List Holder)) × (slice_get (tokens program) i ≡ Some token)
+IsSynchronous program index = (i : ℕ) × (token : Standing (List Holder))
+    × (slice_get (tokens program) i ≡ Some token)
     × (token.spot.at ≡ index) × (region token.around ≡ Synchronous)
 
 -- a note says whether its token stands in a synchronous region, and all else as before
 abbrev pub SaysRegion : ProgramTree → ℕ → Note → Option Note → Type 0
-SaysRegion program index old new = (sync : Bool) × (new ≡ Some (record old { sync = sync })) × (IsTrue sync ↔ IsSynchronous program index)
+SaysRegion program index old new = (sync : Bool) × (new ≡ Some (record old { sync = sync }))
+    × (IsTrue sync ↔ IsSynchronous program index)
 
 -- the facts of a program that keeps these rules, with its regions
 pub record AreRegions (program : ProgramTree) (old new : Facts) : Type 0 where
   pub kept : (place : Place) (rule : Rule) → ¬ Broken program place rule
   pub kinds : new.kinds ≡ old.kinds
   pub length : length new.notes.items ≡ length old.notes.items
-  pub notes : (index : ℕ) (note : Note) → slice_get old.notes.items index ≡ Some note → SaysRegion program index note (slice_get new.notes.items index)
+  pub notes : (index : ℕ) (note : Note) → slice_get old.notes.items index ≡ Some note
+      → SaysRegion program index note (slice_get new.notes.items index)
 
 -- why a program has no regions: the first rule that it breaks, by place and then by number
 abbrev pub IsRefusal : ProgramTree → CheckFault → Type 0
-IsRefusal program (f.Rule place number) = (rule : Rule) × IsLeast (Broken program) (Some (record { place = place; rule = rule })) × (number ≡ number_of rule)
+IsRefusal program (f.Rule place number) = (rule : Rule) × IsLeast (Broken program)
+    (Some (record { place = place; rule = rule })) × (number ≡ number_of rule)
 IsRefusal program f.Memory = Unit {0}

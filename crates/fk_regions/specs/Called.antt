@@ -34,4 +34,5 @@ callee_meant all (Some m.Undeclared) = None
 
 -- what the token of an index calls by the names that are known
 abbrev pub callee_in : Names → ℕ → Option Callee
-callee_in names token = callee_meant (map declaration_of names.declarations.items) (meaning_in names token)
+callee_in names token =
+    callee_meant (map declaration_of names.declarations.items) (meaning_in names token)

@@ -2,7 +2,8 @@
 use Rattle.std.specs.Prelude.{Bool, true, false}
 use Rattle.fk_syntax.specs.declared.program.Mode.{Mode}
 use Rattle.fk_regions.specs.declared.around.Holder.{Holder}
-use Rattle.fk_regions.specs.declared.around.Holder.TheVariants.{Main, Function, Block, Branch, Loop, Start, Fork, Farm, Seq}
+use Rattle.fk_regions.specs.declared.around.Holder.TheVariants.{Main, Function, Block, Branch, Loop}
+use Rattle.fk_regions.specs.declared.around.Holder.TheVariants.{Start, Fork, Farm, Seq}
 use Rattle.fk_regions.specs.declared.around.Region.{Region}
 use Rattle.fk_regions.specs.declared.around.Region.TheVariants.{Synchronous, Asynchronous, Neither}
 use Rattle.fk_regions.specs.declared.around.Loops.TheVariants.{Outside, Inside}
@@ -13,13 +14,21 @@ use Rattle.fk_regions.specs.Around.{region_by, beyond, is_straight_mode}
 
 -- nothing stands round it
 abbrev pub outside : Around
-outside = record { region = Neither; loops = Outside; straight = false; in_main = false; in_body = false }
+outside =
+    record { region = Neither; loops = Outside; straight = false; in_main = false; in_body = false }
 
 abbrev pub function_around : Mode → Bool → Around
-function_around mode in_main = record { region = region_by mode; loops = Outside; straight = is_straight_mode mode; in_main = in_main; in_body = false }
+function_around mode in_main = record {
+  region = region_by mode;
+  loops = Outside;
+  straight = is_straight_mode mode;
+  in_main = in_main;
+  in_body = false;
+}
 
 abbrev pub body_around : Region → Around → Around
-body_around region around = record around { region = region; loops = beyond around.loops; in_main = false; in_body = true }
+body_around region around =
+    record around { region = region; loops = beyond around.loops; in_main = false; in_body = true }
 
 -- what stands round the parts of a holder, by what stands round it
 abbrev pub within : Holder → Around → Around

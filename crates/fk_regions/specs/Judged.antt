@@ -83,9 +83,11 @@ is_deciding (w.Name spelling) callee = is_not_straight callee
 is_deciding _ callee = false
 
 abbrev pub straight_rule : Around → Word → Option Callee → Option Rule
-straight_rule around word callee = where_true (around.straight && is_deciding word callee) r.NotStraight
+straight_rule around word callee =
+    where_true (around.straight && is_deciding word callee) r.NotStraight
 
 -- what one token breaks
 abbrev pub Breaks : Option Callee → Standing Around → Place → Rule → Type 0
-Breaks callee token at rule = ((at ≡ token.spot.place) × (misplaced_rule token.around token.word callee ≡ Some rule))
+Breaks callee token at rule =
+    ((at ≡ token.spot.place) × (misplaced_rule token.around token.word callee ≡ Some rule))
     ⊎ ((at ≡ token.spot.place) × (straight_rule token.around token.word callee ≡ Some rule))

@@ -22,9 +22,12 @@ pub data Misplaced (around : List Holder) (calls : Callee → Type 0) : Word →
   seq_outside : region around ≢ Synchronous → Misplaced around calls w.Seq r.SeqOutside
   fork_outside : region around ≢ Synchronous → Misplaced around calls w.Fork r.ForkOutside
   barrier_inside : region around ≡ Synchronous → Misplaced around calls w.Barrier r.BarrierInside
-  sync_called_outside : (spelling : Spelling) → calls (c.Function Sync) → region around ≢ Synchronous → Misplaced around calls (w.Name spelling) r.SyncCalledOutside
-  async_called_inside : (spelling : Spelling) → calls (c.Function Async) → region around ≡ Synchronous → Misplaced around calls (w.Name spelling) r.AsyncCalledInside
-  shalloc_outside : calls c.Predeclared → region around ≢ Synchronous → Misplaced around calls (w.Name Shalloc) r.ShallocOutside
+  sync_called_outside : (spelling : Spelling) → calls (c.Function Sync)
+      → region around ≢ Synchronous → Misplaced around calls (w.Name spelling) r.SyncCalledOutside
+  async_called_inside : (spelling : Spelling) → calls (c.Function Async)
+      → region around ≡ Synchronous → Misplaced around calls (w.Name spelling) r.AsyncCalledInside
+  shalloc_outside : calls c.Predeclared → region around ≢ Synchronous
+      → Misplaced around calls (w.Name Shalloc) r.ShallocOutside
   break_outside : loops around ≡ Outside → Misplaced around calls w.Break r.NoLoop
   continue_outside : loops around ≡ Outside → Misplaced around calls w.Continue r.NoLoop
   return_inside : is_in_body around ≡ true → Misplaced around calls w.Return r.ReturnFromBody
@@ -38,4 +41,5 @@ pub data Decides (calls : Callee → Type 0) : Word → Type 0 where
   loop_decides : Decides calls w.Loop
   sign_decides : Decides calls w.Branching
   barrier_waits : Decides calls w.Barrier
-  call_decides : (spelling : Spelling) (mode : Mode) → calls (c.Function mode) → mode ≢ Straight → Decides calls (w.Name spelling)
+  call_decides : (spelling : Spelling) (mode : Mode) → calls (c.Function mode) → mode ≢ Straight
+      → Decides calls (w.Name spelling)

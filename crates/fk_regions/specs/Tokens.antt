@@ -1,5 +1,6 @@
 -- The tokens of a program, and what stands round each of them.
-use Rattle.std.specs.Prelude.{ℕ, List, [], ◌∷◌, ◌++◌, Option, Some, None, codes, nat_eq, if◌then◌else◌}
+use Rattle.std.specs.Prelude.{ℕ, List, [], ◌∷◌, ◌++◌, Option, Some, None, codes, nat_eq}
+use Rattle.std.specs.Prelude.{if◌then◌else◌}
 use Rattle.std.specs.Cmp.Lexicographic.{pointwise}
 use Rattle.fk_syntax.specs.declared.place.Spot.{Spot}
 use Rattle.fk_syntax.specs.declared.sign.Sign.{Sign}
@@ -7,7 +8,8 @@ use Rattle.fk_syntax.specs.declared.sign.Sign.TheVariants.{AndAnd, OrOr}
 use Rattle.fk_syntax.specs.Tree as t
 use Rattle.fk_syntax.specs.Tree.{Named, Tree, Links, Trees, Suffixes}
 use Rattle.fk_syntax.specs.Program as p
-use Rattle.fk_syntax.specs.Program.{DeclaredTree, Statement, Statements, FunctionTree, ItemTree, ProgramTree}
+use Rattle.fk_syntax.specs.Program.{DeclaredTree, Statement, Statements, FunctionTree, ItemTree}
+use Rattle.fk_syntax.specs.Program.{ProgramTree}
 use Rattle.fk_regions.specs.declared.around.Holder.{Holder}
 use Rattle.fk_regions.specs.declared.around.Holder.TheVariants as h
 use Rattle.fk_regions.specs.declared.token.Word.{Word}
@@ -46,19 +48,24 @@ abbrev mutual
   tree_tokens around (t.Number spot value unsigned) = other around spot ∷ []
   tree_tokens around (t.Puts spot text) = other around spot ∷ []
   tree_tokens around (t.Sizeof spot type) = other around spot ∷ []
-  tree_tokens around (t.Variable name) = stands around (spot_of name) (w.Name (spelling_of name.bytes)) ∷ []
+  tree_tokens around (t.Variable name) =
+      stands around (spot_of name) (w.Name (spelling_of name.bytes)) ∷ []
   tree_tokens around (t.GroupNumber spot) = other around spot ∷ []
   tree_tokens around (t.GroupRank spot) = other around spot ∷ []
   tree_tokens around (t.Prefix spot sign operand) = other around spot ∷ tree_tokens around operand
   tree_tokens around (t.Cast spot type operand) = other around spot ∷ tree_tokens around operand
   tree_tokens around (t.Chain first links) = tree_tokens around first ++ links_tokens around links
-  tree_tokens around (t.Postfix whole suffixes) = tree_tokens around whole ++ suffixes_tokens around suffixes
-  tree_tokens around (t.Assign spot sign target value) = other around spot ∷ tree_tokens around target ++ tree_tokens around value
-  tree_tokens around (t.Choose spot condition first second) = stands around spot w.Branching ∷ tree_tokens around condition ++ tree_tokens around first ++ tree_tokens around second
+  tree_tokens around (t.Postfix whole suffixes) =
+      tree_tokens around whole ++ suffixes_tokens around suffixes
+  tree_tokens around (t.Assign spot sign target value) =
+      other around spot ∷ tree_tokens around target ++ tree_tokens around value
+  tree_tokens around (t.Choose spot condition first second) = stands around spot w.Branching
+      ∷ tree_tokens around condition ++ tree_tokens around first ++ tree_tokens around second
 
   pub links_tokens : {R : Type 0} → R → Links → List (Standing R)
   links_tokens around t.no_links = []
-  links_tokens around (t.link spot sign right others) = stands around spot (word_of_sign sign) ∷ tree_tokens around right ++ links_tokens around others
+  links_tokens around (t.link spot sign right others) = stands around spot (word_of_sign sign)
+      ∷ tree_tokens around right ++ links_tokens around others
 
   pub trees_tokens : {R : Type 0} → R → Trees → List (Standing R)
   trees_tokens around t.no_trees = []
@@ -66,10 +73,14 @@ abbrev mutual
 
   pub suffixes_tokens : {R : Type 0} → R → Suffixes → List (Standing R)
   suffixes_tokens around t.no_suffixes = []
-  suffixes_tokens around (t.index spot by others) = other around spot ∷ tree_tokens around by ++ suffixes_tokens around others
-  suffixes_tokens around (t.call spot arguments others) = other around spot ∷ trees_tokens around arguments ++ suffixes_tokens around others
-  suffixes_tokens around (t.dot spot member others) = other around spot ∷ other around (spot_of member) ∷ suffixes_tokens around others
-  suffixes_tokens around (t.arrow spot member others) = other around spot ∷ other around (spot_of member) ∷ suffixes_tokens around others
+  suffixes_tokens around (t.index spot by others) =
+      other around spot ∷ tree_tokens around by ++ suffixes_tokens around others
+  suffixes_tokens around (t.call spot arguments others) =
+      other around spot ∷ trees_tokens around arguments ++ suffixes_tokens around others
+  suffixes_tokens around (t.dot spot member others) =
+      other around spot ∷ other around (spot_of member) ∷ suffixes_tokens around others
+  suffixes_tokens around (t.arrow spot member others) =
+      other around spot ∷ other around (spot_of member) ∷ suffixes_tokens around others
   suffixes_tokens around (t.up spot others) = other around spot ∷ suffixes_tokens around others
   suffixes_tokens around (t.down spot others) = other around spot ∷ suffixes_tokens around others
 
@@ -78,7 +89,8 @@ optional_tokens around None = []
 optional_tokens around (Some tree) = tree_tokens around tree
 
 abbrev pub variable_tokens : {R : Type 0} → R → DeclaredTree → List (Standing R)
-variable_tokens around variable = other around (spot_of variable.name) ∷ optional_tokens around variable.first
+variable_tokens around variable =
+    other around (spot_of variable.name) ∷ optional_tokens around variable.first
 
 abbrev pub variables_tokens : {R : Type 0} → R → List DeclaredTree → List (Standing R)
 variables_tokens around [] = []
@@ -90,15 +102,23 @@ own_tokens around p.Empty = []
 own_tokens around (p.Expression value) = tree_tokens around value
 own_tokens around (p.Block _) = []
 own_tokens around (p.Declare variables) = variables_tokens around variables
-own_tokens around (p.If spot condition body) = stands around spot w.If ∷ tree_tokens around condition
-own_tokens around (p.IfElse spot condition body otherwise) = stands around spot w.If ∷ tree_tokens around condition
-own_tokens around (p.While spot condition body) = stands around spot w.Loop ∷ tree_tokens around condition
-own_tokens around (p.DoWhile spot body condition) = stands around spot w.Loop ∷ tree_tokens around condition
-own_tokens around (p.For spot before condition after body) = stands around spot w.Loop ∷ optional_tokens around before ++ optional_tokens around condition ++ optional_tokens around after
-own_tokens around (p.Start spot count body) = stands around spot w.Start ∷ optional_tokens around count
+own_tokens around (p.If spot condition body) =
+    stands around spot w.If ∷ tree_tokens around condition
+own_tokens around (p.IfElse spot condition body otherwise) =
+    stands around spot w.If ∷ tree_tokens around condition
+own_tokens around (p.While spot condition body) =
+    stands around spot w.Loop ∷ tree_tokens around condition
+own_tokens around (p.DoWhile spot body condition) =
+    stands around spot w.Loop ∷ tree_tokens around condition
+own_tokens around (p.For spot before condition after body) =
+    stands around spot w.Loop ∷ optional_tokens around before ++ optional_tokens around condition
+    ++ optional_tokens around after
+own_tokens around (p.Start spot count body) =
+    stands around spot w.Start ∷ optional_tokens around count
 own_tokens around (p.Farm spot body) = stands around spot w.Farm ∷ []
 own_tokens around (p.Seq spot body) = stands around spot w.Seq ∷ []
-own_tokens around (p.Fork spot parts part rank body) = stands around spot w.Fork ∷ tree_tokens around parts ++ tree_tokens around part ++ optional_tokens around rank
+own_tokens around (p.Fork spot parts part rank body) = stands around spot w.Fork
+    ∷ tree_tokens around parts ++ tree_tokens around part ++ optional_tokens around rank
 own_tokens around (p.Barrier spot) = stands around spot w.Barrier ∷ []
 own_tokens around (p.Break spot) = stands around spot w.Break ∷ []
 own_tokens around (p.Continue spot) = stands around spot w.Continue ∷ []
@@ -110,17 +130,29 @@ abbrev mutual
   pub statement_tokens : {R : Type 0} → (Holder → R → R) → R → Statement → List (Standing R)
   statement_tokens within around p.Empty = []
   statement_tokens within around (p.Expression value) = own_tokens around (p.Expression value)
-  statement_tokens within around (p.Block statements) = statements_tokens within (within h.Block around) statements
+  statement_tokens within around (p.Block statements) =
+      statements_tokens within (within h.Block around) statements
   statement_tokens within around (p.Declare variables) = own_tokens around (p.Declare variables)
-  statement_tokens within around (p.If spot condition body) = own_tokens around (p.If spot condition body) ++ statement_tokens within (within h.Branch around) body
-  statement_tokens within around (p.IfElse spot condition body otherwise) = own_tokens around (p.IfElse spot condition body otherwise) ++ statement_tokens within (within h.Branch around) body ++ statement_tokens within (within h.Branch around) otherwise
-  statement_tokens within around (p.While spot condition body) = own_tokens around (p.While spot condition body) ++ statement_tokens within (within h.Loop around) body
-  statement_tokens within around (p.DoWhile spot body condition) = own_tokens around (p.DoWhile spot body condition) ++ statement_tokens within (within h.Loop around) body
-  statement_tokens within around (p.For spot before condition after body) = own_tokens around (p.For spot before condition after body) ++ statement_tokens within (within h.Loop around) body
-  statement_tokens within around (p.Start spot count body) = own_tokens around (p.Start spot count body) ++ statement_tokens within (within h.Start around) body
-  statement_tokens within around (p.Farm spot body) = own_tokens around (p.Farm spot body) ++ statement_tokens within (within h.Farm around) body
-  statement_tokens within around (p.Seq spot body) = own_tokens around (p.Seq spot body) ++ statement_tokens within (within h.Seq around) body
-  statement_tokens within around (p.Fork spot parts part rank body) = own_tokens around (p.Fork spot parts part rank body) ++ statement_tokens within (within h.Fork around) body
+  statement_tokens within around (p.If spot condition body) = own_tokens around
+      (p.If spot condition body) ++ statement_tokens within (within h.Branch around) body
+  statement_tokens within around (p.IfElse spot condition body otherwise) =
+      own_tokens around (p.IfElse spot condition body otherwise) ++ statement_tokens within
+      (within h.Branch around) body ++ statement_tokens within (within h.Branch around) otherwise
+  statement_tokens within around (p.While spot condition body) = own_tokens around
+      (p.While spot condition body) ++ statement_tokens within (within h.Loop around) body
+  statement_tokens within around (p.DoWhile spot body condition) = own_tokens around
+      (p.DoWhile spot body condition) ++ statement_tokens within (within h.Loop around) body
+  statement_tokens within around (p.For spot before condition after body) =
+      own_tokens around (p.For spot before condition after body)
+      ++ statement_tokens within (within h.Loop around) body
+  statement_tokens within around (p.Start spot count body) = own_tokens around
+      (p.Start spot count body) ++ statement_tokens within (within h.Start around) body
+  statement_tokens within around (p.Farm spot body) =
+      own_tokens around (p.Farm spot body) ++ statement_tokens within (within h.Farm around) body
+  statement_tokens within around (p.Seq spot body) =
+      own_tokens around (p.Seq spot body) ++ statement_tokens within (within h.Seq around) body
+  statement_tokens within around (p.Fork spot parts part rank body) = own_tokens around
+      (p.Fork spot parts part rank body) ++ statement_tokens within (within h.Fork around) body
   statement_tokens within around (p.Barrier spot) = own_tokens around (p.Barrier spot)
   statement_tokens within around (p.Break spot) = own_tokens around (p.Break spot)
   statement_tokens within around (p.Continue spot) = own_tokens around (p.Continue spot)
@@ -128,11 +160,13 @@ abbrev mutual
 
   pub statements_tokens : {R : Type 0} → (Holder → R → R) → R → Statements → List (Standing R)
   statements_tokens within around p.no_statements = []
-  statements_tokens within around (p.statement first others) = statement_tokens within around first ++ statements_tokens within around others
+  statements_tokens within around (p.statement first others) =
+      statement_tokens within around first ++ statements_tokens within around others
 
 -- what the outermost block of a function is
 abbrev pub holder_of : FunctionTree → Holder
-holder_of function = if pointwise nat_eq function.name.bytes (codes "main") then h.Main function.mode else h.Function function.mode
+holder_of function = if pointwise nat_eq function.name.bytes (codes "main")
+    then h.Main function.mode else h.Function function.mode
 
 abbrev pub body_tokens : {R : Type 0} → (Holder → R → R) → R → Option Statements → List (Standing R)
 body_tokens within around None = []
@@ -142,7 +176,8 @@ body_tokens within around (Some body) = statements_tokens within around body
 abbrev pub item_tokens : {R : Type 0} → (Holder → R → R) → R → ItemTree → List (Standing R)
 item_tokens within around (p.StructItem name members) = []
 item_tokens within around (p.VariablesItem variables) = variables_tokens around variables
-item_tokens within around (p.FunctionItem function) = body_tokens within (within (holder_of function) around) function.body
+item_tokens within around (p.FunctionItem function) =
+    body_tokens within (within (holder_of function) around) function.body
 
 abbrev pub items_tokens : {R : Type 0} → (Holder → R → R) → R → List ItemTree → List (Standing R)
 items_tokens within around [] = []

@@ -8,7 +8,11 @@ ghost use Rattle.fk_syntax.specs.Program.{statements_of};
 ghost use Rattle.fk_syntax.specs.ProgramView.{declared_of, statement_of, function_of, item_of};
 ghost use Rattle.fk_regions.specs.declared.token.Word.TheVariants as w;
 ghost use Rattle.fk_regions.specs.TokensView.{seen_in};
-ghost use Rattle.fk_regions.specs.Tokens.{spot_of, stands, other, spelling_of, tree_tokens, links_tokens, trees_tokens, suffixes_tokens, optional_tokens, variable_tokens, variables_tokens, own_tokens, statement_tokens, statements_tokens, holder_of, body_tokens, item_tokens, items_tokens};
+ghost use Rattle.fk_regions.specs.Tokens.{spot_of, stands, other, spelling_of, tree_tokens};
+ghost use Rattle.fk_regions.specs.Tokens.{links_tokens, trees_tokens, suffixes_tokens};
+ghost use Rattle.fk_regions.specs.Tokens.{optional_tokens, variable_tokens, variables_tokens};
+ghost use Rattle.fk_regions.specs.Tokens.{own_tokens, statement_tokens, statements_tokens};
+ghost use Rattle.fk_regions.specs.Tokens.{holder_of, body_tokens, item_tokens, items_tokens};
 ghost use Rattle.fk_regions.specs.Collected.{within, outside, seen};
 
 use crate::around::{Around, Holder};
@@ -26,7 +30,8 @@ impl Tokens {
     /// Those of a program. Fails only for want of memory.
     pub(crate) fn of(alloc: Global, items: &[Item]) -> Result<Vec<Token>, AllocError>
         ensures { IfOk result
-            (λ tokens. map seen tokens.items ≡ items_tokens within outside (map item_of items.now)) }
+            (λ tokens. map seen tokens.items
+            ≡ items_tokens within outside (map item_of items.now)) }
     {
         let mut tokens = Tokens {
             list: Vec::new(alloc),

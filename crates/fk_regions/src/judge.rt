@@ -3,7 +3,8 @@
 ghost use Rattle.std.specs.Prelude.{◌≡◌, Some};
 ghost use Rattle.fk_check_rules.specs.Least.{IsLeast};
 ghost use Rattle.fk_regions.specs.Collected.{seen};
-ghost use Rattle.fk_regions.specs.Judged.{unless_synchronous, where_synchronous, called_rule, misplaced_rule, is_deciding, straight_rule, Breaks};
+ghost use Rattle.fk_regions.specs.Judged.{unless_synchronous, where_synchronous, called_rule};
+ghost use Rattle.fk_regions.specs.Judged.{misplaced_rule, is_deciding, straight_rule, Breaks};
 
 use crate::around::{Around, Loops, Region};
 use crate::callee::Callee;

@@ -1,6 +1,7 @@
 -- Which rules of sharing a program breaks, which of its expressions are shared, and where a group
 -- splits.
-use Rattle.std.specs.Prelude.{◌≡◌, ◌≢◌, ◌↔◌, ℕ, Bool, true, false, List, Option, Some, IsTrue, length, slice_get}
+use Rattle.std.specs.Prelude.{◌≡◌, ◌≢◌, ◌↔◌, ℕ, Bool, true, false, List, Option, Some, IsTrue}
+use Rattle.std.specs.Prelude.{length, slice_get}
 use Rattle.fk_syntax.specs.declared.place.Place.{Place}
 use Rattle.fk_syntax.specs.declared.sign.Sign.TheVariants.{Ampersand}
 use Rattle.fk_syntax.specs.declared.program.Mode.{Mode}
@@ -25,18 +26,22 @@ use Rattle.fk_sharing.specs.declared.token.Form.TheVariants as f
 use Rattle.fk_sharing.specs.declared.token.Word.{Word}
 use Rattle.fk_sharing.specs.declared.token.Word.TheVariants as w
 use Rattle.fk_sharing.specs.Tokens.{Standing, tokens}
-use Rattle.fk_sharing.specs.Around.{region, splits, is_in_function, is_in_split, is_split_to_loop, is_split_in_loop}
+use Rattle.fk_sharing.specs.Around.{region, splits, is_in_function, is_in_split, is_split_to_loop}
+use Rattle.fk_sharing.specs.Around.{is_split_in_loop}
 
 -- a token breaks a rule, by what it is and what stands round it
 pub data BreaksRule (around : List Holder) : Word → Rule → Type 0 where
   return_leaves : is_in_split around ≡ true → BreaksRule around w.Return r.ReturnFromSplit
   break_leaves : is_split_to_loop around ≡ true → BreaksRule around w.Break r.BreakFromSplit
-  continue_leaves : is_split_in_loop around ≡ true → BreaksRule around w.Continue r.ContinueFromSplit
+  continue_leaves : is_split_in_loop around ≡ true
+      → BreaksRule around w.Continue r.ContinueFromSplit
   private_address : BreaksRule around (w.Prefix Ampersand (Some PrivateVariable)) r.PrivateAddress
   private_array : BreaksRule around (w.Variable false f.Array) r.PrivateArray
   private_struct : BreaksRule around (w.Variable false f.Struct) r.PrivateStruct
-  shared_outside : (form : Form) → is_in_function around ≡ true → region around ≢ Synchronous → BreaksRule around (w.Variable true form) r.SharedOutside
-  shared_parameter : (mode : Mode) → mode ≢ Sync → BreaksRule around (w.Parameter true mode) r.SharedParameter
+  shared_outside : (form : Form) → is_in_function around ≡ true → region around ≢ Synchronous
+      → BreaksRule around (w.Variable true form) r.SharedOutside
+  shared_parameter : (mode : Mode) → mode ≢ Sync
+      → BreaksRule around (w.Parameter true mode) r.SharedParameter
 
 -- a group splits at a token: it decides what is run next, by a private condition, in a synchronous
 -- region
@@ -76,9 +81,11 @@ pub record AreShared (program : ProgramTree) (old new : Facts) : Type 0 where
   pub kept : (place : Place) (rule : Rule) → ¬ Broken program place rule
   pub kinds : new.kinds ≡ old.kinds
   pub length : length new.notes.items ≡ length old.notes.items
-  pub notes : (index : ℕ) (note : Note) → slice_get old.notes.items index ≡ Some note → SaysSharing program index note (slice_get new.notes.items index)
+  pub notes : (index : ℕ) (note : Note) → slice_get old.notes.items index ≡ Some note
+      → SaysSharing program index note (slice_get new.notes.items index)
 
 -- why a program has none: the first rule that it breaks, by place and then by number
 abbrev pub IsRefusal : ProgramTree → CheckFault → Type 0
-IsRefusal program (c.Rule place number) = (rule : Rule) × IsLeast (Broken program) (Some (record { place = place; rule = rule })) × (number ≡ number_of rule)
+IsRefusal program (c.Rule place number) = (rule : Rule) × IsLeast (Broken program)
+    (Some (record { place = place; rule = rule })) × (number ≡ number_of rule)
 IsRefusal program c.Memory = Unit {0}

@@ -10,7 +10,13 @@ use Rattle.fk_sharing.specs.Tokens.{Standing}
 
 -- nothing stands round it
 abbrev pub outside : Around
-outside = record { region = Neither; in_function = false; in_split = false; break_leaves = false; continue_leaves = false }
+outside = record {
+  region = Neither;
+  in_function = false;
+  in_split = false;
+  break_leaves = false;
+  continue_leaves = false;
+}
 
 -- what stands round the parts of a holder, by what stands round it
 abbrev pub within : Holder → Around → Around
@@ -28,4 +34,5 @@ within (Loop shared) around = record around {
 
 -- the tokens that the code keeps
 abbrev pub seen : Token → Standing Around
-seen token = record { around = token.around; spot = token.spot; shared = token.shared; word = token.word }
+seen token =
+    record { around = token.around; spot = token.spot; shared = token.shared; word = token.word }

@@ -51,7 +51,8 @@ parameter_rule true Straight = Some r.SharedParameter
 
 abbrev pub broken_rule : Around → Word → Option Rule
 broken_rule around (w.Decides shared) = None
-broken_rule around (w.Prefix sign thing) = where_true (is_address sign && is_private_variable thing) r.PrivateAddress
+broken_rule around (w.Prefix sign thing) =
+    where_true (is_address sign && is_private_variable thing) r.PrivateAddress
 broken_rule around w.Break = where_true around.break_leaves r.BreakFromSplit
 broken_rule around w.Continue = where_true around.continue_leaves r.ContinueFromSplit
 broken_rule around w.Return = where_true around.in_split r.ReturnFromSplit

@@ -6,4 +6,5 @@ use Rattle.fk_sharing.specs.Broken.{SplitsAt}
 
 -- a group splits only at a token that stands in a synchronous region
 abbrev pub SplitsInLockstep : Type 0
-SplitsInLockstep = (program : ProgramTree) (index : ℕ) → SplitsAt program index → IsSynchronous program index
+SplitsInLockstep = (program : ProgramTree) (index : ℕ) → SplitsAt program index
+    → IsSynchronous program index

@@ -9,7 +9,8 @@ abbrev pub cleared : Note → Note
 cleared note = record note { shared = false; splits = false }
 
 abbrev pub joined : Note → Bool → Bool → Note
-joined note shared splits = record note { shared = note.shared || shared; splits = note.splits || splits }
+joined note shared splits =
+    record note { shared = note.shared || shared; splits = note.splits || splits }
 
 -- the note of an index is marked, where there is one
 unfoldable pub joined_at : List Note → ℕ → Bool → Bool → List Note
@@ -18,4 +19,5 @@ joined_at (note ∷ notes) zero shared splits = joined note shared splits ∷ no
 joined_at (note ∷ notes) (suc at) shared splits = note ∷ joined_at notes at shared splits
 
 abbrev pub after : List Note → Standing Around → List Note
-after notes token = joined_at notes token.spot.at token.shared (is_splitting token.around.region token.word)
+after notes token =
+    joined_at notes token.spot.at token.shared (is_splitting token.around.region token.word)

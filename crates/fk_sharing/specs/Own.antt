@@ -4,15 +4,21 @@ use Rattle.fk_syntax.specs.Program as p
 use Rattle.fk_syntax.specs.Program.{Statement}
 use Rattle.fk_sharing_class.specs.declared.thing.Thing.{Thing}
 use Rattle.fk_sharing_class.specs.Class.{is_shared}
-use Rattle.fk_sharing.specs.Tokens.{Standing, optional_tokens, is_condition_shared, condition_tokens, head_tokens, parts_tokens, simple_tokens}
+use Rattle.fk_sharing.specs.Tokens.{Standing, optional_tokens, is_condition_shared}
+use Rattle.fk_sharing.specs.Tokens.{condition_tokens, head_tokens, parts_tokens, simple_tokens}
 
 -- those of what decides in it whether what it holds is run
 abbrev pub decision_tokens : {R : Type 0} → (ℕ → Option Thing) → R → Statement → List (Standing R)
-decision_tokens thing around (p.If spot condition body) = condition_tokens thing around spot condition
-decision_tokens thing around (p.IfElse spot condition body otherwise) = condition_tokens thing around spot condition
-decision_tokens thing around (p.While spot condition body) = condition_tokens thing around spot condition
-decision_tokens thing around (p.DoWhile spot body condition) = condition_tokens thing around spot condition
-decision_tokens thing around (p.For spot before condition after body) = head_tokens thing around spot before condition after
+decision_tokens thing around (p.If spot condition body) =
+    condition_tokens thing around spot condition
+decision_tokens thing around (p.IfElse spot condition body otherwise) =
+    condition_tokens thing around spot condition
+decision_tokens thing around (p.While spot condition body) =
+    condition_tokens thing around spot condition
+decision_tokens thing around (p.DoWhile spot body condition) =
+    condition_tokens thing around spot condition
+decision_tokens thing around (p.For spot before condition after body) =
+    head_tokens thing around spot before condition after
 decision_tokens thing around _ = []
 
 -- and whether that is shared. Where nothing decides it is
@@ -21,11 +27,13 @@ is_decision_shared thing (p.If spot condition body) = is_shared thing condition
 is_decision_shared thing (p.IfElse spot condition body otherwise) = is_shared thing condition
 is_decision_shared thing (p.While spot condition body) = is_shared thing condition
 is_decision_shared thing (p.DoWhile spot body condition) = is_shared thing condition
-is_decision_shared thing (p.For spot before condition after body) = is_condition_shared thing condition
+is_decision_shared thing (p.For spot before condition after body) =
+    is_condition_shared thing condition
 is_decision_shared thing _ = true
 
 -- those of a statement in which nothing decides
 abbrev pub own_tokens : {R : Type 0} → (ℕ → Option Thing) → R → Statement → List (Standing R)
 own_tokens thing around (p.Start spot count body) = optional_tokens thing around count
-own_tokens thing around (p.Fork spot parts part rank body) = parts_tokens thing around parts part rank
+own_tokens thing around (p.Fork spot parts part rank body) =
+    parts_tokens thing around parts part rank
 own_tokens thing around statement = simple_tokens thing around statement

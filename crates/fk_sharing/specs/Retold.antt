@@ -3,7 +3,8 @@ use Rattle.std.specs.Prelude.{List}
 use Rattle.fk_sharing.specs.declared.around.Holder.{Holder}
 use Rattle.fk_sharing.specs.declared.around.Around.{Around}
 use Rattle.fk_sharing.specs.Tokens.{Standing}
-use Rattle.fk_sharing.specs.Around.{region, is_in_function, is_in_split, is_split_to_loop, is_split_in_loop}
+use Rattle.fk_sharing.specs.Around.{region, is_in_function, is_in_split, is_split_to_loop}
+use Rattle.fk_sharing.specs.Around.{is_split_in_loop}
 
 abbrev pub around_of : List Holder → Around
 around_of holders = record {
@@ -15,4 +16,9 @@ around_of holders = record {
 }
 
 abbrev pub retold : Standing (List Holder) → Standing Around
-retold token = record { around = around_of token.around; spot = token.spot; shared = token.shared; word = token.word }
+retold token = record {
+  around = around_of token.around;
+  spot = token.spot;
+  shared = token.shared;
+  word = token.word;
+}

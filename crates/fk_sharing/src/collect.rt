@@ -8,11 +8,18 @@ ghost use Rattle.fk_syntax.specs.View.{tree_of, link_of, suffix_of, named};
 ghost use Rattle.fk_syntax.specs.Program.{statements_of};
 ghost use Rattle.fk_syntax.specs.ProgramView.{declared_of, statement_of, function_of, item_of};
 ghost use Rattle.fk_sharing_class.specs.Things.{thing_in};
-ghost use Rattle.fk_sharing_class.specs.Class.{is_shared, is_joined_shared, is_chain_shared, is_postfix_shared};
+ghost use Rattle.fk_sharing_class.specs.Class.{is_shared, is_joined_shared, is_chain_shared};
+ghost use Rattle.fk_sharing_class.specs.Class.{is_postfix_shared};
 ghost use Rattle.fk_regions.specs.Tokens.{spot_of};
 ghost use Rattle.fk_sharing.specs.declared.token.Word.TheVariants as w;
 ghost use Rattle.fk_sharing.specs.TokensView.{seen_in};
-ghost use Rattle.fk_sharing.specs.Tokens.{word_of_sign, stands, plain, bare, tree_tokens, links_tokens, trees_tokens, suffixes_tokens, optional_tokens, is_condition_shared, variable_tokens, variables_tokens, condition_tokens, head_tokens, parts_tokens, statement_tokens, statements_tokens, parameters_tokens, body_tokens, function_tokens, item_tokens, items_tokens};
+ghost use Rattle.fk_sharing.specs.Tokens.{word_of_sign, stands, plain, bare, tree_tokens};
+ghost use Rattle.fk_sharing.specs.Tokens.{links_tokens, trees_tokens, suffixes_tokens};
+ghost use Rattle.fk_sharing.specs.Tokens.{optional_tokens, is_condition_shared, variable_tokens};
+ghost use Rattle.fk_sharing.specs.Tokens.{variables_tokens, condition_tokens, head_tokens};
+ghost use Rattle.fk_sharing.specs.Tokens.{parts_tokens, statement_tokens, statements_tokens};
+ghost use Rattle.fk_sharing.specs.Tokens.{parameters_tokens, body_tokens, function_tokens};
+ghost use Rattle.fk_sharing.specs.Tokens.{item_tokens, items_tokens};
 ghost use Rattle.fk_sharing.specs.Own.{decision_tokens, is_decision_shared, own_tokens};
 ghost use Rattle.fk_sharing.specs.Collected.{within, outside, seen};
 
@@ -435,8 +442,8 @@ impl Tokens {
         Ok(())
     }
 
-    // What decides in a statement whether what it holds is run; and whether that is shared, as it is
-    // where nothing decides.
+    // What decides in a statement whether what it holds is run; and whether that is shared, as it
+    // is where nothing decides.
     fn add_decision(
         statement: &Stmt,
         names: &Names,

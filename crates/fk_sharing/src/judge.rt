@@ -4,7 +4,8 @@ ghost use Rattle.std.specs.Prelude.{◌≡◌, Some};
 ghost use Rattle.fk_check_rules.specs.Least.{IsLeast};
 ghost use Rattle.fk_sharing.specs.Broken.{is_splitting};
 ghost use Rattle.fk_sharing.specs.Collected.{seen};
-ghost use Rattle.fk_sharing.specs.Judged.{private_rule, shared_rule, variable_rule, parameter_rule, broken_rule, is_private_variable, is_address, Breaks};
+ghost use Rattle.fk_sharing.specs.Judged.{private_rule, shared_rule, variable_rule, parameter_rule};
+ghost use Rattle.fk_sharing.specs.Judged.{broken_rule, is_private_variable, is_address, Breaks};
 
 use crate::around::{Around, splits};
 use crate::token::{Form, Token, Word};

@@ -1,12 +1,14 @@
 -- Which expressions are shared, by what the tokens of their names are.
-use Rattle.std.specs.Prelude.{ℕ, Bool, true, false, ◌&&◌, ◌||◌, List, codes, nat_eq, Option, Some, None}
+use Rattle.std.specs.Prelude.{ℕ, Bool, true, false, ◌&&◌, ◌||◌, List, codes, nat_eq, Option, Some}
+use Rattle.std.specs.Prelude.{None}
 use Rattle.std.specs.Cmp.Lexicographic.{pointwise}
 use Rattle.fk_syntax.specs.declared.sign.Sign.{Sign}
 use Rattle.fk_syntax.specs.declared.sign.Sign.TheVariants.{Assign, Comma}
 use Rattle.fk_syntax.specs.Tree as t
 use Rattle.fk_syntax.specs.Tree.{Tree, Links, Suffixes}
 use Rattle.fk_sharing_class.specs.declared.thing.Thing.{Thing}
-use Rattle.fk_sharing_class.specs.declared.thing.Thing.TheVariants.{SharedVariable, PrivateVariable, Function, Predeclared}
+use Rattle.fk_sharing_class.specs.declared.thing.Thing.TheVariants.{SharedVariable, PrivateVariable}
+use Rattle.fk_sharing_class.specs.declared.thing.Thing.TheVariants.{Function, Predeclared}
 
 -- of the names that are declared before each text, those that are values and the same for all
 -- processors
@@ -16,7 +18,8 @@ is_common bytes = pointwise nat_eq bytes (codes "__STARTED_PROCS__")
 
 -- and those whose calls give a group one value
 abbrev pub is_of_group : List ℕ → Bool
-is_of_group bytes = pointwise nat_eq bytes (codes "groupsize") || pointwise nat_eq bytes (codes "shalloc")
+is_of_group bytes =
+    pointwise nat_eq bytes (codes "groupsize") || pointwise nat_eq bytes (codes "shalloc")
 
 -- a name is shared
 abbrev pub is_name_shared : Option Thing → List ℕ → Bool
@@ -62,22 +65,32 @@ abbrev mutual
   is_shared thing (t.Prefix spot sign operand) = is_shared thing operand
   is_shared thing (t.Cast spot type operand) = is_shared thing operand
   is_shared thing (t.Chain first links) = is_chain_shared thing (is_shared thing first) links
-  is_shared thing (t.Postfix whole suffixes) = is_postfix_shared thing (is_shared thing whole) (is_call_shared thing whole) suffixes
-  is_shared thing (t.Assign spot sign target value) = is_assigned_shared sign (is_shared thing target) (is_shared thing value)
-  is_shared thing (t.Choose spot condition first second) = is_shared thing condition && is_shared thing first && is_shared thing second
+  is_shared thing (t.Postfix whole suffixes) =
+      is_postfix_shared thing (is_shared thing whole) (is_call_shared thing whole) suffixes
+  is_shared thing (t.Assign spot sign target value) =
+      is_assigned_shared sign (is_shared thing target) (is_shared thing value)
+  is_shared thing (t.Choose spot condition first second) =
+      is_shared thing condition && is_shared thing first && is_shared thing second
 
   -- signs that group to the left, by whether what stands before them is shared
   pub is_chain_shared : (ℕ → Option Thing) → Bool → Links → Bool
   is_chain_shared thing before t.no_links = before
-  is_chain_shared thing before (t.link spot sign right others) = is_chain_shared thing (is_joined_shared sign before (is_shared thing right)) others
+  is_chain_shared thing before (t.link spot sign right others) =
+      is_chain_shared thing (is_joined_shared sign before (is_shared thing right)) others
 
   -- suffixes, by whether what stands before them is shared, and whether a call of it is. Only a
   -- name is called
   pub is_postfix_shared : (ℕ → Option Thing) → Bool → Bool → Suffixes → Bool
   is_postfix_shared thing before called t.no_suffixes = before
-  is_postfix_shared thing before called (t.index spot by others) = is_postfix_shared thing (before && is_shared thing by) false others
-  is_postfix_shared thing before called (t.call spot arguments others) = is_postfix_shared thing called false others
-  is_postfix_shared thing before called (t.dot spot member others) = is_postfix_shared thing before false others
-  is_postfix_shared thing before called (t.arrow spot member others) = is_postfix_shared thing before false others
-  is_postfix_shared thing before called (t.up spot others) = is_postfix_shared thing before false others
-  is_postfix_shared thing before called (t.down spot others) = is_postfix_shared thing before false others
+  is_postfix_shared thing before called (t.index spot by others) =
+      is_postfix_shared thing (before && is_shared thing by) false others
+  is_postfix_shared thing before called (t.call spot arguments others) =
+      is_postfix_shared thing called false others
+  is_postfix_shared thing before called (t.dot spot member others) =
+      is_postfix_shared thing before false others
+  is_postfix_shared thing before called (t.arrow spot member others) =
+      is_postfix_shared thing before false others
+  is_postfix_shared thing before called (t.up spot others) =
+      is_postfix_shared thing before false others
+  is_postfix_shared thing before called (t.down spot others) =
+      is_postfix_shared thing before false others

@@ -8,4 +8,5 @@ use Rattle.fk_sharing_class.specs.Class.{is_shared}
 
 -- an expression is shared by what the names of the program are
 abbrev pub IsShared : ProgramTree → Tree → Type 0
-IsShared program tree = (thing : ℕ → Option Thing) × Tells program thing × IsTrue (is_shared thing tree)
+IsShared program tree = (thing : ℕ → Option Thing) × Tells program thing
+    × IsTrue (is_shared thing tree)

@@ -1,5 +1,6 @@
 -- What the names of a program are.
-use Rattle.std.specs.Prelude.{◌≡◌, ◌↔◌, ℕ, Bool, true, false, List, map, Option, Some, None, slice_get}
+use Rattle.std.specs.Prelude.{◌≡◌, ◌↔◌, ℕ, Bool, true, false, List, map, Option, Some, None}
+use Rattle.std.specs.Prelude.{slice_get}
 use Rattle.fk_syntax.specs.Program.{DeclaredTree, FunctionTree, ProgramTree}
 use Rattle.fk_types_names.specs.declared.names.Names.{Names}
 use Rattle.fk_types_names.specs.declared.names.Meaning.{Meaning}
@@ -9,14 +10,16 @@ use Rattle.fk_types_names.specs.View.{declaration_of}
 use Rattle.fk_types_names.specs.Means.{Means}
 use Rattle.fk_types_names.specs.Names.{meaning_in}
 use Rattle.fk_sharing_class.specs.declared.thing.Thing.{Thing}
-use Rattle.fk_sharing_class.specs.declared.thing.Thing.TheVariants.{SharedVariable, PrivateVariable, Function, Predeclared}
+use Rattle.fk_sharing_class.specs.declared.thing.Thing.TheVariants.{SharedVariable, PrivateVariable}
+use Rattle.fk_sharing_class.specs.declared.thing.Thing.TheVariants.{Function, Predeclared}
 
 -- the token of an index is a name in an expression, and means a variable or parameter that has
 -- this answer to whether `sh` stands before it
 abbrev pub MeansVariable : ProgramTree → ℕ → Bool → Type 0
 MeansVariable program token shared = (number : ℕ) × (variable : DeclaredTree)
     × Means program token (m.Declared number)
-    × (slice_get (declarations program) number ≡ Some (Variable variable)) × (variable.shared ≡ shared)
+    × (slice_get (declarations program) number ≡ Some (Variable variable))
+    × (variable.shared ≡ shared)
 
 -- the token of an index is a name in an expression, and means this
 abbrev pub Is : ProgramTree → ℕ → Thing → Type 0
@@ -51,4 +54,5 @@ thing_meant all (Some m.Undeclared) = None
 
 -- what the token of an index is by the names that are known
 abbrev pub thing_in : Names → ℕ → Option Thing
-thing_in names token = thing_meant (map declaration_of names.declarations.items) (meaning_in names token)
+thing_in names token =
+    thing_meant (map declaration_of names.declarations.items) (meaning_in names token)

@@ -7,7 +7,9 @@ ghost use Rattle.fk_syntax.specs.Program.{ProgramTree};
 ghost use Rattle.fk_types_names.specs.Names.{AreNames};
 ghost use Rattle.fk_sharing_class.specs.Things.{thing_in};
 ghost use Rattle.fk_sharing_class.specs.Class as c;
-ghost use Rattle.fk_sharing_class.specs.Class.{is_call_shared, is_joined_shared, is_assigned_shared, is_chain_shared, is_postfix_shared};
+ghost use Rattle.fk_sharing_class.specs.Class.{is_call_shared, is_joined_shared};
+ghost use Rattle.fk_sharing_class.specs.Class.{is_assigned_shared, is_chain_shared};
+ghost use Rattle.fk_sharing_class.specs.Class.{is_postfix_shared};
 ghost use Rattle.fk_sharing_class.specs.Shared.{IsShared};
 
 use crate::thing::{is_name_shared, is_named_call_shared, thing_at};

@@ -3,7 +3,8 @@
 ghost use Rattle.std.specs.Prelude.{◌≡◌, map, slice_get};
 ghost use Rattle.fk_types_names.specs.View.{declaration_of};
 ghost use Rattle.fk_sharing_class.specs.Things.{thing_of, thing_in};
-ghost use Rattle.fk_sharing_class.specs.Class.{is_common, is_of_group, is_name_shared, is_named_call_shared};
+ghost use Rattle.fk_sharing_class.specs.Class.{is_common, is_of_group, is_name_shared};
+ghost use Rattle.fk_sharing_class.specs.Class.{is_named_call_shared};
 
 use fk_types_names::{Declaration, Meaning, Names};
 

@@ -1,5 +1,6 @@
 -- The law of blocks.
-use Rattle.std.specs.Prelude.{◌≡◌, ℕ, ◌<◌, ◌≤◌, List, [], length, true, Some, None, slice_get, slice_index}
+use Rattle.std.specs.Prelude.{◌≡◌, ℕ, ◌<◌, ◌≤◌, List, [], length, true, Some, None, slice_get}
+use Rattle.std.specs.Prelude.{slice_index}
 use Rattle.fk_num.specs.Word.{Memory}
 use Rattle.fk_meaning_operation.specs.declared.operation.Operation.{Operation}
 use Rattle.fk_meaning_operation.specs.declared.operation.Operation.TheVariants.{Halt}
@@ -18,8 +19,8 @@ use Rattle.fk_sim_block.specs.Stands.{Places, StandsAt}
 use Rattle.fk_sim_block.specs.Next.{StandsOp}
 use Rattle.fk_sim_block.specs.Ready.{is_alone, IsReady}
 
--- how many cycles a block runs at most before its commit, and behind it. With one jump that is at most 254 from one commit
--- to the next
+-- how many cycles a block runs at most before its commit, and behind it. With one jump that is at
+-- most 254 from one commit to the next
 abbrev pub most_before : ℕ
 most_before = 70
 
@@ -45,11 +46,15 @@ gone_to i p = record p { runner = record (p.runner) { left = position i p.runner
 -- one at the beginning of `main`
 abbrev pub beginner : Setting → (firsts : Memory) → (main number : ℕ) → Owner
 beginner setting firsts main number =
-    record { runner = record { left = position main []; has = first_processor setting firsts number }; heap = λ i. 0 }
+    record {
+      runner = record { left = position main []; has = first_processor setting firsts number };
+      heap = λ i. 0;
+    }
 
 module _ (core : List CoreOp) (image : Image) (places : Places) where
   -- a hart stands at the index of an operation that its processor is about to do
-  pub record Enters (setting : Setting) (t : MachineSetting) (i : ℕ) (op : CoreOp) (operation : Operation) (p : Owner) (h : Hart) : Type 0 where
+  pub record Enters (setting : Setting) (t : MachineSetting) (i : ℕ) (op : CoreOp)
+      (operation : Operation) (p : Owner) (h : Hart) : Type 0 where
     pub running : IsRunning image setting t
     pub number : number_of p < setting.processors
     pub index : p.runner.left.at ≡ i
@@ -61,28 +66,33 @@ module _ (core : List CoreOp) (image : Image) (places : Places) where
     pub done : d.acting.due ≡ None
     pub at : StandsAt places (owner_of d) h
 
-  -- a hart commits once, after so many private instructions and with so many behind. Its fault is told in the commit
+  -- a hart commits once, after so many private instructions and with so many behind. Its fault is
+  -- told in the commit
   pub record Does (setting : Setting) (t : MachineSetting) (p : Owner) (h : Hart) : Type 0 where
     pub before : ℕ
     pub behind : ℕ
     pub few_before : before ≤ most_before
     pub few_behind : behind ≤ most_behind
-    pub does : OneDoes (core_source core setting) image t 1 before behind (member_of p h) p (λ h' d. HasDone d h')
+    pub does : OneDoes (core_source core setting) image t 1 before behind (member_of p h) p
+        (λ h' d. HasDone d h')
 
   -- the block of a local operation or a request
   abbrev pub BlockDoes : (i : ℕ) → CoreOp → Operation → Type 0
   BlockDoes i op operation =
-      (setting : Setting) (t : MachineSetting) (p : Owner) (h : Hart) → Enters setting t i op operation p h → Does setting t p h
+      (setting : Setting) (t : MachineSetting) (p : Owner) (h : Hart)
+      → Enters setting t i op operation p h → Does setting t p h
 
   -- that of a halt ends its hart
   pub record Halts (setting : Setting) (t : MachineSetting) (p : Owner) (h : Hart) : Type 0 where
     pub before : ℕ
     pub few_before : before ≤ most_before
-    pub does : OneDoes (core_source core setting) image t 1 before 0 (member_of p h) p (λ h' d. h'.ended ≡ true)
+    pub does : OneDoes (core_source core setting) image t 1 before 0 (member_of p h) p
+        (λ h' d. h'.ended ≡ true)
 
   abbrev pub BlockHalts : (i : ℕ) → CoreOp → Type 0
   BlockHalts i op =
-      (setting : Setting) (t : MachineSetting) (p : Owner) (h : Hart) → Enters setting t i op Halt p h → Halts setting t p h
+      (setting : Setting) (t : MachineSetting) (p : Owner) (h : Hart)
+      → Enters setting t i op Halt p h → Halts setting t p h
 
   -- that of a jump is one instruction, and does no operation
   pub record Jumps (t : MachineSetting) (p : Owner) (h : Hart) (target : ℕ) : Type 0 where
@@ -92,7 +102,8 @@ module _ (core : List CoreOp) (image : Image) (places : Places) where
 
   abbrev pub BlockJumps : (i : ℕ) → CoreOp → Type 0
   BlockJumps i op =
-      (t : MachineSetting) (p : Owner) (h : Hart) → Holds image t → p.runner.left.at ≡ i → StandsAt places p h
+      (t : MachineSetting) (p : Owner) (h : Hart) → Holds image t → p.runner.left.at ≡ i
+      → StandsAt places p h
       → Jumps t p h op.target
 
   -- from its opening each hart comes to the block where `main` begins
@@ -103,11 +114,15 @@ module _ (core : List CoreOp) (image : Image) (places : Places) where
     pub runs : RunsPrivately image t (number_of p) cycles first_hart hart
     pub at : StandsAt places p hart
 
-  -- The law. The steps of the tree of groups, and the operations that several do together, are still to come
+  -- The law. The steps of the tree of groups, and the operations that several do together,
+  -- are still to come
   pub record BlockLaw (firsts : List ℕ) (main : ℕ) : Type 0 where
-    pub alone : (i : ℕ) (op : CoreOp) (operation : Operation) → StandsOp core i op operation → is_alone operation ≡ true
+    pub alone : (i : ℕ) (op : CoreOp) (operation : Operation) → StandsOp core i op operation
+        → is_alone operation ≡ true
         → BlockDoes i op operation
     pub halts : (i : ℕ) (op : CoreOp) → StandsOp core i op Halt → BlockHalts i op
-    pub jumps : (i : ℕ) (op : CoreOp) → slice_get core i ≡ Some op → is_jump op ≡ true → BlockJumps i op
-    pub begins : (setting : Setting) (t : MachineSetting) (number : ℕ) → IsRunning image setting t → number < setting.processors
+    pub jumps : (i : ℕ) (op : CoreOp) → slice_get core i ≡ Some op → is_jump op ≡ true
+        → BlockJumps i op
+    pub begins : (setting : Setting) (t : MachineSetting) (number : ℕ) → IsRunning image setting t
+        → number < setting.processors
         → Begins t (beginner setting (slice_index firsts) main number)

@@ -1,5 +1,6 @@
 -- Operations that several do together by meeting at an arrival word, and how a member does so.
-use Rattle.std.specs.Prelude.{◌≡◌, ◌≢◌, ℕ, zero, suc, ◌+◌, ◌*◌, ◌%◌, ◌≤◌, List, Bool, true, false, Option, Some, ◌⊎◌}
+use Rattle.std.specs.Prelude.{◌≡◌, ◌≢◌, ℕ, zero, suc, ◌+◌, ◌*◌, ◌%◌, ◌≤◌, List, Bool, true, false}
+use Rattle.std.specs.Prelude.{Option, Some, ◌⊎◌}
 use Rattle.fk_num.specs.Word.{Memory, word_sum}
 use Rattle.fk_meaning_operation.specs.declared.operation.Operation.{Operation}
 use Rattle.fk_meaning_operation.specs.declared.operation.Operation.TheVariants.{Resume, Meet}
@@ -13,7 +14,8 @@ use Rattle.fk_sim_nodes.specs.Phase.{Phase, Outside, Away, Coming, Waiting, Leav
 use Rattle.fk_sim_block.specs.Owner.{Owner}
 use Rattle.fk_sim_block.specs.Stands.{Places, StandsAt}
 use Rattle.fk_sim_block.specs.Block.{Enters, gone_to}
-use Rattle.fk_sim_block.specs.Node.{Polling, Nestings, StandsInNode, OwnsHeader, barrier_word, closing_word}
+use Rattle.fk_sim_block.specs.Node.{Polling, Nestings, StandsInNode, OwnsHeader, barrier_word}
+use Rattle.fk_sim_block.specs.Node.{closing_word}
 use Rattle.fk_sim_block.specs.Lockstep.{IsMember}
 
 -- a barrier, the end of a body, and where members wait for parts to end
@@ -36,8 +38,9 @@ AreSoMany operation runs p n = p.runner.has.level.size ≡ n
 abbrev pub lead : ℕ
 lead = 1
 
--- how many steps a member takes at most to its arrival. Behind that it polls, finds all there and leaves in three cycles at most, so
--- that it commits as soon as a block that does not meet (most_before)
+-- how many steps a member takes at most to its arrival. Behind that it polls, finds all there
+-- and leaves in three cycles at most, so that it commits as soon as a block that does not
+-- meet (most_before)
 abbrev pub most_to_meet : ℕ
 most_to_meet = 67
 
@@ -48,11 +51,14 @@ pub record Polls (polling : Polling) (first h : Hart) : Type 0 where
   pub live : h.ended ≡ false
   pub at : h.pc ≡ 4 * polling.at
   pub local : h.local ≡ first.local
-  pub others : (register : ℕ) → polling.changes register ≡ false → h.registers register ≡ first.registers register
+  pub others : (register : ℕ) → polling.changes register ≡ false
+      → h.registers register ≡ first.registers register
 
 module _ (image : Image) (word number : ℕ) where
-  -- its turn, an instruction of count c, leaves a value in the arrival word, and no other word changes. Then something holds
-  pub record TurnsTo (mine : Words) (t : MachineSetting) (c : ℕ) (h : Hart) (own : Memory) (value : ℕ) (Then : Hart → Type 0) : Type 0 where
+  -- its turn, an instruction of count c, leaves a value in the arrival word, and no other word
+  -- changes. Then something holds
+  pub record TurnsTo (mine : Words) (t : MachineSetting) (c : ℕ) (h : Hart) (own : Memory)
+      (value : ℕ) (Then : Hart → Type 0) : Type 0 where
     pub hart : Hart
     pub words : Memory
     pub stays : Stays image mine t c (record { number = number; hart = h }) own hart words
@@ -61,9 +67,11 @@ module _ (image : Image) (word number : ℕ) where
     pub follows : Then hart
 
   -- so it is in every node that owns the word, by the value that its turn finds there
-  abbrev pub Turns : MachineSetting → (c : ℕ) → Hart → (leaves : ℕ → ℕ) → (Then : (found : ℕ) → Hart → Type 0) → Type 0
+  abbrev pub Turns : MachineSetting → (c : ℕ) → Hart → (leaves : ℕ → ℕ)
+      → (Then : (found : ℕ) → Hart → Type 0) → Type 0
   Turns t c h leaves Then =
-      (mine : Words) (own : Memory) → mine word ≡ true → TurnsTo mine t c h own (leaves (own word)) (λ h'. Then (own word) h')
+      (mine : Words) (own : Memory) → mine word ≡ true
+      → TurnsTo mine t c h own (leaves (own word)) (λ h'. Then (own word) h')
 
   -- n members meet. One that has left is as is told
   module _ (polling : Polling) (first : Hart) (n : ℕ) (Left : Hart → Type 0) where
@@ -85,15 +93,18 @@ module _ (image : Image) (word number : ℕ) where
     abbrev pub KeepsPolling : (count : ℕ) → Type 0
     KeepsPolling count =
         (t : MachineSetting) (h : Hart) → Holds image t → t.finished % 2 ≡ 1 → Polls polling first h
-        → Turns t 0 h (λ v. v) (λ v h'. (v ≡ n → GoesToLeave count (later t) h') × (v ≢ n → GoesToPoll (later t) h'))
+        → Turns t 0 h (λ v. v)
+        (λ v h'. (v ≡ n → GoesToLeave count (later t) h') × (v ≢ n → GoesToPoll (later t) h'))
 
     -- where it stands at the beginning of a cycle, by its phase
     abbrev pub StandsByPhase : (count : ℕ) → MachineSetting → Phase → Hart → Type 0
     StandsByPhase count t Outside h = ⊥
     StandsByPhase count t Away h = ⊥
     StandsByPhase count t (Coming d) h =
-        ((t.finished + d) % 2 ≡ 0) × ((arriving : Hart) × RunsPrivately image t number d h arriving × IsArriving (in_cycles d t) arriving)
-    StandsByPhase count t Waiting h = ((t.finished % 2 ≡ 1) × Polls polling first h) ⊎ ((t.finished % 2 ≡ 0) × GoesToPoll t h)
+        ((t.finished + d) % 2 ≡ 0) × ((arriving : Hart) × RunsPrivately image t number d h arriving
+        × IsArriving (in_cycles d t) arriving)
+    StandsByPhase count t Waiting h = ((t.finished % 2 ≡ 1) × Polls polling first h)
+        ⊎ ((t.finished % 2 ≡ 0) × GoesToPoll t h)
     StandsByPhase count t (Leaving zero) h = (t.finished % 2 ≡ 1) × IsLeaving count t h
     StandsByPhase count t (Leaving (suc zero)) h = (t.finished % 2 ≡ 0) × GoesToLeave count t h
     StandsByPhase count t (Leaving (suc (suc d))) h = ⊥
@@ -104,24 +115,31 @@ module _ (image : Image) (word number : ℕ) where
 
 -- ---- the block of such an operation
 
-module _ (image : Image) (places : Places) (nestings : Nestings) (setting : Setting) (runs : Option ℕ) (i : ℕ) where
+module _ (image : Image) (places : Places) (nestings : Nestings) (setting : Setting)
+    (runs : Option ℕ) (i : ℕ) where
   -- a member that has left stands for its processor at the next index
   abbrev pub StandsBehind : Owner → Hart → Type 0
-  StandsBehind p h = StandsAt places (gone_to (suc i) p) h × StandsInNode places nestings setting runs (gone_to (suc i) p) h
+  StandsBehind p h = StandsAt places (gone_to (suc i) p) h
+      × StandsInNode places nestings setting runs (gone_to (suc i) p) h
 
   -- a member of so many who meet at a word, in a phase
-  pub record MeetsAt (word n : ℕ) (t : MachineSetting) (f : Phase) (m : Member) (p : Owner) : Type 0 where
+  pub record MeetsAt (word n : ℕ) (t : MachineSetting) (f : Phase) (m : Member)
+      (p : Owner) : Type 0 where
     pub polling : Polling
     pub first : Hart
     pub code : Holds image t
     pub polls : KeepsPolling image word m.number polling first n (StandsBehind p) 1
     pub stands : StandsInPhase image word m.number polling first n (StandsBehind p) t f m.hart
 
-module _ (core : List CoreOp) (image : Image) (places : Places) (nestings : Nestings) (i : ℕ) (op : CoreOp) (operation : Operation) where
+module _ (core : List CoreOp) (image : Image) (places : Places) (nestings : Nestings) (i : ℕ)
+    (op : CoreOp) (operation : Operation) where
   -- from the beginning of the block it arrives after so many private steps, in an even cycle
   abbrev pub BlockMeets : (most : ℕ) → Type 0
   BlockMeets most =
-      (setting : Setting) (t : MachineSetting) (mine : Words) (runs : Option ℕ) (first n : ℕ) (m : Member) (p : Owner)
-      → OwnsHeader mine first → Enters core image places setting t i op operation p m.hart → IsMember places nestings setting runs first m p
+      (setting : Setting) (t : MachineSetting) (mine : Words) (runs : Option ℕ) (first n : ℕ)
+      (m : Member) (p : Owner)
+      → OwnsHeader mine first → Enters core image places setting t i op operation p m.hart
+      → IsMember places nestings setting runs first m p
       → AreSoMany operation runs p n
-      → (d : ℕ) × (d ≤ most) × MeetsAt image places nestings setting runs i (first + word_of operation) n t (Coming d) m p
+      → (d : ℕ) × (d ≤ most)
+      × MeetsAt image places nestings setting runs i (first + word_of operation) n t (Coming d) m p

@@ -1,10 +1,12 @@
 -- The law of blocks of processors in groups.
-use Rattle.std.specs.Prelude.{◌≡◌, ℕ, ◌<◌, ◌≤◌, List, length, Bool, true, false, Option, Some, None, slice_get, slice_index}
+use Rattle.std.specs.Prelude.{◌≡◌, ℕ, ◌<◌, ◌≤◌, List, length, Bool, true, false, Option, Some, None}
+use Rattle.std.specs.Prelude.{slice_get, slice_index}
 use Rattle.fk_meaning_operation.specs.Kinds.{class_of}
 use Rattle.fk_meaning_operation.specs.declared.kinds.Class.{Class}
 use Rattle.fk_meaning_operation.specs.declared.kinds.Class.TheVariants.{Local, Request, Tree}
 use Rattle.fk_meaning_operation.specs.declared.operation.Operation.{Operation}
-use Rattle.fk_meaning_operation.specs.declared.operation.Operation.TheVariants.{Agree, Begin, Farm, Seq, End, Halt}
+use Rattle.fk_meaning_operation.specs.declared.operation.Operation.TheVariants.{Agree, Begin, Farm}
+use Rattle.fk_meaning_operation.specs.declared.operation.Operation.TheVariants.{Seq, End, Halt}
 use Rattle.fk_meaning.specs.Processor.{Processor, Setting}
 use Rattle.fk_meaning.specs.Local.{is_onward}
 use Rattle.fk_core.specs.declared.op.CoreOp.{CoreOp}
@@ -18,9 +20,11 @@ use Rattle.fk_sim_block.specs.Owner.{Owner, Doing, owner_of, core_source}
 use Rattle.fk_sim_block.specs.Stands.{Places, StandsAt}
 use Rattle.fk_sim_block.specs.Next.{StandsOp}
 use Rattle.fk_sim_block.specs.Ready.{is_alone}
-use Rattle.fk_sim_block.specs.Block.{most_before, most_behind, IsRunning, Enters, HasDone, BlockHalts, Begins, beginner, gone_to}
+use Rattle.fk_sim_block.specs.Block.{most_before, most_behind, IsRunning, Enters, HasDone}
+use Rattle.fk_sim_block.specs.Block.{BlockHalts, Begins, beginner, gone_to}
 use Rattle.fk_sim_block.specs.Node.{Nestings, StandsInNode}
-use Rattle.fk_sim_block.specs.Lockstep.{IsMember, StepTogether, PartTogether, EndTogether, AreOfSize, IsLowest, one_runs}
+use Rattle.fk_sim_block.specs.Lockstep.{IsMember, StepTogether, PartTogether, EndTogether}
+use Rattle.fk_sim_block.specs.Lockstep.{AreOfSize, IsLowest, one_runs}
 use Rattle.fk_sim_block.specs.Joint.{most_to_meet, is_meeting, BlockMeets}
 use Rattle.fk_sim_block.specs.Start.{most_united, most_to_start, BlockStarts}
 
@@ -33,7 +37,8 @@ way_by Tree operation p = true
 abbrev pub way_of : Operation → Processor → Bool
 way_of operation p = way_by (class_of operation) operation p
 
--- steps of the tree that the members of a group in lockstep do together, and in which their node stays
+-- steps of the tree that the members of a group in lockstep do together, and in which
+-- their node stays
 abbrev pub is_shared_step : Operation → Bool
 is_shared_step Agree = true
 is_shared_step Farm = true
@@ -58,20 +63,23 @@ runs_behind Farm lowest size p = Some size
 runs_behind Seq lowest size p = one_runs lowest p
 runs_behind operation lowest size p = None
 
--- how many cycles a block runs before its commit, and behind it, by the index of its operation and the way that goes: members
--- who come to it together commit together, and stand at the next block together
+-- how many cycles a block runs before its commit, and behind it, by the index of its operation
+-- and the way that goes: members who come to it together commit together, and stand at the
+-- next block together
 pub record Cycles : Type 0 where
   pub before : (index : ℕ) → ℕ
   pub behind : (index : ℕ) → (onward : Bool) → ℕ
 
 module _ (core : List CoreOp) (image : Image) (places : Places) (nestings : Nestings) where
   -- an operation is done, and the hart stands in its node where its processor goes on
-  pub record HasDoneInNode (setting : Setting) (runs : Option ℕ) (d : Doing) (h : Hart) : Type 0 where
+  pub record HasDoneInNode (setting : Setting) (runs : Option ℕ) (d : Doing)
+      (h : Hart) : Type 0 where
     pub done : HasDone core image places d h
     pub node : StandsInNode places nestings setting runs (owner_of d) h
 
   -- the block of a jump
-  pub record JumpsInNode (setting : Setting) (t : MachineSetting) (runs : Option ℕ) (m : Member) (p : Owner) (target : ℕ) : Type 0 where
+  pub record JumpsInNode (setting : Setting) (t : MachineSetting) (runs : Option ℕ) (m : Member)
+      (p : Owner) (target : ℕ) : Type 0 where
     pub hart : Hart
     pub private : IsPrivateIn image t m.number m.hart hart
     pub at : StandsAt places (gone_to target p) hart
@@ -79,10 +87,13 @@ module _ (core : List CoreOp) (image : Image) (places : Places) (nestings : Nest
 
   abbrev pub BlockJumpsInNode : (i : ℕ) → CoreOp → Type 0
   BlockJumpsInNode i op =
-      (setting : Setting) (t : MachineSetting) (runs : Option ℕ) (first : ℕ) (m : Member) (p : Owner)
-      → Holds image t → p.runner.left.at ≡ i → IsMember places nestings setting runs first m p → JumpsInNode setting t runs m p op.target
+      (setting : Setting) (t : MachineSetting) (runs : Option ℕ) (first : ℕ)
+      (m : Member) (p : Owner)
+      → Holds image t → p.runner.left.at ≡ i → IsMember places nestings setting runs first m p
+      → JumpsInNode setting t runs m p op.target
 
-  -- from its opening each hart comes to the block where `main` begins, in the root, whose body all run
+  -- from its opening each hart comes to the block where `main` begins, in the root,
+  -- whose body all run
   pub record BeginsInNode (setting : Setting) (t : MachineSetting) (p : Owner) : Type 0 where
     pub begins : Begins core image places t p
     pub node : StandsInNode places nestings setting (Some setting.processors) p begins.hart
@@ -91,31 +102,46 @@ module _ (core : List CoreOp) (image : Image) (places : Places) (nestings : Nest
     -- the block of a local operation or a request of a member
     abbrev pub BlockDoesInNode : (i : ℕ) → CoreOp → Operation → Type 0
     BlockDoesInNode i op operation =
-        (setting : Setting) (t : MachineSetting) (runs : Option ℕ) (first : ℕ) (m : Member) (p : Owner)
-        → Enters core image places setting t i op operation p m.hart → IsMember places nestings setting runs first m p
-        → OneDoes (core_source core setting) image t 1 (cycles.before i) (cycles.behind i (way_of operation p.runner.has)) m p
+        (setting : Setting) (t : MachineSetting) (runs : Option ℕ) (first : ℕ)
+        (m : Member) (p : Owner)
+        → Enters core image places setting t i op operation p m.hart
+        → IsMember places nestings setting runs first m p
+        → OneDoes (core_source core setting) image t 1 (cycles.before i)
+        (cycles.behind i (way_of operation p.runner.has)) m p
         (λ h d. HasDoneInNode setting runs d h)
 
     -- The law. Splits, frames and blocks of groups are still to come
     pub record GroupLaw (firsts : List ℕ) (main : ℕ) : Type 0 where
       pub few_before : (i : ℕ) → cycles.before i ≤ most_before
       pub few_behind : (i : ℕ) (onward : Bool) → cycles.behind i onward ≤ most_behind
-      pub alone : (i : ℕ) (op : CoreOp) (operation : Operation) → StandsOp core i op operation → is_alone operation ≡ true → BlockDoesInNode i op operation
-      pub jumps : (i : ℕ) (op : CoreOp) → slice_get core i ≡ Some op → is_jump op ≡ true → BlockJumpsInNode i op
-      pub halts : (i : ℕ) (op : CoreOp) → StandsOp core i op Halt → BlockHalts core image places i op
-      pub begins : (setting : Setting) (t : MachineSetting) (number : ℕ) → IsRunning image setting t → number < setting.processors
+      pub alone : (i : ℕ) (op : CoreOp) (operation : Operation) → StandsOp core i op operation
+          → is_alone operation ≡ true → BlockDoesInNode i op operation
+      pub jumps : (i : ℕ) (op : CoreOp) → slice_get core i ≡ Some op → is_jump op ≡ true
+          → BlockJumpsInNode i op
+      pub halts : (i : ℕ) (op : CoreOp) → StandsOp core i op Halt
+          → BlockHalts core image places i op
+      pub begins : (setting : Setting) (t : MachineSetting) (number : ℕ) → IsRunning image setting t
+          → number < setting.processors
           → BeginsInNode setting t (beginner setting (slice_index firsts) main number)
-      -- who do a step in lockstep, do it together, and then they are in lockstep still, or each goes on by itself
+      -- who do a step in lockstep, do it together, and then they are in lockstep still, or each
+      -- goes on by itself
       pub agrees : (i : ℕ) (op : CoreOp) (lowest size : ℕ) → StandsOp core i op Agree
-          → StepTogether core image places nestings i op Agree (λ ps. Unit {0}) (cycles.before i) (cycles.behind i true) None (λ p. None) lowest size
-      pub parts : (i : ℕ) (op : CoreOp) (operation : Operation) (lowest size : ℕ) → StandsOp core i op operation → sets_apart operation ≡ true
-          → PartTogether core image places nestings i op operation (IsAskedOf operation lowest size) (cycles.before i) (cycles.behind i true) None
+          → StepTogether core image places nestings i op Agree (λ ps. Unit {0}) (cycles.before i)
+          (cycles.behind i true) None (λ p. None) lowest size
+      pub parts : (i : ℕ) (op : CoreOp) (operation : Operation) (lowest size : ℕ)
+          → StandsOp core i op operation → sets_apart operation ≡ true
+          → PartTogether core image places nestings i op operation (IsAskedOf operation lowest size)
+          (cycles.before i) (cycles.behind i true) None
           (runs_behind operation lowest size) lowest size
-      pub ends : (i : ℕ) (op : CoreOp) (lowest size : ℕ) → StandsOp core i op End → EndTogether core image places nestings i op (cycles.behind i true) lowest size
+      pub ends : (i : ℕ) (op : CoreOp) (lowest size : ℕ) → StandsOp core i op End
+          → EndTogether core image places nestings i op (cycles.behind i true) lowest size
       -- who meet do so by phases
-      pub meets : (i : ℕ) (op : CoreOp) (operation : Operation) → StandsOp core i op operation → is_meeting operation ≡ true
+      pub meets : (i : ℕ) (op : CoreOp) (operation : Operation) → StandsOp core i op operation
+          → is_meeting operation ≡ true
           → BlockMeets core image places nestings i op operation most_to_meet
       -- at the beginning of `start` all processors meet in the root, and commit soon behind that
-      pub few_to_begin : (i : ℕ) (op : CoreOp) → StandsOp core i op Begin → cycles.before i < most_united
+      pub few_to_begin : (i : ℕ) (op : CoreOp) → StandsOp core i op Begin
+          → cycles.before i < most_united
       pub starts : (i : ℕ) (op : CoreOp) → StandsOp core i op Begin
-          → BlockStarts core image places nestings i op (nestings.start.there i) (nestings.start.coming i) most_to_start (cycles.before i) (cycles.behind i)
+          → BlockStarts core image places nestings i op (nestings.start.there i)
+          (nestings.start.coming i) most_to_start (cycles.before i) (cycles.behind i)

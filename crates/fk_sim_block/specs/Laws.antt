@@ -21,18 +21,25 @@ use Rattle.fk_sim_block.specs.Law.{Cycles, GroupLaw, way_of, HasDoneInNode}
 -- all go the same way
 abbrev pub AllGo : Operation → (onward : Bool) → List Owner → Type 0
 AllGo operation onward [] = Unit {0}
-AllGo operation onward (p ∷ ps) = (way_of operation p.runner.has ≡ onward) × AllGo operation onward ps
+AllGo operation onward (p ∷ ps) = (way_of operation p.runner.has ≡ onward)
+    × AllGo operation onward ps
 
--- members in lockstep who come to a local operation or a request in one cycle, and go the same way, commit in one, and have
--- done it in one: each stands at its next block. They leave their node's words
+-- members in lockstep who come to a local operation or a request in one cycle, and go the
+-- same way, commit in one, and have done it in one: each stands at its next block. They leave
+-- their node's words
 abbrev pub MembersDoTogether : Type 0
 MembersDoTogether =
-    (core : List CoreOp) (image : Image) (places : Places) (nestings : Nestings) (cycles : Cycles) (firsts : List ℕ) (main : ℕ)
-    (i : ℕ) (op : CoreOp) (operation : Operation) (onward : Bool) (setting : Setting) (t : MachineSetting) (mine : Words) (runs : Option ℕ) (first : ℕ)
+    (core : List CoreOp) (image : Image) (places : Places) (nestings : Nestings) (cycles : Cycles)
+    (firsts : List ℕ) (main : ℕ)
+    (i : ℕ) (op : CoreOp) (operation : Operation) (onward : Bool) (setting : Setting)
+    (t : MachineSetting) (mine : Words) (runs : Option ℕ) (first : ℕ)
     (ms : List Member) (ps : List Owner) (own : Memory)
-    → GroupLaw core image places nestings cycles firsts main → StandsOp core i op operation → is_alone operation ≡ true
-    → AllEnter core image places nestings i op operation setting t runs first ms ps → AllGo operation onward ps
+    → GroupLaw core image places nestings cycles firsts main → StandsOp core i op operation
+    → is_alone operation ≡ true
+    → AllEnter core image places nestings i op operation setting t runs first ms ps
+    → AllGo operation onward ps
     → Together (core_source core setting) image mine t 1 (cycles.before i) ms ps own
     (λ ms' ds own'.
     NodeRun image mine (later (in_cycles (cycles.before i) t)) (cycles.behind i onward) ms' own'
-    (λ ms'' own''. (own'' ≡ own) × AllReach (λ number p h d. HasDoneInNode core image places nestings setting runs d h) ps ms'' ds))
+    (λ ms'' own''. (own'' ≡ own) × AllReach
+    (λ number p h d. HasDoneInNode core image places nestings setting runs d h) ps ms'' ds))

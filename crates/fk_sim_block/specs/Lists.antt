@@ -1,5 +1,6 @@
 -- Lists whose runs a law of blocks carries, beside that they are well formed.
-use Rattle.std.specs.Prelude.{◌≡◌, ℕ, ◌<◌, List, [], length, Bool, true, false, All, slice_get, Some, None, ◌⊎◌}
+use Rattle.std.specs.Prelude.{◌≡◌, ℕ, ◌<◌, List, [], length, Bool, true, false, All, slice_get}
+use Rattle.std.specs.Prelude.{Some, None, ◌⊎◌}
 use Rattle.fk_meaning_operation.specs.declared.operation.Operation.{Operation}
 use Rattle.fk_meaning_operation.specs.declared.operation.Operation.TheVariants.{Leave, Halt}
 use Rattle.fk_meaning.specs.Processor.{setting_of}
@@ -29,7 +30,8 @@ pub record IsFree (core : List CoreOp) : Type 0 where
       → IsOperation core op.target
   -- all others are operations without a group, or a halt
   pub alone : (i : ℕ) (op : CoreOp) (operation : Operation) → slice_get core i ≡ Some op
-      → operation_of op.kind op.number ≡ Some operation → (is_alone operation ≡ true) ⊎ (operation ≡ Halt)
+      → operation_of op.kind op.number ≡ Some operation
+      → (is_alone operation ≡ true) ⊎ (operation ≡ Halt)
   -- no operation but an end goes on outside the list
   pub within : (i : ℕ) (op : CoreOp) (operation : Operation) → slice_get core i ≡ Some op
       → operation_of op.kind op.number ≡ Some operation → is_end operation ≡ false

@@ -1,5 +1,6 @@
 -- Steps of the tree that all members of a group do in lockstep.
-use Rattle.std.specs.Prelude.{◌≡◌, ℕ, ◌+◌, ◌==◌, List, [], ◌∷◌, map, true, false, Option, Some, None, if◌then◌else◌}
+use Rattle.std.specs.Prelude.{◌≡◌, ℕ, ◌+◌, ◌==◌, List, [], ◌∷◌, map, true, false, Option, Some}
+use Rattle.std.specs.Prelude.{None, if◌then◌else◌}
 use Rattle.fk_num.specs.Word.{Memory}
 use Rattle.fk_meaning_operation.specs.declared.operation.Operation.{Operation}
 use Rattle.fk_meaning_operation.specs.declared.operation.Operation.TheVariants.{Agree, Begin, End}
@@ -18,7 +19,8 @@ use Rattle.fk_sim_block.specs.Owner.{Owner, Doing, number_of, core_source}
 use Rattle.fk_sim_block.specs.Stands.{Places, StandsAt}
 use Rattle.fk_sim_block.specs.Next.{step_at}
 use Rattle.fk_sim_block.specs.Block.{Enters}
-use Rattle.fk_sim_block.specs.Node.{Nestings, StandsInNode, OwnsHeader, first_word, root_words, agreed_word}
+use Rattle.fk_sim_block.specs.Node.{Nestings, StandsInNode, OwnsHeader, first_word, root_words}
+use Rattle.fk_sim_block.specs.Node.{agreed_word}
 
 -- how many values a step of a group looks at
 abbrev pub values_of_step : Operation → ℕ
@@ -56,14 +58,18 @@ one_runs lowest p = if number_of p == lowest then Some 1 else None
 module _ (core : List CoreOp) (i : ℕ) (op : CoreOp) (operation : Operation) where
   -- a processor that takes part with the step, which is done once all have
   abbrev pub is_due : Owner → Doing
-  is_due p = record { acting = taking p.runner (Some (step_at core i op operation p.runner.left.callers)); heap = p.heap }
+  is_due p = record {
+    acting = taking p.runner (Some (step_at core i op operation p.runner.left.callers));
+    heap = p.heap;
+  }
 
-  -- what the step makes of it, where the last value of the highest member, the lowest member and the size of its group
-  -- behind the step are known
+  -- what the step makes of it, where the last value of the highest member, the lowest member and
+  -- the size of its group behind the step are known
   abbrev pub stepped : (highest lowest size : ℕ) → Owner → Owner
   stepped highest lowest size p = record {
     runner = record {
-      left = follows core operation i op.target p.runner.left.callers (goes_onward operation highest lowest p.runner.has);
+      left = follows core operation i op.target p.runner.left.callers
+          (goes_onward operation highest lowest p.runner.has);
       has = does operation highest size p.runner.has;
     };
     heap = p.heap;
@@ -78,59 +84,79 @@ module _ (places : Places) (nestings : Nestings) (setting : Setting) where
     pub words : first_word p.runner.has.level p.runner.has.outer ≡ begin
 
   -- so does each, which may run a body of its own
-  abbrev pub AreMembers : (runs : Owner → Option ℕ) → (begin : ℕ) → List Member → List Owner → Type 0
+  abbrev pub AreMembers : (runs : Owner → Option ℕ) → (begin : ℕ) → List Member
+      → List Owner → Type 0
   AreMembers runs begin [] [] = Unit {0}
-  AreMembers runs begin (m ∷ ms) (p ∷ ps) = IsMember (runs p) begin m p × AreMembers runs begin ms ps
+  AreMembers runs begin (m ∷ ms) (p ∷ ps) = IsMember (runs p) begin m p
+      × AreMembers runs begin ms ps
   AreMembers runs begin ms ps = ⊥
 
   -- so many private instructions lead a member, by itself, to where it stands for its processor
-  pub record ComesAlone (image : Image) (t : MachineSetting) (behind : ℕ) (runs : Option ℕ) (begin : ℕ) (m : Member) (p : Owner) : Type 0 where
+  pub record ComesAlone (image : Image) (t : MachineSetting) (behind : ℕ) (runs : Option ℕ)
+      (begin : ℕ) (m : Member) (p : Owner) : Type 0 where
     pub hart : Hart
     pub private : RunsPrivately image t m.number behind m.hart hart
     pub member : IsMember runs begin (record m { hart = hart }) p
 
-  abbrev pub AllComeAlone : Image → MachineSetting → (behind : ℕ) → (runs : Owner → Option ℕ) → (begin : ℕ) → List Member → List Owner → Type 0
+  abbrev pub AllComeAlone : Image → MachineSetting → (behind : ℕ) → (runs : Owner → Option ℕ)
+      → (begin : ℕ) → List Member → List Owner → Type 0
   AllComeAlone image t behind runs begin [] [] = Unit {0}
-  AllComeAlone image t behind runs begin (m ∷ ms) (p ∷ ps) = ComesAlone image t behind (runs p) begin m p × AllComeAlone image t behind runs begin ms ps
+  AllComeAlone image t behind runs begin (m ∷ ms) (p ∷ ps) =
+      ComesAlone image t behind (runs p) begin m p × AllComeAlone image t behind runs begin ms ps
   AllComeAlone image t behind runs begin ms ps = ⊥
 
-module _ (core : List CoreOp) (image : Image) (places : Places) (nestings : Nestings) (i : ℕ) (op : CoreOp) (operation : Operation) where
+module _ (core : List CoreOp) (image : Image) (places : Places) (nestings : Nestings) (i : ℕ)
+    (op : CoreOp) (operation : Operation) where
   -- all members come to the step in one cycle
-  abbrev pub AllEnter : Setting → MachineSetting → (runs : Option ℕ) → (first : ℕ) → List Member → List Owner → Type 0
+  abbrev pub AllEnter : Setting → MachineSetting → (runs : Option ℕ) → (first : ℕ) → List Member
+      → List Owner → Type 0
   AllEnter setting t runs first [] [] = Unit {0}
   AllEnter setting t runs first (m ∷ ms) (p ∷ ps) =
-      Enters core image places setting t i op operation p m.hart × IsMember places nestings setting runs first m p
+      Enters core image places setting t i op operation p m.hart
+      × IsMember places nestings setting runs first m p
       × AllEnter setting t runs first ms ps
   AllEnter setting t runs first ms ps = ⊥
 
-  -- all members stand where their processors go on, and no control word has changed but that of what is agreed
-  pub record HaveStepped (setting : Setting) (runs : Owner → Option ℕ) (first lowest size : ℕ) (ps : List Owner) (before : Memory) (ms : List Member) (own : Memory) : Type 0 where
-    pub members : AreMembers places nestings setting runs first ms (map (stepped core i op operation (highest_value ps) lowest size) ps)
+  -- all members stand where their processors go on, and no control word has changed but that
+  -- of what is agreed
+  pub record HaveStepped (setting : Setting) (runs : Owner → Option ℕ) (first lowest size : ℕ)
+      (ps : List Owner) (before : Memory) (ms : List Member) (own : Memory) : Type 0 where
+    pub members : AreMembers places nestings setting runs first ms
+        (map (stepped core i op operation (highest_value ps) lowest size) ps)
     pub others : (j : ℕ) → (j ≡ first + agreed_word → ⊥) → own j ≡ before j
 
-  -- where something is so of the members, after so many cycles all commit in one, and after so many more they have done the
-  -- step
-  abbrev pub StepTogether : (List Owner → Type 0) → (before behind : ℕ) → (runs : Option ℕ) → (runs' : Owner → Option ℕ) → (lowest size : ℕ) → Type 0
+  -- where something is so of the members, after so many cycles all commit in one, and after so many
+  -- more they have done the step
+  abbrev pub StepTogether : (List Owner → Type 0) → (before behind : ℕ) → (runs : Option ℕ)
+      → (runs' : Owner → Option ℕ) → (lowest size : ℕ) → Type 0
   StepTogether Asked before behind runs runs' lowest size =
-      (setting : Setting) (t : MachineSetting) (mine : Words) (first : ℕ) (ms : List Member) (ps : List Owner) (own : Memory)
+      (setting : Setting) (t : MachineSetting) (mine : Words) (first : ℕ) (ms : List Member)
+      (ps : List Owner) (own : Memory)
       → OwnsHeader mine first → AllEnter setting t runs first ms ps → Asked ps
       → Together (core_source core setting) image mine t 1 before ms ps own
       (λ ms' ds own'. (ds ≡ map (is_due core i op operation) ps)
-      × NodeRun image mine (later (in_cycles before t)) behind ms' own' (λ ms'' own''. HaveStepped setting runs' first lowest size ps own ms'' own''))
+      × NodeRun image mine (later (in_cycles before t)) behind ms' own'
+      (λ ms'' own''. HaveStepped setting runs' first lowest size ps own ms'' own''))
 
-  -- behind their common commit each comes by itself to where its processor goes on, and no control word has changed but that of
-  -- what is agreed
-  pub record HaveParted (setting : Setting) (t : MachineSetting) (behind : ℕ) (runs : Owner → Option ℕ) (first lowest size : ℕ) (ps : List Owner) (before : Memory) (ms : List Member) (own : Memory) : Type 0 where
-    pub come : AllComeAlone places nestings setting image t behind runs first ms (map (stepped core i op operation (highest_value ps) lowest size) ps)
+  -- behind their common commit each comes by itself to where its processor goes on, and no control
+  -- word has changed but that of what is agreed
+  pub record HaveParted (setting : Setting) (t : MachineSetting) (behind : ℕ)
+      (runs : Owner → Option ℕ) (first lowest size : ℕ) (ps : List Owner) (before : Memory)
+      (ms : List Member) (own : Memory) : Type 0 where
+    pub come : AllComeAlone places nestings setting image t behind runs first ms
+        (map (stepped core i op operation (highest_value ps) lowest size) ps)
     pub others : (j : ℕ) → (j ≡ first + agreed_word → ⊥) → own j ≡ before j
 
   -- the same of a step behind which they are in lockstep no more
-  abbrev pub PartTogether : (List Owner → Type 0) → (before behind : ℕ) → (runs : Option ℕ) → (runs' : Owner → Option ℕ) → (lowest size : ℕ) → Type 0
+  abbrev pub PartTogether : (List Owner → Type 0) → (before behind : ℕ) → (runs : Option ℕ)
+      → (runs' : Owner → Option ℕ) → (lowest size : ℕ) → Type 0
   PartTogether Asked before behind runs runs' lowest size =
-      (setting : Setting) (t : MachineSetting) (mine : Words) (first : ℕ) (ms : List Member) (ps : List Owner) (own : Memory)
+      (setting : Setting) (t : MachineSetting) (mine : Words) (first : ℕ) (ms : List Member)
+      (ps : List Owner) (own : Memory)
       → OwnsHeader mine first → AllEnter setting t runs first ms ps → Asked ps
       → Together (core_source core setting) image mine t 1 before ms ps own
-      (λ ms' ds own'. (ds ≡ map (is_due core i op operation) ps) × HaveParted setting (later (in_cycles before t)) behind runs' first lowest size ps own ms' own')
+      (λ ms' ds own'. (ds ≡ map (is_due core i op operation) ps) × HaveParted setting
+      (later (in_cycles before t)) behind runs' first lowest size ps own ms' own')
 
 -- no level stands in the frames of these calls
 abbrev pub NoneSaved : Nestings → List ℕ → Type 0
@@ -147,13 +173,18 @@ abbrev pub AreInStart : Nestings → List Owner → Type 0
 AreInStart nestings [] = Unit {0}
 AreInStart nestings (p ∷ ps) = IsInStart nestings p × AreInStart nestings ps
 
-module _ (core : List CoreOp) (image : Image) (places : Places) (nestings : Nestings) (i : ℕ) (op : CoreOp) where
-  -- all members commit in this cycle, and so many later each stands by itself in the root. All words are as they were
+module _ (core : List CoreOp) (image : Image) (places : Places) (nestings : Nestings) (i : ℕ)
+    (op : CoreOp) where
+  -- all members commit in this cycle, and so many later each stands by itself in the root. All
+  -- words are as they were
   abbrev pub EndTogether : (behind : ℕ) → (lowest size : ℕ) → Type 0
   EndTogether behind lowest size =
-      (setting : Setting) (t : MachineSetting) (mine : Words) (first : ℕ) (ms : List Member) (ps : List Owner) (own : Memory)
-      → AllEnter core image places nestings i op End setting t None first ms ps → AreInStart nestings ps
+      (setting : Setting) (t : MachineSetting) (mine : Words) (first : ℕ) (ms : List Member)
+      (ps : List Owner) (own : Memory)
+      → AllEnter core image places nestings i op End setting t None first ms ps
+      → AreInStart nestings ps
       → Together (core_source core setting) image mine t 1 0 ms ps own
       (λ ms' ds own'. (ds ≡ map (is_due core i op End) ps)
-      × (AllComeAlone places nestings setting image (later t) behind (λ p. Some setting.processors) root_words ms' (map (stepped core i op End (highest_value ps) lowest size) ps)
+      × (AllComeAlone places nestings setting image (later t) behind (λ p. Some setting.processors)
+      root_words ms' (map (stepped core i op End (highest_value ps) lowest size) ps)
       × (own' ≡ own)))

@@ -9,20 +9,28 @@ use Rattle.fk_core.specs.Next.{Position, is_jump, follows}
 use Rattle.fk_sim_block.specs.Owner.{Commons, Owner, number_of, as_part, phases, part}
 
 -- an operation stands at an index
-pub record StandsOp (core : List CoreOp) (i : ℕ) (op : CoreOp) (operation : Operation) : Type 0 where
+pub record StandsOp (core : List CoreOp) (i : ℕ) (op : CoreOp)
+    (operation : Operation) : Type 0 where
   pub stands : slice_get core i ≡ Some op
   pub no_jump : is_jump op ≡ false
   pub is_read : operation_of op.kind op.number ≡ Some operation
 
-abbrev pub step_at : (core : List CoreOp) → (i : ℕ) → CoreOp → Operation → (callers : List ℕ) → Step Position
+abbrev pub step_at : (core : List CoreOp) → (i : ℕ) → CoreOp → Operation
+    → (callers : List ℕ) → Step Position
 step_at core i op operation callers =
-    record { operation = operation; site = op.site; rest = follows core operation i op.target callers }
+    record {
+      operation = operation;
+      site = op.site;
+      rest = follows core operation i op.target callers;
+    }
 
 -- with count 1 a processor does it
 abbrev pub OperationsAreNext : Type 0
 OperationsAreNext =
-    (core : List CoreOp) (i : ℕ) (op : CoreOp) (operation : Operation) (setting : Setting) (s : Commons) (p : Owner)
+    (core : List CoreOp) (i : ℕ) (op : CoreOp) (operation : Operation) (setting : Setting)
+    (s : Commons) (p : Owner)
     → StandsOp core i op operation → p.runner.left.at ≡ i
     → part core setting 1 s p
     ≡ as_part (number_of p)
-    (phases core setting s p.heap (taking p.runner (Some (step_at core i op operation p.runner.left.callers))))
+    (phases core setting s p.heap
+    (taking p.runner (Some (step_at core i op operation p.runner.left.callers))))

@@ -1,9 +1,11 @@
--- Core runs as what the turns of harts stand for: each processor comes with its private heap, which its hart alone has.
+-- Core runs as what the turns of harts stand for: each processor comes with its private heap, which
+-- its hart alone has.
 use Rattle.std.specs.Prelude.{ℕ, false, List, None}
 use Rattle.fk_num.specs.Word.{Memory}
 use Rattle.fk_meaning_store.specs.Store.{Store}
 use Rattle.fk_meaning.specs.Processor.{Setting}
-use Rattle.fk_meaning.specs.Round.{Runner, Acting, Phase, Passes, Breaks, taking, begin, local_phase, request_phase}
+use Rattle.fk_meaning.specs.Round.{Runner, Acting, Phase, Passes, Breaks, taking, begin}
+use Rattle.fk_meaning.specs.Round.{local_phase, request_phase}
 use Rattle.fk_core.specs.declared.op.CoreOp.{CoreOp}
 use Rattle.fk_core.specs.Next.{Position, next}
 use Rattle.fk_sim_nodes.specs.Source as nodes
@@ -43,16 +45,20 @@ owner_of d = record { runner = d.acting.runner; heap = d.heap }
 
 -- one that takes part passes with what it has become, or its site faults
 abbrev pub as_part : (number : ℕ) → Phase Position → nodes.Part Commons Doing
-as_part number (Passes s a) = nodes.Passes (commons_of s) (record { acting = a; heap = s.heaps number })
+as_part number (Passes s a) =
+    nodes.Passes (commons_of s) (record { acting = a; heap = s.heaps number })
 as_part number (Breaks site) = nodes.Breaks site
 
 module _ (core : List CoreOp) (setting : Setting) where
-  -- the phases of local operations and of requests, of a processor that has taken an operation or none
+  -- the phases of local operations and of requests, of a processor that has taken an
+  -- operation or none
   abbrev pub phases : Commons → (heap : Memory) → Acting Position → Phase Position
-  phases s heap a = let b = local_phase (next core) setting a a.due in request_phase (found s heap) b b.due
+  phases s heap a = let b = local_phase (next core) setting a a.due in
+      request_phase (found s heap) b b.due
 
   abbrev pub part : (count : ℕ) → Commons → Owner → nodes.Part Commons Doing
-  part count s p = as_part (number_of p) (phases s p.heap (begin (next core) setting count p.runner))
+  part count s p =
+      as_part (number_of p) (phases s p.heap (begin (next core) setting count p.runner))
 
   -- data and output show what is shared. No control word does
   abbrev pub core_source : nodes.Source Commons Owner Doing

@@ -5,7 +5,9 @@ use Rattle.fk_meaning_operation.specs.declared.kinds.Class.{Class}
 use Rattle.fk_meaning_operation.specs.declared.kinds.Class.TheVariants.{Local, Request, Tree}
 use Rattle.fk_meaning_operation.specs.declared.operation.OwnValue.TheVariants.{FrameAddress}
 use Rattle.fk_meaning_operation.specs.declared.operation.Operation.{Operation}
-use Rattle.fk_meaning_operation.specs.declared.operation.Operation.TheVariants.{Get, Leave, Read, Write, Combine, Heap, Halt}
+use Rattle.fk_meaning_operation.specs.declared.operation.Operation.TheVariants.{Get, Leave, Read}
+use Rattle.fk_meaning_operation.specs.declared.operation.Operation.TheVariants.{Write, Combine}
+use Rattle.fk_meaning_operation.specs.declared.operation.Operation.TheVariants.{Heap, Halt}
 use Rattle.fk_meaning_store.specs.Store.{private_words}
 use Rattle.fk_meaning_store.specs.Serve.{may_use}
 use Rattle.fk_meaning.specs.Processor.{Processor, values, last}
@@ -14,7 +16,8 @@ use Rattle.fk_meaning.specs.Round.{Runner}
 use Rattle.fk_core.specs.declared.op.CoreOp.{CoreOp}
 use Rattle.fk_core.specs.Next.{Position}
 
--- local operations and requests that processors without groups do: all but those of group frames, and but `shmalloc`
+-- local operations and requests that processors without groups do: all but those of group frames,
+-- and but `shmalloc`
 abbrev pub is_no_step : Class → Bool
 is_no_step Local = true
 is_no_step Request = true
@@ -35,7 +38,8 @@ MayDo (Leave gives framed) r = 0 < length r.left.callers
 MayDo Halt r = r.left.callers ≡ []
 MayDo operation r = Unit {0}
 
--- its values and variables are words, it has taken no more of its heap than there is, and so many calls wait at most
+-- its values and variables are words, it has taken no more of its heap than there is, and so many
+-- calls wait at most
 pub record IsInRange (p : Processor) : Type 0 where
   pub values : All (λ v. v < 2 ^ 32) p.call.values
   pub privates : (i : ℕ) → p.call.privates i < 2 ^ 32

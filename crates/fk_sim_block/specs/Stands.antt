@@ -1,9 +1,11 @@
 -- When registers and local memory of a hart stand for a processor.
 --
--- Calls have frames of 64 words on the 16,384 stack words, that of `main` lowest. A frame has a header of 7 words, then the
--- private words of its call; the value list stands at its end, the first value highest. In the frame of `main` the private
--- variables of file scope stand between the two, and the 7 words of its header are free for any use.
-use Rattle.std.specs.Prelude.{◌≡◌, ℕ, zero, suc, ◌+◌, ◌-◌, ◌*◌, ◌<◌, ◌≤◌, ◌==◌, List, [], ◌∷◌, length, true, false, Bool}
+-- Calls have frames of 64 words on the 16,384 stack words, that of `main` lowest. A frame has a
+-- header of 7 words, then the private words of its call; the value list stands at its end, the
+-- first value highest. In the frame of `main` the private variables of file scope stand between the
+-- two, and the 7 words of its header are free for any use.
+use Rattle.std.specs.Prelude.{◌≡◌, ℕ, zero, suc, ◌+◌, ◌-◌, ◌*◌, ◌<◌, ◌≤◌, ◌==◌, List, [], ◌∷◌}
+use Rattle.std.specs.Prelude.{length, true, false, Bool}
 use Rattle.fk_num.specs.Word.{Memory}
 use Rattle.fk_meaning.specs.Processor.{Call}
 use Rattle.fk_machine.specs.Hart.{Hart}
@@ -11,8 +13,9 @@ use Rattle.fk_sim_block.specs.Owner.{Owner}
 
 -- what stands in frames
 pub record Frames : Type 0 where
-  -- whether a private word of the running call stands in its frame at an index of the list. One that does not is written
-  -- before it is read; those that do where a call begins are its arguments or 0
+  -- whether a private word of the running call stands in its frame at an index of the list.
+  -- One that does not is written before it is read; those that do where a call begins are
+  -- its arguments or 0
   pub keeps : (index word : ℕ) → Bool
   -- whether an index lies in `main`
   pub is_main : (index : ℕ) → Bool
@@ -29,10 +32,11 @@ pub record Places : Type 0 where
 abbrev pub local_address : (word : ℕ) → ℕ
 local_address word = 0x20000000 + 4 * word
 
--- registers: the addresses of the running call's frame and of the word behind it; `@`, `$` and the size of the group;
--- how many words of the private heap are taken; and six that never change: the addresses of the local memory, of shared data,
--- of the private heap and of the devices, and two masks. An address with the mask of shared data is the address of shared data
--- exactly where it is that of one of its words, and so it is with the private heap
+-- registers: the addresses of the running call's frame and of the word behind it; `@`, `$` and the
+-- size of the group; how many words of the private heap are taken; and six that never change: the
+-- addresses of the local memory, of shared data, of the private heap and of the devices, and two
+-- masks. An address with the mask of shared data is the address of shared data exactly where it is
+-- that of one of its words, and so it is with the private heap
 abbrev pub frame_register : ℕ
 frame_register = 8
 
@@ -72,7 +76,8 @@ heap_mask_register = 27
 -- the last value lowest
 abbrev pub HasValues : Memory → (behind : ℕ) → List ℕ → Type 0
 HasValues memory behind [] = Unit {0}
-HasValues memory behind (v ∷ vs) = (memory (behind - suc (length vs)) ≡ v) × HasValues memory behind vs
+HasValues memory behind (v ∷ vs) = (memory (behind - suc (length vs)) ≡ v)
+    × HasValues memory behind vs
 
 -- the word behind the frame of a call that so many others wait for
 abbrev pub frame_end : (waiting : ℕ) → ℕ
@@ -86,10 +91,12 @@ ahead frames false = 0
 -- a header and so many values have room in a frame, beside the words that stand in it at an index
 pub record HasRoom (frames : Frames) (index values : ℕ) : Type 0 where
   pub header : ahead frames (frames.is_main index) + 7 + values ≤ 64
-  pub kept : (word : ℕ) → frames.keeps index word ≡ true → ahead frames (frames.is_main index) + 7 + word + values < 64
+  pub kept : (word : ℕ) → frames.keeps index word ≡ true
+      → ahead frames (frames.is_main index) + 7 + word + values < 64
 
 module _ (places : Places) where
-  -- the first word of such a frame, but that the frame of `main` has its private variables of file scope before it
+  -- the first word of such a frame, but that the frame of `main` has its private variables of
+  -- file scope before it
   abbrev pub frame_start : (waiting : ℕ) → ℕ
   frame_start zero = places.frames.of_file
   frame_start (suc n) = 64 * suc n
@@ -98,28 +105,32 @@ module _ (places : Places) where
   pub record HasFrame (memory : Memory) (waiting at : ℕ) (call : Call) : Type 0 where
     pub home : places.frames.is_main at ≡ (waiting == 0)
     pub values : HasValues memory (frame_end waiting) call.values
-    pub privates : (i : ℕ) → places.frames.keeps at i ≡ true → memory (frame_start waiting + 7 + i) ≡ call.privates i
+    pub privates : (i : ℕ) → places.frames.keeps at i ≡ true
+        → memory (frame_start waiting + 7 + i) ≡ call.privates i
 
-  -- the header of a call: an address four words before the one that it returns to, the frame of the call that waits there, and the word where that takes the
-  -- result. There is room for it
+  -- the header of a call: an address four words before the one that it returns to, the frame of the
+  -- call that waits there, and the word where that takes the result. There is room for it
   pub record Returns (memory : Memory) (waiting back : ℕ) (call : Call) : Type 0 where
     pub code : memory (frame_start (suc waiting)) + 16 ≡ 4 * places.block back
     pub frame : memory (frame_start (suc waiting) + 1) ≡ local_address (frame_start waiting)
-    pub result : memory (frame_start (suc waiting) + 2) ≡ local_address (frame_end waiting - suc (length call.values))
+    pub result : memory (frame_start (suc waiting) + 2)
+        ≡ local_address (frame_end waiting - suc (length call.values))
     pub room : HasRoom places.frames back (suc (length call.values))
 
   -- the calls that wait, the last one first, each with the index where it goes on
   abbrev pub HasWaiting : Memory → (backs : List ℕ) → List Call → Type 0
   HasWaiting memory [] [] = Unit {0}
   HasWaiting memory (i ∷ backs) (c ∷ calls) =
-      Returns memory (length calls) i c × HasFrame memory (length calls) i c × HasWaiting memory backs calls
+      Returns memory (length calls) i c × HasFrame memory (length calls) i c
+      × HasWaiting memory backs calls
   HasWaiting memory backs calls = ⊥
 
-  -- Nothing is said of the pc and of other registers, nor of what only steps of the tree give a processor: the space of its
-  -- group, its group frames, and the groups round it.
+  -- Nothing is said of the pc and of other registers, nor of what only steps of the tree give a
+  -- processor: the space of its group, its group frames, and the groups round it.
   pub record StandsFor (p : Owner) (h : Hart) : Type 0 where
     pub nought : h.registers 0 ≡ 0
-    pub frame : h.registers frame_register ≡ local_address (frame_start (length p.runner.has.callers))
+    pub frame : h.registers frame_register
+        ≡ local_address (frame_start (length p.runner.has.callers))
     pub behind : h.registers end_register ≡ local_address (frame_end (length p.runner.has.callers))
     pub number : h.registers number_register ≡ p.runner.has.level.number
     pub rank : h.registers rank_register ≡ p.runner.has.level.rank

@@ -1,6 +1,7 @@
--- The beginning of the group of `start`: all processors meet in the root, agree on the last value of the highest, and those below
--- it go into the group.
-use Rattle.std.specs.Prelude.{◌≡◌, ℕ, ◌+◌, ◌≤◌, min, List, [], ◌∷◌, map, Bool, Option, Some, None, if◌then◌else◌}
+-- The beginning of the group of `start`: all processors meet in the root, agree on the last value
+-- of the highest, and those below it go into the group.
+use Rattle.std.specs.Prelude.{◌≡◌, ℕ, ◌+◌, ◌≤◌, min, List, [], ◌∷◌, map, Bool, Option, Some, None}
+use Rattle.std.specs.Prelude.{if◌then◌else◌}
 use Rattle.fk_num.specs.Word.{Memory}
 use Rattle.fk_meaning_operation.specs.declared.operation.Operation.TheVariants.{Begin}
 use Rattle.fk_meaning.specs.Processor.{Setting, group_space}
@@ -15,7 +16,8 @@ use Rattle.fk_sim_nodes.specs.Phase.{Phase, Coming}
 use Rattle.fk_sim_block.specs.Owner.{Owner, number_of, core_source}
 use Rattle.fk_sim_block.specs.Stands.{Places}
 use Rattle.fk_sim_block.specs.Block.{IsRunning, Enters}
-use Rattle.fk_sim_block.specs.Node.{Polling, Nestings, IsRoot, OwnsHeader, first_word, root_words, closing_word, agreed_word}
+use Rattle.fk_sim_block.specs.Node.{Polling, Nestings, IsRoot, OwnsHeader, first_word, root_words}
+use Rattle.fk_sim_block.specs.Node.{closing_word, agreed_word}
 use Rattle.fk_sim_block.specs.Lockstep.{IsMember, NoneSaved, highest_value, is_due, stepped}
 use Rattle.fk_sim_block.specs.Joint.{Polls, KeepsPolling, StandsByPhase}
 
@@ -42,59 +44,79 @@ size_of_start setting highest = min (not_negative highest) setting.processors
 abbrev pub runs_behind_start : Setting → (goes : Bool) → Option ℕ
 runs_behind_start setting goes = if goes then None else Some setting.processors
 
--- one of n who meet at a word is in a phase. Leaving is an instruction of this count, and then something holds
-pub record MeetsUntil (image : Image) (word n count : ℕ) (Left : Hart → Type 0) (t : MachineSetting) (f : Phase) (m : Member) : Type 0 where
+-- one of n who meet at a word is in a phase. Leaving is an instruction of this count, and
+-- then something holds
+pub record MeetsUntil (image : Image) (word n count : ℕ) (Left : Hart → Type 0) (t : MachineSetting)
+    (f : Phase) (m : Member) : Type 0 where
   pub polling : Polling
   pub first : Hart
   pub code : Holds image t
   pub polls : KeepsPolling image word m.number polling first n Left count
   pub stands : StandsByPhase image word m.number polling first n Left count t f m.hart
 
-module _ (core : List CoreOp) (image : Image) (places : Places) (nestings : Nestings) (i : ℕ) (op : CoreOp) where
-  -- a member that came to the block in some cycle, and has met all others: it stands there with what its own lines made of its
-  -- hart before it met
-  pub record HasMet (there : Polling) (coming : Hart → Hart) (setting : Setting) (m : Member) (p : Owner) : Type 0 where
+module _ (core : List CoreOp) (image : Image) (places : Places) (nestings : Nestings) (i : ℕ)
+    (op : CoreOp) where
+  -- a member that came to the block in some cycle, and has met all others: it stands there with
+  -- what its own lines made of its hart before it met
+  pub record HasMet (there : Polling) (coming : Hart → Hart) (setting : Setting) (m : Member)
+      (p : Owner) : Type 0 where
     pub cycle : MachineSetting
     pub first : Hart
     pub enters : Enters core image places setting cycle i op Begin p first
-    pub member : IsMember places nestings setting (Some setting.processors) root_words (record m { hart = first }) p
+    pub member : IsMember places nestings setting (Some setting.processors) root_words
+        (record m { hart = first }) p
     pub root : IsInRoot nestings setting p
     pub met : Polls there (coming first) m.hart
 
-  abbrev pub AllHaveMet : (there : Polling) (coming : Hart → Hart) → Setting → List Member → List Owner → Type 0
+  abbrev pub AllHaveMet : (there : Polling) (coming : Hart → Hart) → Setting → List Member
+      → List Owner → Type 0
   AllHaveMet there coming setting [] [] = Unit {0}
-  AllHaveMet there coming setting (m ∷ ms) (p ∷ ps) = HasMet there coming setting m p × AllHaveMet there coming setting ms ps
+  AllHaveMet there coming setting (m ∷ ms) (p ∷ ps) = HasMet there coming setting m p
+      × AllHaveMet there coming setting ms ps
   AllHaveMet there coming setting ms ps = ⊥
 
-  -- behind the commit so many private instructions, by its way, lead it where its processor goes on: to the body in the group
-  -- of `start`, or to where those wait who are not in it
-  pub record ComesToPart (setting : Setting) (t : MachineSetting) (behind : (onward : Bool) → ℕ) (highest lowest : ℕ) (m : Member) (p : Owner) : Type 0 where
+  -- behind the commit so many private instructions, by its way, lead it where its processor goes
+  -- on: to the body in the group of `start`, or to where those wait who are not in it
+  pub record ComesToPart (setting : Setting) (t : MachineSetting) (behind : (onward : Bool) → ℕ)
+      (highest lowest : ℕ) (m : Member) (p : Owner) : Type 0 where
     pub hart : Hart
     pub runs : RunsPrivately image t m.number (behind (is_taken highest p.runner.has)) m.hart hart
     pub member :
         let q = stepped core i op Begin highest lowest (size_of_start setting highest) p in
-        IsMember places nestings setting (runs_behind_start setting (is_taken highest p.runner.has)) (first_word q.runner.has.level q.runner.has.outer)
+        IsMember places nestings setting (runs_behind_start setting (is_taken highest p.runner.has))
+        (first_word q.runner.has.level q.runner.has.outer)
         (record m { hart = hart }) q
 
-  abbrev pub AllComeToParts : Setting → MachineSetting → (behind : (onward : Bool) → ℕ) → (highest lowest : ℕ) → List Member → List Owner → Type 0
+  abbrev pub AllComeToParts : Setting → MachineSetting → (behind : (onward : Bool) → ℕ)
+      → (highest lowest : ℕ) → List Member → List Owner → Type 0
   AllComeToParts setting t behind highest lowest [] [] = Unit {0}
   AllComeToParts setting t behind highest lowest (m ∷ ms) (p ∷ ps) =
-      ComesToPart setting t behind highest lowest m p × AllComeToParts setting t behind highest lowest ms ps
+      ComesToPart setting t behind highest lowest m p
+      × AllComeToParts setting t behind highest lowest ms ps
   AllComeToParts setting t behind highest lowest ms ps = ⊥
 
   -- all do so, and no word of the root has changed but that of what is agreed
-  pub record HaveStarted (setting : Setting) (t : MachineSetting) (behind : (onward : Bool) → ℕ) (lowest : ℕ) (ps : List Owner) (before : Memory) (ms : List Member) (own : Memory) : Type 0 where
+  pub record HaveStarted (setting : Setting) (t : MachineSetting) (behind : (onward : Bool) → ℕ)
+      (lowest : ℕ) (ps : List Owner) (before : Memory) (ms : List Member)
+      (own : Memory) : Type 0 where
     pub parts : AllComeToParts setting t behind (highest_value ps) lowest ms ps
     pub others : (j : ℕ) → (j ≡ root_words + agreed_word → ⊥) → own j ≡ before j
 
-  -- The block. Each meets all others at the root's closing word, which it comes to after so many private steps. Who have met, in
-  -- one cycle, commit so many cycles later, and then go each to its part
-  pub record BlockStarts (there : Polling) (coming : Hart → Hart) (most before : ℕ) (behind : (onward : Bool) → ℕ) : Type 0 where
+  -- The block. Each meets all others at the root's closing word, which it comes to after so
+  -- many private steps. Who have met, in one cycle, commit so many cycles later, and then go
+  -- each to its part
+  pub record BlockStarts (there : Polling) (coming : Hart → Hart) (most before : ℕ)
+      (behind : (onward : Bool) → ℕ) : Type 0 where
     pub meets : (setting : Setting) (t : MachineSetting) (mine : Words) (m : Member) (p : Owner)
         → OwnsHeader mine root_words → Enters core image places setting t i op Begin p m.hart
-        → IsMember places nestings setting (Some setting.processors) root_words m p → IsInRoot nestings setting p
-        → (d : ℕ) × (d ≤ most) × MeetsUntil image (root_words + closing_word) setting.processors 0 (λ h. Polls there (coming m.hart) h) t (Coming d) m
-    pub starts : (setting : Setting) (t : MachineSetting) (mine : Words) (lowest : ℕ) (ms : List Member) (ps : List Owner) (own : Memory)
-        → OwnsHeader mine root_words → IsRunning image setting t → AllHaveMet there coming setting ms ps
+        → IsMember places nestings setting (Some setting.processors) root_words m p
+        → IsInRoot nestings setting p
+        → (d : ℕ) × (d ≤ most) × MeetsUntil image (root_words + closing_word) setting.processors 0
+        (λ h. Polls there (coming m.hart) h) t (Coming d) m
+    pub starts : (setting : Setting) (t : MachineSetting) (mine : Words) (lowest : ℕ)
+        (ms : List Member) (ps : List Owner) (own : Memory)
+        → OwnsHeader mine root_words → IsRunning image setting t
+        → AllHaveMet there coming setting ms ps
         → Together (core_source core setting) image mine t 1 before ms ps own
-        (λ ms' ds own'. (ds ≡ map (is_due core i op Begin) ps) × HaveStarted setting (later (in_cycles before t)) behind lowest ps own ms' own')
+        (λ ms' ds own'. (ds ≡ map (is_due core i op Begin) ps)
+        × HaveStarted setting (later (in_cycles before t)) behind lowest ps own ms' own')

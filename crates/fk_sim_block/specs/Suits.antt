@@ -1,9 +1,19 @@
--- Lists that suit frames: words that are read were kept or written, and values have room beside the words that are kept.
-use Rattle.std.specs.Prelude.{◌≡◌, ℕ, suc, ◌+◌, ◌-◌, ◌==◌, ◌<◌, ◌≤◌, List, [], slice_get, Bool, true, false, Some}
+-- Lists that suit frames: words that are read were kept or written, and values have room beside the
+-- words that are kept.
+use Rattle.std.specs.Prelude.{◌≡◌, ℕ, suc, ◌+◌, ◌-◌, ◌==◌, ◌<◌, ◌≤◌, List, [], slice_get, Bool}
+use Rattle.std.specs.Prelude.{true, false, Some}
 use Rattle.fk_meaning_operation.specs.declared.operation.OwnValue.{OwnValue}
 use Rattle.fk_meaning_operation.specs.declared.operation.OwnValue.TheVariants.{Value}
 use Rattle.fk_meaning_operation.specs.declared.operation.Operation.{Operation}
-use Rattle.fk_meaning_operation.specs.declared.operation.Operation.TheVariants.{Push, Get, Set, DropLast, CopyLast, Apply, Binary, Index, Branch, Take, Leave, Check, Read, Write, Combine, PrintNumber, PrintByte, Enter, Halt}
+use Rattle.fk_meaning_operation.specs.declared.operation.Operation.TheVariants.{Push, Get, Set}
+use Rattle.fk_meaning_operation.specs.declared.operation.Operation.TheVariants.{DropLast, CopyLast}
+use Rattle.fk_meaning_operation.specs.declared.operation.Operation.TheVariants.{Apply, Binary}
+use Rattle.fk_meaning_operation.specs.declared.operation.Operation.TheVariants.{Index, Branch, Take}
+use Rattle.fk_meaning_operation.specs.declared.operation.Operation.TheVariants.{Leave, Check, Read}
+use Rattle.fk_meaning_operation.specs.declared.operation.Operation.TheVariants.{Write, Combine}
+use Rattle.fk_meaning_operation.specs.declared.operation.Operation.TheVariants.{PrintNumber}
+use Rattle.fk_meaning_operation.specs.declared.operation.Operation.TheVariants.{PrintByte, Enter}
+use Rattle.fk_meaning_operation.specs.declared.operation.Operation.TheVariants.{Halt}
 use Rattle.fk_meaning_operation.specs.declared.operation.Variable.TheVariants.{Private, OfFile}
 use Rattle.fk_core.specs.declared.op.CoreOp.{CoreOp}
 use Rattle.fk_core.specs.Next.{is_jump, follows}
@@ -39,13 +49,16 @@ abbrev pub nothing : (word : ℕ) → Bool
 nothing word = false
 
 module _ (core : List CoreOp) (frames : Frames) where
-  -- from an index the call goes on at another: what is kept there was kept before, or is written meanwhile
+  -- from an index the call goes on at another: what is kept there was kept before, or is
+  -- written meanwhile
   pub record Flows (written : (word : ℕ) → Bool) (i j : ℕ) : Type 0 where
     pub main : frames.is_main j ≡ frames.is_main i
-    pub kept : (word : ℕ) → frames.keeps j word ≡ true → written word ≡ false → frames.keeps i word ≡ true
+    pub kept : (word : ℕ) → frames.keeps j word ≡ true → written word ≡ false
+        → frames.keeps i word ≡ true
 
-  -- a call, which begins at the next index, with a jump. A frame has room for the private words that are kept there: its
-  -- arguments, and others, which begin as 0. Behind the jump there is room for a result in place of the arguments
+  -- a call, which begins at the next index, with a jump. A frame has room for the private words
+  -- that are kept there: its arguments, and others, which begin as 0. Behind the jump there is room
+  -- for a result in place of the arguments
   pub record Calls (arguments i depth : ℕ) : Type 0 where
     pub entry : CoreOp
     pub stands : slice_get core (suc i) ≡ Some entry
@@ -61,9 +74,11 @@ module _ (core : List CoreOp) (frames : Frames) where
   GoesOn (Enter arguments) i target depth = Calls arguments i depth
   GoesOn (Leave gives framed) i target depth = frames.is_main i ≡ false
   GoesOn Halt i target depth = frames.is_main i ≡ true
-  GoesOn operation i target depth = (onward : Bool) → Flows (writes operation) i (follows core operation i target [] onward).at
+  GoesOn operation i target depth = (onward : Bool)
+      → Flows (writes operation) i (follows core operation i target [] onward).at
 
-  -- a word that is read is there, and one that is written lies below the values. There is room for a value that is pushed
+  -- a word that is read is there, and one that is written lies below the values. There is room for
+  -- a value that is pushed
   abbrev pub IsThere : OwnValue → (i : ℕ) → Type 0
   IsThere (Value (Private word)) i = frames.keeps i word ≡ true
   IsThere (Value (OfFile word)) i = word < frames.of_file
@@ -88,5 +103,7 @@ module _ (core : List CoreOp) (frames : Frames) where
   pub record Suits (main : ℕ) : Type 0 where
     pub begins : frames.is_main main ≡ true
     pub few : frames.of_file ≤ 56
-    pub jumps : (i : ℕ) (op : CoreOp) → slice_get core i ≡ Some op → is_jump op ≡ true → Flows nothing i op.target
-    pub fits : (i : ℕ) (op : CoreOp) (operation : Operation) → StandsOp core i op operation → Fits i op operation
+    pub jumps : (i : ℕ) (op : CoreOp) → slice_get core i ≡ Some op → is_jump op ≡ true
+        → Flows nothing i op.target
+    pub fits : (i : ℕ) (op : CoreOp) (operation : Operation) → StandsOp core i op operation
+        → Fits i op operation

@@ -8,8 +8,8 @@ pub fn operations_are_next()
     ensures { OperationsAreNext }
 {}
 
-/// Members in lockstep who come to a local operation or a request in one cycle, and go the same way, commit in one cycle, and
-/// stand at the next block in one.
+/// Members in lockstep who come to a local operation or a request in one cycle, and go the same
+/// way, commit in one cycle, and stand at the next block in one.
 pub fn members_do_together()
     ensures { MembersDoTogether }
 {}

@@ -1,8 +1,10 @@
 -- What is known of a member that meets, and of members behind their commits.
-use Rattle.std.specs.Prelude.{◌≡◌, ℕ, ◌+◌, ◌≤◌, List, [], ◌∷◌, length, map, Bool, true, Option, Some, None, if◌then◌else◌, ◌⊎◌}
+use Rattle.std.specs.Prelude.{◌≡◌, ℕ, ◌+◌, ◌≤◌, List, [], ◌∷◌, length, map, Bool, true, Option}
+use Rattle.std.specs.Prelude.{Some, None, if◌then◌else◌, ◌⊎◌}
 use Rattle.fk_num.specs.Word.{Memory}
 use Rattle.fk_meaning_operation.specs.declared.operation.Operation.{Operation}
-use Rattle.fk_meaning_operation.specs.declared.operation.Operation.TheVariants.{Agree, Halt, Begin, End}
+use Rattle.fk_meaning_operation.specs.declared.operation.Operation.TheVariants.{Agree, Halt, Begin}
+use Rattle.fk_meaning_operation.specs.declared.operation.Operation.TheVariants.{End}
 use Rattle.fk_meaning.specs.Processor.{Setting}
 use Rattle.fk_meaning.specs.Round.{Step}
 use Rattle.fk_core.specs.declared.op.CoreOp.{CoreOp}
@@ -19,21 +21,26 @@ use Rattle.fk_sim_block.specs.Stands.{Places}
 use Rattle.fk_sim_block.specs.Next.{StandsOp, step_at}
 use Rattle.fk_sim_block.specs.Block.{most_behind, Enters}
 use Rattle.fk_sim_block.specs.Node.{Nestings, IsAtRest, first_word, root_words, barrier_word}
-use Rattle.fk_sim_block.specs.Lockstep.{IsMember, is_due, stepped, highest_value, AreMembers, AllComeAlone}
+use Rattle.fk_sim_block.specs.Lockstep.{IsMember, is_due, stepped, highest_value, AreMembers}
+use Rattle.fk_sim_block.specs.Lockstep.{AllComeAlone}
 use Rattle.fk_sim_block.specs.Joint.{is_meeting, word_of, lead, Polls, MeetsAt, StandsBehind}
 use Rattle.fk_sim_block.specs.Start as starts
 use Rattle.fk_sim_block.specs.Start.{IsInRoot, MeetsUntil, AllComeToParts}
 use Rattle.fk_sim_block.specs.Law.{HasDoneInNode, sets_apart, IsAskedOf, runs_behind}
 
--- how many run the body of a node beside a member that does: those who meet at the node's first word
+-- how many run the body of a node beside a member that does: those who meet at the
+-- node's first word
 abbrev pub runs_of : Plan → (first number : ℕ) → Option ℕ
-runs_of plan first number = if plan.member (first + barrier_word) number then Some (plan.size (first + barrier_word)) else None
+runs_of plan first number = if plan.member (first + barrier_word) number
+    then Some (plan.size (first + barrier_word)) else None
 
-module _ (core : List CoreOp) (image : Image) (places : Places) (nestings : Nestings) (setting : Setting) where
+module _ (core : List CoreOp) (image : Image) (places : Places) (nestings : Nestings)
+    (setting : Setting) where
   -- ---- one member
 
   -- its processor is about to do an operation by meeting, and the hart is in a phase of that
-  pub record StandsInMeeting (runs : Option ℕ) (word n : ℕ) (t : MachineSetting) (f : Phase) (m : Member) (p : Owner) : Type 0 where
+  pub record StandsInMeeting (runs : Option ℕ) (word n : ℕ) (t : MachineSetting) (f : Phase)
+      (m : Member) (p : Owner) : Type 0 where
     pub i : ℕ
     pub op : CoreOp
     pub operation : Operation
@@ -43,19 +50,24 @@ module _ (core : List CoreOp) (image : Image) (places : Places) (nestings : Nest
     pub word_is : word ≡ first_word p.runner.has.level p.runner.has.outer + word_of operation
     pub meets : MeetsAt image places nestings setting runs i word n t f m p
 
-  -- or it is about to begin the group of `start`: it came to that in some cycle, in the root, and is in a phase of meeting all others
-  pub record StandsInStart (word n : ℕ) (t : MachineSetting) (f : Phase) (m : Member) (p : Owner) : Type 0 where
+  -- or it is about to begin the group of `start`: it came to that in some cycle, in the root, and
+  -- is in a phase of meeting all others
+  pub record StandsInStart (word n : ℕ) (t : MachineSetting) (f : Phase) (m : Member)
+      (p : Owner) : Type 0 where
     pub i : ℕ
     pub op : CoreOp
     pub cycle : MachineSetting
     pub first : Hart
     pub stands : StandsOp core i op Begin
     pub enters : Enters core image places setting cycle i op Begin p first
-    pub member : IsMember places nestings setting (Some setting.processors) root_words (record m { hart = first }) p
+    pub member : IsMember places nestings setting (Some setting.processors) root_words
+        (record m { hart = first }) p
     pub root : IsInRoot nestings setting p
-    pub meets : MeetsUntil image word n 0 (λ h. Polls (nestings.start.there i) (nestings.start.coming i first) h) t f m
+    pub meets : MeetsUntil image word n 0
+        (λ h. Polls (nestings.start.there i) (nestings.start.coming i first) h) t f m
 
-  abbrev pub StandsByEnding : Ending → (runs : Option ℕ) → (word n : ℕ) → MachineSetting → Phase → Member → Owner → Type 0
+  abbrev pub StandsByEnding : Ending → (runs : Option ℕ) → (word n : ℕ) → MachineSetting → Phase
+      → Member → Owner → Type 0
   StandsByEnding Commits runs word n t f m p = StandsInMeeting runs word n t f m p
   StandsByEnding Unites runs word n t f m p = StandsInStart word n t f m p
 
@@ -64,7 +76,8 @@ module _ (core : List CoreOp) (image : Image) (places : Places) (nestings : Nest
     pub i : ℕ
     pub op : CoreOp
     pub stands : StandsOp core i op Begin
-    pub met : starts.HasMet core image places nestings i op (nestings.start.there i) (nestings.start.coming i) setting m p
+    pub met : starts.HasMet core image places nestings i op (nestings.start.there i)
+        (nestings.start.coming i) setting m p
 
   -- its commit has ended it, and its processor's run is to end
   pub record HasEnded (m : Member) (d : Doing) : Type 0 where
@@ -90,7 +103,8 @@ module _ (core : List CoreOp) (image : Image) (places : Places) (nestings : Nest
 
   -- who has ended, or has left those it met, is there at once
   abbrev pub IsBehind : (runs : Option ℕ) → (behind : ℕ) → Member → Owner → Doing → Type 0
-  IsBehind runs behind m p d = ((behind ≤ most_behind) × HasGone runs m d) ⊎ ((behind ≡ 0) × (HasEnded m d ⊎ HasMet runs m p d))
+  IsBehind runs behind m p d = ((behind ≤ most_behind) × HasGone runs m d)
+      ⊎ ((behind ≡ 0) × (HasEnded m d ⊎ HasMet runs m p d))
 
   -- ---- a group
 
@@ -107,14 +121,17 @@ module _ (core : List CoreOp) (image : Image) (places : Places) (nestings : Nest
     pub ps : List Owner
     pub stands : StandsOp core i op Agree
     pub due : ds ≡ map (is_due core i op Agree) ps
-    pub members : AreMembers places nestings setting (λ p. None) first ms (map (stepped core i op Agree (highest_value ps) 0 0) ps)
+    pub members : AreMembers places nestings setting (λ p. None) first ms
+        (map (stepped core i op Agree (highest_value ps) 0 0) ps)
 
   -- nobody has arrived at a word of a group, and its members are behind their common commit
   abbrev pub IsGroupBehind : (first : ℕ) → List Doing → List Member → Memory → Type 0
   IsGroupBehind first ds ms own = IsAtRest first own × (AllHaveGone ms ds ⊎ HaveAgreed first ds ms)
 
-  -- they do a step behind which each comes by itself, after so many private instructions, to where it goes on in their node
-  pub record HaveParted (first : ℕ) (t : MachineSetting) (behind : ℕ) (ds : List Doing) (ms : List Member) (own : Memory) : Type 0 where
+  -- they do a step behind which each comes by itself, after so many private instructions, to where
+  -- it goes on in their node
+  pub record HaveParted (first : ℕ) (t : MachineSetting) (behind : ℕ) (ds : List Doing)
+      (ms : List Member) (own : Memory) : Type 0 where
     pub i : ℕ
     pub op : CoreOp
     pub operation : Operation
@@ -126,20 +143,26 @@ module _ (core : List CoreOp) (image : Image) (places : Places) (nestings : Nest
     pub asked : IsAskedOf operation lowest size ps
     pub due : ds ≡ map (is_due core i op operation) ps
     pub rest : IsAtRest first own
-    pub come : AllComeAlone places nestings setting image t behind (runs_behind operation lowest size) first ms (map (stepped core i op operation (highest_value ps) lowest size) ps)
+    pub come : AllComeAlone places nestings setting image t behind
+        (runs_behind operation lowest size) first ms
+        (map (stepped core i op operation (highest_value ps) lowest size) ps)
 
   -- the group of `start` ends, and each comes to the root
-  pub record HaveEnded (first : ℕ) (t : MachineSetting) (behind : ℕ) (ds : List Doing) (ms : List Member) (own : Memory) : Type 0 where
+  pub record HaveEnded (first : ℕ) (t : MachineSetting) (behind : ℕ) (ds : List Doing)
+      (ms : List Member) (own : Memory) : Type 0 where
     pub i : ℕ
     pub op : CoreOp
     pub ps : List Owner
     pub stands : StandsOp core i op End
     pub due : ds ≡ map (is_due core i op End) ps
     pub rest : IsAtRest first own
-    pub come : AllComeAlone places nestings setting image t behind (λ p. Some setting.processors) root_words ms (map (stepped core i op End 0 0 0) ps)
+    pub come : AllComeAlone places nestings setting image t behind
+        (λ p. Some setting.processors) root_words ms (map (stepped core i op End 0 0 0) ps)
 
-  -- the group of `start` begins: all are in the root, at whose words nobody has arrived, and each comes to its part
-  pub record HaveBegun (t : MachineSetting) (ds : List Doing) (ms : List Member) (own : Memory) : Type 0 where
+  -- the group of `start` begins: all are in the root, at whose words nobody has arrived, and each
+  -- comes to its part
+  pub record HaveBegun (t : MachineSetting) (ds : List Doing) (ms : List Member)
+      (own : Memory) : Type 0 where
     pub i : ℕ
     pub op : CoreOp
     pub ps : List Owner
@@ -148,21 +171,29 @@ module _ (core : List CoreOp) (image : Image) (places : Places) (nestings : Nest
     pub stands : StandsOp core i op Begin
     pub due : ds ≡ map (is_due core i op Begin) ps
     pub rest : IsAtRest root_words own
-    pub parts : AllComeToParts core image places nestings i op setting t behind (highest_value ps) 0 ms ps
+    pub parts : AllComeToParts core image places nestings i op setting t behind
+        (highest_value ps) 0 ms ps
 
-  -- in this cycle their common commit lies behind them: a run of their node leads them on in lockstep, or each goes on by itself
-  abbrev pub HaveActed : Words → (first : ℕ) → MachineSetting → (behind : ℕ) → List Doing → List Member → Memory → Type 0
+  -- in this cycle their common commit lies behind them: a run of their node leads them on in
+  -- lockstep, or each goes on by itself
+  abbrev pub HaveActed : Words → (first : ℕ) → MachineSetting → (behind : ℕ) → List Doing
+      → List Member → Memory → Type 0
   HaveActed mine first t behind ds ms own =
-      NodeRun image mine t behind ms own (λ ms' own'. IsGroupBehind first ds ms' own') ⊎ (HaveParted first t behind ds ms own ⊎ (HaveEnded first t behind ds ms own ⊎ HaveBegun t ds ms own))
+      NodeRun image mine t behind ms own (λ ms' own'. IsGroupBehind first ds ms' own')
+      ⊎ (HaveParted first t behind ds ms own
+      ⊎ (HaveEnded first t behind ds ms own ⊎ HaveBegun t ds ms own))
 
-  -- what the law of blocks says of members of the nodes of a plan, behind a cycle in which nobody unites with others
+  -- what the law of blocks says of members of the nodes of a plan, behind a cycle in which nobody
+  -- unites with others
   abbrev pub blocks_of : Plan → (first : ℕ → ℕ) → Blocks Owner Doing
   blocks_of plan first = record {
     lead = lead;
     idle = idle;
-    AfterAll = λ t g ms ds own. (behind : ℕ) × (behind ≤ most_behind) × HaveActed (plan.words g) (first g) t behind ds ms own;
+    AfterAll = λ t g ms ds own. (behind : ℕ) × (behind ≤ most_behind)
+        × HaveActed (plan.words g) (first g) t behind ds ms own;
     AfterOne = λ g behind m p d. IsBehind (runs_of plan (first g) m.number) behind m p d;
-    StandsIn = λ g t e w f m p. StandsByEnding e (runs_of plan (first g) m.number) w (plan.size w) t f m p;
+    StandsIn =
+        λ g t e w f m p. StandsByEnding e (runs_of plan (first g) m.number) w (plan.size w) t f m p;
     Joins = λ t g m p. ⊥;
   }
 

@@ -25,10 +25,12 @@ pub record HasOneGroup (tree : Tree) (spaces : ℕ → Space) (group : ℕ) : Ty
   pub space : IsSpace (spaces group)
 
 abbrev pub OneGroupHasSpace : Type 0
-OneGroupHasSpace = (tree : Tree) (spaces : ℕ → Space) (group : ℕ) → HasOneGroup tree spaces group → HaveSpaces tree spaces
+OneGroupHasSpace = (tree : Tree) (spaces : ℕ → Space) (group : ℕ) → HasOneGroup tree spaces group
+    → HaveSpaces tree spaces
 
 abbrev pub NodesOwnApart : Type 0
-NodesOwnApart = (tree : Tree) (spaces : ℕ → Space) → HaveSpaces tree spaces → OwnApart (owns tree spaces) (λ i. false)
+NodesOwnApart = (tree : Tree) (spaces : ℕ → Space) → HaveSpaces tree spaces
+    → OwnApart (owns tree spaces) (λ i. false)
 
 -- at a word of the header of a node
 pub record TellsMeeters (tree : Tree) (plan : Plan) (g offset word : ℕ) : Type 0 where
@@ -39,30 +41,42 @@ pub record TellsMeeters (tree : Tree) (plan : Plan) (g offset word : ℕ) : Type
 
 abbrev pub WordsTellMeeters : Type 0
 WordsTellMeeters =
-    (tree : Tree) (spaces : ℕ → Space) (nodes : List ℕ) (g offset : ℕ) → HaveSpaces tree spaces → is_some (tree.nodes g) ≡ true → g < tree.given → offset < 8
+    (tree : Tree) (spaces : ℕ → Space) (nodes : List ℕ) (g offset : ℕ) → HaveSpaces tree spaces
+    → is_some (tree.nodes g) ≡ true → g < tree.given → offset < 8
     → TellsMeeters tree (plan_of tree spaces nodes) g offset (first_of spaces g + offset)
 
 -- whatever the plan
 abbrev pub MeetersTurn : Type 0
 MeetersTurn =
-    (core : List CoreOp) (image : Image) (places : Places) (nestings : Nestings) (setting : Setting) (plan : Plan) (first : ℕ → ℕ)
-    → JointBlocksTurn (core_source core setting) image plan (joining_blocks_of core image places nestings setting plan first)
+    (core : List CoreOp) (image : Image) (places : Places) (nestings : Nestings) (setting : Setting)
+    (plan : Plan) (first : ℕ → ℕ)
+    → JointBlocksTurn (core_source core setting) image plan
+    (joining_blocks_of core image places nestings setting plan first)
 
 abbrev pub CyclesAreRounds : Type 0
 CyclesAreRounds =
-    (core : List CoreOp) (image : Image) (places : Places) (nestings : Nestings) (setting : Setting) (tree : Tree) (spaces : ℕ → Space) (nodes : List ℕ)
-    (t : MachineSetting) (earlier : List ℕ) (stages : List Stage) (hs : List Hart) (ps : List Owner) (own : ℕ → Memory) (sh : Shared) (s : Commons)
+    (core : List CoreOp) (image : Image) (places : Places) (nestings : Nestings) (setting : Setting)
+    (tree : Tree) (spaces : ℕ → Space) (nodes : List ℕ)
+    (t : MachineSetting) (earlier : List ℕ) (stages : List Stage) (hs : List Hart) (ps : List Owner)
+    (own : ℕ → Memory) (sh : Shared) (s : Commons)
     → let plan = plan_of tree spaces nodes in
     let blocks = blocks_of core image places nestings setting plan (first_of spaces) in
-    HaveSpaces tree spaces → Shows (core_source core setting) earlier sh s → ((g : ℕ) → Has (plan.words g) sh.control (own g))
+    HaveSpaces tree spaces → Shows (core_source core setting) earlier sh s
+    → ((g : ℕ) → Has (plan.words g) sh.control (own g))
     → IsBound (core_source core setting) image plan blocks t stages hs ps own
-    → IsPlanned (core_source core setting) image plan (joining_blocks_of core image places nestings setting plan (first_of spaces)) t earlier stages hs ps own sh s
+    → IsPlanned (core_source core setting) image plan (joining_blocks_of core image places nestings
+    setting plan (first_of spaces)) t earlier stages hs ps own sh s
 
 -- whatever the plan: a cycle without a fault leaves control words that no node owns as they were
 abbrev pub UnownedWordsStay : Type 0
 UnownedWordsStay =
-    (core : List CoreOp) (image : Image) (places : Places) (nestings : Nestings) (setting : Setting) (plan : Plan) (first : ℕ → ℕ)
-    (t : MachineSetting) (earlier : List ℕ) (stages : List Stage) (hs : List Hart) (ps : List Owner) (own : ℕ → Memory) (sh : Shared) (s : Commons) (word : ℕ)
-    → OwnApart plan.words (λ i. false) → Shows (core_source core setting) earlier sh s → ((g : ℕ) → Has (plan.words g) sh.control (own g))
-    → IsBound (core_source core setting) image plan (blocks_of core image places nestings setting plan first) t stages hs ps own
-    → (turns t 0 hs sh).stop ≡ None → ((g : ℕ) → plan.words g word ≡ false) → (turns t 0 hs sh).shared.control word ≡ sh.control word
+    (core : List CoreOp) (image : Image) (places : Places) (nestings : Nestings) (setting : Setting)
+    (plan : Plan) (first : ℕ → ℕ)
+    (t : MachineSetting) (earlier : List ℕ) (stages : List Stage) (hs : List Hart) (ps : List Owner)
+    (own : ℕ → Memory) (sh : Shared) (s : Commons) (word : ℕ)
+    → OwnApart plan.words (λ i. false) → Shows (core_source core setting) earlier sh s
+    → ((g : ℕ) → Has (plan.words g) sh.control (own g))
+    → IsBound (core_source core setting) image plan
+    (blocks_of core image places nestings setting plan first) t stages hs ps own
+    → (turns t 0 hs sh).stop ≡ None → ((g : ℕ) → plan.words g word ≡ false)
+    → (turns t 0 hs sh).shared.control word ≡ sh.control word

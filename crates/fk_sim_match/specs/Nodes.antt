@@ -1,5 +1,8 @@
--- The tree of a core run as a plan: where each processor stands, which control words are a node's own, and who meets there.
-use Rattle.std.specs.Prelude.{◌≡◌, ◌≢◌, ℕ, zero, suc, ◌+◌, ◌-◌, ◌≤◌, ◌==◌, ◌&&◌, ◌||◌, Bool, true, false, List, [], length, map, Option, Some, None, is_some, if◌then◌else◌, ◌⊎◌}
+-- The tree of a core run as a plan: where each processor stands, which control words are a node's
+-- own, and who meets there.
+use Rattle.std.specs.Prelude.{◌≡◌, ◌≢◌, ℕ, zero, suc, ◌+◌, ◌-◌, ◌≤◌, ◌==◌, ◌&&◌, ◌||◌, Bool, true}
+use Rattle.std.specs.Prelude.{false, List, [], length, map, Option, Some, None, is_some}
+use Rattle.std.specs.Prelude.{if◌then◌else◌, ◌⊎◌}
 use Rattle.fk_space.specs.Space.{Space}
 use Rattle.fk_tree.specs.declared.node.Kind.{Kind}
 use Rattle.fk_tree.specs.declared.node.Kind.TheVariants.{Lockstep}
@@ -10,7 +13,8 @@ use Rattle.fk_sim_nodes.specs.Node.{Words}
 use Rattle.fk_sim_match.specs.Plan.{Plan}
 use Rattle.fk_sim_block.specs.Node.{root_words}
 
--- the first control word of a node, where the space of each group is known. The root's stand behind all words of shared data
+-- the first control word of a node, where the space of each group is known. The root's stand behind
+-- all words of shared data
 abbrev pub first_of : (spaces : ℕ → Space) → ℕ → ℕ
 first_of spaces zero = root_words
 first_of spaces (suc g) = (spaces (suc g)).low
@@ -22,7 +26,8 @@ owns tree spaces g i = is_some (tree.nodes g) && is_from (first_of spaces g) 8 i
 -- the headers of groups lie among the words of shared data, and no two of them share a word
 pub record HaveSpaces (tree : Tree) (spaces : ℕ → Space) : Type 0 where
   pub within : (g : ℕ) → g ≢ 0 → is_some (tree.nodes g) ≡ true → (spaces g).low + 8 ≤ root_words
-  pub apart : (g k : ℕ) → g ≢ 0 → k ≢ 0 → (g ≡ k → ⊥) → is_some (tree.nodes g) ≡ true → is_some (tree.nodes k) ≡ true
+  pub apart : (g k : ℕ) → g ≢ 0 → k ≢ 0 → (g ≡ k → ⊥) → is_some (tree.nodes g) ≡ true
+      → is_some (tree.nodes k) ≡ true
       → ((spaces g).low + 8 ≤ (spaces k).low) ⊎ ((spaces k).low + 8 ≤ (spaces g).low)
 
 -- ---- who meets
@@ -41,7 +46,8 @@ is_arrival (suc (suc i)) = false
 -- which node owns a word, of those with numbers below a count
 abbrev pub owner_among : Tree → (spaces : ℕ → Space) → (count word : ℕ) → Option ℕ
 owner_among tree spaces zero word = None
-owner_among tree spaces (suc g) word = if owns tree spaces g word then Some g else owner_among tree spaces g word
+owner_among tree spaces (suc g) word = if owns tree spaces g word then Some g
+    else owner_among tree spaces g word
 
 abbrev pub meeters_by : Tree → (spaces : ℕ → Space) → (word : ℕ) → Option ℕ → List ℕ
 meeters_by tree spaces word None = []

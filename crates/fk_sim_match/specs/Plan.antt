@@ -1,5 +1,7 @@
--- The plan of a run at one time: where each hart stands in a tree of nodes, and what binds the harts of a node.
-use Rattle.std.specs.Prelude.{◌≡◌, ◌≢◌, ℕ, zero, suc, ◌==◌, List, [], ◌∷◌, Option, Bool, true, false}
+-- The plan of a run at one time: where each hart stands in a tree of nodes, and what binds the
+-- harts of a node.
+use Rattle.std.specs.Prelude.{◌≡◌, ◌≢◌, ℕ, zero, suc, ◌==◌, List, [], ◌∷◌, Option, Bool, true}
+use Rattle.std.specs.Prelude.{false}
 use Rattle.fk_num.specs.Word.{Memory}
 use Rattle.fk_image.specs.declared.Image.{Image}
 use Rattle.fk_machine.specs.Hart.{Hart, Setting}
@@ -9,7 +11,8 @@ use Rattle.fk_sim_nodes.specs.Alone.{later, in_cycles, RunsPrivately, Stays}
 use Rattle.fk_sim_nodes.specs.OneHart.{OneDoes}
 use Rattle.fk_sim_nodes.specs.Together.{Together}
 use Rattle.fk_sim_nodes.specs.Phase.{Phase, Outside, Away, Leaving, word_after, Moves, Settled}
-use Rattle.fk_sim_match.specs.Stage.{Ending, Commits, Unites, Stage, Ended, Acts, Meets, count_of_stage, kept, absent, phase_of}
+use Rattle.fk_sim_match.specs.Stage.{Ending, Commits, Unites, Stage, Ended, Acts, Meets}
+use Rattle.fk_sim_match.specs.Stage.{count_of_stage, kept, absent, phase_of}
 
 -- a tree of nodes at one time, as the machine knows it
 pub record Plan : Type 0 where
@@ -19,8 +22,9 @@ pub record Plan : Type 0 where
   pub words : ℕ → Words
   -- whether the members of a node are a group in lockstep
   pub in_lockstep : ℕ → Bool
-  -- the control words by which members of nodes meet, each by those of the node that owns it; how many they are, and whether
-  -- a hart is one of them. One that stands elsewhere will come there from a part of the node
+  -- the control words by which members of nodes meet, each by those of the node that owns it; how
+  -- many they are, and whether a hart is one of them. One that stands elsewhere will come there
+  -- from a part of the node
   pub arrivals : Words
   pub size : (word : ℕ) → ℕ
   pub member : (word number : ℕ) → Bool
@@ -34,9 +38,11 @@ abbrev pub phase_at : (here member : Bool) → Phase → Phase
 phase_at true member f = f
 phase_at false member f = absent member
 
-abbrev pub phases_from : Plan → (g word number : ℕ) → (nodes : List ℕ) → List (Option Stage) → List Phase
+abbrev pub phases_from : Plan → (g word number : ℕ) → (nodes : List ℕ)
+    → List (Option Stage) → List Phase
 phases_from plan g w number (n ∷ ns) (a ∷ afters) =
-    phase_at (n == g) (plan.member w number) (phase_of w (plan.member w number) a) ∷ phases_from plan g w (suc number) ns afters
+    phase_at (n == g) (plan.member w number) (phase_of w (plan.member w number) a)
+    ∷ phases_from plan g w (suc number) ns afters
 phases_from plan g w number ns afters = []
 
 -- the phases of all harts at an arrival word of a node
@@ -45,17 +51,19 @@ phases plan g w afters = phases_from plan g w 0 plan.nodes afters
 
 -- those of members of the node
 abbrev pub phases_of : Plan → (word : ℕ) → List Member → List (Option Stage) → List Phase
-phases_of plan w (m ∷ ms) (a ∷ afters) = phase_of w (plan.member w m.number) a ∷ phases_of plan w ms afters
+phases_of plan w (m ∷ ms) (a ∷ afters) =
+    phase_of w (plan.member w m.number) a ∷ phases_of plan w ms afters
 phases_of plan w ms afters = []
 
--- what is known of blocks of code: how many steps there are from the poll to the commit of those who meet, what becomes of a
--- processor that does nothing, and three things that hold
+-- what is known of blocks of code: how many steps there are from the poll to the commit of those
+-- who meet, what becomes of a processor that does nothing, and three things that hold
 pub record Blocks (P D : Type 0) : Type 1 where
   pub lead : ℕ
   pub idle : P → D
   -- of a node before this cycle, after the common commit of its members in lockstep
   pub AfterAll : Setting → (g : ℕ) → List Member → List D → Memory → Type 0
-  -- of a member of a node, where so many private instructions have led it behind its commit by itself, or with those it met
+  -- of a member of a node, where so many private instructions have led it behind its commit by
+  -- itself, or with those it met
   pub AfterOne : (g behind : ℕ) → Member → P → D → Type 0
   -- of a member of a node in a phase of a joint block, at an arrival word
   pub StandsIn : (g : ℕ) → Setting → Ending → (word : ℕ) → Phase → Member → P → Type 0
@@ -91,11 +99,13 @@ IsInside f = Unit {0}
 abbrev pub IsIdle : {S P D : Type 0} → Source S P D → (P → D) → Type 0
 IsIdle {S = S} {P = P} source idle = (s : S) (p : P) → source.part 0 s p ≡ Passes s (idle p)
 
-module _ {S P D : Type 0} (source : Source S P D) (image : Image) (plan : Plan) (blocks : Blocks P D) where
+module _ {S P D : Type 0} (source : Source S P D) (image : Image) (plan : Plan)
+    (blocks : Blocks P D) where
   -- a member has committed, and private instructions lead it to where this holds
   abbrev pub HasCommitted : Setting → (g : ℕ) → Member → P → D → Type 0
   HasCommitted t g m p d =
-      (behind : ℕ) × (hart : Hart) × RunsPrivately image t m.number behind m.hart hart × blocks.AfterOne g behind (record m { hart = hart }) p d
+      (behind : ℕ) × (hart : Hart) × RunsPrivately image t m.number behind m.hart hart
+      × blocks.AfterOne g behind (record m { hart = hart }) p d
 
   -- or it has done nothing, and goes on together with those it met
   abbrev pub HasUnited : Setting → (g : ℕ) → Member → P → D → Type 0
@@ -108,8 +118,10 @@ module _ {S P D : Type 0} (source : Source S P D) (image : Image) (plan : Plan) 
   -- a member of a node at its stage
   abbrev pub StandsAt : Setting → (g : ℕ) → Stage → Member → P → Type 0
   StandsAt t g Ended m p = m.hart.ended ≡ true
-  StandsAt t g (Acts d) m p = (behind : ℕ) × OneDoes source image t 1 d behind m p (λ h x. blocks.AfterOne g behind (record m { hart = h }) p x)
-  StandsAt t g (Meets e w f) m p = IsInside f × IsOpen plan g w × (plan.member w m.number ≡ true) × blocks.StandsIn g t e w f m p
+  StandsAt t g (Acts d) m p = (behind : ℕ) × OneDoes source image t 1 d behind m p
+      (λ h x. blocks.AfterOne g behind (record m { hart = h }) p x)
+  StandsAt t g (Meets e w f) m p = IsInside f × IsOpen plan g w × (plan.member w m.number ≡ true)
+      × blocks.StandsIn g t e w f m p
 
   abbrev pub AllStandAt : Setting → (g : ℕ) → List Stage → List Member → List P → Type 0
   AllStandAt t g [] [] [] = Unit {0}
@@ -122,38 +134,48 @@ module _ {S P D : Type 0} (source : Source S P D) (image : Image) (plan : Plan) 
   AllAct d (s ∷ stages) (m ∷ ms) (p ∷ ps) = (s ≡ Acts d) × AllAct d stages ms ps
   AllAct d stages ms ps = ⊥
 
-  pub record InLockstep (t : Setting) (g : ℕ) (stages : List Stage) (ms : List Member) (ps : List P) (own : Memory) : Type 0 where
+  pub record InLockstep (t : Setting) (g : ℕ) (stages : List Stage) (ms : List Member) (ps : List P)
+      (own : Memory) : Type 0 where
     pub distance : ℕ
     pub alike : AllAct distance stages ms ps
-    pub together : Together source image (plan.words g) t 1 distance ms ps own (blocks.AfterAll (later (in_cycles distance t)) g)
+    pub together : Together source image (plan.words g) t 1 distance ms ps own
+        (blocks.AfterAll (later (in_cycles distance t)) g)
 
   -- what binds the harts of a node: they are in lockstep, or each stands at its stage by itself
-  abbrev pub Binds : (in_lockstep : Bool) → Setting → (g : ℕ) → List Stage → List Member → List P → Memory → Type 0
+  abbrev pub Binds : (in_lockstep : Bool) → Setting → (g : ℕ) → List Stage → List Member → List P
+      → Memory → Type 0
   Binds true t g stages ms ps own = InLockstep t g stages ms ps own
   Binds false t g stages ms ps own = AllStandAt t g stages ms ps
 
   -- an arrival word of a node counts those who have arrived
   abbrev pub Counts : Setting → (g word : ℕ) → List Stage → Memory → Type 0
   Counts t g w stages own =
-      plan.in_lockstep g ≡ false → IsOpen plan g w → Settled t.finished (plan.size w) (own w) (phases plan g w (kept stages))
+      plan.in_lockstep g ≡ false → IsOpen plan g w
+      → Settled t.finished (plan.size w) (own w) (phases plan g w (kept stages))
 
   -- before a cycle all nodes are bound by the plan
-  pub record IsBound (t : Setting) (stages : List Stage) (hs : List Hart) (ps : List P) (own : ℕ → Memory) : Type 0 where
+  pub record IsBound (t : Setting) (stages : List Stage) (hs : List Hart) (ps : List P)
+      (own : ℕ → Memory) : Type 0 where
     pub as_many : AreAsMany plan.nodes hs ps
     pub stages_as_many : AreAsMany plan.nodes hs stages
     pub binds : (g : ℕ)
-        → Binds (plan.in_lockstep g) t g (of_node g plan.nodes stages) (of_node g plan.nodes (numbered 0 hs)) (of_node g plan.nodes ps) (own g)
+        → Binds (plan.in_lockstep g) t g (of_node g plan.nodes stages)
+        (of_node g plan.nodes (numbered 0 hs)) (of_node g plan.nodes ps) (own g)
     pub counts : (g w : ℕ) → Counts t g w stages (own g)
 
   -- ---- the law of joint blocks
 
-  -- what becomes of a member in a phase: who leaves is away, and the others stand in their next phase
-  abbrev pub Follows : Setting → (g : ℕ) → Ending → (word : ℕ) → Phase → Phase → Member → P → D → Type 0
+  -- what becomes of a member in a phase: who leaves is away, and the others stand in
+  -- their next phase
+  abbrev pub Follows : Setting → (g : ℕ) → Ending → (word : ℕ) → Phase → Phase → Member
+      → P → D → Type 0
   Follows t g e w (Leaving zero) f' m p d = (f' ≡ Away) × HasLeft e t g m p d
   Follows t g e w f f' m p d = (d ≡ blocks.idle p) × blocks.StandsIn g t e w f' m p
 
-  -- the turn of a member in a phase, whatever its node's words are, is that of the phase, and touches the arrival word alone
-  pub record Turn (t : Setting) (g : ℕ) (e : Ending) (w : ℕ) (f : Phase) (m : Member) (p : P) (own : Memory) : Type 0 where
+  -- the turn of a member in a phase, whatever its node's words are, is that of the phase, and
+  -- touches the arrival word alone
+  pub record Turn (t : Setting) (g : ℕ) (e : Ending) (w : ℕ) (f : Phase) (m : Member) (p : P)
+      (own : Memory) : Type 0 where
     pub hart : Hart
     pub words : Memory
     pub phase : Phase
@@ -167,5 +189,6 @@ module _ {S P D : Type 0} (source : Source S P D) (image : Image) (plan : Plan) 
 
   abbrev pub JointBlocksTurn : Type 0
   JointBlocksTurn =
-      (t : Setting) (g : ℕ) (e : Ending) (w : ℕ) (f : Phase) (m : Member) (p : P) (own : Memory) → IsInside f → IsOpen plan g w → blocks.StandsIn g t e w f m p
+      (t : Setting) (g : ℕ) (e : Ending) (w : ℕ) (f : Phase) (m : Member) (p : P) (own : Memory)
+      → IsInside f → IsOpen plan g w → blocks.StandsIn g t e w f m p
       → Turn t g e w f m p own

@@ -1,5 +1,6 @@
 -- Rounds of those whose stages commit are allowed.
-use Rattle.std.specs.Prelude.{◌≡◌, ℕ, zero, suc, ◌+◌, List, [], ◌∷◌, length, map, true, false, Option, Some, None}
+use Rattle.std.specs.Prelude.{◌≡◌, ℕ, zero, suc, ◌+◌, List, [], ◌∷◌, length, map, true, false}
+use Rattle.std.specs.Prelude.{Option, Some, None}
 use Rattle.fk_num.specs.Word.{Memory}
 use Rattle.fk_space.specs.Space.{Space}
 use Rattle.fk_tree.specs.declared.node.Kind.{Kind}
@@ -9,7 +10,8 @@ use Rattle.fk_tree.specs.Tree.{Tree}
 use Rattle.fk_tree.specs.Sound.{IsSound}
 use Rattle.fk_meaning_operation.specs.Kinds.{joint_of}
 use Rattle.fk_meaning_operation.specs.declared.kinds.Joint.{Joint}
-use Rattle.fk_meaning_operation.specs.declared.kinds.Joint.TheVariants.{Alone, Starting, AtBarrier, Closing, Resuming}
+use Rattle.fk_meaning_operation.specs.declared.kinds.Joint.TheVariants.{Alone, Starting, AtBarrier}
+use Rattle.fk_meaning_operation.specs.declared.kinds.Joint.TheVariants.{Closing, Resuming}
 use Rattle.fk_meaning.specs.Processor.{Setting}
 use Rattle.fk_meaning.specs.Round.{Step, Runner, State, is_allowed}
 use Rattle.fk_core.specs.declared.op.CoreOp.{CoreOp}
@@ -21,7 +23,8 @@ use Rattle.fk_sim_match.specs.Plan.{IsInside, IsBound}
 use Rattle.fk_sim_block.specs.Owner.{Owner, core_source}
 use Rattle.fk_sim_block.specs.Stands.{Places}
 use Rattle.fk_sim_block.specs.Node.{Nestings}
-use Rattle.fk_sim_match.specs.Nodes.{first_of, HaveSpaces, is_arrival, is_lockstep, nodes_of, plan_of}
+use Rattle.fk_sim_match.specs.Nodes.{first_of, HaveSpaces, is_arrival, is_lockstep, nodes_of}
+use Rattle.fk_sim_match.specs.Nodes.{plan_of}
 use Rattle.fk_sim_match.specs.Behind.{blocks_of}
 
 -- what those who meet at a word of a node do together
@@ -66,21 +69,26 @@ module _ (core : List CoreOp) (tree : Tree) (spaces : ℕ → Space) where
   -- so it is with all processors from a number on, at the nodes where they stand
   abbrev pub AllDue : (number : ℕ) → List Stage → List (Runner Position) → Type 0
   AllDue number [] [] = Unit {0}
-  AllDue number (x ∷ stages) (r ∷ rs) = (r.has.number ≡ number) × IsDueAt (tree.places number) x r × AllDue (suc number) stages rs
+  AllDue number (x ∷ stages) (r ∷ rs) = (r.has.number ≡ number) × IsDueAt (tree.places number) x r
+      × AllDue (suc number) stages rs
   AllDue number stages rs = ⊥
 
 -- processors with their private heaps
 abbrev pub owners_of : (heaps : ℕ → Memory) → List (Runner Position) → List Owner
-owners_of heaps rs = map (λ r. let p : Owner = record { runner = r; heap = heaps r.has.number } in p) rs
+owners_of heaps rs =
+    map (λ r. let p : Owner = record { runner = r; heap = heaps r.has.number } in p) rs
 
--- where the plan of a state binds all harts, and each processor is about to do what its stage tells, those who commit may be
--- in a round together
+-- where the plan of a state binds all harts, and each processor is about to do what its stage
+-- tells, those who commit may be in a round together
 abbrev pub RoundsAreAllowed : Type 0
 RoundsAreAllowed =
-    (core : List CoreOp) (image : Image) (places : Places) (nestings : Nestings) (setting : Setting) (p : ℕ) (spaces : ℕ → Space) (t : MachineSetting)
+    (core : List CoreOp) (image : Image) (places : Places) (nestings : Nestings) (setting : Setting)
+    (p : ℕ) (spaces : ℕ → Space) (t : MachineSetting)
     (stages : List Stage) (hs : List Hart) (own : ℕ → Memory) (s : State Position)
     → let plan = plan_of s.tree spaces (nodes_of s.tree s.runners) in
     let blocks = blocks_of core image places nestings setting plan (first_of spaces) in
-    HaveSpaces s.tree spaces → IsSound p s.tree → length s.runners ≡ p → AllDue core s.tree spaces 0 stages s.runners
-    → IsBound (core_source core setting) image plan blocks t stages hs (owners_of s.store.heaps s.runners) own
+    HaveSpaces s.tree spaces → IsSound p s.tree → length s.runners ≡ p
+    → AllDue core s.tree spaces 0 stages s.runners
+    → IsBound (core_source core setting) image plan blocks t stages hs
+    (owners_of s.store.heaps s.runners) own
     → is_allowed (next core) setting (counts_for stages) s ≡ true

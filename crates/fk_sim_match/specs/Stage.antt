@@ -1,20 +1,23 @@
 -- How a hart stands before a cycle, and what that says of its count in the round.
-use Rattle.std.specs.Prelude.{◌==◌, Bool, true, false, cond, ◌≡◌, ℕ, zero, suc, List, [], ◌∷◌, Option, Some, None, map}
+use Rattle.std.specs.Prelude.{◌==◌, Bool, true, false, cond, ◌≡◌, ℕ, zero, suc, List, [], ◌∷◌}
+use Rattle.std.specs.Prelude.{Option, Some, None, map}
 use Rattle.fk_sim_nodes.specs.Phase.{Phase, Outside, Away, Leaving}
 
--- how those who meet leave: it is the commit of each; or they unite, and go on together to a commit behind it
+-- how those who meet leave: it is the commit of each; or they unite, and go on together to a
+-- commit behind it
 pub data Ending : Type 0 where
   Commits : Ending
   Unites : Ending
 
--- a hart has ended; it commits in so many cycles, by itself or with its group; or it is in a phase of a joint block, at an
--- arrival word
+-- a hart has ended; it commits in so many cycles, by itself or with its group; or it is in a phase
+-- of a joint block, at an arrival word
 pub data Stage : Type 0 where
   Ended : Stage
   Acts : (distance : ℕ) → Stage
   Meets : (ending : Ending) (word : ℕ) (phase : Phase) → Stage
 
--- in how many cycles it commits; none where it has ended, waits for others, or is to unite with them
+-- in how many cycles it commits; none where it has ended, waits for others, or is
+-- to unite with them
 abbrev pub commits_in : Ending → (distance : ℕ) → Option ℕ
 commits_in Commits d = Some d
 commits_in Unites d = None
@@ -74,7 +77,8 @@ is_over s = false
 -- what a cycle leaves of a stage, none where it is over
 abbrev pub Remains : Stage → Option Stage → Type 0
 Remains s None = IsOver s
-Remains s (Some s') = (count_of_stage s ≡ 0) × Nears (distance s) (distance s') × SameKind s s' × (is_over s ≡ false)
+Remains s (Some s') = (count_of_stage s ≡ 0) × Nears (distance s) (distance s') × SameKind s s'
+    × (is_over s ≡ false)
 
 -- stages that all keep
 abbrev pub kept : List Stage → List (Option Stage)

@@ -32,75 +32,113 @@ all_act d ms = map (λ m. Acts d) ms
 -- by itself, at a local operation or a request
 abbrev pub MembersStandAtStages : Type 0
 MembersStandAtStages =
-    (core : List CoreOp) (image : Image) (places : Places) (nestings : Nestings) (cycles : Cycles) (firsts : List ℕ) (main : ℕ) (setting : Setting) (plan : Plan) (first : ℕ → ℕ)
+    (core : List CoreOp) (image : Image) (places : Places) (nestings : Nestings) (cycles : Cycles)
+    (firsts : List ℕ) (main : ℕ) (setting : Setting) (plan : Plan) (first : ℕ → ℕ)
     (t : MachineSetting) (g i : ℕ) (op : CoreOp) (operation : Operation) (m : Member) (p : Owner)
-    → GroupLaw core image places nestings cycles firsts main → StandsOp core i op operation → is_alone operation ≡ true
-    → Enters core image places setting t i op operation p m.hart → IsMember places nestings setting (runs_of plan (first g) m.number) (first g) m p
-    → StandsAt (core_source core setting) image plan (blocks_of core image places nestings setting plan first) t g (Acts (cycles.before i)) m p
+    → GroupLaw core image places nestings cycles firsts main → StandsOp core i op operation
+    → is_alone operation ≡ true
+    → Enters core image places setting t i op operation p m.hart
+    → IsMember places nestings setting (runs_of plan (first g) m.number) (first g) m p
+    → StandsAt (core_source core setting) image plan
+    (blocks_of core image places nestings setting plan first) t g (Acts (cycles.before i)) m p
 
 -- at the end of `main`
 abbrev pub MembersHaltAtStages : Type 0
 MembersHaltAtStages =
-    (core : List CoreOp) (image : Image) (places : Places) (nestings : Nestings) (cycles : Cycles) (firsts : List ℕ) (main : ℕ) (setting : Setting) (plan : Plan) (first : ℕ → ℕ)
+    (core : List CoreOp) (image : Image) (places : Places) (nestings : Nestings) (cycles : Cycles)
+    (firsts : List ℕ) (main : ℕ) (setting : Setting) (plan : Plan) (first : ℕ → ℕ)
     (t : MachineSetting) (g i : ℕ) (op : CoreOp) (m : Member) (p : Owner)
-    → GroupLaw core image places nestings cycles firsts main → StandsOp core i op Halt → Enters core image places setting t i op Halt p m.hart → m.number ≡ number_of p
-    → (d : ℕ) × (d ≤ most_before) × StandsAt (core_source core setting) image plan (blocks_of core image places nestings setting plan first) t g (Acts d) m p
+    → GroupLaw core image places nestings cycles firsts main → StandsOp core i op Halt
+    → Enters core image places setting t i op Halt p m.hart → m.number ≡ number_of p
+    → (d : ℕ) × (d ≤ most_before) × StandsAt (core_source core setting) image plan
+    (blocks_of core image places nestings setting plan first) t g (Acts d) m p
 
 -- at an operation by meeting it is on its way
 abbrev pub MeetersSetOut : Type 0
 MeetersSetOut =
-    (core : List CoreOp) (image : Image) (places : Places) (nestings : Nestings) (cycles : Cycles) (firsts : List ℕ) (main : ℕ) (setting : Setting) (plan : Plan) (first : ℕ → ℕ)
+    (core : List CoreOp) (image : Image) (places : Places) (nestings : Nestings) (cycles : Cycles)
+    (firsts : List ℕ) (main : ℕ) (setting : Setting) (plan : Plan) (first : ℕ → ℕ)
     (t : MachineSetting) (g i w : ℕ) (op : CoreOp) (operation : Operation) (m : Member) (p : Owner)
-    → GroupLaw core image places nestings cycles firsts main → StandsOp core i op operation → is_meeting operation ≡ true
-    → Enters core image places setting t i op operation p m.hart → IsMember places nestings setting (runs_of plan (first g) m.number) (first g) m p
-    → OwnsHeader (plan.words g) (first g) → w ≡ first g + word_of operation → IsOpen plan g w → plan.member w m.number ≡ true → AreSoMany operation (runs_of plan (first g) m.number) p (plan.size w)
+    → GroupLaw core image places nestings cycles firsts main → StandsOp core i op operation
+    → is_meeting operation ≡ true
+    → Enters core image places setting t i op operation p m.hart
+    → IsMember places nestings setting (runs_of plan (first g) m.number) (first g) m p
+    → OwnsHeader (plan.words g) (first g) → w ≡ first g + word_of operation
+    → IsOpen plan g w → plan.member w m.number ≡ true
+    → AreSoMany operation (runs_of plan (first g) m.number) p (plan.size w)
     → (d : ℕ) × (d ≤ most_to_meet) × IsFresh t (Meets Commits w (Coming d))
-    × StandsAt (core_source core setting) image plan (blocks_of core image places nestings setting plan first) t g (Meets Commits w (Coming d)) m p
+    × StandsAt (core_source core setting) image plan
+    (blocks_of core image places nestings setting plan first) t g (Meets Commits w (Coming d)) m p
 
 -- so it is at the beginning of `start`, in the root, where it meets all others
 abbrev pub StartersSetOut : Type 0
 StartersSetOut =
-    (core : List CoreOp) (image : Image) (places : Places) (nestings : Nestings) (cycles : Cycles) (firsts : List ℕ) (main : ℕ) (setting : Setting) (plan : Plan) (first : ℕ → ℕ)
+    (core : List CoreOp) (image : Image) (places : Places) (nestings : Nestings) (cycles : Cycles)
+    (firsts : List ℕ) (main : ℕ) (setting : Setting) (plan : Plan) (first : ℕ → ℕ)
     (t : MachineSetting) (i w : ℕ) (op : CoreOp) (m : Member) (p : Owner)
     → GroupLaw core image places nestings cycles firsts main → StandsOp core i op Begin
-    → Enters core image places setting t i op Begin p m.hart → IsMember places nestings setting (Some setting.processors) root_words m p → IsInRoot nestings setting p
-    → OwnsHeader (plan.words 0) root_words → w ≡ root_words + closing_word → IsOpen plan 0 w → plan.member w m.number ≡ true → plan.size w ≡ setting.processors
+    → Enters core image places setting t i op Begin p m.hart
+    → IsMember places nestings setting (Some setting.processors) root_words m p
+    → IsInRoot nestings setting p
+    → OwnsHeader (plan.words 0) root_words → w ≡ root_words + closing_word → IsOpen plan 0 w
+    → plan.member w m.number ≡ true → plan.size w ≡ setting.processors
     → (d : ℕ) × (d ≤ most_to_start) × IsFresh t (Meets Unites w (Coming d))
-    × StandsAt (core_source core setting) image plan (blocks_of core image places nestings setting plan first) t 0 (Meets Unites w (Coming d)) m p
+    × StandsAt (core_source core setting) image plan
+    (blocks_of core image places nestings setting plan first) t 0 (Meets Unites w (Coming d)) m p
 
 -- members in lockstep at a local operation or a request, with nobody at the words of their node
 abbrev pub GroupsActTogether : Type 0
 GroupsActTogether =
-    (core : List CoreOp) (image : Image) (places : Places) (nestings : Nestings) (cycles : Cycles) (firsts : List ℕ) (main : ℕ) (setting : Setting) (plan : Plan) (first : ℕ → ℕ)
-    (t : MachineSetting) (g i : ℕ) (op : CoreOp) (operation : Operation) (onward : Bool) (ms : List Member) (ps : List Owner) (own : Memory)
-    → GroupLaw core image places nestings cycles firsts main → StandsOp core i op operation → is_alone operation ≡ true
-    → AllEnter core image places nestings i op operation setting t None (first g) ms ps → AllGo operation onward ps → IsAtRest (first g) own
-    → InLockstep (core_source core setting) image plan (blocks_of core image places nestings setting plan first) t g (all_act (cycles.before i) ms) ms ps own
+    (core : List CoreOp) (image : Image) (places : Places) (nestings : Nestings) (cycles : Cycles)
+    (firsts : List ℕ) (main : ℕ) (setting : Setting) (plan : Plan) (first : ℕ → ℕ)
+    (t : MachineSetting) (g i : ℕ) (op : CoreOp) (operation : Operation) (onward : Bool)
+    (ms : List Member) (ps : List Owner) (own : Memory)
+    → GroupLaw core image places nestings cycles firsts main → StandsOp core i op operation
+    → is_alone operation ≡ true
+    → AllEnter core image places nestings i op operation setting t None (first g) ms ps
+    → AllGo operation onward ps → IsAtRest (first g) own
+    → InLockstep (core_source core setting) image plan
+    (blocks_of core image places nestings setting plan first) t g
+    (all_act (cycles.before i) ms) ms ps own
 
 -- at a step of the tree in which they keep their node
 abbrev pub GroupsStepTogether : Type 0
 GroupsStepTogether =
-    (core : List CoreOp) (image : Image) (places : Places) (nestings : Nestings) (cycles : Cycles) (firsts : List ℕ) (main : ℕ) (setting : Setting) (plan : Plan) (first : ℕ → ℕ)
-    (t : MachineSetting) (g i : ℕ) (op : CoreOp) (operation : Operation) (lowest size : ℕ) (ms : List Member) (ps : List Owner) (own : Memory)
-    → GroupLaw core image places nestings cycles firsts main → StandsOp core i op operation → is_shared_step operation ≡ true
-    → OwnsHeader (plan.words g) (first g) → AllEnter core image places nestings i op operation setting t None (first g) ms ps
+    (core : List CoreOp) (image : Image) (places : Places) (nestings : Nestings) (cycles : Cycles)
+    (firsts : List ℕ) (main : ℕ) (setting : Setting) (plan : Plan) (first : ℕ → ℕ)
+    (t : MachineSetting) (g i : ℕ) (op : CoreOp) (operation : Operation) (lowest size : ℕ)
+    (ms : List Member) (ps : List Owner) (own : Memory)
+    → GroupLaw core image places nestings cycles firsts main → StandsOp core i op operation
+    → is_shared_step operation ≡ true
+    → OwnsHeader (plan.words g) (first g)
+    → AllEnter core image places nestings i op operation setting t None (first g) ms ps
     → IsAskedOf operation lowest size ps → IsAtRest (first g) own
-    → InLockstep (core_source core setting) image plan (blocks_of core image places nestings setting plan first) t g (all_act (cycles.before i) ms) ms ps own
+    → InLockstep (core_source core setting) image plan
+    (blocks_of core image places nestings setting plan first) t g
+    (all_act (cycles.before i) ms) ms ps own
 
 -- and at the end of the group of `start`
 abbrev pub GroupsEndTogether : Type 0
 GroupsEndTogether =
-    (core : List CoreOp) (image : Image) (places : Places) (nestings : Nestings) (cycles : Cycles) (firsts : List ℕ) (main : ℕ) (setting : Setting) (plan : Plan) (first : ℕ → ℕ)
+    (core : List CoreOp) (image : Image) (places : Places) (nestings : Nestings) (cycles : Cycles)
+    (firsts : List ℕ) (main : ℕ) (setting : Setting) (plan : Plan) (first : ℕ → ℕ)
     (t : MachineSetting) (g i : ℕ) (op : CoreOp) (ms : List Member) (ps : List Owner) (own : Memory)
-    → GroupLaw core image places nestings cycles firsts main → StandsOp core i op End → AllEnter core image places nestings i op End setting t None (first g) ms ps
+    → GroupLaw core image places nestings cycles firsts main → StandsOp core i op End
+    → AllEnter core image places nestings i op End setting t None (first g) ms ps
     → AreInStart nestings ps → IsAtRest (first g) own
-    → InLockstep (core_source core setting) image plan (blocks_of core image places nestings setting plan first) t g (all_act 0 ms) ms ps own
+    → InLockstep (core_source core setting) image plan
+    (blocks_of core image places nestings setting plan first) t g (all_act 0 ms) ms ps own
 
 -- and at the beginning of it, where all who are in the root have met
 abbrev pub GroupsStartTogether : Type 0
 GroupsStartTogether =
-    (core : List CoreOp) (image : Image) (places : Places) (nestings : Nestings) (cycles : Cycles) (firsts : List ℕ) (main : ℕ) (setting : Setting) (plan : Plan) (first : ℕ → ℕ)
+    (core : List CoreOp) (image : Image) (places : Places) (nestings : Nestings) (cycles : Cycles)
+    (firsts : List ℕ) (main : ℕ) (setting : Setting) (plan : Plan) (first : ℕ → ℕ)
     (t : MachineSetting) (i : ℕ) (op : CoreOp) (ms : List Member) (ps : List Owner) (own : Memory)
-    → GroupLaw core image places nestings cycles firsts main → StandsOp core i op Begin → OwnsHeader (plan.words 0) root_words → IsRunning image setting t
-    → AllHaveMet core image places nestings i op (nestings.start.there i) (nestings.start.coming i) setting ms ps → IsAtRest root_words own
-    → InLockstep (core_source core setting) image plan (blocks_of core image places nestings setting plan first) t 0 (all_act (cycles.before i) ms) ms ps own
+    → GroupLaw core image places nestings cycles firsts main → StandsOp core i op Begin
+    → OwnsHeader (plan.words 0) root_words → IsRunning image setting t
+    → AllHaveMet core image places nestings i op (nestings.start.there i)
+    (nestings.start.coming i) setting ms ps → IsAtRest root_words own
+    → InLockstep (core_source core setting) image plan
+    (blocks_of core image places nestings setting plan first) t 0
+    (all_act (cycles.before i) ms) ms ps own

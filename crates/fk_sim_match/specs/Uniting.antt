@@ -30,8 +30,11 @@ SomebodyUnites (s ∷ stages) = (unites_now s ≡ true) ⊎ SomebodyUnites stage
 -- who leaves its stage in another cycle has committed
 abbrev pub CyclesLeaveApart : Type 0
 CyclesLeaveApart =
-    (core : List CoreOp) (image : Image) (places : Places) (nestings : Nestings) (setting : Setting) (plan : Plan) (first : ℕ → ℕ) (t : MachineSetting) (stages : List Stage)
+    (core : List CoreOp) (image : Image) (places : Places) (nestings : Nestings) (setting : Setting)
+    (plan : Plan) (first : ℕ → ℕ) (t : MachineSetting) (stages : List Stage)
     (hs : List Hart) (ps : List Owner) (ds : List Doing) (own own' : ℕ → Memory)
     → NobodyUnites stages
-    → IsLeft (core_source core setting) image plan (joining_blocks_of core image places nestings setting plan first) t stages hs ps ds own own'
-    → IsLeft (core_source core setting) image plan (blocks_of core image places nestings setting plan first) t stages hs ps ds own own'
+    → IsLeft (core_source core setting) image plan
+    (joining_blocks_of core image places nestings setting plan first) t stages hs ps ds own own'
+    → IsLeft (core_source core setting) image plan
+    (blocks_of core image places nestings setting plan first) t stages hs ps ds own own'

@@ -1,6 +1,7 @@
--- What a hart does alone, and what the members of a node do alone: cycles in which they touch nothing that is shared but
--- their node's own words.
-use Rattle.std.specs.Prelude.{◌≡◌, ℕ, zero, suc, ◌+◌, ◌*◌, ◌<◌, List, [], ◌∷◌, Some, Bool, true, false, map, slice_get}
+-- What a hart does alone, and what the members of a node do alone: cycles in which they touch
+-- nothing that is shared but their node's own words.
+use Rattle.std.specs.Prelude.{◌≡◌, ℕ, zero, suc, ◌+◌, ◌*◌, ◌<◌, List, [], ◌∷◌, Some, Bool, true}
+use Rattle.std.specs.Prelude.{false, map, slice_get}
 use Rattle.fk_num.specs.Word.{Memory}
 use Rattle.fk_image.specs.declared.Image.{Image}
 use Rattle.fk_isa.specs.declared.instruction.Instruction.{Instruction}
@@ -30,10 +31,11 @@ in_cycles (suc d) t = in_cycles d (later t)
 
 -- a hart goes on, and of what is shared only reservations may change
 abbrev pub GoesAlone : Effect → Hart → Shared → Type 0
-GoesAlone effect h s = (reserved : Reservations) × (effect ≡ Goes h (record s { reserved = reserved }))
+GoesAlone effect h s = (reserved : Reservations)
+    × (effect ≡ Goes h (record s { reserved = reserved }))
 
--- in this cycle the hart with a number runs an instruction that does not commit, and that touches nothing but the hart. What
--- it does may rest on the cycle and on the number
+-- in this cycle the hart with a number runs an instruction that does not commit, and that touches
+-- nothing but the hart. What it does may rest on the cycle and on the number
 pub record IsPrivateIn (image : Image) (t : Setting) (number : ℕ) (h h' : Hart) : Type 0 where
   pub live : h.ended ≡ false
   pub counted : count_in image.commits.items h.pc ≡ 0
@@ -46,7 +48,8 @@ RunsPrivately image t number (suc d) h h' =
     (h1 : Hart) × IsPrivateIn image t number h h1 × RunsPrivately image (later t) number d h1 h'
 
 -- a hart goes on, and of what is shared only reservations and the node's own words may change
-pub record GoesWithin (mine : Words) (effect : Effect) (h : Hart) (sh : Shared) (own : Memory) : Type 0 where
+pub record GoesWithin (mine : Words) (effect : Effect) (h : Hart) (sh : Shared)
+    (own : Memory) : Type 0 where
   pub control : Memory
   pub reserved : Reservations
   pub goes : effect ≡ Goes h (record sh { control = control; reserved = reserved })
@@ -54,22 +57,30 @@ pub record GoesWithin (mine : Words) (effect : Effect) (h : Hart) (sh : Shared) 
   pub keeps : (i : ℕ) → mine i ≡ false → control i ≡ sh.control i
 
 module _ (image : Image) (mine : Words) where
-  -- in this cycle a member runs an instruction, of count c, that touches nothing but its hart and the node's own words
-  pub record Stays (t : Setting) (c : ℕ) (m : Member) (own : Memory) (h' : Hart) (own' : Memory) : Type 0 where
+  -- in this cycle a member runs an instruction, of count c, that touches nothing but its hart and
+  -- the node's own words
+  pub record Stays (t : Setting) (c : ℕ) (m : Member) (own : Memory) (h' : Hart)
+      (own' : Memory) : Type 0 where
     pub live : m.hart.ended ≡ false
     pub counted : count_in image.commits.items m.hart.pc ≡ c
-    pub goes : (sh : Shared) → Has mine sh.control own → GoesWithin mine (step t m.number m.hart sh) h' sh own'
+    pub goes : (sh : Shared) → Has mine sh.control own
+        → GoesWithin mine (step t m.number m.hart sh) h' sh own'
 
-  -- all members run such an instruction, each from the words that those before it have left. Then something holds
-  abbrev pub NodeCycle : Setting → (c : ℕ) → List Member → (own : Memory) → (List Member → Memory → Type 0) → Type 0
+  -- all members run such an instruction, each from the words that those before it have left.
+  -- Then something holds
+  abbrev pub NodeCycle : Setting → (c : ℕ) → List Member → (own : Memory)
+      → (List Member → Memory → Type 0) → Type 0
   NodeCycle t c [] own Then = Then [] own
   NodeCycle t c (m ∷ ms) own Then =
-      (h' : Hart) × (own' : Memory) × Stays t c m own h' own' × NodeCycle t c ms own' (λ ms' own''. Then (record m { hart = h' } ∷ ms') own'')
+      (h' : Hart) × (own' : Memory) × Stays t c m own h' own'
+      × NodeCycle t c ms own' (λ ms' own''. Then (record m { hart = h' } ∷ ms') own'')
 
   -- so many cycles in which no member commits
-  abbrev pub NodeRun : Setting → (cycles : ℕ) → List Member → (own : Memory) → (List Member → Memory → Type 0) → Type 0
+  abbrev pub NodeRun : Setting → (cycles : ℕ) → List Member → (own : Memory)
+      → (List Member → Memory → Type 0) → Type 0
   NodeRun t zero ms own Then = Then ms own
-  NodeRun t (suc d) ms own Then = NodeCycle t 0 ms own (λ ms' own'. NodeRun (later t) d ms' own' Then)
+  NodeRun t (suc d) ms own Then =
+      NodeCycle t 0 ms own (λ ms' own'. NodeRun (later t) d ms' own' Then)
 
 -- each member has so many private steps to go, to the hart in its place
 abbrev pub AllRunPrivately : Image → Setting → (cycles : ℕ) → List Member → List Hart → Type 0
@@ -84,15 +95,20 @@ with_harts (m ∷ ms) (h ∷ hs) = record m { hart = h } ∷ with_harts ms hs
 with_harts [] hs = []
 with_harts (m ∷ ms) [] = []
 
--- members at any places that have equally many private steps to go are a run of their node, which leaves its words
+-- members at any places that have equally many private steps to go are a run of their node, which
+-- leaves its words
 abbrev pub PrivateRunsAreNodeRuns : Type 0
 PrivateRunsAreNodeRuns =
-    (image : Image) (mine : Words) (t : Setting) (d : ℕ) (ms : List Member) (hs' : List Hart) (own : Memory)
-    → AllRunPrivately image t d ms hs' → NodeRun image mine t d ms own (λ ms' own'. (ms' ≡ with_harts ms hs') × (own' ≡ own))
+    (image : Image) (mine : Words) (t : Setting) (d : ℕ) (ms : List Member)
+    (hs' : List Hart) (own : Memory)
+    → AllRunPrivately image t d ms hs'
+    → NodeRun image mine t d ms own (λ ms' own'. (ms' ≡ with_harts ms hs') × (own' ≡ own))
 
 -- a run and one from where it ends are one run
 abbrev pub NodeRunsJoin : Type 0
 NodeRunsJoin =
-    (image : Image) (mine : Words) (t : Setting) (d e : ℕ) (ms : List Member) (own : Memory) (test : List Member → Memory → Bool)
-    → NodeRun image mine t d ms own (λ ms' own'. NodeRun image mine (in_cycles d t) e ms' own' (λ ms'' own''. test ms'' own'' ≡ true))
+    (image : Image) (mine : Words) (t : Setting) (d e : ℕ) (ms : List Member) (own : Memory)
+    (test : List Member → Memory → Bool)
+    → NodeRun image mine t d ms own (λ ms' own'.
+    NodeRun image mine (in_cycles d t) e ms' own' (λ ms'' own''. test ms'' own'' ≡ true))
     → NodeRun image mine t (d + e) ms own (λ ms'' own''. test ms'' own'' ≡ true)

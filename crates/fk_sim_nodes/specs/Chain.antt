@@ -14,8 +14,10 @@ abbrev pub runs : Hart → Option ℕ
 runs h = cond h.ended None (Some h.pc)
 
 module _ {S P D : Type 0} (source : Source S P D) (image : Image) (mine : Words) (t : Setting) where
-  -- a member's turn is its processor's part. No control words change but the node's own and common ones
-  pub record Passing (m : Member) (p : P) (earlier : List ℕ) (sh : Shared) (s : S) (Then : Hart → D → Memory → Type 0) : Type 0 where
+  -- a member's turn is its processor's part. No control words change but the node's
+  -- own and common ones
+  pub record Passing (m : Member) (p : P) (earlier : List ℕ) (sh : Shared) (s : S)
+      (Then : Hart → D → Memory → Type 0) : Type 0 where
     pub hart : Hart
     pub shared : Shared
     pub own : Memory
@@ -23,7 +25,8 @@ module _ {S P D : Type 0} (source : Source S P D) (image : Image) (mine : Words)
     pub done : D
     pub part : source.part (count_of image (runs m.hart)) s p ≡ Passes store done
     pub turned : (hs : List Hart) (others : Shared → Turns)
-        → turn m.hart.ended t m.number m.hart hs others sh ≡ before hart (runs m.hart) (others shared)
+        → turn m.hart.ended t m.number m.hart hs others sh
+        ≡ before hart (runs m.hart) (others shared)
     pub shows : Shows source earlier shared store
     pub has : Has mine shared.control own
     pub keeps : KeepsOthers mine source.common sh.control shared.control
@@ -35,14 +38,18 @@ module _ {S P D : Type 0} (source : Source S P D) (image : Image) (mine : Words)
     pub live : m.hart.ended ≡ false
     pub part : source.part (count_of image (runs m.hart)) s p ≡ Breaks site
     pub turned : (hs : List Hart) (others : Shared → Turns)
-        → turn m.hart.ended t m.number m.hart hs others sh ≡ after_effect m.hart hs others sh (Stops (Faulted site m.number))
+        → turn m.hart.ended t m.number m.hart hs others sh
+        ≡ after_effect m.hart hs others sh (Stops (Faulted site m.number))
 
-  -- These members have their turns in this order, from the node's own words on, whatever the store, the other control
-  -- words and what was printed are by then. In the end something holds of what they have become and of the words.
-  abbrev pub Chain : List Member → List P → (own : Memory) → (List Member → List D → Memory → Type 0) → Type 0
+  -- These members have their turns in this order, from the node's own words on, whatever the store,
+  -- the other control words and what was printed are by then. In the end something holds of what
+  -- they have become and of the words.
+  abbrev pub Chain : List Member → List P → (own : Memory)
+      → (List Member → List D → Memory → Type 0) → Type 0
   Chain [] [] own Then = Then [] [] own
   Chain (m ∷ ms) (p ∷ ps) own Then =
       (earlier : List ℕ) (sh : Shared) (s : S) → Shows source earlier sh s → Has mine sh.control own
-      → Passing m p earlier sh s (λ h d own'. Chain ms ps own' (λ ms' ds. Then (record m { hart = h } ∷ ms') (d ∷ ds)))
+      → Passing m p earlier sh s
+      (λ h d own'. Chain ms ps own' (λ ms' ds. Then (record m { hart = h } ∷ ms') (d ∷ ds)))
       ⊎ Faulting m p sh s
   Chain ms ps own Then = ⊥

@@ -1,4 +1,5 @@
--- Nodes as the machine knows them: harts that stand in one node of the tree of groups, and control words that are its own.
+-- Nodes as the machine knows them: harts that stand in one node of the tree of groups, and control
+-- words that are its own.
 use Rattle.std.specs.Prelude.{◌≡◌, ℕ, suc, ◌==◌, List, [], ◌∷◌, Bool, true, false}
 use Rattle.fk_num.specs.Word.{Memory}
 use Rattle.fk_machine.specs.Hart.{Hart}
@@ -13,7 +14,8 @@ abbrev pub numbered : (first : ℕ) → List Hart → List Member
 numbered number [] = []
 numbered number (h ∷ hs) = record { number = number; hart = h } ∷ numbered (suc number) hs
 
--- of what there is for each hart, that of those who stand in node g. The first list says in which node each hart stands
+-- of what there is for each hart, that of those who stand in node g. The first list says in which
+-- node each hart stands
 abbrev pub add : {A : Type 0} → Bool → A → List A → List A
 add true x xs = x ∷ xs
 add false x xs = xs

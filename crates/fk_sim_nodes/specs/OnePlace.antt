@@ -1,4 +1,5 @@
--- Members that stand at one place run the same instruction in one cycle, each on the words that those before it have left.
+-- Members that stand at one place run the same instruction in one cycle, each on the words that
+-- those before it have left.
 use Rattle.std.specs.Prelude.{◌≡◌, ℕ, suc, ◌*◌, ◌%◌, ◌==◌, List, [], ◌∷◌, ◌++◌, true, false}
 use Rattle.fk_num.specs.Word.{Memory, word_sum}
 use Rattle.fk_image.specs.declared.Image.{Image}
@@ -38,7 +39,8 @@ pub record IsOwnWord (mine : Words) (address word : ℕ) : Type 0 where
 -- each member's address is that of an own word, not always the same
 abbrev pub AllAtOwn : Words → (address : Hart → ℕ) → (word : Member → ℕ) → List Member → Type 0
 AllAtOwn mine address word [] = Unit {0}
-AllAtOwn mine address word (m ∷ ms) = IsOwnWord mine (address m.hart) (word m) × AllAtOwn mine address word ms
+AllAtOwn mine address word (m ∷ ms) = IsOwnWord mine (address m.hart) (word m)
+    × AllAtOwn mine address word ms
 
 -- what is in a register of each of the members whose word is w
 abbrev pub values_for : (word : Member → ℕ) → (register w : ℕ) → List Member → List ℕ
@@ -55,43 +57,56 @@ sum_from v [] = v
 sum_from v (x ∷ xs) = sum_from (word_sum v x) xs
 
 -- each member with its word, to which those before it have added, in a register
-abbrev pub each_finds : (word : Member → ℕ) → (rd rv : ℕ) → (own : Memory) → (before : List Member) → List Member → List Member
+abbrev pub each_finds : (word : Member → ℕ) → (rd rv : ℕ) → (own : Memory) → (before : List Member)
+    → List Member → List Member
 each_finds word rd rv own before [] = []
 each_finds word rd rv own before (m ∷ ms) =
-    record m { hart = onward_with rd (sum_from (own (word m)) (values_for word rv (word m) before)) m.hart }
+    record m
+    { hart = onward_with rd (sum_from (own (word m)) (values_for word rv (word m) before)) m.hart }
     ∷ each_finds word rd rv own (before ++ m ∷ []) ms
 
 -- the instruction of all touches nothing but its hart: what it does may differ by hart and cycle
 abbrev pub AllGoAlone : Setting → Instruction → (Member → Hart) → List Member → Type 0
 AllGoAlone t i f [] = Unit {0}
-AllGoAlone t i f (m ∷ ms) = ((s : Shared) → GoesAlone (perform t m.number i m.hart s) (f m) s) × AllGoAlone t i f ms
+AllGoAlone t i f (m ∷ ms) = ((s : Shared) → GoesAlone (perform t m.number i m.hart s) (f m) s)
+    × AllGoAlone t i f ms
 
 abbrev pub PrivateOfAll : Type 0
 PrivateOfAll =
-    (image : Image) (mine : Words) (t : Setting) (k c : ℕ) (i : Instruction) (f : Member → Hart) (ms : List Member) (own : Memory)
+    (image : Image) (mine : Words) (t : Setting) (k c : ℕ) (i : Instruction) (f : Member → Hart)
+    (ms : List Member) (own : Memory)
     → Holds image t → IsAt image k i c → AllStandAt k ms → AllGoAlone t i f ms
     → NodeCycle image mine t c ms own (λ ms' own'. (ms' ≡ on_each f ms) × (own' ≡ own))
 
 -- each loads its own word
 abbrev pub LoadsOfAll : Type 0
 LoadsOfAll =
-    (image : Image) (mine : Words) (t : Setting) (k c rd rs imm : ℕ) (word : Member → ℕ) (ms : List Member) (own : Memory)
-    → Holds image t → IsAt image k (Lw rd rs imm) c → AllStandAt k ms → AllAtOwn mine (λ h. word_sum (h.registers rs) imm) word ms
+    (image : Image) (mine : Words) (t : Setting) (k c rd rs imm : ℕ) (word : Member → ℕ)
+    (ms : List Member) (own : Memory)
+    → Holds image t → IsAt image k (Lw rd rs imm) c → AllStandAt k ms
+    → AllAtOwn mine (λ h. word_sum (h.registers rs) imm) word ms
     → NodeCycle image mine t c ms own
-    (λ ms' own'. (ms' ≡ on_each (λ m. onward_with rd (own (word m)) m.hart) ms) × (own' ≡ own) × AllStandAt (suc k) ms')
+    (λ ms' own'. (ms' ≡ on_each (λ m. onward_with rd (own (word m)) m.hart) ms) × (own' ≡ own)
+    × AllStandAt (suc k) ms')
 
 -- the last value that is stored to a word stays
 abbrev pub StoresOfAll : Type 0
 StoresOfAll =
-    (image : Image) (mine : Words) (t : Setting) (k c rs rv imm : ℕ) (word : Member → ℕ) (ms : List Member) (own : Memory)
-    → Holds image t → IsAt image k (Sw rs rv imm) c → AllStandAt k ms → AllAtOwn mine (λ h. word_sum (h.registers rs) imm) word ms
+    (image : Image) (mine : Words) (t : Setting) (k c rs rv imm : ℕ) (word : Member → ℕ)
+    (ms : List Member) (own : Memory)
+    → Holds image t → IsAt image k (Sw rs rv imm) c → AllStandAt k ms
+    → AllAtOwn mine (λ h. word_sum (h.registers rs) imm) word ms
     → NodeCycle image mine t c ms own
-    (λ ms' own'. (ms' ≡ on_each (λ m. onward m.hart) ms) × ((w : ℕ) → own' w ≡ last_or (own w) (values_for word rv w ms)) × AllStandAt (suc k) ms')
+    (λ ms' own'. (ms' ≡ on_each (λ m. onward m.hart) ms)
+    × ((w : ℕ) → own' w ≡ last_or (own w) (values_for word rv w ms)) × AllStandAt (suc k) ms')
 
 -- a word becomes the sum of what is added to it, and each member finds the sum of those before it
 abbrev pub AddsOfAll : Type 0
 AddsOfAll =
-    (image : Image) (mine : Words) (t : Setting) (k c rd rs rv : ℕ) (word : Member → ℕ) (ms : List Member) (own : Memory)
-    → Holds image t → IsAt image k (AmoAddW rd rs rv false false) c → AllStandAt k ms → AllAtOwn mine (λ h. h.registers rs) word ms
+    (image : Image) (mine : Words) (t : Setting) (k c rd rs rv : ℕ) (word : Member → ℕ)
+    (ms : List Member) (own : Memory)
+    → Holds image t → IsAt image k (AmoAddW rd rs rv false false) c → AllStandAt k ms
+    → AllAtOwn mine (λ h. h.registers rs) word ms
     → NodeCycle image mine t c ms own
-    (λ ms' own'. (ms' ≡ each_finds word rd rv own [] ms) × ((w : ℕ) → own' w ≡ sum_from (own w) (values_for word rv w ms)) × AllStandAt (suc k) ms')
+    (λ ms' own'. (ms' ≡ each_finds word rd rv own [] ms)
+    × ((w : ℕ) → own' w ≡ sum_from (own w) (values_for word rv w ms)) × AllStandAt (suc k) ms')

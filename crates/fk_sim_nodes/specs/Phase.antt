@@ -1,9 +1,12 @@
--- The phases of a hart at an arrival word, by which the members of a node meet, and what a cycle makes of them.
-use Rattle.std.specs.Prelude.{◌≡◌, ℕ, zero, suc, ◌+◌, ◌%◌, ◌==◌, ◌&&◌, ◌≤◌, List, [], ◌∷◌, Bool, true, false, ◌⊎◌}
+-- The phases of a hart at an arrival word, by which the members of a node meet, and what a
+-- cycle makes of them.
+use Rattle.std.specs.Prelude.{◌≡◌, ℕ, zero, suc, ◌+◌, ◌%◌, ◌==◌, ◌&&◌, ◌≤◌, List, [], ◌∷◌, Bool}
+use Rattle.std.specs.Prelude.{true, false, ◌⊎◌}
 use Rattle.fk_num.specs.Word.{word_sum}
 
--- where a hart stands towards an arrival word: it is no member; a member that is not on its way; so many private steps
--- before it arrives; it has arrived, and polls; it has seen that all are there, so many private steps before its commit
+-- where a hart stands towards an arrival word: it is no member; a member that is not on its way; so
+-- many private steps before it arrives; it has arrived, and polls; it has seen that all are there,
+-- so many private steps before its commit
 pub data Phase : Type 0 where
   Outside : Phase
   Away : Phase
@@ -36,7 +39,8 @@ abbrev pub polled : (lead : ℕ) → Bool → Phase
 polled lead true = Leaving lead
 polled lead false = Waiting
 
--- what its turn in cycle t makes of a hart, where there are n members and its turn finds v in the word
+-- what its turn in cycle t makes of a hart, where there are n members and its turn
+-- finds v in the word
 abbrev pub Moves : (t n lead v : ℕ) → Phase → Phase → Type 0
 Moves t n lead v Outside f = f ≡ Outside
 Moves t n lead v Away f = IsFree (t + 1) f
@@ -46,10 +50,12 @@ Moves t n lead v Waiting f = f ≡ polled lead (is_odd t && v == n)
 Moves t n lead v (Leaving zero) f = IsFree (t + 1) f
 Moves t n lead v (Leaving (suc d)) f = f ≡ Leaving d
 
--- the turns of all harts in cycle t, in ascending number, each on the word that those below it have left
+-- the turns of all harts in cycle t, in ascending number, each on the word that those
+-- below it have left
 abbrev pub AllMove : (t n lead : ℕ) → List Phase → (v : ℕ) → List Phase → (v' : ℕ) → Type 0
 AllMove t n lead [] v [] v' = v' ≡ v
-AllMove t n lead (f ∷ fs) v (f' ∷ fs') v' = Moves t n lead v f f' × AllMove t n lead fs (word_after f v) fs' v'
+AllMove t n lead (f ∷ fs) v (f' ∷ fs') v' = Moves t n lead v f f'
+    × AllMove t n lead fs (word_after f v) fs' v'
 AllMove t n lead fs v fs' v' = ⊥
 
 -- how many are members, and how many of them have arrived and not yet left
@@ -105,14 +111,16 @@ abbrev pub SomeCommits : List Phase → Type 0
 SomeCommits [] = ⊥
 SomeCommits (f ∷ fs) = Commits f ⊎ SomeCommits fs
 
--- a member has entered and not yet left, and k cycles are enough for it to arrive, to see that all are there, and to commit
+-- a member has entered and not yet left, and k cycles are enough for it to arrive, to see that all
+-- are there, and to commit
 abbrev pub HasTime : (lead k : ℕ) → Phase → Type 0
 HasTime lead k Away = ⊥
 HasTime lead k (Coming d) = d + lead + 2 ≤ k
 HasTime lead k (Leaving d) = d ≤ k
 HasTime lead k f = Unit {0}
 
--- the next poll but in this cycle, and then the commit, are at most k cycles from now; or all leave by then
+-- the next poll but in this cycle, and then the commit, are at most k cycles from now; or
+-- all leave by then
 abbrev pub IsNear : (lead k t : ℕ) → List Phase → Type 0
 IsNear lead k t fs = (lead + 2 ≤ k + t % 2) ⊎ ((d : ℕ) × (d ≤ k) × Each (Leaves d) fs)
 

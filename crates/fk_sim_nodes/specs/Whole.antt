@@ -1,5 +1,6 @@
 -- The whole cycle, node by node: the chains of all nodes together.
-use Rattle.std.specs.Prelude.{◌≡◌, ℕ, zero, suc, ◌+◌, List, [], ◌∷◌, Some, None, Bool, true, map, ◌⊎◌}
+use Rattle.std.specs.Prelude.{◌≡◌, ℕ, zero, suc, ◌+◌, List, [], ◌∷◌, Some, None, Bool, true, map}
+use Rattle.std.specs.Prelude.{◌⊎◌}
 use Rattle.fk_num.specs.Word.{Memory}
 use Rattle.fk_image.specs.declared.Image.{Image}
 use Rattle.fk_machine.specs.declared.stand.Stand.TheVariants.{Faulted}
@@ -24,9 +25,11 @@ first_of zero (c ∷ counts) = 0 ∷ first_of zero counts
 first_of (suc n) (c ∷ counts) = c ∷ first_of n counts
 
 module _ {S P D : Type 0} (source : Source S P D) (image : Image) (words : ℕ → Words) where
-  -- all harts from a number on have had their turns, each as its processor's part, and each node has come to what holds
-  -- after its chain
-  pub record IsWhole (After : ℕ → List Member → List D → Memory → Type 0) (earlier : List ℕ) (number : ℕ) (nodes : List ℕ) (hs : List Hart) (ps : List P) (s : S) (done : Turns) : Type 0 where
+  -- all harts from a number on have had their turns, each as its processor's part, and each node
+  -- has come to what holds after its chain
+  pub record IsWhole (After : ℕ → List Member → List D → Memory → Type 0)
+      (earlier : List ℕ) (number : ℕ) (nodes : List ℕ) (hs : List Hart) (ps : List P) (s : S)
+      (done : Turns) : Type 0 where
     pub own : ℕ → Memory
     pub store : S
     pub did : List D
@@ -36,10 +39,13 @@ module _ {S P D : Type 0} (source : Source S P D) (image : Image) (words : ℕ �
     pub parts : AllPass source (planned image hs) ps s did store
     pub shows : Shows source earlier done.shared store
     pub has : (g : ℕ) → Has (words g) done.shared.control (own g)
-    pub after : (g : ℕ) → After g (of_node g nodes (numbered number done.harts)) (of_node g nodes did) (own g)
+    pub after : (g : ℕ)
+        → After g (of_node g nodes (numbered number done.harts)) (of_node g nodes did) (own g)
 
-  -- or one of them has ended the machine, with the first fault of the processors' parts, and nobody above it was served
-  pub record IsCut (earlier : List ℕ) (number : ℕ) (hs : List Hart) (ps : List P) (s : S) (done : Turns) : Type 0 where
+  -- or one of them has ended the machine, with the first fault of the processors' parts, and nobody
+  -- above it was served
+  pub record IsCut (earlier : List ℕ) (number : ℕ) (hs : List Hart) (ps : List P) (s : S)
+      (done : Turns) : Type 0 where
     pub site : ℕ
     pub place : ℕ
     pub store : S
@@ -48,16 +54,21 @@ module _ {S P D : Type 0} (source : Source S P D) (image : Image) (words : ℕ �
     pub faults : FaultsAfter source place site (planned image hs) ps s store
     pub shows : Shows source earlier done.shared store
 
-  abbrev pub IsRound : (ℕ → List Member → List D → Memory → Type 0) → List ℕ → ℕ → List ℕ → List Hart → List P → S → Turns → Type 0
+  abbrev pub IsRound : (ℕ → List Member → List D → Memory → Type 0) → List ℕ → ℕ → List ℕ
+      → List Hart → List P → S → Turns → Type 0
   IsRound After earlier number nodes hs ps s done =
       IsWhole After earlier number nodes hs ps s done ⊎ IsCut earlier number hs ps s done
 
--- nodes that own words apart, each with a chain from its own words on. What holds of each afterwards is told by a test
+-- nodes that own words apart, each with a chain from its own words on. What holds of each
+-- afterwards is told by a test
 abbrev pub ChainsAreTheCycle : (S P D : Type 0) → Type 0
 ChainsAreTheCycle S P D =
-    (source : Source S P D) (image : Image) (words : ℕ → Words) (t : Setting) (test : ℕ → List Member → List D → Memory → Bool)
+    (source : Source S P D) (image : Image) (words : ℕ → Words) (t : Setting)
+    (test : ℕ → List Member → List D → Memory → Bool)
     (earlier nodes : List ℕ) (hs : List Hart) (ps : List P) (own : ℕ → Memory) (sh : Shared) (s : S)
     → OwnApart words source.common → AreAsMany nodes hs ps → Shows source earlier sh s
     → ((g : ℕ) → Has (words g) sh.control (own g))
-    → ((g : ℕ) → Chain source image (words g) t (of_node g nodes (numbered 0 hs)) (of_node g nodes ps) (own g) (λ ms ds own'. test g ms ds own' ≡ true))
-    → IsRound source image words (λ g ms ds own'. test g ms ds own' ≡ true) earlier 0 nodes hs ps s (turns t 0 hs sh)
+    → ((g : ℕ) → Chain source image (words g) t (of_node g nodes (numbered 0 hs))
+    (of_node g nodes ps) (own g) (λ ms ds own'. test g ms ds own' ≡ true))
+    → IsRound source image words (λ g ms ds own'. test g ms ds own' ≡ true) earlier 0 nodes hs ps s
+    (turns t 0 hs sh)

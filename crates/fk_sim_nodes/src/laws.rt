@@ -1,26 +1,31 @@
-//! Laws of nodes. Those that tell what turns stand for are so of every form of stores `S`, of processors `P` and of what becomes of a processor by its part in a round, `D`.
-//! Laws of those who meet at an arrival word.
+//! Laws of nodes. Those that tell what turns stand for are so of every form of stores `S`, of
+//! processors `P` and of what becomes of a processor by its part in a round, `D`. Laws of those who
+//! meet at an arrival word.
 
 ghost use Rattle.fk_sim_nodes.specs.Whole.{ChainsAreTheCycle};
 ghost use Rattle.fk_sim_nodes.specs.Alone.{PrivateRunsAreNodeRuns, NodeRunsJoin};
-ghost use Rattle.fk_sim_nodes.specs.Together.{NodeCyclesAreCommits, MembersComeNearer, RunsLeadToCommits, MembersRestOnOwnWords, MovesAreChains, LowestFaultsForAll};
+ghost use Rattle.fk_sim_nodes.specs.Together.{NodeCyclesAreCommits, MembersComeNearer};
+ghost use Rattle.fk_sim_nodes.specs.Together.{RunsLeadToCommits, MembersRestOnOwnWords};
+ghost use Rattle.fk_sim_nodes.specs.Together.{MovesAreChains, LowestFaultsForAll};
 ghost use Rattle.fk_sim_nodes.specs.OneHart.{MembersDoAsEach};
 ghost use Rattle.fk_sim_nodes.specs.OnePlace.{PrivateOfAll, LoadsOfAll, StoresOfAll, AddsOfAll};
-ghost use Rattle.fk_sim_nodes.specs.Meeting.{CyclesKeepArrivals, MembersLeaveTogether, LastArrivalFreesAll, MembersMaySetOut, WordsOpenAtZero};
+ghost use Rattle.fk_sim_nodes.specs.Meeting.{CyclesKeepArrivals, MembersLeaveTogether};
+ghost use Rattle.fk_sim_nodes.specs.Meeting.{LastArrivalFreesAll, MembersMaySetOut};
+ghost use Rattle.fk_sim_nodes.specs.Meeting.{WordsOpenAtZero};
 
 /// The chains of all nodes together are the whole cycle: all processors take part in ascending
-/// number, and each node comes to what its own chain says; or it ends with the first fault of a part,
-/// and no hart above is served.
+/// number, and each node comes to what its own chain says; or it ends with the first fault of a
+/// part, and no hart above is served.
 ///
-/// A chain tells what the members of a node do from its own words alone, whatever the harts of other
-/// nodes do in between. Nodes own words apart.
+/// A chain tells what the members of a node do from its own words alone, whatever the harts of
+/// other nodes do in between. Nodes own words apart.
 pub fn chains_are_the_cycle<S, P, D>()
     ensures { ChainsAreTheCycle S P D }
 {}
 
-/// Members at any places that each have equally many private instructions to go run them together, in
-/// as many cycles, and leave their node's words as they are. What an instruction does may rest on the
-/// number of the hart and on the cycle.
+/// Members at any places that each have equally many private instructions to go run them together,
+/// in as many cycles, and leave their node's words as they are. What an instruction does may rest
+/// on the number of the hart and on the cycle.
 pub fn private_runs_are_node_runs()
     ensures { PrivateRunsAreNodeRuns }
 {}
@@ -42,20 +47,20 @@ pub fn members_come_nearer<S, P, D>()
     ensures { MembersComeNearer S P D }
 {}
 
-/// A run of a node leads its members to their commit: who goes on for so many cycles after one commit,
-/// and then is so many before the next, is as many before it as both together.
+/// A run of a node leads its members to their commit: who goes on for so many cycles after one
+/// commit, and then is so many before the next, is as many before it as both together.
 pub fn runs_lead_to_commits<S, P, D>()
     ensures { RunsLeadToCommits S P D }
 {}
 
-/// What members do rests on their node's own words alone. So a node goes on as it was when other words
-/// are put beside its own.
+/// What members do rests on their node's own words alone. So a node goes on as it was when other
+/// words are put beside its own.
 pub fn members_rest_on_own_words<S, P, D>()
     ensures { MembersRestOnOwnWords S P D }
 {}
 
-/// Members whose turns are of some kind on whatever words of the node they find have a chain of such
-/// turns.
+/// Members whose turns are of some kind on whatever words of the node they find have a
+/// chain of such turns.
 pub fn moves_are_chains<S, P, D>()
     ensures { MovesAreChains S P D }
 {}
@@ -65,15 +70,15 @@ pub fn lowest_faults_for_all<S, P, D>()
     ensures { LowestFaultsForAll S P D }
 {}
 
-/// Members that each do an operation by themselves, so many private instructions before a commit and so
-/// many behind it, do it together: so what is proved of one hart is so of a group. Their requests come
-/// in ascending number, and the node's words stay.
+/// Members that each do an operation by themselves, so many private instructions before a commit
+/// and so many behind it, do it together: so what is proved of one hart is so of a group. Their
+/// requests come in ascending number, and the node's words stay.
 pub fn members_do_as_each<S, P, D>()
     ensures { MembersDoAsEach S P D }
 {}
 
-/// What members make of their harts and of their node's words in a cycle in which they all stand at one
-/// instruction: one that touches only its hart; a load (`lw`), a store (`sw`) and an addition
+/// What members make of their harts and of their node's words in a cycle in which they all stand at
+/// one instruction: one that touches only its hart; a load (`lw`), a store (`sw`) and an addition
 /// (`amoadd.w`) at own words, which may differ.
 pub fn members_at_one_place()
     ensures private { PrivateOfAll }
@@ -88,8 +93,8 @@ pub fn cycles_keep_arrivals()
     ensures { CyclesKeepArrivals }
 {}
 
-/// Members that have all entered, and have time for it in so many cycles, commit in one of these, all
-/// in the same, and nobody before.
+/// Members that have all entered, and have time for it in so many cycles, commit in one of these,
+/// all in the same, and nobody before.
 pub fn members_leave_together()
     ensures { MembersLeaveTogether }
 {}

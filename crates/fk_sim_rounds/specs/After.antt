@@ -1,5 +1,6 @@
 -- What a round leaves of processors and of the tree, and what is known of both.
-use Rattle.std.specs.Prelude.{◌≡◌, ◌≢◌, ℕ, suc, List, [], ◌∷◌, map, Bool, true, false, Option, Some, None}
+use Rattle.std.specs.Prelude.{◌≡◌, ◌≢◌, ℕ, suc, List, [], ◌∷◌, map, Bool, true, false, Option, Some}
+use Rattle.std.specs.Prelude.{None}
 use Rattle.fk_num.specs.Word.{Memory}
 use Rattle.fk_space.specs.Space.{Space}
 use Rattle.fk_tree.specs.Tree as trees
@@ -38,7 +39,8 @@ abbrev pub tree_after : Tree → List Doing → Tree
 tree_after tree ds = all_changes (actings ds) tree (actings ds) tree
 
 abbrev pub owner_after : List (Acting Position) → (old new : Tree) → Doing → Owner
-owner_after acting old new d = record { runner = settled_by acting old new d.acting.runner d.acting.due; heap = d.heap }
+owner_after acting old new d =
+    record { runner = settled_by acting old new d.acting.runner d.acting.due; heap = d.heap }
 
 abbrev pub owners_after : (old new : Tree) → List Doing → List Owner
 owners_after old new ds = map (owner_after (actings ds) old new) ds
@@ -60,7 +62,8 @@ DoesStep operation (Some step) = step.operation ≡ operation
 abbrev pub StepsAt : (old : Tree) → (g number : ℕ) → Operation → List Doing → Type 0
 StepsAt old g number operation [] = Unit {0}
 StepsAt old g number operation (d ∷ ds) =
-    (d.acting.runner.has.number ≡ number) × (old.places number ≡ g → DoesStep operation d.acting.due) × (old.places number ≢ g → Keeps d.acting.due)
+    (d.acting.runner.has.number ≡ number) × (old.places number ≡ g
+    → DoesStep operation d.acting.due) × (old.places number ≢ g → Keeps d.acting.due)
     × StepsAt old g (suc number) operation ds
 
 -- ---- what is known
@@ -83,18 +86,23 @@ abbrev pub halts : Option (Step Position) → Bool
 halts None = false
 halts (Some step) = is_halt step.operation
 
--- each processor has of its group what is that of its node, and who has committed anything but a halt is about to do another
--- operation
-abbrev pub AllGoOn : List CoreOp → Nestings → Setting → Tree → (spaces : ℕ → Space) → (number : ℕ) → (afters : List (Option Stage)) → List Doing → List Owner → Type 0
+-- each processor has of its group what is that of its node, and who has committed anything but a
+-- halt is about to do another operation
+abbrev pub AllGoOn : List CoreOp → Nestings → Setting → Tree → (spaces : ℕ → Space) → (number : ℕ)
+    → (afters : List (Option Stage)) → List Doing → List Owner → Type 0
 AllGoOn core nestings setting tree spaces number [] [] [] = Unit {0}
 AllGoOn core nestings setting tree spaces number (a ∷ afters) (d ∷ ds) (p ∷ ps) =
-    IsHome tree spaces number p × (a ≡ None → halts d.acting.due ≡ false → HasNext core nestings setting tree number (landed core p)) × AllGoOn core nestings setting tree spaces (suc number) afters ds ps
+    IsHome tree spaces number p × (a ≡ None
+    → halts d.acting.due ≡ false → HasNext core nestings setting tree number (landed core p))
+    × AllGoOn core nestings setting tree spaces (suc number) afters ds ps
 AllGoOn core nestings setting tree spaces number afters ds ps = ⊥
 
 -- so it is with each group all of which has committed
-abbrev pub GroupsGoOn : List CoreOp → Nestings → Tree → (nodes : List ℕ) → (afters : List (Option Stage)) → List Owner → Type 0
+abbrev pub GroupsGoOn : List CoreOp → Nestings → Tree → (nodes : List ℕ)
+    → (afters : List (Option Stage)) → List Owner → Type 0
 GroupsGoOn core nestings tree nodes afters ps =
-    (g : ℕ) → is_lockstep (trees.kind tree g) ≡ true → AllHaveCommitted (of_node g nodes afters) → HaveNext core nestings (of_node g nodes ps)
+    (g : ℕ) → is_lockstep (trees.kind tree g) ≡ true → AllHaveCommitted (of_node g nodes afters)
+    → HaveNext core nestings (of_node g nodes ps)
 
 -- ---- what follows
 
@@ -104,14 +112,18 @@ AllSoon [] [] = Unit {0}
 AllSoon (a ∷ afters) (s ∷ stages) = (a ≡ None → IsSoon s) × AllSoon afters stages
 AllSoon afters stages = ⊥
 
-module _ (core : List CoreOp) (image : Image) (places : Places) (nestings : Nestings) (setting : Setting) (tree : Tree) (spaces : ℕ → Space) (nodes : List ℕ)
+module _ (core : List CoreOp) (image : Image) (places : Places) (nestings : Nestings)
+    (setting : Setting) (tree : Tree) (spaces : ℕ → Space) (nodes : List ℕ)
     (tree' : Tree) (spaces' : ℕ → Space) (nodes' : List ℕ) where
-  -- all have stages by which the next tree's plan may bind them, and each is about to do what its stage tells
-  pub record BindsAgain (t : MachineSetting) (hs : List Hart) (afters : List (Option Stage)) (ps ps' : List Owner) (control : Memory) : Type 0 where
+  -- all have stages by which the next tree's plan may bind them, and each is about to do
+  -- what its stage tells
+  pub record BindsAgain (t : MachineSetting) (hs : List Hart) (afters : List (Option Stage))
+      (ps ps' : List Owner) (control : Memory) : Type 0 where
     pub stages : List Stage
     pub changes : TreeChanges (core_source core setting) image (plan_of tree spaces nodes)
         (blocks_of core image places nestings setting (plan_of tree spaces nodes) (first_of spaces))
         (plan_of tree' spaces' nodes')
-        (blocks_of core image places nestings setting (plan_of tree' spaces' nodes') (first_of spaces')) t hs afters stages ps ps' control
+        (blocks_of core image places nestings setting (plan_of tree' spaces' nodes')
+        (first_of spaces')) t hs afters stages ps ps' control
     pub due : AllDue core tree' spaces' 0 stages (runners_of ps')
     pub soon : AllSoon afters stages

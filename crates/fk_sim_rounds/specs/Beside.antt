@@ -1,4 +1,5 @@
--- A state of a core run, beside the processors of a machine, each of which is at the operation that jumps lead it to.
+-- A state of a core run, beside the processors of a machine, each of which is at the operation that
+-- jumps lead it to.
 use Rattle.std.specs.Prelude.{◌≡◌, ℕ, suc, List, [], ◌∷◌, map, None}
 use Rattle.fk_num.specs.Word.{Memory}
 use Rattle.fk_meaning.specs.Processor.{Setting}
@@ -27,7 +28,8 @@ AreInOrder number [] = Unit {0}
 AreInOrder number (r ∷ rs) = (r.has.number ≡ number) × AreInOrder (suc number) rs
 
 -- a run goes on, with these processors and what they share
-pub record IsBeside (core : List CoreOp) (s : State Position) (ps : List Owner) (shared : Commons) : Type 0 where
+pub record IsBeside (core : List CoreOp) (s : State Position) (ps : List Owner)
+    (shared : Commons) : Type 0 where
   pub going : s.fault ≡ None
   pub runners : runners_of ps ≡ map (landed_runner core) s.runners
   pub heaps : HaveHeaps 0 s.store.heaps ps
@@ -37,4 +39,5 @@ pub record IsBeside (core : List CoreOp) (s : State Position) (ps : List Owner) 
 abbrev pub LandedRunsAreRuns : Type 0
 LandedRunsAreRuns =
     (core : List CoreOp) (setting : Setting) (round : Round) (s : State Position) → JumpsLead core
-    → landed_state core (result (next core) setting round (landed_state core s)) ≡ landed_state core (result (next core) setting round s)
+    → landed_state core (result (next core) setting round (landed_state core s))
+    ≡ landed_state core (result (next core) setting round s)

@@ -1,4 +1,5 @@
--- Who has committed comes to the stage of its next operation, if private instructions lead it to where its processor goes on.
+-- Who has committed comes to the stage of its next operation, if private instructions lead it to
+-- where its processor goes on.
 use Rattle.std.specs.Prelude.{◌≡◌, ℕ, ◌≤◌, ◌<◌, List, [], ◌∷◌, true, false, None, is_some}
 use Rattle.fk_num.specs.Word.{Memory}
 use Rattle.fk_space.specs.Space.{Space}
@@ -27,13 +28,13 @@ use Rattle.fk_sim_match.specs.Behind.{runs_of, blocks_of}
 use Rattle.fk_sim_match.specs.Rounds.{IsDueAt}
 use Rattle.fk_sim_rounds.specs.Next.{JumpsLead, landed, all_landed, IsHome, HasNext, HaveNext}
 
--- the most cycles from one commit to the next one: behind the one, a jump, and before the other. A pace of 256 rounds leaves room
--- for no more
+-- the most cycles from one commit to the next one: behind the one, a jump, and before the other. A
+-- pace of 256 rounds leaves room for no more
 abbrev pub most_between : ℕ
 most_between = 254
 
--- so fewer to the arrival at a word. Behind that one polls, finds all there and leaves in three cycles at most; and who unites with
--- the others commits up to 40 cycles later (most_united)
+-- so fewer to the arrival at a word. Behind that one polls, finds all there and leaves in three
+-- cycles at most; and who unites with the others commits up to 40 cycles later (most_united)
 abbrev pub most_to_word : Ending → ℕ
 most_to_word Commits = 251
 most_to_word Unites = 211
@@ -56,44 +57,57 @@ pub record IsNode (tree : Tree) (spaces : ℕ → Space) (g : ℕ) : Type 0 wher
   pub there : is_some (tree.nodes g) ≡ true
   pub given : g < tree.given
 
-module _ (core : List CoreOp) (image : Image) (places : Places) (nestings : Nestings) (setting : Setting) (tree : Tree) (spaces : ℕ → Space) (nodes : List ℕ) where
-  -- a member of a node is at a stage, fresh from its commit, and its processor is about to do what that tells
+module _ (core : List CoreOp) (image : Image) (places : Places) (nestings : Nestings)
+    (setting : Setting) (tree : Tree) (spaces : ℕ → Space) (nodes : List ℕ) where
+  -- a member of a node is at a stage, fresh from its commit, and its processor is about to
+  -- do what that tells
   pub record ComesTo (t : MachineSetting) (g : ℕ) (m : Member) (p : Owner) : Type 0 where
     pub stage : Stage
     pub fresh : IsFresh t stage
     pub stands : StandsAt (core_source core setting) image (plan_of tree spaces nodes)
-        (blocks_of core image places nestings setting (plan_of tree spaces nodes) (first_of spaces)) t g stage m p
+        (blocks_of core image places nestings setting (plan_of tree spaces nodes)
+        (first_of spaces)) t g stage m p
     pub due : IsDueAt core tree spaces g stage p.runner
     pub soon : IsSoon stage
 
   -- members of a node are at a distance from their common commit
-  pub record ComeTo (t : MachineSetting) (g : ℕ) (ms : List Member) (ps : List Owner) (own : Memory) : Type 0 where
+  pub record ComeTo (t : MachineSetting) (g : ℕ) (ms : List Member) (ps : List Owner)
+      (own : Memory) : Type 0 where
     pub distance : ℕ
     pub soon : distance ≤ most_between
-    pub together : Together (core_source core setting) image ((plan_of tree spaces nodes).words g) t 1 distance ms ps own
-        ((blocks_of core image places nestings setting (plan_of tree spaces nodes) (first_of spaces)).AfterAll (later (in_cycles distance t)) g)
+    pub together : Together (core_source core setting) image
+        ((plan_of tree spaces nodes).words g) t 1 distance ms ps own
+        ((blocks_of core image places nestings setting (plan_of tree spaces nodes)
+        (first_of spaces)).AfterAll (later (in_cycles distance t)) g)
 
 -- by itself: so many private instructions lead it to where its processor goes on, perhaps at a jump
 abbrev pub MembersComeToStages : Type 0
 MembersComeToStages =
-    (core : List CoreOp) (image : Image) (places : Places) (nestings : Nestings) (cycles : Cycles) (firsts : List ℕ) (main : ℕ) (setting : Setting) (tree : Tree)
-    (spaces : ℕ → Space) (nodes : List ℕ) (t : MachineSetting) (b : ℕ) (m : Member) (hart : Hart) (p : Owner)
+    (core : List CoreOp) (image : Image) (places : Places) (nestings : Nestings) (cycles : Cycles)
+    (firsts : List ℕ) (main : ℕ) (setting : Setting) (tree : Tree)
+    (spaces : ℕ → Space) (nodes : List ℕ) (t : MachineSetting) (b : ℕ) (m : Member)
+    (hart : Hart) (p : Owner)
     → let g = tree.places m.number in
-    GroupLaw core image places nestings cycles firsts main → JumpsLead core → IsNode tree spaces g → is_lockstep (trees.kind tree g) ≡ false
+    GroupLaw core image places nestings cycles firsts main → JumpsLead core → IsNode tree spaces g
+    → is_lockstep (trees.kind tree g) ≡ false
     → IsRunning image setting t → m.number < setting.processors
     → b ≤ most_behind → RunsPrivately image t m.number b m.hart hart → law.StandsAt places p hart
-    → StandsInNode places nestings setting (runs_of (plan_of tree spaces nodes) (first_of spaces g) m.number) p hart
+    → StandsInNode places nestings setting
+    (runs_of (plan_of tree spaces nodes) (first_of spaces g) m.number) p hart
     → IsHome tree spaces m.number p → HasNext core nestings setting tree m.number (landed core p)
     → ComesTo core image places nestings setting tree spaces nodes t g m (landed core p)
 
 -- in lockstep: a run of their node leads them there, and leaves its arrival words 0
 abbrev pub GroupsComeToCommits : Type 0
 GroupsComeToCommits =
-    (core : List CoreOp) (image : Image) (places : Places) (nestings : Nestings) (cycles : Cycles) (firsts : List ℕ) (main : ℕ) (setting : Setting) (tree : Tree)
-    (spaces : ℕ → Space) (nodes : List ℕ) (t : MachineSetting) (b g : ℕ) (ms : List Member) (ps : List Owner) (own : Memory)
+    (core : List CoreOp) (image : Image) (places : Places) (nestings : Nestings) (cycles : Cycles)
+    (firsts : List ℕ) (main : ℕ) (setting : Setting) (tree : Tree)
+    (spaces : ℕ → Space) (nodes : List ℕ) (t : MachineSetting) (b g : ℕ) (ms : List Member)
+    (ps : List Owner) (own : Memory)
     → GroupLaw core image places nestings cycles firsts main → JumpsLead core → IsNode tree spaces g
     → IsRunning image setting t → AllBelow setting.processors ps → b ≤ most_behind
     → NodeRun image ((plan_of tree spaces nodes).words g) t b ms own
-    (λ ms' own'. IsAtRest (first_of spaces g) own' × AreMembers places nestings setting (λ p. None) (first_of spaces g) ms' ps)
+    (λ ms' own'. IsAtRest (first_of spaces g) own'
+    × AreMembers places nestings setting (λ p. None) (first_of spaces g) ms' ps)
     → HaveNext core nestings ps
     → ComeTo core image places nestings setting tree spaces nodes t g ms (all_landed core ps) own

@@ -25,33 +25,53 @@ use Rattle.fk_sim_rounds.specs.Next.{JumpsLead, all_landed}
 use Rattle.fk_sim_rounds.specs.After.{tree_after, owners_after, ArePlaces, AllGoOn, GroupsGoOn}
 use Rattle.fk_sim_rounds.specs.Rounds.{IsBefore, IsTree, IsKnownRound, AreBoundAgain}
 
-module _ (core : List CoreOp) (image : Image) (places : Places) (nestings : Nestings) (setting : Setting) (tree : Tree) (spaces : ℕ → Space) (nodes : List ℕ) (t : MachineSetting) (earlier : List ℕ)
-    (stages : List Stage) (hs : List Hart) (ps : List Owner) (own : ℕ → Memory) (sh : Shared) (s : Commons) where
-  -- the cycle is a whole round. If it is one of the known rounds, and its processors go on as is told, all are bound again
+module _ (core : List CoreOp) (image : Image) (places : Places) (nestings : Nestings)
+    (setting : Setting) (tree : Tree) (spaces : ℕ → Space) (nodes : List ℕ) (t : MachineSetting)
+    (earlier : List ℕ)
+    (stages : List Stage) (hs : List Hart) (ps : List Owner) (own : ℕ → Memory) (sh : Shared)
+    (s : Commons) where
+  -- the cycle is a whole round. If it is one of the known rounds, and its processors go on as is
+  -- told, all are bound again
   pub record IsWholeRound : Type 0 where
     pub whole : IsWhole (core_source core setting) image (plan_of tree spaces nodes).words
-        (DoneIn (core_source core setting) image (plan_of tree spaces nodes) (joining_blocks_of core image places nestings setting (plan_of tree spaces nodes) (first_of spaces)) t stages ps own) earlier 0
+        (DoneIn (core_source core setting) image (plan_of tree spaces nodes)
+        (joining_blocks_of core image places nestings setting (plan_of tree spaces nodes)
+        (first_of spaces)) t stages ps own) earlier 0
         nodes hs ps s (turns t 0 hs sh)
     pub left : IsLeft (core_source core setting) image (plan_of tree spaces nodes)
-        (blocks_of core image places nestings setting (plan_of tree spaces nodes) (first_of spaces)) t stages (turns t 0 hs sh).harts ps whole.did own whole.own
-    pub again : (nodes' : List ℕ) → IsKnownRound tree whole.did → IsTree setting (tree_after tree whole.did) spaces
+        (blocks_of core image places nestings setting (plan_of tree spaces nodes) (first_of spaces))
+        t stages (turns t 0 hs sh).harts ps whole.did own whole.own
+    pub again : (nodes' : List ℕ) → IsKnownRound tree whole.did
+        → IsTree setting (tree_after tree whole.did) spaces
         → ArePlaces (tree_after tree whole.did) 0 nodes' → length nodes' ≡ length nodes
-        → AllGoOn core nestings setting (tree_after tree whole.did) spaces 0 left.afters whole.did (owners_after tree (tree_after tree whole.did) whole.did)
-        → GroupsGoOn core nestings (tree_after tree whole.did) nodes' left.afters (owners_after tree (tree_after tree whole.did) whole.did)
-        → AreBoundAgain core image places nestings setting (plan_of tree spaces nodes) (tree_after tree whole.did) spaces nodes' t stages (turns t 0 hs sh).harts left.afters ps
-        (all_landed core (owners_after tree (tree_after tree whole.did) whole.did)) own (turns t 0 hs sh).shared.control
+        → AllGoOn core nestings setting (tree_after tree whole.did) spaces 0 left.afters whole.did
+        (owners_after tree (tree_after tree whole.did) whole.did)
+        → GroupsGoOn core nestings (tree_after tree whole.did) nodes' left.afters
+        (owners_after tree (tree_after tree whole.did) whole.did)
+        → AreBoundAgain core image places nestings setting (plan_of tree spaces nodes)
+        (tree_after tree whole.did) spaces nodes' t stages (turns t 0 hs sh).harts left.afters ps
+        (all_landed core (owners_after tree (tree_after tree whole.did) whole.did)) own
+        (turns t 0 hs sh).shared.control
 
--- where the plan binds all harts before a cycle in which nobody unites with others, it is a round of the counts that the stages tell:
--- a whole one, or one up to its first fault
+-- where the plan binds all harts before a cycle in which nobody unites with others, it is a round
+-- of the counts that the stages tell: a whole one, or one up to its first fault
 abbrev pub CyclesBindAgain : Type 0
 CyclesBindAgain =
-    (core : List CoreOp) (image : Image) (places : Places) (nestings : Nestings) (cycles : Cycles) (firsts : List ℕ) (main : ℕ) (setting : Setting) (tree : Tree)
-    (spaces : ℕ → Space) (nodes : List ℕ) (t : MachineSetting) (earlier : List ℕ) (stages : List Stage) (hs : List Hart) (ps : List Owner) (own : ℕ → Memory) (sh : Shared) (s : Commons)
-    → GroupLaw core image places nestings cycles firsts main → JumpsLead core → IsBefore core image setting tree spaces nodes t stages hs ps
-    → length hs < 2 ^ 31 → Shows (core_source core setting) earlier sh s → ((g : ℕ) → Has ((plan_of tree spaces nodes).words g) sh.control (own g))
+    (core : List CoreOp) (image : Image) (places : Places) (nestings : Nestings) (cycles : Cycles)
+    (firsts : List ℕ) (main : ℕ) (setting : Setting) (tree : Tree)
+    (spaces : ℕ → Space) (nodes : List ℕ) (t : MachineSetting)
+    (earlier : List ℕ) (stages : List Stage) (hs : List Hart) (ps : List Owner) (own : ℕ → Memory)
+    (sh : Shared) (s : Commons)
+    → GroupLaw core image places nestings cycles firsts main → JumpsLead core
+    → IsBefore core image setting tree spaces nodes t stages hs ps
+    → length hs < 2 ^ 31 → Shows (core_source core setting) earlier sh s
+    → ((g : ℕ) → Has ((plan_of tree spaces nodes).words g) sh.control (own g))
     → IsBound (core_source core setting) image (plan_of tree spaces nodes)
-    (blocks_of core image places nestings setting (plan_of tree spaces nodes) (first_of spaces)) t stages hs ps own
+    (blocks_of core image places nestings setting (plan_of tree spaces nodes) (first_of spaces)) t
+    stages hs ps own
     → NobodyUnites stages
     → (planned image hs ≡ counts_for stages)
-    × (IsWholeRound core image places nestings setting tree spaces nodes t earlier stages hs ps own sh s
-    ⊎ IsCut (core_source core setting) image (plan_of tree spaces nodes).words earlier 0 hs ps s (turns t 0 hs sh))
+    × (IsWholeRound core image places nestings setting tree spaces nodes t earlier
+    stages hs ps own sh s
+    ⊎ IsCut (core_source core setting) image (plan_of tree spaces nodes).words earlier 0 hs ps s
+    (turns t 0 hs sh))

@@ -1,5 +1,6 @@
 -- A machine follows a core run with groups, from one cycle to the next.
-use Rattle.std.specs.Prelude.{◌≡◌, ℕ, suc, ◌^◌, ◌<◌, List, ◌++◌, length, true, Option, Some, None, ◌⊎◌}
+use Rattle.std.specs.Prelude.{◌≡◌, ℕ, suc, ◌^◌, ◌<◌, List, ◌++◌, length, true, Option, Some, None}
+use Rattle.std.specs.Prelude.{◌⊎◌}
 use Rattle.fk_space.specs.Space.{Space}
 use Rattle.fk_meaning.specs.Processor.{Setting}
 use Rattle.fk_meaning.specs.Round.{State, cut, result, is_possible, IsStopped}
@@ -31,10 +32,13 @@ use Rattle.fk_sim_rounds.specs.Homes.{AllHome, AllNext}
 use Rattle.fk_sim_rounds.specs.Results.{Makes, IsFault}
 use Rattle.fk_sim_rounds.specs.Union.{AllLandAt, IsUnited}
 
-module _ (core : List CoreOp) (image : Image) (places : Places) (nestings : Nestings) (setting : Setting) (spaces : ℕ → Space) where
-  -- a state of a run that goes on stands beside the processors of harts, all of which the plan of its tree binds, and each of which
-  -- has of its group what the tree has; what the harts share shows what the state has, with these bytes printed so far
-  pub record IsFollowed (s : State Position) (nodes : List ℕ) (t : MachineSetting) (printed : List ℕ) (stages : List Stage) (hs : List Hart) (sh : Shared) : Type 0 where
+module _ (core : List CoreOp) (image : Image) (places : Places) (nestings : Nestings)
+    (setting : Setting) (spaces : ℕ → Space) where
+  -- a state of a run that goes on stands beside the processors of harts, all of which the plan of
+  -- its tree binds, and each of which has of its group what the tree has; what the harts share
+  -- shows what the state has, with these bytes printed so far
+  pub record IsFollowed (s : State Position) (nodes : List ℕ) (t : MachineSetting)
+      (printed : List ℕ) (stages : List Stage) (hs : List Hart) (sh : Shared) : Type 0 where
     pub ps : List Owner
     pub shared : Commons
     pub before : IsBefore core image setting s.tree spaces nodes t stages hs ps
@@ -43,9 +47,11 @@ module _ (core : List CoreOp) (image : Image) (places : Places) (nestings : Nest
     pub homes : AllHome s.tree spaces 0 ps
     pub shows : Shows (core_source core setting) printed sh shared
     pub bound : IsBound (core_source core setting) image (plan_of s.tree spaces nodes)
-        (blocks_of core image places nestings setting (plan_of s.tree spaces nodes) (first_of spaces)) t stages hs ps (λ g. sh.control)
+        (blocks_of core image places nestings setting (plan_of s.tree spaces nodes)
+        (first_of spaces)) t stages hs ps (λ g. sh.control)
 
-  module _ (s : State Position) (nodes : List ℕ) (t : MachineSetting) (printed : List ℕ) (stages : List Stage) (hs : List Hart) (sh : Shared) where
+  module _ (s : State Position) (nodes : List ℕ) (t : MachineSetting) (printed : List ℕ)
+      (stages : List Stage) (hs : List Hart) (sh : Shared) where
     abbrev pub done : Turns
     done = turns t 0 hs sh
 
@@ -53,8 +59,8 @@ module _ (core : List CoreOp) (image : Image) (places : Places) (nestings : Nest
     abbrev pub next_state : State Position
     next_state = result (next core) setting (counts_for stages) s
 
-    -- the cycle is that round, which is possible. Where it is a known one, and its processors go on as is told, the state behind it is
-    -- followed
+    -- the cycle is that round, which is possible. Where it is a known one, and its processors go on
+    -- as is told, the state behind it is followed
     pub record FollowsRound : Type 0 where
       pub going : done.stop ≡ None
       pub counts : counted image done ≡ counts_for stages
@@ -64,12 +70,19 @@ module _ (core : List CoreOp) (image : Image) (places : Places) (nestings : Nest
       pub tree : next_state.tree ≡ tree_after s.tree did
       pub afters : List (Option Stage)
       pub makes : Makes core setting stages s did afters
-      pub again : (nodes' : List ℕ) → IsKnownRound s.tree did → IsTree setting next_state.tree spaces → ArePlaces next_state.tree 0 nodes' → length nodes' ≡ length nodes
-          → AllNext core nestings setting next_state.tree 0 afters did (owners_after s.tree next_state.tree did) → GroupsGoOn core nestings next_state.tree nodes' afters (owners_after s.tree next_state.tree did)
+      pub again : (nodes' : List ℕ) → IsKnownRound s.tree did
+          → IsTree setting next_state.tree spaces → ArePlaces next_state.tree 0 nodes'
+          → length nodes' ≡ length nodes
+          → AllNext core nestings setting next_state.tree 0 afters did
+          (owners_after s.tree next_state.tree did) → GroupsGoOn core nestings next_state.tree
+          nodes' afters (owners_after s.tree next_state.tree did)
           → (stages' : List Stage) × AllNear stages stages' × AllSoon afters stages'
-          × IsFollowed next_state nodes' (later t) (printed ++ done.shared.output) stages' done.harts (unprinted done.shared)
-          × PlanGoesOn core image places nestings setting spaces (plan_of s.tree spaces nodes) (plan_of next_state.tree spaces nodes') t stages stages' done.harts afters makes.ps
-          (all_landed core (owners_after s.tree next_state.tree did)) (λ g. sh.control) done.shared.control
+          × IsFollowed next_state nodes' (later t)
+          (printed ++ done.shared.output) stages' done.harts (unprinted done.shared)
+          × PlanGoesOn core image places nestings setting spaces (plan_of s.tree spaces nodes)
+          (plan_of next_state.tree spaces nodes') t stages stages' done.harts afters makes.ps
+          (all_landed core (owners_after s.tree next_state.tree did))
+          (λ g. sh.control) done.shared.control
 
     -- or it is a stopped round
     pub record FollowsFault : Type 0 where
@@ -82,29 +95,38 @@ module _ (core : List CoreOp) (image : Image) (places : Places) (nestings : Nest
       pub shows : Shows (core_source core setting) printed done.shared shared
       pub fault : IsFault core setting stages s place site shared
 
-    -- or nobody is in the round, since all processors have met at the beginning of `start`. Where jumps lead all to one index, the state
-    -- behind it is one in which they are in lockstep
+    -- or nobody is in the round, since all processors have met at the beginning of `start`. Where
+    -- jumps lead all to one index, the state behind it is one in which they are in lockstep
     pub record FollowsUnion : Type 0 where
       pub going : done.stop ≡ None
       pub counts : counted image done ≡ counts_for stages
       pub possible : is_possible (next core) setting (counts_for stages) s ≡ true
       pub all : AllUnite stages
       pub again : (i : ℕ) → AllLandAt core i s.runners
-          → (stages' : List Stage) × AllNear stages stages' × IsUnited core image places nestings setting spaces next_state nodes (later t) (printed ++ done.shared.output) stages' done.harts (unprinted done.shared)
+          → (stages' : List Stage) × AllNear stages stages'
+          × IsUnited core image places nestings setting spaces next_state nodes (later t)
+          (printed ++ done.shared.output) stages' done.harts (unprinted done.shared)
 
 abbrev pub CyclesFollowRounds : Type 0
 CyclesFollowRounds =
-    (core : List CoreOp) (image : Image) (places : Places) (nestings : Nestings) (cycles : Cycles) (firsts : List ℕ) (main : ℕ) (setting : Setting) (spaces : ℕ → Space)
-    (s : State Position) (nodes : List ℕ) (t : MachineSetting) (printed : List ℕ) (stages : List Stage) (hs : List Hart) (sh : Shared)
+    (core : List CoreOp) (image : Image) (places : Places) (nestings : Nestings) (cycles : Cycles)
+    (firsts : List ℕ) (main : ℕ) (setting : Setting) (spaces : ℕ → Space)
+    (s : State Position) (nodes : List ℕ) (t : MachineSetting) (printed : List ℕ)
+    (stages : List Stage) (hs : List Hart) (sh : Shared)
     → GroupLaw core image places nestings cycles firsts main → JumpsLead core → length hs < 2 ^ 31
     → IsFollowed core image places nestings setting spaces s nodes t printed stages hs sh
     → (planned image hs ≡ counts_for stages)
     × (FollowsRound core image places nestings setting spaces s nodes t printed stages hs sh
-    ⊎ (FollowsFault core image places nestings setting spaces s nodes t printed stages hs sh ⊎ FollowsUnion core image places nestings setting spaces s nodes t printed stages hs sh))
+    ⊎ (FollowsFault core image places nestings setting spaces s nodes t printed stages hs sh
+    ⊎ FollowsUnion core image places nestings setting spaces s nodes t printed stages hs sh))
 
 -- all harts have ended exactly where all processors of the state have nothing left to do
 abbrev pub HartsEndWithProcessors : Type 0
 HartsEndWithProcessors =
-    (core : List CoreOp) (image : Image) (places : Places) (nestings : Nestings) (setting : Setting) (spaces : ℕ → Space) (s : State Position) (nodes : List ℕ) (t : MachineSetting) (printed : List ℕ)
+    (core : List CoreOp) (image : Image) (places : Places) (nestings : Nestings) (setting : Setting)
+    (spaces : ℕ → Space) (s : State Position) (nodes : List ℕ) (t : MachineSetting)
+    (printed : List ℕ)
     (stages : List Stage) (hs : List Hart) (sh : Shared)
-    → JumpsLead core → IsFollowed core image places nestings setting spaces s nodes t printed stages hs sh → all_ended hs ≡ all_done (next core) setting s.runners
+    → JumpsLead core
+    → IsFollowed core image places nestings setting spaces s nodes t printed stages hs sh
+    → all_ended hs ≡ all_done (next core) setting s.runners

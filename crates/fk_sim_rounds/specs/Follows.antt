@@ -2,7 +2,8 @@
 use Rattle.std.specs.Prelude.{◌≡◌, ℕ, ◌+◌, ◌^◌, ◌<◌, ◌≤◌, List, All, Option, length}
 use Rattle.fk_meaning.specs.Processor.{Setting, setting_of}
 use Rattle.fk_meaning.specs.Round.{Step, State}
-use Rattle.fk_meaning.specs.Schedule.{run, stand_of, IsLawful, SourceStand, SourceRunning, SourceFinished, SourceFaulted}
+use Rattle.fk_meaning.specs.Schedule.{run, stand_of, IsLawful, SourceStand, SourceRunning}
+use Rattle.fk_meaning.specs.Schedule.{SourceFinished, SourceFaulted}
 use Rattle.fk_image.specs.declared.Image.{Image}
 use Rattle.fk_machine.specs.declared.stand.Stand.{Stand}
 use Rattle.fk_machine.specs.declared.stand.Stand.TheVariants.{Running, Finished, Faulted}
@@ -12,7 +13,8 @@ use Rattle.fk_machine.specs.Run.{machine, output_of, rounds}
 abbrev pub StandsAgree : Stand → SourceStand → Type 0
 StandsAgree Running SourceRunning = Unit {0}
 StandsAgree Finished SourceFinished = Unit {0}
-StandsAgree (Faulted site hart) (SourceFaulted fault) = (site ≡ fault.site) × (hart ≡ fault.processor)
+StandsAgree (Faulted site hart) (SourceFaulted fault) = (site ≡ fault.site)
+    × (hart ≡ fault.processor)
 StandsAgree stand source = ⊥
 
 -- the input numbers that a machine takes
@@ -25,13 +27,15 @@ module _ {W : Type 0} (next : W → Option (Step W)) (image : Image) (input : Li
   abbrev pub setting : Setting
   setting = setting_of p image.globals.items input
 
-  -- after n cycles the machine agrees with a state: in its output, in all of shared data, in its stand
+  -- after n cycles the machine agrees with a state: in its output, in all of shared
+  -- data, in its stand
   pub record Agrees (s : State W) : Type 0 where
     pub output : output_of image input p n ≡ s.store.output
     pub words : (i : ℕ) → i < 2 ^ 20 → (machine image input p n).shared.words i ≡ s.store.words i
     pub stand : StandsAgree (machine image input p n).stand (stand_of next setting s)
 
-  -- the schedule that is read off n cycles is lawful from a first state, and the machine agrees with the run by it
+  -- the schedule that is read off n cycles is lawful from a first state, and the machine agrees
+  -- with the run by it
   pub record Follows (first : State W) : Type 0 where
     pub lawful : IsLawful next setting (rounds image input p n) first
     pub agrees : Agrees (run next setting (rounds image input p n) first)

@@ -1,5 +1,7 @@
--- What processors have of their groups is what the tree has of the nodes where they stand, and of those round these.
-use Rattle.std.specs.Prelude.{◌≡◌, ◌≢◌, ℕ, suc, ◌<◌, List, [], ◌∷◌, length, map, Bool, Option, Some, None, false}
+-- What processors have of their groups is what the tree has of the nodes where they stand, and of
+-- those round these.
+use Rattle.std.specs.Prelude.{◌≡◌, ◌≢◌, ℕ, suc, ◌<◌, List, [], ◌∷◌, length, map, Bool, Option, Some}
+use Rattle.std.specs.Prelude.{None, false}
 use Rattle.fk_space.specs.Space.{Space}
 use Rattle.fk_tree.specs.declared.node.Kind.TheVariants.{Asynchronous}
 use Rattle.fk_tree.specs.Tree as trees
@@ -21,32 +23,41 @@ use Rattle.fk_sim_rounds.specs.Rounds.{IsKnownRound}
 abbrev pub IsLevelOf : Tree → (spaces : ℕ → Space) → (n : ℕ) → Level → (outer : List Level) → Type 0
 IsLevelOf tree spaces n l [] = (n ≡ 0) × (l.size ≡ length (trees.members tree n))
 IsLevelOf tree spaces n l (o ∷ outer) =
-    (n ≢ 0) × (l.space.low ≡ (spaces n).low) × (l.size ≡ length (trees.members tree n)) × IsLevelOf tree spaces (trees.parent tree n) o outer
+    (n ≢ 0) × (l.space.low ≡ (spaces n).low) × (l.size ≡ length (trees.members tree n))
+    × IsLevelOf tree spaces (trees.parent tree n) o outer
 
 -- so it is with all processors, from a number on
 abbrev pub AllHome : Tree → (spaces : ℕ → Space) → (number : ℕ) → List Owner → Type 0
 AllHome tree spaces number [] = Unit {0}
 AllHome tree spaces number (p ∷ ps) =
-    (number_of p ≡ number) × IsLevelOf tree spaces (tree.places number) p.runner.has.level p.runner.has.outer × AllHome tree spaces (suc number) ps
+    (number_of p ≡ number) × IsLevelOf tree spaces
+    (tree.places number) p.runner.has.level p.runner.has.outer × AllHome tree spaces (suc number) ps
 
 -- who has committed anything but a halt is about to do another operation
-abbrev pub AllNext : List CoreOp → Nestings → Setting → Tree → (number : ℕ) → (afters : List (Option Stage)) → List Doing → List Owner → Type 0
+abbrev pub AllNext : List CoreOp → Nestings → Setting → Tree → (number : ℕ)
+    → (afters : List (Option Stage)) → List Doing → List Owner → Type 0
 AllNext core nestings setting tree number [] [] [] = Unit {0}
-AllNext core nestings setting tree number (a ∷ afters) (d ∷ ds) (p ∷ ps) = (a ≡ None → halts d.acting.due ≡ false → HasNext core nestings setting tree number (landed core p)) × AllNext core nestings setting tree (suc number) afters ds ps
+AllNext core nestings setting tree number (a ∷ afters) (d ∷ ds) (p ∷ ps) = (a ≡ None
+    → halts d.acting.due ≡ false → HasNext core nestings setting tree number (landed core p))
+    × AllNext core nestings setting tree (suc number) afters ds ps
 AllNext core nestings setting tree number afters ds ps = ⊥
 
 -- then that is all that is to be known of processors that go on
 abbrev pub HomesGoOn : Type 0
 HomesGoOn =
-    (core : List CoreOp) (nestings : Nestings) (setting : Setting) (tree : Tree) (spaces : ℕ → Space) (afters : List (Option Stage)) (ds : List Doing) (ps : List Owner)
-    → AllHome tree spaces 0 ps → AllNext core nestings setting tree 0 afters ds ps → AllGoOn core nestings setting tree spaces 0 afters ds ps
+    (core : List CoreOp) (nestings : Nestings) (setting : Setting) (tree : Tree)
+    (spaces : ℕ → Space) (afters : List (Option Stage)) (ds : List Doing) (ps : List Owner)
+    → AllHome tree spaces 0 ps → AllNext core nestings setting tree 0 afters ds ps
+    → AllGoOn core nestings setting tree spaces 0 afters ds ps
 
 -- a known round leaves it so
 abbrev pub HomesStay : Type 0
 HomesStay =
-    (core : List CoreOp) (setting : Setting) (tree : Tree) (spaces : ℕ → Space) (stages : List Stage) (ps : List Owner) (did : List Doing) (shared shared' : Commons)
+    (core : List CoreOp) (setting : Setting) (tree : Tree) (spaces : ℕ → Space)
+    (stages : List Stage) (ps : List Owner) (did : List Doing) (shared shared' : Commons)
     → IsSound setting.processors tree → length did ≡ setting.processors → AllHome tree spaces 0 ps
-    → AllPass (core_source core setting) (counts_for stages) ps shared did shared' → IsKnownRound tree did
+    → AllPass (core_source core setting) (counts_for stages) ps shared did shared'
+    → IsKnownRound tree did
     → AllHome (tree_after tree did) spaces 0 (owners_after tree (tree_after tree did) did)
 
 -- the group spaces of all begin here
@@ -57,7 +68,10 @@ AllFrom low (p ∷ ps) = (p.runner.has.level.space.low ≡ low) × AllFrom low p
 -- and so does the beginning of the group of `start`, whose space is that of the root
 abbrev pub HomesBegin : Type 0
 HomesBegin =
-    (core : List CoreOp) (setting : Setting) (tree : Tree) (spaces : ℕ → Space) (alone : Bool) (i : ℕ) (op : CoreOp) (ps : List Owner) (did : List Doing)
-    → IsSound setting.processors tree → trees.kind tree 0 ≡ Some (Asynchronous alone) → ((h : ℕ) → h < setting.processors → tree.places h ≡ 0) → length ps ≡ setting.processors
-    → AllHome tree spaces 0 ps → AllFrom (spaces tree.given).low ps → did ≡ map (is_due core i op Begin) ps → IsSound setting.processors (tree_after tree did)
+    (core : List CoreOp) (setting : Setting) (tree : Tree) (spaces : ℕ → Space) (alone : Bool)
+    (i : ℕ) (op : CoreOp) (ps : List Owner) (did : List Doing)
+    → IsSound setting.processors tree → trees.kind tree 0 ≡ Some (Asynchronous alone)
+    → ((h : ℕ) → h < setting.processors → tree.places h ≡ 0) → length ps ≡ setting.processors
+    → AllHome tree spaces 0 ps → AllFrom (spaces tree.given).low ps
+    → did ≡ map (is_due core i op Begin) ps → IsSound setting.processors (tree_after tree did)
     → AllHome (tree_after tree did) spaces 0 (owners_after tree (tree_after tree did) did)

@@ -7,7 +7,8 @@ use Rattle.fk_core.specs.declared.op.CoreOp.{CoreOp}
 use Rattle.fk_core.specs.Next.{Position, next, list_opening}
 use Rattle.fk_sim_block.specs.Ready.{IsInRange}
 
--- what a machine is given: so many processors, and words, of which globals and input have room in one half of shared data
+-- what a machine is given: so many processors, and words, of which globals and input have room in
+-- one half of shared data
 pub record AreGiven (words firsts input : List ℕ) (p : ℕ) : Type 0 where
   pub few : p ≤ 1024
   pub room : length words + length input ≤ 2 ^ 19
@@ -18,5 +19,8 @@ pub record AreGiven (words firsts input : List ℕ) (p : ℕ) : Type 0 where
 -- so it is after each schedule, of whatever operations the list is
 abbrev pub ListsStayInRange : Type 0
 ListsStayInRange =
-    (core : List CoreOp) (main : ℕ) (words firsts input : List ℕ) (p : ℕ) (schedule : Schedule) → AreGiven words firsts input p
-    → (h : ℕ) (r : Runner Position) → slice_get (run (next core) (setting_of p words input) schedule (list_opening main words firsts input p)).runners h ≡ Some r → IsInRange r.has
+    (core : List CoreOp) (main : ℕ) (words firsts input : List ℕ) (p : ℕ) (schedule : Schedule)
+    → AreGiven words firsts input p
+    → (h : ℕ) (r : Runner Position) → slice_get (run (next core)
+    (setting_of p words input) schedule (list_opening main words firsts input p)).runners h ≡ Some r
+    → IsInRange r.has

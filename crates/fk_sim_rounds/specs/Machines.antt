@@ -27,23 +27,29 @@ use Rattle.fk_sim_rounds.specs.Results.{Makes}
 use Rattle.fk_sim_rounds.specs.Union.{AllLandAt, IsUnited}
 use Rattle.fk_sim_rounds.specs.Follow.{IsFollowed}
 
-module _ (core : List CoreOp) (image : Image) (places : Places) (nestings : Nestings) (setting : Setting) (spaces : ℕ → Space) where
+module _ (core : List CoreOp) (image : Image) (places : Places) (nestings : Nestings)
+    (setting : Setting) (spaces : ℕ → Space) where
   -- a machine that has printed these bytes follows a state, and has finished exactly where that has
-  pub record GoesWith (s : State Position) (nodes : List ℕ) (printed : List ℕ) (stages : List Stage) (m : Machine) : Type 0 where
-    pub followed : IsFollowed core image places nestings setting spaces s nodes (setting_of m) printed stages m.harts (unprinted m.shared)
+  pub record GoesWith (s : State Position) (nodes : List ℕ) (printed : List ℕ) (stages : List Stage)
+      (m : Machine) : Type 0 where
+    pub followed : IsFollowed core image places nestings setting spaces s nodes
+        (setting_of m) printed stages m.harts (unprinted m.shared)
     pub stand : m.stand ≡ cond (all_done (next core) setting s.runners) Finished Running
 
   -- it follows a state whose processors are in lockstep at the beginning of `start`
-  pub record GoesToStart (s : State Position) (nodes : List ℕ) (printed : List ℕ) (stages : List Stage) (m : Machine) : Type 0 where
-    pub followed : IsUnited core image places nestings setting spaces s nodes (setting_of m) printed stages m.harts (unprinted m.shared)
+  pub record GoesToStart (s : State Position) (nodes : List ℕ) (printed : List ℕ)
+      (stages : List Stage) (m : Machine) : Type 0 where
+    pub followed : IsUnited core image places nestings setting spaces s nodes
+        (setting_of m) printed stages m.harts (unprinted m.shared)
     pub stand : m.stand ≡ Running
 
-  module _ (s : State Position) (nodes : List ℕ) (printed : List ℕ) (stages : List Stage) (m : Machine) where
+  module _ (s : State Position) (nodes : List ℕ) (printed : List ℕ) (stages : List Stage)
+      (m : Machine) where
     abbrev pub next_state : State Position
     next_state = result (next core) setting (counts_for stages) s
 
-    -- the round of its cycle is possible. Where it is a known one, and processors go on as is told, the machine follows the state
-    -- behind it
+    -- the round of its cycle is possible. Where it is a known one, and processors go on as is told,
+    -- the machine follows the state behind it
     pub record GoesOn : Type 0 where
       pub round : round_of image m ≡ counts_for stages
       pub possible : is_possible (next core) setting (round_of image m) s ≡ true
@@ -51,11 +57,19 @@ module _ (core : List CoreOp) (image : Image) (places : Places) (nestings : Nest
       pub did : List Doing
       pub afters : List (Option Stage)
       pub makes : Makes core setting stages s did afters
-      pub again : (nodes' : List ℕ) → IsKnownRound s.tree did → IsTree setting next_state.tree spaces → ArePlaces next_state.tree 0 nodes' → length nodes' ≡ length nodes
-          → AllNext core nestings setting next_state.tree 0 afters did (owners_after s.tree next_state.tree did) → GroupsGoOn core nestings next_state.tree nodes' afters (owners_after s.tree next_state.tree did)
-          → (stages' : List Stage) × AllNear stages stages' × AllSoon afters stages' × GoesWith next_state nodes' (printed ++ (cycle m).shared.output) stages' (cycle m)
-          × PlanGoesOn core image places nestings setting spaces (plan_of s.tree spaces nodes) (plan_of next_state.tree spaces nodes') (setting_of m) stages stages' (cycle m).harts afters makes.ps
-          (all_landed core (owners_after s.tree next_state.tree did)) (λ g. m.shared.control) (cycle m).shared.control
+      pub again : (nodes' : List ℕ) → IsKnownRound s.tree did
+          → IsTree setting next_state.tree spaces → ArePlaces next_state.tree 0 nodes'
+          → length nodes' ≡ length nodes
+          → AllNext core nestings setting next_state.tree 0 afters did
+          (owners_after s.tree next_state.tree did) → GroupsGoOn core nestings next_state.tree
+          nodes' afters (owners_after s.tree next_state.tree did)
+          → (stages' : List Stage) × AllNear stages stages' × AllSoon afters stages'
+          × GoesWith next_state nodes' (printed ++ (cycle m).shared.output) stages' (cycle m)
+          × PlanGoesOn core image places nestings setting spaces (plan_of s.tree spaces nodes)
+          (plan_of next_state.tree spaces nodes')
+          (setting_of m) stages stages' (cycle m).harts afters makes.ps
+          (all_landed core (owners_after s.tree next_state.tree did)) (λ g. m.shared.control)
+          (cycle m).shared.control
 
     -- or it is a stopped round, whose fault ends the machine
     pub record StopsWith : Type 0 where
@@ -65,17 +79,19 @@ module _ (core : List CoreOp) (image : Image) (places : Places) (nestings : Nest
       pub round : round_of image m ≡ cut (suc place) (counts_for stages)
       pub stopped : IsStopped (next core) setting (round_of image m) s
 
-    -- or nobody is in it, since all processors have met at the beginning of `start`. Where jumps lead all to one index, the machine
-    -- follows a state in which they are in lockstep
+    -- or nobody is in it, since all processors have met at the beginning of `start`. Where jumps
+    -- lead all to one index, the machine follows a state in which they are in lockstep
     pub record Unites : Type 0 where
       pub round : round_of image m ≡ counts_for stages
       pub possible : is_possible (next core) setting (round_of image m) s ≡ true
       pub all : AllUnite stages
       pub again : (i : ℕ) → AllLandAt core i s.runners
-          → (stages' : List Stage) × AllNear stages stages' × GoesToStart next_state nodes (printed ++ (cycle m).shared.output) stages' (cycle m)
+          → (stages' : List Stage) × AllNear stages stages'
+          × GoesToStart next_state nodes (printed ++ (cycle m).shared.output) stages' (cycle m)
 
-    -- From a state whose processors are in lockstep at the beginning of `start`: nobody is in the round, and all are nearer to their
-    -- commit; or all are, and commit, and the group begins. Where nobody is at its words, it has the whole group space, and all go on as is told, the
+    -- From a state whose processors are in lockstep at the beginning of `start`: nobody is in the
+    -- round, and all are nearer to their commit; or all are, and commit, and the group begins.
+    -- Where nobody is at its words, it has the whole group space, and all go on as is told, the
     -- machine follows the state behind it
     pub record Starts : Type 0 where
       pub round : round_of image m ≡ counts_for stages
@@ -83,26 +99,38 @@ module _ (core : List CoreOp) (image : Image) (places : Places) (nestings : Nest
       pub did : List Doing
       pub afters : List (Option Stage)
       pub makes : Makes core setting stages s did afters
-      pub goes : ((stages' : List Stage) × AllNear stages stages' × GoesToStart next_state nodes (printed ++ (cycle m).shared.output) stages' (cycle m))
-          ⊎ (AllHaveCommitted afters × ((nodes' : List ℕ) → IsTree setting next_state.tree spaces → ArePlaces next_state.tree 0 nodes' → length nodes' ≡ length nodes
-          → IsAtRest (first_of spaces s.tree.given) (cycle m).shared.control → (spaces s.tree.given).low ≡ (group_space setting).low
-          → AllNext core nestings setting next_state.tree 0 afters did (owners_after s.tree next_state.tree did) → GroupsGoOn core nestings next_state.tree nodes' afters (owners_after s.tree next_state.tree did)
-          → (stages' : List Stage) × AllNear stages stages' × AllSoon afters stages' × GoesWith next_state nodes' (printed ++ (cycle m).shared.output) stages' (cycle m)))
+      pub goes : ((stages' : List Stage) × AllNear stages stages'
+          × GoesToStart next_state nodes (printed ++ (cycle m).shared.output) stages' (cycle m))
+          ⊎ (AllHaveCommitted afters × ((nodes' : List ℕ) → IsTree setting next_state.tree spaces
+          → ArePlaces next_state.tree 0 nodes' → length nodes' ≡ length nodes
+          → IsAtRest (first_of spaces s.tree.given) (cycle m).shared.control
+          → (spaces s.tree.given).low ≡ (group_space setting).low
+          → AllNext core nestings setting next_state.tree 0 afters did
+          (owners_after s.tree next_state.tree did) → GroupsGoOn core nestings next_state.tree
+          nodes' afters (owners_after s.tree next_state.tree did)
+          → (stages' : List Stage) × AllNear stages stages' × AllSoon afters stages'
+          × GoesWith next_state nodes' (printed ++ (cycle m).shared.output) stages' (cycle m)))
 
 abbrev pub MachinesFollowRounds : Type 0
 MachinesFollowRounds =
-    (core : List CoreOp) (image : Image) (places : Places) (nestings : Nestings) (cycles : Cycles) (firsts : List ℕ) (main : ℕ) (setting : Setting) (spaces : ℕ → Space)
+    (core : List CoreOp) (image : Image) (places : Places) (nestings : Nestings) (cycles : Cycles)
+    (firsts : List ℕ) (main : ℕ) (setting : Setting) (spaces : ℕ → Space)
     (s : State Position) (nodes : List ℕ) (printed : List ℕ) (stages : List Stage) (m : Machine)
-    → GroupLaw core image places nestings cycles firsts main → JumpsLead core → length m.harts < 2 ^ 31 → is_running m.stand ≡ true
+    → GroupLaw core image places nestings cycles firsts main → JumpsLead core
+    → length m.harts < 2 ^ 31 → is_running m.stand ≡ true
     → GoesWith core image places nestings setting spaces s nodes printed stages m
     → GoesOn core image places nestings setting spaces s nodes printed stages m
-    ⊎ (StopsWith core image places nestings setting spaces s nodes printed stages m ⊎ Unites core image places nestings setting spaces s nodes printed stages m)
+    ⊎ (StopsWith core image places nestings setting spaces s nodes printed stages m
+    ⊎ Unites core image places nestings setting spaces s nodes printed stages m)
 
 -- so it goes on to the beginning of the group
 abbrev pub MachinesFollowStarts : Type 0
 MachinesFollowStarts =
-    (core : List CoreOp) (image : Image) (places : Places) (nestings : Nestings) (cycles : Cycles) (firsts : List ℕ) (main : ℕ) (setting : Setting) (spaces : ℕ → Space)
+    (core : List CoreOp) (image : Image) (places : Places) (nestings : Nestings) (cycles : Cycles)
+    (firsts : List ℕ) (main : ℕ) (setting : Setting) (spaces : ℕ → Space)
     (s : State Position) (nodes : List ℕ) (printed : List ℕ) (stages : List Stage) (m : Machine)
-    → GroupLaw core image places nestings cycles firsts main → JumpsLead core → length m.harts < 2 ^ 31 → is_running m.stand ≡ true
+    → GroupLaw core image places nestings cycles firsts main → JumpsLead core
+    → length m.harts < 2 ^ 31 → is_running m.stand ≡ true
     → GoesToStart core image places nestings setting spaces s nodes printed stages m
-    → Starts core image places nestings setting spaces s nodes printed stages m ⊎ StopsWith core image places nestings setting spaces s nodes printed stages m
+    → Starts core image places nestings setting spaces s nodes printed stages m
+    ⊎ StopsWith core image places nestings setting spaces s nodes printed stages m

@@ -1,5 +1,7 @@
--- What is known of processors that are about to do their next operations, in the nodes where they stand.
-use Rattle.std.specs.Prelude.{◌≡◌, ℕ, List, [], ◌∷◌, length, slice_get, Bool, true, false, Some, map, ◌⊎◌}
+-- What is known of processors that are about to do their next operations, in the nodes
+-- where they stand.
+use Rattle.std.specs.Prelude.{◌≡◌, ℕ, List, [], ◌∷◌, length, slice_get, Bool, true, false, Some}
+use Rattle.std.specs.Prelude.{map, ◌⊎◌}
 use Rattle.fk_space.specs.Space.{Space}
 use Rattle.fk_tree.specs.declared.node.Kind.TheVariants.{Asynchronous}
 use Rattle.fk_tree.specs.Tree as trees
@@ -26,9 +28,11 @@ use Rattle.fk_sim_match.specs.Rounds.{joint_at_word}
 
 -- a jump leads to an operation
 abbrev pub JumpsLead : List CoreOp → Type 0
-JumpsLead core = (i : ℕ) (op : CoreOp) → slice_get core i ≡ Some op → is_jump op ≡ true → IsOperation core op.target
+JumpsLead core = (i : ℕ) (op : CoreOp) → slice_get core i ≡ Some op → is_jump op ≡ true
+    → IsOperation core op.target
 
--- a processor at the index of the operation to which jumps lead it. Jumps are no operations, so it is in the same run
+-- a processor at the index of the operation to which jumps lead it. Jumps are no operations, so it
+-- is in the same run
 abbrev pub landed : List CoreOp → Owner → Owner
 landed core p = gone_to (landing core p.runner.left.at) p
 
@@ -40,7 +44,8 @@ all_landed core ps = map (landed core) ps
 -- what a processor has of its group is that of the node where it stands
 pub record IsHome (tree : Tree) (spaces : ℕ → Space) (number : ℕ) (p : Owner) : Type 0 where
   pub number_is : number_of p ≡ number
-  pub words : first_word p.runner.has.level p.runner.has.outer ≡ first_of spaces (tree.places number)
+  pub words : first_word p.runner.has.level p.runner.has.outer
+      ≡ first_of spaces (tree.places number)
   pub size : p.runner.has.level.size ≡ length (trees.members tree (tree.places number))
 
 -- one by itself meets others at a word of its node
@@ -50,7 +55,8 @@ pub record MayMeet (tree : Tree) (g number : ℕ) (operation : Operation) : Type
   pub member : is_member number (meeters_at tree g (word_of operation)) ≡ true
 
 -- or all others in the root, to begin the group of `start`
-pub record MayStart (nestings : Nestings) (setting : Setting) (tree : Tree) (g number : ℕ) (operation : Operation) (p : Owner) : Type 0 where
+pub record MayStart (nestings : Nestings) (setting : Setting) (tree : Tree) (g number : ℕ)
+    (operation : Operation) (p : Owner) : Type 0 where
   pub begins : operation ≡ Begin
   pub root : g ≡ 0
   pub kind : trees.kind tree 0 ≡ Some (Asynchronous false)
@@ -60,15 +66,18 @@ pub record MayStart (nestings : Nestings) (setting : Setting) (tree : Tree) (g n
 -- or does an operation alone, or ends
 abbrev pub MayByItself : Nestings → Setting → Tree → (g number : ℕ) → Operation → Owner → Type 0
 MayByItself nestings setting tree g number operation p =
-    (is_alone operation ≡ true) ⊎ ((operation ≡ Halt) ⊎ (MayMeet tree g number operation ⊎ MayStart nestings setting tree g number operation p))
+    (is_alone operation ≡ true) ⊎ ((operation ≡ Halt)
+    ⊎ (MayMeet tree g number operation ⊎ MayStart nestings setting tree g number operation p))
 
 -- a processor is about to do this
-pub record HasNext (core : List CoreOp) (nestings : Nestings) (setting : Setting) (tree : Tree) (number : ℕ) (p : Owner) : Type 0 where
+pub record HasNext (core : List CoreOp) (nestings : Nestings) (setting : Setting) (tree : Tree)
+    (number : ℕ) (p : Owner) : Type 0 where
   pub op : CoreOp
   pub operation : Operation
   pub stands : StandsOp core p.runner.left.at op operation
   pub ready : IsReady op operation p.runner
-  pub may : is_lockstep (trees.kind tree (tree.places number)) ≡ false → MayByItself nestings setting tree (tree.places number) number operation p
+  pub may : is_lockstep (trees.kind tree (tree.places number)) ≡ false
+      → MayByItself nestings setting tree (tree.places number) number operation p
 
 -- ---- in a group
 
@@ -80,10 +89,11 @@ AllAt i (p ∷ ps) = (p.runner.left.at ≡ i) × AllAt i ps
 -- all are about to do the same operation
 abbrev pub AllAbout : (i : ℕ) → CoreOp → Operation → List Owner → Type 0
 AllAbout i op operation [] = Unit {0}
-AllAbout i op operation (p ∷ ps) = (p.runner.left.at ≡ i) × IsReady op operation p.runner × AllAbout i op operation ps
+AllAbout i op operation (p ∷ ps) = (p.runner.left.at ≡ i) × IsReady op operation p.runner
+    × AllAbout i op operation ps
 
--- a local operation or a request by which all go one way, a step of the tree in which they stay in their node, or the end of
--- the group of `start`
+-- a local operation or a request by which all go one way, a step of the tree in which they stay in
+-- their node, or the end of the group of `start`
 pub record ActsAlike (operation : Operation) (ps : List Owner) : Type 0 where
   pub alone : is_alone operation ≡ true
   pub onward : Bool
@@ -96,7 +106,8 @@ pub record StepsAlike (operation : Operation) (ps : List Owner) : Type 0 where
   pub asked : IsAskedOf operation lowest size ps
 
 abbrev pub MayInGroup : Nestings → Operation → List Owner → Type 0
-MayInGroup nestings operation ps = ActsAlike operation ps ⊎ (StepsAlike operation ps ⊎ ((operation ≡ End) × AreInStart nestings ps))
+MayInGroup nestings operation ps = ActsAlike operation ps
+    ⊎ (StepsAlike operation ps ⊎ ((operation ≡ End) × AreInStart nestings ps))
 
 -- the members of a group, all of which have come to one index, are about to do this
 pub record HaveNext (core : List CoreOp) (nestings : Nestings) (ps : List Owner) : Type 0 where

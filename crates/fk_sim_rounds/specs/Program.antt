@@ -21,10 +21,12 @@ use Rattle.fk_sim_rounds.specs.After.{ArePlaces, runners_of}
 
 -- what a member of a group may do
 abbrev pub MayInStep : Nestings → Operation → Owner → Type 0
-MayInStep nestings operation p = (is_alone operation ≡ true) ⊎ ((is_shared_step operation ≡ true) ⊎ ((operation ≡ End) × IsInStart nestings p))
+MayInStep nestings operation p = (is_alone operation ≡ true)
+    ⊎ ((is_shared_step operation ≡ true) ⊎ ((operation ≡ End) × IsInStart nestings p))
 
 -- and is about to do
-pub record IsInStep (core : List CoreOp) (nestings : Nestings) (number : ℕ) (p : Owner) : Type 0 where
+pub record IsInStep (core : List CoreOp) (nestings : Nestings) (number : ℕ)
+    (p : Owner) : Type 0 where
   pub number_is : number_of p ≡ number
   pub op : CoreOp
   pub operation : Operation
@@ -33,13 +35,19 @@ pub record IsInStep (core : List CoreOp) (nestings : Nestings) (number : ℕ) (p
   pub may : MayInStep nestings operation p
 
 -- so it is with those who stand in a node, from a number on
-abbrev pub AllInStep : List CoreOp → Nestings → (g number : ℕ) → (nodes : List ℕ) → List Owner → Type 0
+abbrev pub AllInStep : List CoreOp → Nestings → (g number : ℕ) → (nodes : List ℕ)
+    → List Owner → Type 0
 AllInStep core nestings g number [] [] = Unit {0}
-AllInStep core nestings g number (n ∷ nodes) (p ∷ ps) = (n ≡ g → IsInStep core nestings number (landed core p)) × AllInStep core nestings g (suc number) nodes ps
+AllInStep core nestings g number (n ∷ nodes) (p ∷ ps) =
+    (n ≡ g → IsInStep core nestings number (landed core p))
+    × AllInStep core nestings g (suc number) nodes ps
 AllInStep core nestings g number nodes ps = ⊥
 
 abbrev pub GroupsHaveNext : Type 0
 GroupsHaveNext =
-    (core : List CoreOp) (nestings : Nestings) (processors : ℕ) (s : State Position) (nodes : List ℕ) (ps : List Owner) (g : ℕ)
-    → processors ≤ 1024 → IsSound processors s.tree → ArePlaces s.tree 0 nodes → length nodes ≡ processors → s.runners ≡ runners_of ps
-    → HaveOneProgram (next core) s → trees.kind s.tree g ≡ Some Lockstep → AllInStep core nestings g 0 nodes ps → HaveNext core nestings (of_node g nodes ps)
+    (core : List CoreOp) (nestings : Nestings) (processors : ℕ) (s : State Position)
+    (nodes : List ℕ) (ps : List Owner) (g : ℕ)
+    → processors ≤ 1024 → IsSound processors s.tree → ArePlaces s.tree 0 nodes
+    → length nodes ≡ processors → s.runners ≡ runners_of ps
+    → HaveOneProgram (next core) s → trees.kind s.tree g ≡ Some Lockstep
+    → AllInStep core nestings g 0 nodes ps → HaveNext core nestings (of_node g nodes ps)

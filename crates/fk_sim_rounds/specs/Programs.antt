@@ -12,7 +12,10 @@ use Rattle.fk_sim_rounds.specs.Follows.{Follows}
 
 abbrev pub ProgramsAreFollowed : Type 0
 ProgramsAreFollowed =
-    (tables : Tables) (program : ProgramTree) (core : List CoreOp) (entry : ℕ → ℕ) (firsts : List ℕ) (image : Image) (input : List ℕ) (p n : ℕ)
+    (tables : Tables) (program : ProgramTree) (core : List CoreOp) (entry : ℕ → ℕ) (firsts : List ℕ)
+    (image : Image) (input : List ℕ) (p n : ℕ)
     → HasCodeOf tables program core entry
-    → Follows (next core) image input p n (list_opening (entry (main_of tables program)) image.globals.items firsts input p)
-    → Follows (source.next_in tables program) image input p n (source.program_opening tables program image.globals.items firsts input p)
+    → Follows (next core) image input p n
+    (list_opening (entry (main_of tables program)) image.globals.items firsts input p)
+    → Follows (source.next_in tables program) image input p n
+    (source.program_opening tables program image.globals.items firsts input p)

@@ -29,15 +29,20 @@ HasNoGroup tree = (g : ℕ) → g ≢ 0 → tree.nodes g ≡ None
 -- a group that is there stays behind a known round, but for one that ends
 abbrev pub KnownRoundsKeepGroups : Type 0
 KnownRoundsKeepGroups =
-    (tree : Tree) (ds : List Doing) → IsKnownRound tree ds → EndsGroup tree ds ⊎ (HasNoGroup (tree_after tree ds) → HasNoGroup tree)
+    (tree : Tree) (ds : List Doing) → IsKnownRound tree ds
+    → EndsGroup tree ds ⊎ (HasNoGroup (tree_after tree ds) → HasNoGroup tree)
 
 -- at the words of one that ends nobody is left
 abbrev pub EndedGroupsRest : Type 0
 EndedGroupsRest =
-    (core : List CoreOp) (image : Image) (places : Places) (nestings : Nestings) (setting : Setting) (tree : Tree) (spaces : ℕ → Space) (nodes : List ℕ) (t : MachineSetting) (stages : List Stage)
-    (hs : List Hart) (ps : List Owner) (ds : List Doing) (own own' : ℕ → Memory) (control : Memory) (g : ℕ)
+    (core : List CoreOp) (image : Image) (places : Places) (nestings : Nestings) (setting : Setting)
+    (tree : Tree) (spaces : ℕ → Space) (nodes : List ℕ) (t : MachineSetting) (stages : List Stage)
+    (hs : List Hart) (ps : List Owner) (ds : List Doing) (own own' : ℕ → Memory)
+    (control : Memory) (g : ℕ)
     → let plan = plan_of tree spaces nodes in
     let blocks = blocks_of core image places nestings setting plan (first_of spaces) in
     IsSound setting.processors tree → ArePlaces tree 0 nodes → length nodes ≡ setting.processors
-    → IsLeft (core_source core setting) image plan blocks t stages hs ps ds own own' → ((k : ℕ) → Has (plan.words k) control (own' k))
-    → trees.kind tree g ≡ Some Lockstep → StepsAt tree g 0 End ds → IsAtRest (first_of spaces g) control
+    → IsLeft (core_source core setting) image plan blocks t stages hs ps ds own own'
+    → ((k : ℕ) → Has (plan.words k) control (own' k))
+    → trees.kind tree g ≡ Some Lockstep → StepsAt tree g 0 End ds
+    → IsAtRest (first_of spaces g) control

@@ -22,7 +22,8 @@ use Rattle.fk_sim_rounds.specs.Rounds.{EndsGroup}
 use Rattle.fk_sim_rounds.specs.Rest.{HasNoGroup}
 use Rattle.fk_sim_rounds.specs.Machines.{GoesWith, GoesToStart}
 
--- the headers of all groups, which come one at a time, begin at one word, among those of shared data
+-- the headers of all groups, which come one at a time, begin at one word, among
+-- those of shared data
 pub record HaveOneHeader (spaces : ℕ → Space) (first : ℕ) : Type 0 where
   pub same : (g : ℕ) → g ≢ 0 → first_of spaces g ≡ first
   pub within : first + 8 ≤ root_words
@@ -33,27 +34,39 @@ IsReadyForGroup tree first control = HasNoGroup tree → IsAtRest first control
 
 -- so it is at the beginning
 abbrev pub OpeningsAreReady : Type 0
-OpeningsAreReady = (image : Image) (input : List ℕ) (p : ℕ) (tree : Tree) (first : ℕ) → IsReadyForGroup tree first (machine_opening image input p).shared.control
+OpeningsAreReady = (image : Image) (input : List ℕ) (p : ℕ) (tree : Tree) (first : ℕ)
+    → IsReadyForGroup tree first (machine_opening image input p).shared.control
 
--- and behind each cycle of a machine that follows a state, where a group that is there stays, or ends
+-- and behind each cycle of a machine that follows a state, where a group that is
+-- there stays, or ends
 abbrev pub CyclesStayReady : Type 0
 CyclesStayReady =
-    (core : List CoreOp) (image : Image) (places : Places) (nestings : Nestings) (cycles : Cycles) (firsts : List ℕ) (main : ℕ) (setting : Setting) (spaces : ℕ → Space)
-    (s : State Position) (nodes : List ℕ) (printed : List ℕ) (stages : List Stage) (m : Machine) (first : ℕ)
-    → GroupLaw core image places nestings cycles firsts main → JumpsLead core → length m.harts < 2 ^ 31 → is_running m.stand ≡ true
-    → (with : GoesWith core image places nestings setting spaces s nodes printed stages m) → is_possible (next core) setting (counts_for stages) s ≡ true
+    (core : List CoreOp) (image : Image) (places : Places) (nestings : Nestings) (cycles : Cycles)
+    (firsts : List ℕ) (main : ℕ) (setting : Setting) (spaces : ℕ → Space)
+    (s : State Position) (nodes : List ℕ) (printed : List ℕ) (stages : List Stage)
+    (m : Machine) (first : ℕ)
+    → GroupLaw core image places nestings cycles firsts main → JumpsLead core
+    → length m.harts < 2 ^ 31 → is_running m.stand ≡ true
+    → (with : GoesWith core image places nestings setting spaces s nodes printed stages m)
+    → is_possible (next core) setting (counts_for stages) s ≡ true
     → HaveOneHeader spaces first
-    → ((did : List Doing) (shared : Commons) → AllPass (core_source core setting) (counts_for stages) with.followed.ps with.followed.shared did shared
+    → ((did : List Doing) (shared : Commons) → AllPass (core_source core setting)
+    (counts_for stages) with.followed.ps with.followed.shared did shared
     → EndsGroup s.tree did ⊎ (HasNoGroup (tree_after s.tree did) → HasNoGroup s.tree))
     → IsReadyForGroup s.tree first m.shared.control
-    → IsReadyForGroup (result (next core) setting (counts_for stages) s).tree first (cycle m).shared.control
+    → IsReadyForGroup (result (next core) setting (counts_for stages) s).tree first
+    (cycle m).shared.control
 
--- Where all processors have met at the beginning of `start` nobody comes to these words: nobody is at them when the group begins
+-- Where all processors have met at the beginning of `start` nobody comes to these words: nobody is
+-- at them when the group begins
 abbrev pub StartsStayReady : Type 0
 StartsStayReady =
-    (core : List CoreOp) (image : Image) (places : Places) (nestings : Nestings) (setting : Setting) (spaces : ℕ → Space)
-    (s : State Position) (nodes : List ℕ) (printed : List ℕ) (stages : List Stage) (m : Machine) (first : ℕ)
+    (core : List CoreOp) (image : Image) (places : Places) (nestings : Nestings) (setting : Setting)
+    (spaces : ℕ → Space)
+    (s : State Position) (nodes : List ℕ) (printed : List ℕ) (stages : List Stage)
+    (m : Machine) (first : ℕ)
     → JumpsLead core → length m.harts < 2 ^ 31 → is_running m.stand ≡ true
-    → GoesToStart core image places nestings setting spaces s nodes printed stages m → is_possible (next core) setting (counts_for stages) s ≡ true
+    → GoesToStart core image places nestings setting spaces s nodes printed stages m
+    → is_possible (next core) setting (counts_for stages) s ≡ true
     → HaveOneHeader spaces first → HasNoGroup s.tree → IsReadyForGroup s.tree first m.shared.control
     → IsAtRest first (cycle m).shared.control

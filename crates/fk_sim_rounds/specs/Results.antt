@@ -19,10 +19,11 @@ module _ (core : List CoreOp) (setting : Setting) (stages : List Stage) (s : Sta
   -- it has the tree behind their steps, and stands beside them
   pub record IsAfter (did : List Doing) (shared : Commons) : Type 0 where
     pub tree : after.tree ≡ tree_after s.tree did
-    pub beside : IsBeside core after (all_landed core (owners_after s.tree (tree_after s.tree did) did)) shared
+    pub beside : IsBeside core after
+        (all_landed core (owners_after s.tree (tree_after s.tree did) did)) shared
 
-  -- what the round makes of the processors that stand beside the state: one after another they do their part in it, and who does not
-  -- commit keeps a stage
+  -- what the round makes of the processors that stand beside the state: one after another they do
+  -- their part in it, and who does not commit keeps a stage
   pub record Makes (did : List Doing) (afters : List (Option Stage)) : Type 0 where
     pub ps : List Owner
     pub shared : Commons
@@ -32,22 +33,27 @@ module _ (core : List CoreOp) (setting : Setting) (stages : List Stage) (s : Sta
     pub passes : AllPass (core_source core setting) (counts_for stages) ps shared did store
     pub stay : Pairwise Remains stages afters
 
-  -- the processor of a number faults at a site, in the round, and in what is left of it without those above that
+  -- the processor of a number faults at a site, in the round, and in what is left of it without
+  -- those above that
   pub record IsFault (place site : ℕ) (shared : Commons) : Type 0 where
     pub whole : after.fault ≡ Some (record { site = site; processor = place })
-    pub stopped : (result (next core) setting (cut (suc place) (counts_for stages)) s).fault ≡ Some (record { site = site; processor = place })
-    pub commons : commons_of (result (next core) setting (cut (suc place) (counts_for stages)) s).store ≡ shared
+    pub stopped : (result (next core) setting (cut (suc place) (counts_for stages)) s).fault
+        ≡ Some (record { site = site; processor = place })
+    pub commons : commons_of
+        (result (next core) setting (cut (suc place) (counts_for stages)) s).store ≡ shared
 
 abbrev pub CyclesAreResults : Type 0
 CyclesAreResults =
-    (core : List CoreOp) (setting : Setting) (stages : List Stage) (s : State Position) (ps : List Owner) (did : List Doing) (shared shared' : Commons)
+    (core : List CoreOp) (setting : Setting) (stages : List Stage) (s : State Position)
+    (ps : List Owner) (did : List Doing) (shared shared' : Commons)
     → JumpsLead core → AreInOrder 0 s.runners → IsBeside core s ps shared
     → AllPass (core_source core setting) (counts_for stages) ps shared did shared'
     → IsAfter core setting stages s did shared'
 
 abbrev pub CutsAreFaults : Type 0
 CutsAreFaults =
-    (core : List CoreOp) (setting : Setting) (stages : List Stage) (s : State Position) (ps : List Owner) (place site : ℕ) (shared shared' : Commons)
+    (core : List CoreOp) (setting : Setting) (stages : List Stage) (s : State Position)
+    (ps : List Owner) (place site : ℕ) (shared shared' : Commons)
     → JumpsLead core → AreInOrder 0 s.runners → IsBeside core s ps shared
     → FaultsAfter (core_source core setting) place site (counts_for stages) ps shared shared'
     → IsFault core setting stages s place site shared'

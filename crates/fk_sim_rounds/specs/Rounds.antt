@@ -6,7 +6,8 @@ use Rattle.fk_tree.specs.declared.node.Kind.TheVariants.{Lockstep, Waiting, Asyn
 use Rattle.fk_tree.specs.Tree as trees
 use Rattle.fk_tree.specs.Tree.{Tree, is_member}
 use Rattle.fk_tree.specs.Sound.{IsSound}
-use Rattle.fk_meaning_operation.specs.declared.operation.Operation.TheVariants.{Farm, Seq, End, Meet, Resume}
+use Rattle.fk_meaning_operation.specs.declared.operation.Operation.TheVariants.{Farm, Seq, End}
+use Rattle.fk_meaning_operation.specs.declared.operation.Operation.TheVariants.{Meet, Resume}
 use Rattle.fk_meaning.specs.Processor.{Setting}
 use Rattle.fk_core.specs.declared.op.CoreOp.{CoreOp}
 use Rattle.fk_image.specs.declared.Image.{Image}
@@ -25,11 +26,15 @@ use Rattle.fk_sim_match.specs.Nodes.{first_of, HaveSpaces, plan_of}
 use Rattle.fk_sim_match.specs.Behind.{blocks_of}
 use Rattle.fk_sim_match.specs.Rounds.{AllDue}
 use Rattle.fk_sim_rounds.specs.Next.{JumpsLead, all_landed}
-use Rattle.fk_sim_rounds.specs.After.{runners_of, tree_after, owners_after, AllKeep, StepsAt, ArePlaces, AllLanded, AllGoOn, GroupsGoOn, AllSoon, BindsAgain}
+use Rattle.fk_sim_rounds.specs.After.{runners_of, tree_after, owners_after, AllKeep, StepsAt}
+use Rattle.fk_sim_rounds.specs.After.{ArePlaces, AllLanded, AllGoOn, GroupsGoOn, AllSoon}
+use Rattle.fk_sim_rounds.specs.After.{BindsAgain}
 
--- before a cycle: the machine runs, the tree is sound, its nodes own words apart, and each processor stands at an operation,
--- and is about to do what its stage tells
-pub record IsBefore (core : List CoreOp) (image : Image) (setting : Setting) (tree : Tree) (spaces : ℕ → Space) (nodes : List ℕ) (t : MachineSetting) (stages : List Stage) (hs : List Hart) (ps : List Owner) : Type 0 where
+-- before a cycle: the machine runs, the tree is sound, its nodes own words apart, and each
+-- processor stands at an operation, and is about to do what its stage tells
+pub record IsBefore (core : List CoreOp) (image : Image) (setting : Setting)
+    (tree : Tree) (spaces : ℕ → Space) (nodes : List ℕ) (t : MachineSetting) (stages : List Stage)
+    (hs : List Hart) (ps : List Owner) : Type 0 where
   pub running : IsRunning image setting t
   pub sound : IsSound setting.processors tree
   pub spaced : HaveSpaces tree spaces
@@ -42,16 +47,22 @@ pub record IsBefore (core : List CoreOp) (image : Image) (setting : Setting) (tr
 -- a round in which no step changes the tree: local operations, requests, agrees, barriers and halts
 abbrev pub RoundsKeepTrees : Type 0
 RoundsKeepTrees =
-    (core : List CoreOp) (image : Image) (places : Places) (nestings : Nestings) (cycles : Cycles) (firsts : List ℕ) (main : ℕ) (setting : Setting) (tree : Tree)
-    (spaces : ℕ → Space) (nodes : List ℕ) (t : MachineSetting) (stages : List Stage) (hs : List Hart) (ps : List Owner) (ds : List Doing) (own own' : ℕ → Memory) (control : Memory)
+    (core : List CoreOp) (image : Image) (places : Places) (nestings : Nestings) (cycles : Cycles)
+    (firsts : List ℕ) (main : ℕ) (setting : Setting) (tree : Tree)
+    (spaces : ℕ → Space) (nodes : List ℕ) (t : MachineSetting) (stages : List Stage)
+    (hs : List Hart) (ps : List Owner) (ds : List Doing) (own own' : ℕ → Memory) (control : Memory)
     → let plan = plan_of tree spaces nodes in
     let blocks = blocks_of core image places nestings setting plan (first_of spaces) in
     let next = tree_after tree ds in
     let qs = owners_after tree next ds in
-    GroupLaw core image places nestings cycles firsts main → JumpsLead core → IsBefore core image setting tree spaces nodes t stages hs ps
-    → (left : IsLeft (core_source core setting) image plan blocks t stages hs ps ds own own') → ((g : ℕ) → Has (plan.words g) control (own' g))
-    → AllKeep ds → AllGoOn core nestings setting next spaces 0 left.afters ds qs → GroupsGoOn core nestings next nodes left.afters qs
-    → BindsAgain core image places nestings setting tree spaces nodes next spaces nodes t hs left.afters ps (all_landed core qs) control
+    GroupLaw core image places nestings cycles firsts main → JumpsLead core
+    → IsBefore core image setting tree spaces nodes t stages hs ps
+    → (left : IsLeft (core_source core setting) image plan blocks t stages hs ps ds own own')
+    → ((g : ℕ) → Has (plan.words g) control (own' g))
+    → AllKeep ds → AllGoOn core nestings setting next spaces 0 left.afters ds qs
+    → GroupsGoOn core nestings next nodes left.afters qs
+    → BindsAgain core image places nestings setting tree spaces nodes next spaces nodes t hs
+    left.afters ps (all_landed core qs) control
 
 -- ---- one step of the tree
 
@@ -67,88 +78,123 @@ AllStandIn tree g = (h : ℕ) → is_member h (trees.members tree g) ≡ true �
 -- all processors, back from the group of `start`, go on by themselves
 abbrev pub RoundsResume : Type 0
 RoundsResume =
-    (core : List CoreOp) (image : Image) (places : Places) (nestings : Nestings) (cycles : Cycles) (firsts : List ℕ) (main : ℕ) (setting : Setting) (tree : Tree)
-    (spaces : ℕ → Space) (nodes : List ℕ) (t : MachineSetting) (stages : List Stage) (hs : List Hart) (ps : List Owner) (ds : List Doing) (own own' : ℕ → Memory) (control : Memory)
+    (core : List CoreOp) (image : Image) (places : Places) (nestings : Nestings) (cycles : Cycles)
+    (firsts : List ℕ) (main : ℕ) (setting : Setting) (tree : Tree)
+    (spaces : ℕ → Space) (nodes : List ℕ) (t : MachineSetting) (stages : List Stage)
+    (hs : List Hart) (ps : List Owner) (ds : List Doing) (own own' : ℕ → Memory) (control : Memory)
     (first parts : ℕ)
     → let plan = plan_of tree spaces nodes in
     let blocks = blocks_of core image places nestings setting plan (first_of spaces) in
     let next = tree_after tree ds in
     let qs = owners_after tree next ds in
-    GroupLaw core image places nestings cycles firsts main → JumpsLead core → IsBefore core image setting tree spaces nodes t stages hs ps
-    → (left : IsLeft (core_source core setting) image plan blocks t stages hs ps ds own own') → ((g : ℕ) → Has (plan.words g) control (own' g))
-    → trees.kind tree 0 ≡ Some (Waiting first parts) → AllStandIn tree 0 → StepsAt tree 0 0 Resume ds → IsTree setting next spaces
-    → AllGoOn core nestings setting next spaces 0 left.afters ds qs → GroupsGoOn core nestings next nodes left.afters qs
-    → BindsAgain core image places nestings setting tree spaces nodes next spaces nodes t hs left.afters ps (all_landed core qs) control
+    GroupLaw core image places nestings cycles firsts main → JumpsLead core
+    → IsBefore core image setting tree spaces nodes t stages hs ps
+    → (left : IsLeft (core_source core setting) image plan blocks t stages hs ps ds own own')
+    → ((g : ℕ) → Has (plan.words g) control (own' g))
+    → trees.kind tree 0 ≡ Some (Waiting first parts) → AllStandIn tree 0
+    → StepsAt tree 0 0 Resume ds → IsTree setting next spaces
+    → AllGoOn core nestings setting next spaces 0 left.afters ds qs
+    → GroupsGoOn core nestings next nodes left.afters qs
+    → BindsAgain core image places nestings setting tree spaces nodes next spaces nodes t hs
+    left.afters ps (all_landed core qs) control
 
 -- those of a group whose body has ended are in lockstep again
 abbrev pub RoundsClose : Type 0
 RoundsClose =
-    (core : List CoreOp) (image : Image) (places : Places) (nestings : Nestings) (cycles : Cycles) (firsts : List ℕ) (main : ℕ) (setting : Setting) (tree : Tree)
-    (spaces : ℕ → Space) (nodes : List ℕ) (t : MachineSetting) (stages : List Stage) (before hs : List Hart) (ps : List Owner) (ds : List Doing) (own own' : ℕ → Memory) (control : Memory)
+    (core : List CoreOp) (image : Image) (places : Places) (nestings : Nestings) (cycles : Cycles)
+    (firsts : List ℕ) (main : ℕ) (setting : Setting) (tree : Tree)
+    (spaces : ℕ → Space) (nodes : List ℕ) (t : MachineSetting) (stages : List Stage)
+    (before hs : List Hart) (ps : List Owner) (ds : List Doing) (own own' : ℕ → Memory)
+    (control : Memory)
     (g : ℕ) (alone : Bool)
     → let plan = plan_of tree spaces nodes in
     let blocks = blocks_of core image places nestings setting plan (first_of spaces) in
     let next = tree_after tree ds in
     let qs = owners_after tree next ds in
-    GroupLaw core image places nestings cycles firsts main → JumpsLead core → IsBefore core image setting tree spaces nodes t stages hs ps
-    → length before < 2 ^ 31 → IsBound (core_source core setting) image plan blocks t stages before ps own
-    → (left : IsLeft (core_source core setting) image plan blocks t stages hs ps ds own own') → ((k : ℕ) → Has (plan.words k) control (own' k))
-    → trees.kind tree g ≡ Some (Asynchronous alone) → AllStandIn tree g → StepsAt tree g 0 (Meet true) ds → IsTree setting next spaces
-    → AllGoOn core nestings setting next spaces 0 left.afters ds qs → GroupsGoOn core nestings next nodes left.afters qs
-    → BindsAgain core image places nestings setting tree spaces nodes next spaces nodes t hs left.afters ps (all_landed core qs) control
+    GroupLaw core image places nestings cycles firsts main → JumpsLead core
+    → IsBefore core image setting tree spaces nodes t stages hs ps
+    → length before < 2 ^ 31
+    → IsBound (core_source core setting) image plan blocks t stages before ps own
+    → (left : IsLeft (core_source core setting) image plan blocks t stages hs ps ds own own')
+    → ((k : ℕ) → Has (plan.words k) control (own' k))
+    → trees.kind tree g ≡ Some (Asynchronous alone) → AllStandIn tree g
+    → StepsAt tree g 0 (Meet true) ds → IsTree setting next spaces
+    → AllGoOn core nestings setting next spaces 0 left.afters ds qs
+    → GroupsGoOn core nestings next nodes left.afters qs
+    → BindsAgain core image places nestings setting tree spaces nodes next spaces nodes t hs
+    left.afters ps (all_landed core qs) control
 
 -- the members of a group come to a body, which each runs by itself
 abbrev pub RoundsSetFree : Type 0
 RoundsSetFree =
-    (core : List CoreOp) (image : Image) (places : Places) (nestings : Nestings) (cycles : Cycles) (firsts : List ℕ) (main : ℕ) (setting : Setting) (tree : Tree)
-    (spaces : ℕ → Space) (nodes : List ℕ) (t : MachineSetting) (stages : List Stage) (hs : List Hart) (ps : List Owner) (ds : List Doing) (own own' : ℕ → Memory) (control : Memory)
+    (core : List CoreOp) (image : Image) (places : Places) (nestings : Nestings) (cycles : Cycles)
+    (firsts : List ℕ) (main : ℕ) (setting : Setting) (tree : Tree)
+    (spaces : ℕ → Space) (nodes : List ℕ) (t : MachineSetting) (stages : List Stage)
+    (hs : List Hart) (ps : List Owner) (ds : List Doing) (own own' : ℕ → Memory) (control : Memory)
     (g : ℕ)
     → let plan = plan_of tree spaces nodes in
     let blocks = blocks_of core image places nestings setting plan (first_of spaces) in
     let next = tree_after tree ds in
     let qs = owners_after tree next ds in
-    GroupLaw core image places nestings cycles firsts main → JumpsLead core → IsBefore core image setting tree spaces nodes t stages hs ps
-    → (left : IsLeft (core_source core setting) image plan blocks t stages hs ps ds own own') → ((k : ℕ) → Has (plan.words k) control (own' k))
+    GroupLaw core image places nestings cycles firsts main → JumpsLead core
+    → IsBefore core image setting tree spaces nodes t stages hs ps
+    → (left : IsLeft (core_source core setting) image plan blocks t stages hs ps ds own own')
+    → ((k : ℕ) → Has (plan.words k) control (own' k))
     → trees.kind tree g ≡ Some Lockstep → StepsAt tree g 0 Farm ds → IsTree setting next spaces
-    → AllGoOn core nestings setting next spaces 0 left.afters ds qs → GroupsGoOn core nestings next nodes left.afters qs
-    → BindsAgain core image places nestings setting tree spaces nodes next spaces nodes t hs left.afters ps (all_landed core qs) control
+    → AllGoOn core nestings setting next spaces 0 left.afters ds qs
+    → GroupsGoOn core nestings next nodes left.afters qs
+    → BindsAgain core image places nestings setting tree spaces nodes next spaces nodes t hs
+    left.afters ps (all_landed core qs) control
 
 -- or which the lowest runs alone, while the others come to its end
 abbrev pub RoundsSendOne : Type 0
 RoundsSendOne =
-    (core : List CoreOp) (image : Image) (places : Places) (nestings : Nestings) (cycles : Cycles) (firsts : List ℕ) (main : ℕ) (setting : Setting) (tree : Tree)
-    (spaces : ℕ → Space) (nodes : List ℕ) (t : MachineSetting) (stages : List Stage) (hs : List Hart) (ps : List Owner) (ds : List Doing) (own own' : ℕ → Memory) (control : Memory)
+    (core : List CoreOp) (image : Image) (places : Places) (nestings : Nestings) (cycles : Cycles)
+    (firsts : List ℕ) (main : ℕ) (setting : Setting) (tree : Tree)
+    (spaces : ℕ → Space) (nodes : List ℕ) (t : MachineSetting) (stages : List Stage)
+    (hs : List Hart) (ps : List Owner) (ds : List Doing) (own own' : ℕ → Memory) (control : Memory)
     (g : ℕ)
     → let plan = plan_of tree spaces nodes in
     let blocks = blocks_of core image places nestings setting plan (first_of spaces) in
     let next = tree_after tree ds in
     let qs = owners_after tree next ds in
-    GroupLaw core image places nestings cycles firsts main → JumpsLead core → IsBefore core image setting tree spaces nodes t stages hs ps
-    → (left : IsLeft (core_source core setting) image plan blocks t stages hs ps ds own own') → ((k : ℕ) → Has (plan.words k) control (own' k))
+    GroupLaw core image places nestings cycles firsts main → JumpsLead core
+    → IsBefore core image setting tree spaces nodes t stages hs ps
+    → (left : IsLeft (core_source core setting) image plan blocks t stages hs ps ds own own')
+    → ((k : ℕ) → Has (plan.words k) control (own' k))
     → trees.kind tree g ≡ Some Lockstep → StepsAt tree g 0 Seq ds → IsTree setting next spaces
-    → AllGoOn core nestings setting next spaces 0 left.afters ds qs → GroupsGoOn core nestings next nodes left.afters qs
-    → BindsAgain core image places nestings setting tree spaces nodes next spaces nodes t hs left.afters ps (all_landed core qs) control
+    → AllGoOn core nestings setting next spaces 0 left.afters ds qs
+    → GroupsGoOn core nestings next nodes left.afters qs
+    → BindsAgain core image places nestings setting tree spaces nodes next spaces nodes t hs
+    left.afters ps (all_landed core qs) control
 
 -- the group of `start` ends: its members come back to the root, in which nobody else moves
 abbrev pub RoundsEnd : Type 0
 RoundsEnd =
-    (core : List CoreOp) (image : Image) (places : Places) (nestings : Nestings) (cycles : Cycles) (firsts : List ℕ) (main : ℕ) (setting : Setting) (tree : Tree)
-    (spaces : ℕ → Space) (nodes nodes' : List ℕ) (t : MachineSetting) (stages : List Stage) (hs : List Hart) (ps : List Owner) (ds : List Doing) (own own' : ℕ → Memory) (control : Memory)
+    (core : List CoreOp) (image : Image) (places : Places) (nestings : Nestings) (cycles : Cycles)
+    (firsts : List ℕ) (main : ℕ) (setting : Setting) (tree : Tree)
+    (spaces : ℕ → Space) (nodes nodes' : List ℕ) (t : MachineSetting) (stages : List Stage)
+    (hs : List Hart) (ps : List Owner) (ds : List Doing) (own own' : ℕ → Memory) (control : Memory)
     (g : ℕ)
     → let plan = plan_of tree spaces nodes in
     let blocks = blocks_of core image places nestings setting plan (first_of spaces) in
     let next = tree_after tree ds in
     let qs = owners_after tree next ds in
-    GroupLaw core image places nestings cycles firsts main → JumpsLead core → IsBefore core image setting tree spaces nodes t stages hs ps
-    → (left : IsLeft (core_source core setting) image plan blocks t stages hs ps ds own own') → ((k : ℕ) → Has (plan.words k) control (own' k))
-    → trees.kind tree g ≡ Some Lockstep → StepsAt tree g 0 End ds → IsTree setting next spaces → ArePlaces next 0 nodes' → length nodes' ≡ length nodes
-    → AllGoOn core nestings setting next spaces 0 left.afters ds qs → GroupsGoOn core nestings next nodes' left.afters qs
-    → BindsAgain core image places nestings setting tree spaces nodes next spaces nodes' t hs left.afters ps (all_landed core qs) control
+    GroupLaw core image places nestings cycles firsts main → JumpsLead core
+    → IsBefore core image setting tree spaces nodes t stages hs ps
+    → (left : IsLeft (core_source core setting) image plan blocks t stages hs ps ds own own')
+    → ((k : ℕ) → Has (plan.words k) control (own' k))
+    → trees.kind tree g ≡ Some Lockstep → StepsAt tree g 0 End ds → IsTree setting next spaces
+    → ArePlaces next 0 nodes' → length nodes' ≡ length nodes
+    → AllGoOn core nestings setting next spaces 0 left.afters ds qs
+    → GroupsGoOn core nestings next nodes' left.afters qs
+    → BindsAgain core image places nestings setting tree spaces nodes next spaces nodes' t hs
+    left.afters ps (all_landed core qs) control
 
 -- ---- all of these
 
--- nobody changes the tree; all go on in the root; a body begins or ends; or the group of `start` ends. Its beginning, splits and
--- shrinks are still to come
+-- nobody changes the tree; all go on in the root; a body begins or ends; or the group of `start`
+-- ends. Its beginning, splits and shrinks are still to come
 pub record Resumes (tree : Tree) (ds : List Doing) : Type 0 where
   pub first : ℕ
   pub parts : ℕ
@@ -179,34 +225,57 @@ pub record EndsGroup (tree : Tree) (ds : List Doing) : Type 0 where
   pub steps : StepsAt tree group 0 End ds
 
 abbrev pub IsKnownRound : Tree → List Doing → Type 0
-IsKnownRound tree ds = AllKeep ds ⊎ (Resumes tree ds ⊎ (Closes tree ds ⊎ (SetsFree tree ds ⊎ (SendsOne tree ds ⊎ EndsGroup tree ds))))
+IsKnownRound tree ds = AllKeep ds ⊎ (Resumes tree ds
+    ⊎ (Closes tree ds ⊎ (SetsFree tree ds ⊎ (SendsOne tree ds ⊎ EndsGroup tree ds))))
 
--- behind cycle t another plan binds all harts: the tree has done no more than it may, who was at a distance is nearer, and those who
--- go on meeting have moved
-pub record PlanGoesOn (core : List CoreOp) (image : Image) (places : Places) (nestings : Nestings) (setting : Setting) (spaces : ℕ → Space) (plan plan' : Plan) (t : MachineSetting) (stages stages' : List Stage) (hs : List Hart) (afters : List (Option Stage)) (ps ps' : List Owner) (own : ℕ → Memory) (control : Memory) : Type 0 where
-  pub changes : TreeChanges (core_source core setting) image plan (blocks_of core image places nestings setting plan (first_of spaces)) plan'
-      (blocks_of core image places nestings setting plan' (first_of spaces)) t hs afters stages' ps ps' control
-  pub goes : GoesOn (core_source core setting) image plan (blocks_of core image places nestings setting plan (first_of spaces)) plan'
-      (blocks_of core image places nestings setting plan' (first_of spaces)) t stages stages' hs ps' own control
+-- behind cycle t another plan binds all harts: the tree has done no more than it may, who was at a
+-- distance is nearer, and those who go on meeting have moved
+pub record PlanGoesOn (core : List CoreOp) (image : Image) (places : Places) (nestings : Nestings)
+    (setting : Setting) (spaces : ℕ → Space) (plan plan' : Plan) (t : MachineSetting)
+    (stages stages' : List Stage) (hs : List Hart) (afters : List (Option Stage))
+    (ps ps' : List Owner) (own : ℕ → Memory) (control : Memory) : Type 0 where
+  pub changes : TreeChanges (core_source core setting) image plan
+      (blocks_of core image places nestings setting plan (first_of spaces)) plan'
+      (blocks_of core image places nestings setting plan' (first_of spaces)) t hs afters
+      stages' ps ps' control
+  pub goes : GoesOn (core_source core setting) image plan
+      (blocks_of core image places nestings setting plan (first_of spaces)) plan'
+      (blocks_of core image places nestings setting plan' (first_of spaces)) t stages stages'
+      hs ps' own control
 
--- so it is with the plan of the next tree: each is about to do what its stage tells, and who has committed is near its next commit
-pub record AreBoundAgain (core : List CoreOp) (image : Image) (places : Places) (nestings : Nestings) (setting : Setting) (plan : Plan) (tree : Tree) (spaces : ℕ → Space) (nodes : List ℕ) (t : MachineSetting) (stages : List Stage) (hs : List Hart) (afters : List (Option Stage)) (ps ps' : List Owner) (own : ℕ → Memory) (control : Memory) : Type 0 where
+-- so it is with the plan of the next tree: each is about to do what its stage tells, and who has
+-- committed is near its next commit
+pub record AreBoundAgain (core : List CoreOp) (image : Image) (places : Places)
+    (nestings : Nestings) (setting : Setting) (plan : Plan) (tree : Tree) (spaces : ℕ → Space)
+    (nodes : List ℕ) (t : MachineSetting) (stages : List Stage) (hs : List Hart)
+    (afters : List (Option Stage)) (ps ps' : List Owner) (own : ℕ → Memory)
+    (control : Memory) : Type 0 where
   pub stages' : List Stage
-  pub on : PlanGoesOn core image places nestings setting spaces plan (plan_of tree spaces nodes) t stages stages' hs afters ps ps' own control
+  pub on : PlanGoesOn core image places nestings setting spaces plan
+      (plan_of tree spaces nodes) t stages stages' hs afters ps ps' own control
   pub due : AllDue core tree spaces 0 stages' (runners_of ps')
   pub soon : AllSoon afters stages'
 
 abbrev pub RoundsBindAgain : Type 0
 RoundsBindAgain =
-    (core : List CoreOp) (image : Image) (places : Places) (nestings : Nestings) (cycles : Cycles) (firsts : List ℕ) (main : ℕ) (setting : Setting) (tree : Tree)
-    (spaces : ℕ → Space) (nodes nodes' : List ℕ) (t : MachineSetting) (stages : List Stage) (before hs : List Hart) (ps : List Owner) (ds : List Doing) (own own' : ℕ → Memory) (control : Memory)
+    (core : List CoreOp) (image : Image) (places : Places) (nestings : Nestings) (cycles : Cycles)
+    (firsts : List ℕ) (main : ℕ) (setting : Setting) (tree : Tree)
+    (spaces : ℕ → Space) (nodes nodes' : List ℕ) (t : MachineSetting) (stages : List Stage)
+    (before hs : List Hart) (ps : List Owner) (ds : List Doing) (own own' : ℕ → Memory)
+    (control : Memory)
     → let plan = plan_of tree spaces nodes in
     let blocks = blocks_of core image places nestings setting plan (first_of spaces) in
     let next = tree_after tree ds in
     let qs = owners_after tree next ds in
-    GroupLaw core image places nestings cycles firsts main → JumpsLead core → IsBefore core image setting tree spaces nodes t stages hs ps
-    → length before < 2 ^ 31 → IsBound (core_source core setting) image plan blocks t stages before ps own
-    → (left : IsLeft (core_source core setting) image plan blocks t stages hs ps ds own own') → ((k : ℕ) → Has (plan.words k) control (own' k))
-    → IsKnownRound tree ds → IsTree setting next spaces → ArePlaces next 0 nodes' → length nodes' ≡ length nodes
-    → AllGoOn core nestings setting next spaces 0 left.afters ds qs → GroupsGoOn core nestings next nodes' left.afters qs
-    → AreBoundAgain core image places nestings setting plan next spaces nodes' t stages hs left.afters ps (all_landed core qs) own control
+    GroupLaw core image places nestings cycles firsts main → JumpsLead core
+    → IsBefore core image setting tree spaces nodes t stages hs ps
+    → length before < 2 ^ 31
+    → IsBound (core_source core setting) image plan blocks t stages before ps own
+    → (left : IsLeft (core_source core setting) image plan blocks t stages hs ps ds own own')
+    → ((k : ℕ) → Has (plan.words k) control (own' k))
+    → IsKnownRound tree ds → IsTree setting next spaces → ArePlaces next 0 nodes'
+    → length nodes' ≡ length nodes
+    → AllGoOn core nestings setting next spaces 0 left.afters ds qs
+    → GroupsGoOn core nestings next nodes' left.afters qs
+    → AreBoundAgain core image places nestings setting plan next spaces nodes' t stages hs
+    left.afters ps (all_landed core qs) own control

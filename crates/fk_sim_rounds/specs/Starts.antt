@@ -1,4 +1,5 @@
--- The cycles from where all have met at the beginning of `start` to the round in which the group begins.
+-- The cycles from where all have met at the beginning of `start` to the round in which
+-- the group begins.
 use Rattle.std.specs.Prelude.{◌≡◌, ℕ, ◌^◌, ◌<◌, List, ◌++◌, length, true, Option, None, ◌⊎◌}
 use Rattle.fk_space.specs.Space.{Space}
 use Rattle.fk_meaning.specs.Processor.{Setting, group_space}
@@ -25,7 +26,9 @@ use Rattle.fk_sim_rounds.specs.Results.{Makes}
 use Rattle.fk_sim_rounds.specs.Union.{IsUnited}
 use Rattle.fk_sim_rounds.specs.Follow.{IsFollowed, FollowsFault}
 
-module _ (core : List CoreOp) (image : Image) (places : Places) (nestings : Nestings) (setting : Setting) (spaces : ℕ → Space) (s : State Position) (nodes : List ℕ) (t : MachineSetting) (printed : List ℕ)
+module _ (core : List CoreOp) (image : Image) (places : Places) (nestings : Nestings)
+    (setting : Setting) (spaces : ℕ → Space) (s : State Position) (nodes : List ℕ)
+    (t : MachineSetting) (printed : List ℕ)
     (stages : List Stage) (hs : List Hart) (sh : Shared) where
   abbrev pub done : Turns
   done = turns t 0 hs sh
@@ -36,17 +39,24 @@ module _ (core : List CoreOp) (image : Image) (places : Places) (nestings : Nest
   -- nobody is in the round, and all are nearer to their commit
   abbrev pub StillUnited : Type 0
   StillUnited =
-      (stages' : List Stage) × AllNear stages stages' × IsUnited core image places nestings setting spaces next_state nodes (later t) (printed ++ done.shared.output) stages' done.harts (unprinted done.shared)
+      (stages' : List Stage) × AllNear stages stages'
+      × IsUnited core image places nestings setting spaces next_state nodes (later t)
+      (printed ++ done.shared.output) stages' done.harts (unprinted done.shared)
 
-  -- or all are, and commit. Where nobody is at the words of the group, which has the whole group space, and all go on as is told, the state behind
-  -- it is followed
+  -- or all are, and commit. Where nobody is at the words of the group, which has the whole group
+  -- space, and all go on as is told, the state behind it is followed
   abbrev pub BeginGroup : (did : List Doing) → (afters : List (Option Stage)) → Type 0
   BeginGroup did afters =
-      (nodes' : List ℕ) → IsTree setting next_state.tree spaces → ArePlaces next_state.tree 0 nodes' → length nodes' ≡ length nodes
-      → IsAtRest (first_of spaces s.tree.given) done.shared.control → (spaces s.tree.given).low ≡ (group_space setting).low
-      → AllNext core nestings setting next_state.tree 0 afters did (owners_after s.tree next_state.tree did) → GroupsGoOn core nestings next_state.tree nodes' afters (owners_after s.tree next_state.tree did)
+      (nodes' : List ℕ) → IsTree setting next_state.tree spaces → ArePlaces next_state.tree 0 nodes'
+      → length nodes' ≡ length nodes
+      → IsAtRest (first_of spaces s.tree.given) done.shared.control
+      → (spaces s.tree.given).low ≡ (group_space setting).low
+      → AllNext core nestings setting next_state.tree 0 afters did
+      (owners_after s.tree next_state.tree did) → GroupsGoOn core nestings next_state.tree nodes'
+      afters (owners_after s.tree next_state.tree did)
       → (stages' : List Stage) × AllNear stages stages' × AllSoon afters stages'
-      × IsFollowed core image places nestings setting spaces next_state nodes' (later t) (printed ++ done.shared.output) stages' done.harts (unprinted done.shared)
+      × IsFollowed core image places nestings setting spaces next_state nodes' (later t)
+      (printed ++ done.shared.output) stages' done.harts (unprinted done.shared)
 
   pub record FollowsStart : Type 0 where
     pub going : done.stop ≡ None
@@ -60,9 +70,12 @@ module _ (core : List CoreOp) (image : Image) (places : Places) (nestings : Nest
 
 abbrev pub CyclesFollowStarts : Type 0
 CyclesFollowStarts =
-    (core : List CoreOp) (image : Image) (places : Places) (nestings : Nestings) (cycles : Cycles) (firsts : List ℕ) (main : ℕ) (setting : Setting) (spaces : ℕ → Space)
-    (s : State Position) (nodes : List ℕ) (t : MachineSetting) (printed : List ℕ) (stages : List Stage) (hs : List Hart) (sh : Shared)
+    (core : List CoreOp) (image : Image) (places : Places) (nestings : Nestings) (cycles : Cycles)
+    (firsts : List ℕ) (main : ℕ) (setting : Setting) (spaces : ℕ → Space)
+    (s : State Position) (nodes : List ℕ) (t : MachineSetting) (printed : List ℕ)
+    (stages : List Stage) (hs : List Hart) (sh : Shared)
     → GroupLaw core image places nestings cycles firsts main → JumpsLead core → length hs < 2 ^ 31
     → IsUnited core image places nestings setting spaces s nodes t printed stages hs sh
     → (planned image hs ≡ counts_for stages)
-    × (FollowsStart core image places nestings setting spaces s nodes t printed stages hs sh ⊎ FollowsFault core image places nestings setting spaces s nodes t printed stages hs sh)
+    × (FollowsStart core image places nestings setting spaces s nodes t printed stages hs sh
+    ⊎ FollowsFault core image places nestings setting spaces s nodes t printed stages hs sh)

@@ -39,8 +39,12 @@ abbrev pub AreNearBegin : List Stage → Type 0
 AreNearBegin [] = Unit {0}
 AreNearBegin (s ∷ stages) = IsNearBegin s × AreNearBegin stages
 
--- All its processors are about to begin the group of `start`, in the root, where their harts are in lockstep, near their commit
-pub record IsUnited (core : List CoreOp) (image : Image) (places : Places) (nestings : Nestings) (setting : Setting) (spaces : ℕ → Space) (s : State Position) (nodes : List ℕ) (t : MachineSetting) (printed : List ℕ) (stages : List Stage) (hs : List Hart) (sh : Shared) : Type 0 where
+-- All its processors are about to begin the group of `start`, in the root, where their harts are in
+-- lockstep, near their commit
+pub record IsUnited (core : List CoreOp) (image : Image) (places : Places)
+    (nestings : Nestings) (setting : Setting) (spaces : ℕ → Space) (s : State Position)
+    (nodes : List ℕ) (t : MachineSetting) (printed : List ℕ) (stages : List Stage) (hs : List Hart)
+    (sh : Shared) : Type 0 where
   pub ps : List Owner
   pub shared : Commons
   pub before : IsBeforeStart image setting s.tree spaces nodes t hs ps
@@ -56,4 +60,5 @@ pub record IsUnited (core : List CoreOp) (image : Image) (places : Places) (nest
   pub homes : AllHome s.tree spaces 0 ps
   pub shows : Shows (core_source core setting) printed sh shared
   pub bound : IsBound (core_source core setting) image (united (plan_of s.tree spaces nodes))
-      (blocks_of core image places nestings setting (united (plan_of s.tree spaces nodes)) (first_of spaces)) t stages hs ps (λ g. sh.control)
+      (blocks_of core image places nestings setting (united (plan_of s.tree spaces nodes))
+      (first_of spaces)) t stages hs ps (λ g. sh.control)

@@ -1,4 +1,5 @@
--- The cycle in which the last of all processors leaves the word where they meet at the beginning of `start`.
+-- The cycle in which the last of all processors leaves the word where they meet at the
+-- beginning of `start`.
 use Rattle.std.specs.Prelude.{◌≡◌, ℕ, ◌^◌, ◌<◌, ◌≤◌, List, [], ◌∷◌, length, map, true}
 use Rattle.fk_num.specs.Word.{Memory}
 use Rattle.fk_space.specs.Space.{Space}
@@ -40,23 +41,32 @@ abbrev pub AreInRoot : Nestings → Setting → List Owner → Type 0
 AreInRoot nestings setting [] = Unit {0}
 AreInRoot nestings setting (p ∷ ps) = IsInRoot nestings setting p × AreInRoot nestings setting ps
 
-module _ (core : List CoreOp) (image : Image) (places : Places) (nestings : Nestings) (setting : Setting) (tree : Tree) (spaces : ℕ → Space) (nodes : List ℕ) (t : MachineSetting) (earlier : List ℕ)
-    (stages : List Stage) (hs : List Hart) (ps : List Owner) (own : ℕ → Memory) (sh : Shared) (s : Commons) where
-  -- behind it all are about to begin the group of `start`, at one index, and are in lockstep, so far from their commit
+module _ (core : List CoreOp) (image : Image) (places : Places) (nestings : Nestings)
+    (setting : Setting) (tree : Tree) (spaces : ℕ → Space) (nodes : List ℕ) (t : MachineSetting)
+    (earlier : List ℕ)
+    (stages : List Stage) (hs : List Hart) (ps : List Owner) (own : ℕ → Memory) (sh : Shared)
+    (s : Commons) where
+  -- behind it all are about to begin the group of `start`, at one index, and are in lockstep, so
+  -- far from their commit
   pub record AreInLockstep (i : ℕ) : Type 0 where
     pub op : CoreOp
     pub stands : StandsOp core i op Begin
     pub about : AllAbout i op Begin ps
     pub distance : ℕ
     pub few : distance < most_united
-    pub bound : IsBound (core_source core setting) image (united (plan_of tree spaces nodes)) (blocks_of core image places nestings setting (united (plan_of tree spaces nodes)) (first_of spaces))
-        (later t) (all_act distance (numbered 0 (turns t 0 hs sh).harts)) (turns t 0 hs sh).harts ps (λ g. (turns t 0 hs sh).shared.control)
+    pub bound : IsBound (core_source core setting) image (united (plan_of tree spaces nodes))
+        (blocks_of core image places nestings setting (united (plan_of tree spaces nodes))
+        (first_of spaces))
+        (later t) (all_act distance (numbered 0 (turns t 0 hs sh).harts))
+        (turns t 0 hs sh).harts ps (λ g. (turns t 0 hs sh).shared.control)
     pub near : AllNear stages (all_act distance (numbered 0 (turns t 0 hs sh).harts))
 
   -- it is a whole round, nobody is in it, and all are in the root
   pub record AreUnited : Type 0 where
     pub whole : IsWhole (core_source core setting) image (plan_of tree spaces nodes).words
-        (DoneIn (core_source core setting) image (plan_of tree spaces nodes) (joining_blocks_of core image places nestings setting (plan_of tree spaces nodes) (first_of spaces)) t stages ps own) earlier 0
+        (DoneIn (core_source core setting) image (plan_of tree spaces nodes)
+        (joining_blocks_of core image places nestings setting (plan_of tree spaces nodes)
+        (first_of spaces)) t stages ps own) earlier 0
         nodes hs ps s (turns t 0 hs sh)
     pub idle : whole.did ≡ map idle ps
     pub all : AllUnite stages
@@ -67,11 +77,18 @@ module _ (core : List CoreOp) (image : Image) (places : Places) (nestings : Nest
 -- where the plan binds all harts before a cycle in which somebody unites with others, all do
 abbrev pub CyclesUnite : Type 0
 CyclesUnite =
-    (core : List CoreOp) (image : Image) (places : Places) (nestings : Nestings) (cycles : Cycles) (firsts : List ℕ) (main : ℕ) (setting : Setting) (tree : Tree)
-    (spaces : ℕ → Space) (nodes : List ℕ) (t : MachineSetting) (earlier : List ℕ) (stages : List Stage) (hs : List Hart) (ps : List Owner) (own : ℕ → Memory) (sh : Shared) (s : Commons)
-    → GroupLaw core image places nestings cycles firsts main → IsBefore core image setting tree spaces nodes t stages hs ps
-    → length hs < 2 ^ 31 → Shows (core_source core setting) earlier sh s → ((g : ℕ) → Has ((plan_of tree spaces nodes).words g) sh.control (own g))
+    (core : List CoreOp) (image : Image) (places : Places) (nestings : Nestings) (cycles : Cycles)
+    (firsts : List ℕ) (main : ℕ) (setting : Setting) (tree : Tree)
+    (spaces : ℕ → Space) (nodes : List ℕ) (t : MachineSetting)
+    (earlier : List ℕ) (stages : List Stage) (hs : List Hart) (ps : List Owner) (own : ℕ → Memory)
+    (sh : Shared) (s : Commons)
+    → GroupLaw core image places nestings cycles firsts main
+    → IsBefore core image setting tree spaces nodes t stages hs ps
+    → length hs < 2 ^ 31 → Shows (core_source core setting) earlier sh s
+    → ((g : ℕ) → Has ((plan_of tree spaces nodes).words g) sh.control (own g))
     → IsBound (core_source core setting) image (plan_of tree spaces nodes)
-    (blocks_of core image places nestings setting (plan_of tree spaces nodes) (first_of spaces)) t stages hs ps own
+    (blocks_of core image places nestings setting (plan_of tree spaces nodes) (first_of spaces)) t
+    stages hs ps own
     → SomebodyUnites stages
-    → (planned image hs ≡ counts_for stages) × AreUnited core image places nestings setting tree spaces nodes t earlier stages hs ps own sh s
+    → (planned image hs ≡ counts_for stages)
+    × AreUnited core image places nestings setting tree spaces nodes t earlier stages hs ps own sh s

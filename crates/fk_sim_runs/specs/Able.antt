@@ -27,27 +27,49 @@ use Rattle.fk_sim_runs.specs.Pace.{AreInTime, Sight, ActsWithin}
 -- who waits for parts is about to go on behind them
 abbrev pub WhoWaitsResumes : List CoreOp → State Position → Type 0
 WhoWaitsResumes core s =
-    (h first parts : ℕ) (r : Runner Position) (step : Step Position) → trees.kind s.tree (s.tree.places h) ≡ Some (Waiting first parts)
-    → slice_get s.runners h ≡ Some r → next core r.left ≡ Some step → joint_of step.operation ≡ Resuming
+    (h first parts : ℕ) (r : Runner Position) (step : Step Position)
+    → trees.kind s.tree (s.tree.places h) ≡ Some (Waiting first parts)
+    → slice_get s.runners h ≡ Some r → next core r.left ≡ Some step
+    → joint_of step.operation ≡ Resuming
 
 -- the harts of a state, before a cycle
-abbrev pub sight_of : Tree → (spaces : ℕ → Space) → (nodes : List ℕ) → List Stage → (control : Memory) → (finished : ℕ) → Sight
-sight_of tree spaces nodes stages control finished = record { plan = plan_of tree spaces nodes; stages = stages; control = control; finished = finished }
+abbrev pub sight_of : Tree → (spaces : ℕ → Space) → (nodes : List ℕ) → List Stage
+    → (control : Memory) → (finished : ℕ) → Sight
+sight_of tree spaces nodes stages control finished = record {
+  plan = plan_of tree spaces nodes;
+  stages = stages;
+  control = control;
+  finished = finished;
+}
 
 -- those who have met at the beginning of `start` are in lockstep in the root
-abbrev pub united_sight_of : Tree → (spaces : ℕ → Space) → (nodes : List ℕ) → List Stage → (control : Memory) → (finished : ℕ) → Sight
-united_sight_of tree spaces nodes stages control finished = record { plan = united (plan_of tree spaces nodes); stages = stages; control = control; finished = finished }
+abbrev pub united_sight_of : Tree → (spaces : ℕ → Space) → (nodes : List ℕ) → List Stage
+    → (control : Memory) → (finished : ℕ) → Sight
+united_sight_of tree spaces nodes stages control finished = record {
+  plan = united (plan_of tree spaces nodes);
+  stages = stages;
+  control = control;
+  finished = finished;
+}
 
 abbrev pub WhoCouldActWill : Type 0
 WhoCouldActWill =
-    (core : List CoreOp) (image : Image) (places : Places) (nestings : Nestings) (setting : Setting) (spaces : ℕ → Space) (s : State Position) (nodes : List ℕ) (t : MachineSetting) (printed : List ℕ)
+    (core : List CoreOp) (image : Image) (places : Places) (nestings : Nestings) (setting : Setting)
+    (spaces : ℕ → Space) (s : State Position) (nodes : List ℕ) (t : MachineSetting)
+    (printed : List ℕ)
     (stages : List Stage) (hs : List Hart) (sh : Shared) (h : ℕ)
-    → JumpsLead core → IsFollowed core image places nestings setting spaces s nodes t printed stages hs sh → AreInTime stages → WhoWaitsResumes core s
-    → CouldAct (next core) setting h s → ActsWithin (sight_of s.tree spaces nodes stages sh.control t.finished) h most_between
+    → JumpsLead core
+    → IsFollowed core image places nestings setting spaces s nodes t printed stages hs sh
+    → AreInTime stages → WhoWaitsResumes core s
+    → CouldAct (next core) setting h s
+    → ActsWithin (sight_of s.tree spaces nodes stages sh.control t.finished) h most_between
 
 abbrev pub WhoHasUnitedWill : Type 0
 WhoHasUnitedWill =
-    (core : List CoreOp) (image : Image) (places : Places) (nestings : Nestings) (setting : Setting) (spaces : ℕ → Space) (s : State Position) (nodes : List ℕ) (t : MachineSetting) (printed : List ℕ)
+    (core : List CoreOp) (image : Image) (places : Places) (nestings : Nestings) (setting : Setting)
+    (spaces : ℕ → Space) (s : State Position) (nodes : List ℕ) (t : MachineSetting)
+    (printed : List ℕ)
     (stages : List Stage) (hs : List Hart) (sh : Shared) (h : ℕ)
     → IsUnited core image places nestings setting spaces s nodes t printed stages hs sh
-    → CouldAct (next core) setting h s → ActsWithin (united_sight_of s.tree spaces nodes stages sh.control t.finished) h most_between
+    → CouldAct (next core) setting h s
+    → ActsWithin (united_sight_of s.tree spaces nodes stages sh.control t.finished) h most_between

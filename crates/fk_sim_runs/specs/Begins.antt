@@ -1,4 +1,5 @@
--- What is known in such a state of those who are about to begin the group of a `start`, and of those who wait for it.
+-- What is known in such a state of those who are about to begin the group of a `start`, and of
+-- those who wait for it.
 use Rattle.std.specs.Prelude.{◌≡◌, ℕ, List, Some, slice_get}
 use Rattle.fk_space.specs.Space.{Space}
 use Rattle.fk_meaning_operation.specs.Kinds.{joint_of}
@@ -28,23 +29,30 @@ Begins core r = (step : Step Position) × (next core r.left ≡ Some step) × (s
 
 abbrev pub UnitersBegin : Type 0
 UnitersBegin =
-    (core : List CoreOp) (tree : Tree) (spaces : ℕ → Space) (g w : ℕ) (f : Phase) (r : Runner Position) → IsDueAt core tree spaces g (Meets Unites w f) r → Begins core r
+    (core : List CoreOp) (tree : Tree) (spaces : ℕ → Space) (g w : ℕ) (f : Phase)
+    (r : Runner Position) → IsDueAt core tree spaces g (Meets Unites w f) r → Begins core r
 
 -- who is, is in the root
 abbrev pub ReachedBeginnersAreInRoot : Type 0
 ReachedBeginnersAreInRoot =
-    (core : List CoreOp) (nestings : Nestings) (main : ℕ) (setting : Setting) (s : State Position) (h : ℕ) (p : Owner)
-    → IsOfOneGroup core nestings main → IsReached core setting s → slice_get s.runners h ≡ Some p.runner → Begins core p.runner → IsInRoot nestings setting (landed core p)
+    (core : List CoreOp) (nestings : Nestings) (main : ℕ) (setting : Setting) (s : State Position)
+    (h : ℕ) (p : Owner)
+    → IsOfOneGroup core nestings main → IsReached core setting s → slice_get s.runners h
+    ≡ Some p.runner → Begins core p.runner → IsInRoot nestings setting (landed core p)
 
 -- where all are about to do so, jumps lead all to one index
 abbrev pub ReachedBeginnersLandAtOneIndex : Type 0
 ReachedBeginnersLandAtOneIndex =
     (core : List CoreOp) (setting : Setting) (s : State Position)
-    → IsReached core setting s → ((h : ℕ) (r : Runner Position) → slice_get s.runners h ≡ Some r → Begins core r) → (i : ℕ) × AllLandAt core i s.runners
+    → IsReached core setting s
+    → ((h : ℕ) (r : Runner Position) → slice_get s.runners h ≡ Some r → Begins core r)
+    → (i : ℕ) × AllLandAt core i s.runners
 
 -- who waits for the group is about to go on behind it
 abbrev pub ReachedWaitersResume : Type 0
 ReachedWaitersResume =
-    (core : List CoreOp) (setting : Setting) (s : State Position) (h first parts : ℕ) (r : Runner Position) (step : Step Position)
-    → IsReached core setting s → trees.kind s.tree (s.tree.places h) ≡ Some (Waiting first parts) → slice_get s.runners h ≡ Some r → next core r.left ≡ Some step
+    (core : List CoreOp) (setting : Setting) (s : State Position) (h first parts : ℕ)
+    (r : Runner Position) (step : Step Position)
+    → IsReached core setting s → trees.kind s.tree (s.tree.places h) ≡ Some (Waiting first parts)
+    → slice_get s.runners h ≡ Some r → next core r.left ≡ Some step
     → joint_of step.operation ≡ Resuming

@@ -1,5 +1,7 @@
--- What is known behind a round of a machine, in the state that it leaves, as laws of machines that follow it ask it.
-use Rattle.std.specs.Prelude.{◌≡◌, ◌≢◌, ℕ, ◌≤◌, List, [], ◌∷◌, ◌++◌, length, true, Option, Some, None}
+-- What is known behind a round of a machine, in the state that it leaves, as laws of machines that
+-- follow it ask it.
+use Rattle.std.specs.Prelude.{◌≡◌, ◌≢◌, ℕ, ◌≤◌, List, [], ◌∷◌, ◌++◌, length, true, Option, Some}
+use Rattle.std.specs.Prelude.{None}
 use Rattle.fk_space.specs.Space.{Space}
 use Rattle.fk_meaning_operation.specs.declared.operation.Operation.TheVariants.{Begin}
 use Rattle.fk_meaning.specs.Processor.{Setting, setting_of}
@@ -33,14 +35,17 @@ HadNext core afters rs = ⊥
 -- so it is with all where all are about to begin the group of a `start`
 abbrev pub UnitedHadNext : Type 0
 UnitedHadNext =
-    (core : List CoreOp) (s : State Position) (ps : List Owner) (shared : Commons) (i : ℕ) (op : CoreOp) (afters : List (Option Stage))
-    → JumpsLead core → IsBeside core s ps shared → StandsOp core i op Begin → AllAbout i op Begin ps → length afters ≡ length s.runners → HadNext core afters s.runners
+    (core : List CoreOp) (s : State Position) (ps : List Owner) (shared : Commons) (i : ℕ)
+    (op : CoreOp) (afters : List (Option Stage))
+    → JumpsLead core → IsBeside core s ps shared → StandsOp core i op Begin → AllAbout i op Begin ps
+    → length afters ≡ length s.runners → HadNext core afters s.runners
 
 module _ (core : List CoreOp) (setting : Setting) (s : State Position) (stages : List Stage) where
   abbrev pub behind : State Position
   behind = result (next core) setting (counts_for stages) s
 
-  -- a possible round of those whose stages commit, which is what processors beside the state have done
+  -- a possible round of those whose stages commit, which is what processors beside
+  -- the state have done
   pub record IsRoundOf (did : List Doing) : Type 0 where
     pub ps : List Owner
     pub shared : Commons
@@ -55,27 +60,36 @@ module _ (core : List CoreOp) (setting : Setting) (s : State Position) (stages :
     pub before : IsReached core setting s
     pub after : IsReached core setting behind
 
-  -- its tree is sound, and its nodes own words apart; all who have committed go on, and so do groups all of which have committed
-  pub record GoAhead (nestings : Nestings) (did : List Doing) (afters : List (Option Stage)) : Type 0 where
+  -- its tree is sound, and its nodes own words apart; all who have committed go on, and so do
+  -- groups all of which have committed
+  pub record GoAhead (nestings : Nestings) (did : List Doing)
+      (afters : List (Option Stage)) : Type 0 where
     pub tree : IsTree setting behind.tree (spaces_of setting)
-    pub ahead : AllNext core nestings setting behind.tree 0 afters did (owners_after s.tree behind.tree did)
-    pub groups : (nodes : List ℕ) → ArePlaces behind.tree 0 nodes → length nodes ≡ setting.processors
+    pub ahead : AllNext core nestings setting behind.tree 0 afters did
+        (owners_after s.tree behind.tree did)
+    pub groups : (nodes : List ℕ) → ArePlaces behind.tree 0 nodes
+        → length nodes ≡ setting.processors
         → GroupsGoOn core nestings behind.tree nodes afters (owners_after s.tree behind.tree did)
 
 -- a group all of which have come to one index goes on whether they were in the round or not
 abbrev pub ReachedRoundsGoOn : Type 0
 ReachedRoundsGoOn =
-    (core : List CoreOp) (nestings : Nestings) (main : ℕ) (setting : Setting) (s : State Position) (stages : List Stage) (afters : List (Option Stage)) (did : List Doing)
-    → IsOfOneGroup core nestings main → HasSpace setting → setting.processors ≤ 1024 → AreReached core setting s stages → IsRoundOf core setting s stages did
+    (core : List CoreOp) (nestings : Nestings) (main : ℕ) (setting : Setting) (s : State Position)
+    (stages : List Stage) (afters : List (Option Stage)) (did : List Doing)
+    → IsOfOneGroup core nestings main → HasSpace setting → setting.processors ≤ 1024
+    → AreReached core setting s stages → IsRoundOf core setting s stages did
     → HadNext core afters s.runners → GoAhead core setting s stages nestings did afters
 
--- where each processor is about to do what its stage tells, and stages stay or are over, nobody begins the group of a `start`, and
--- the round is a known one
+-- where each processor is about to do what its stage tells, and stages stay or are over, nobody
+-- begins the group of a `start`, and the round is a known one
 abbrev pub ReachedStagesGoOn : Type 0
 ReachedStagesGoOn =
-    (core : List CoreOp) (nestings : Nestings) (main : ℕ) (setting : Setting) (s : State Position) (stages : List Stage) (afters : List (Option Stage)) (did : List Doing)
-    (spaces : ℕ → Space) → IsOfOneGroup core nestings main → HasSpace setting → setting.processors ≤ 1024 → AreReached core setting s stages
-    → IsRoundOf core setting s stages did → AllDue core s.tree spaces 0 stages (landed_state core s).runners → Pairwise Remains stages afters
+    (core : List CoreOp) (nestings : Nestings) (main : ℕ) (setting : Setting) (s : State Position)
+    (stages : List Stage) (afters : List (Option Stage)) (did : List Doing)
+    (spaces : ℕ → Space) → IsOfOneGroup core nestings main → HasSpace setting
+    → setting.processors ≤ 1024 → AreReached core setting s stages
+    → IsRoundOf core setting s stages did → AllDue core s.tree spaces 0 stages
+    (landed_state core s).runners → Pairwise Remains stages afters
     → IsKnownRound s.tree did × GoAhead core setting s stages nestings did afters
 
 -- in a run both states of its last round are reached
@@ -86,5 +100,7 @@ RunsReachRounds =
     → let setting = setting_of p words input in
     let first = list_opening main words firsts input p in
     let s = run (next core) setting schedule first in
-    1 ≤ p → AreGiven words firsts input p → IsLawful (next core) setting (schedule ++ counts_for stages ∷ []) first → AreSingle schedule → is_possible (next core) setting (counts_for stages) s ≡ true
+    1 ≤ p → AreGiven words firsts input p
+    → IsLawful (next core) setting (schedule ++ counts_for stages ∷ []) first → AreSingle schedule
+    → is_possible (next core) setting (counts_for stages) s ≡ true
     → IsReached core setting s × IsReached core setting (behind core setting s stages)

@@ -1,5 +1,6 @@
 -- What is known of such a state, as laws of machines that follow it ask it.
-use Rattle.std.specs.Prelude.{◌≡◌, ◌≢◌, ℕ, ◌+◌, ◌^◌, ◌≤◌, List, length, Some, true, false, slice_get, ◌⊎◌}
+use Rattle.std.specs.Prelude.{◌≡◌, ◌≢◌, ℕ, ◌+◌, ◌^◌, ◌≤◌, List, length, Some, true, false}
+use Rattle.std.specs.Prelude.{slice_get, ◌⊎◌}
 use Rattle.fk_num.specs.Word.{Memory}
 use Rattle.fk_space.specs.Space.{Space}
 use Rattle.fk_meaning_operation.specs.declared.operation.Operation.TheVariants.{Begin}
@@ -33,15 +34,19 @@ HasSpace setting = setting.globals + setting.inputs ≤ 2 ^ 19
 -- the tree is sound, and its nodes own words apart
 abbrev pub ReachedTreesHaveSpaces : Type 0
 ReachedTreesHaveSpaces =
-    (core : List CoreOp) (setting : Setting) (s : State Position) → IsReached core setting s → HasSpace setting → IsTree setting s.tree (spaces_of setting)
+    (core : List CoreOp) (setting : Setting) (s : State Position) → IsReached core setting s
+    → HasSpace setting → IsTree setting s.tree (spaces_of setting)
 
 -- ---- one processor
 
--- who is not at its end is about to do something by itself, with those whom it meets, or with its group
+-- who is not at its end is about to do something by itself, with those whom it meets,
+-- or with its group
 abbrev pub ReachedProcessorsHaveNext : Type 0
 ReachedProcessorsHaveNext =
-    (core : List CoreOp) (nestings : Nestings) (main : ℕ) (setting : Setting) (s : State Position) (h : ℕ) (r : Runner Position) (heap : Memory)
-    → IsOfOneGroup core nestings main → IsReached core setting s → slice_get s.runners h ≡ Some r → r.left ≢ the_end core
+    (core : List CoreOp) (nestings : Nestings) (main : ℕ) (setting : Setting) (s : State Position)
+    (h : ℕ) (r : Runner Position) (heap : Memory)
+    → IsOfOneGroup core nestings main → IsReached core setting s → slice_get s.runners h ≡ Some r
+    → r.left ≢ the_end core
     → let p : Owner = record { runner = r; heap = heap } in
     HasNext core nestings setting s.tree h (landed core p)
 
@@ -50,9 +55,12 @@ ReachedProcessorsHaveNext =
 -- its members are about to do one operation, and go one way
 abbrev pub ReachedGroupsHaveNext : Type 0
 ReachedGroupsHaveNext =
-    (core : List CoreOp) (nestings : Nestings) (main : ℕ) (setting : Setting) (s : State Position) (nodes : List ℕ) (ps : List Owner) (g : ℕ)
-    → IsOfOneGroup core nestings main → IsReached core setting s → setting.processors ≤ 1024 → ArePlaces s.tree 0 nodes → length nodes ≡ setting.processors
-    → s.runners ≡ runners_of ps → trees.kind s.tree g ≡ Some Lockstep → HaveNext core nestings (of_node g nodes ps)
+    (core : List CoreOp) (nestings : Nestings) (main : ℕ) (setting : Setting) (s : State Position)
+    (nodes : List ℕ) (ps : List Owner) (g : ℕ)
+    → IsOfOneGroup core nestings main → IsReached core setting s → setting.processors ≤ 1024
+    → ArePlaces s.tree 0 nodes → length nodes ≡ setting.processors
+    → s.runners ≡ runners_of ps → trees.kind s.tree g ≡ Some Lockstep
+    → HaveNext core nestings (of_node g nodes ps)
 
 -- ---- a round
 
@@ -65,7 +73,10 @@ pub record BeginsGroup (tree : Tree) (ds : List Doing) : Type 0 where
 -- what those in a possible round of a machine do is one of the known rounds
 abbrev pub ReachedRoundsAreKnown : Type 0
 ReachedRoundsAreKnown =
-    (core : List CoreOp) (nestings : Nestings) (main : ℕ) (setting : Setting) (stages : List Stage) (s : State Position) (ps : List Owner) (did : List Doing) (shared shared' : Commons)
-    → IsOfOneGroup core nestings main → IsReached core setting s → AreInOrder 0 s.runners → IsBeside core s ps shared
-    → is_possible (next core) setting (counts_for stages) s ≡ true → AllPass (core_source core setting) (counts_for stages) ps shared did shared'
+    (core : List CoreOp) (nestings : Nestings) (main : ℕ) (setting : Setting) (stages : List Stage)
+    (s : State Position) (ps : List Owner) (did : List Doing) (shared shared' : Commons)
+    → IsOfOneGroup core nestings main → IsReached core setting s → AreInOrder 0 s.runners
+    → IsBeside core s ps shared
+    → is_possible (next core) setting (counts_for stages) s ≡ true
+    → AllPass (core_source core setting) (counts_for stages) ps shared did shared'
     → IsKnownRound s.tree did ⊎ BeginsGroup s.tree did

@@ -1,4 +1,5 @@
--- Machines of an image that has the law of blocks of groups follow the core runs of a list with one group at a time.
+-- Machines of an image that has the law of blocks of groups follow the core runs of a list with one
+-- group at a time.
 use Rattle.std.specs.Prelude.{ℕ, ◌^◌, ◌<◌, ◌≤◌, List, All}
 use Rattle.fk_core.specs.declared.op.CoreOp.{CoreOp}
 use Rattle.fk_core.specs.Next.{next, list_opening}
@@ -10,7 +11,8 @@ use Rattle.fk_sim_block.specs.Law.{Cycles, GroupLaw}
 use Rattle.fk_sim_runs.specs.Lists.{IsOfOneGroup}
 
 -- an image has the blocks of such a list, and these words at first
-pub record CarriesGroups (core : List CoreOp) (main : ℕ) (firsts : List ℕ) (places : Places) (nestings : Nestings) (cycles : Cycles) (image : Image) : Type 0 where
+pub record CarriesGroups (core : List CoreOp) (main : ℕ) (firsts : List ℕ) (places : Places)
+    (nestings : Nestings) (cycles : Cycles) (image : Image) : Type 0 where
   pub one_group : IsOfOneGroup core nestings main
   pub blocks : GroupLaw core image places nestings cycles firsts main
   pub firsts_are_words : All (λ w. w < 2 ^ 32) firsts
@@ -19,6 +21,7 @@ pub record CarriesGroups (core : List CoreOp) (main : ℕ) (firsts : List ℕ) (
 -- for every input, number of harts and number of cycles
 abbrev pub MachinesFollowGroups : Type 0
 MachinesFollowGroups =
-    (core : List CoreOp) (main : ℕ) (firsts : List ℕ) (places : Places) (nestings : Nestings) (cycles : Cycles) (image : Image) → CarriesGroups core main firsts places nestings cycles image
+    (core : List CoreOp) (main : ℕ) (firsts : List ℕ) (places : Places) (nestings : Nestings)
+    (cycles : Cycles) (image : Image) → CarriesGroups core main firsts places nestings cycles image
     → (input : List ℕ) (p n : ℕ) → IsInput image input → 1 ≤ p → p ≤ 1024
     → Follows (next core) image input p n (list_opening main image.globals.items firsts input p)

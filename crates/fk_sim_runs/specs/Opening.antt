@@ -22,16 +22,23 @@ AreSoon [] = Unit {0}
 AreSoon (s ∷ stages) = IsSoon s × AreSoon stages
 
 -- so it is with so many harts, all of which are in the root
-pub record OpensWith (core : List CoreOp) (image : Image) (places : Places) (nestings : Nestings) (spaces : ℕ → Space) (firsts : List ℕ) (main : ℕ) (input : List ℕ) (p : ℕ) : Type 0 where
+pub record OpensWith (core : List CoreOp) (image : Image) (places : Places) (nestings : Nestings)
+    (spaces : ℕ → Space) (firsts : List ℕ) (main : ℕ) (input : List ℕ) (p : ℕ) : Type 0 where
   pub stages : List Stage
   pub soon : AreSoon stages
-  pub goes : GoesWith core image places nestings (setting_of p image.globals.items input) spaces (list_opening main image.globals.items firsts input p) (replicate p 0) [] stages
+  pub goes : GoesWith core image places nestings (setting_of p image.globals.items input) spaces
+      (list_opening main image.globals.items firsts input p) (replicate p 0) [] stages
       (machine.machine_opening image input p)
 
--- where each processor is about to do an operation that it may do by itself, or by meeting the others
+-- where each processor is about to do an operation that it may do by itself, or by
+-- meeting the others
 abbrev pub OpeningsAreFollowed : Type 0
 OpeningsAreFollowed =
-    (core : List CoreOp) (image : Image) (places : Places) (nestings : Nestings) (cycles : Cycles) (firsts : List ℕ) (main : ℕ) (spaces : ℕ → Space) (input : List ℕ) (p : ℕ)
-    → GroupLaw core image places nestings cycles firsts main → JumpsLead core → 1 ≤ p → p ≤ 1024 → length input ≤ 65536
-    → ((number : ℕ) → number < p → HasNext core nestings (setting_of p image.globals.items input) (root p) number (landed core (beginner (setting_of p image.globals.items input) (slice_index firsts) main number)))
+    (core : List CoreOp) (image : Image) (places : Places) (nestings : Nestings) (cycles : Cycles)
+    (firsts : List ℕ) (main : ℕ) (spaces : ℕ → Space) (input : List ℕ) (p : ℕ)
+    → GroupLaw core image places nestings cycles firsts main → JumpsLead core → 1 ≤ p → p ≤ 1024
+    → length input ≤ 65536
+    → ((number : ℕ) → number < p → HasNext core nestings (setting_of p image.globals.items input)
+    (root p) number (landed core (beginner (setting_of p image.globals.items input)
+    (slice_index firsts) main number)))
     → OpensWith core image places nestings spaces firsts main input p

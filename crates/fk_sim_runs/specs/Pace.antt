@@ -1,5 +1,6 @@
 -- The pace: how soon one is in a round who could act.
-use Rattle.std.specs.Prelude.{◌≡◌, ◌≢◌, ℕ, ◌+◌, ◌^◌, ◌<◌, ◌≤◌, List, [], ◌∷◌, ◌++◌, length, take, Some, true, slice_get, ◌⊎◌}
+use Rattle.std.specs.Prelude.{◌≡◌, ◌≢◌, ℕ, ◌+◌, ◌^◌, ◌<◌, ◌≤◌, List, [], ◌∷◌, ◌++◌, length, take}
+use Rattle.std.specs.Prelude.{Some, true, slice_get, ◌⊎◌}
 use Rattle.fk_num.specs.Word.{Memory}
 use Rattle.fk_meaning.specs.Processor.{Setting}
 use Rattle.fk_meaning.specs.Round.{State, Round}
@@ -7,7 +8,8 @@ use Rattle.fk_meaning.specs.Schedule.{Schedule, run, IsIn, CouldAct, KeepsPace}
 use Rattle.fk_core.specs.declared.op.CoreOp.{CoreOp}
 use Rattle.fk_core.specs.Next.{Position, next}
 use Rattle.fk_sim_nodes.specs.Phase.{Phase, Coming, Leaving, AllMove, Settled, IsDue}
-use Rattle.fk_sim_match.specs.Stage.{Ending, Commits, Unites, Stage, Ended, Acts, Meets, distance, counts_for, AllNear, kept}
+use Rattle.fk_sim_match.specs.Stage.{Ending, Commits, Unites, Stage, Ended, Acts, Meets, distance}
+use Rattle.fk_sim_match.specs.Stage.{counts_for, AllNear, kept}
 use Rattle.fk_sim_match.specs.Plan.{Plan, IsInside, phases}
 use Rattle.fk_sim_block.specs.Joint.{lead}
 use Rattle.fk_sim_block.specs.Start.{most_united}
@@ -33,7 +35,8 @@ AreInTime (s ∷ stages) = IsInTime s × AreInTime stages
 
 -- ---- one cycle
 
--- harts before a cycle: the plan that binds them, their stages, the control words, and how many cycles were finished before
+-- harts before a cycle: the plan that binds them, their stages, the control words, and how many
+-- cycles were finished before
 pub record Sight : Type 0 where
   pub plan : Plan
   pub stages : List Stage
@@ -52,7 +55,8 @@ pub record MovesOn (v v' : Sight) (h : ℕ) (e : Ending) (g w : ℕ) : Type 0 wh
   pub phase : Phase
   pub stands : StandsAtWord v' h e g w phase
   pub settled : Settled v.finished (v.plan.size w) (v.control w) (phases v.plan g w (kept v.stages))
-  pub moves : AllMove v.finished (v.plan.size w) lead (phases v.plan g w (kept v.stages)) (v.control w) (phases v'.plan g w (kept v'.stages)) (v'.control w)
+  pub moves : AllMove v.finished (v.plan.size w) lead (phases v.plan g w (kept v.stages))
+      (v.control w) (phases v'.plan g w (kept v'.stages)) (v'.control w)
 
 -- it has met those with whom it unites, and is near their common commit
 pub record HasUnited (v' : Sight) (h : ℕ) : Type 0 where
@@ -60,12 +64,14 @@ pub record HasUnited (v' : Sight) (h : ℕ) : Type 0 where
   pub at : slice_get v'.stages h ≡ Some (Acts left)
   pub few : left < most_united
 
--- so it is with all harts: who is at a distance is one cycle nearer, and who meets others and doesn't leave goes on so
+-- so it is with all harts: who is at a distance is one cycle nearer, and who meets others and
+-- doesn't leave goes on so
 pub record Turns (v v' : Sight) : Type 0 where
   pub few : length v.stages < 2 ^ 31
   pub next : v'.finished ≡ v.finished + 1
   pub near : AllNear v.stages v'.stages
-  pub meet : (h : ℕ) (e : Ending) (g w : ℕ) (f : Phase) → StandsAtWord v h e g w f → f ≢ Leaving 0 → MovesOn v v' h e g w
+  pub meet : (h : ℕ) (e : Ending) (g w : ℕ) (f : Phase) → StandsAtWord v h e g w f → f ≢ Leaving 0
+      → MovesOn v v' h e g w
   pub unite : (h w : ℕ) → slice_get v.stages h ≡ Some (Meets Unites w (Leaving 0)) → HasUnited v' h
 
 -- ---- one who is to commit within so many cycles
@@ -112,23 +118,29 @@ module _ (core : List CoreOp) (setting : Setting) (first : State Position) where
   -- it could act before each round from one on, and behind the last
   abbrev pub CouldActSince : (h from : ℕ) → Schedule → Type 0
   CouldActSince h from schedule =
-      (i : ℕ) → from ≤ i → i ≤ length schedule → CouldAct (next core) setting h (run (next core) setting (take i schedule) first)
+      (i : ℕ) → from ≤ i → i ≤ length schedule
+      → CouldAct (next core) setting h (run (next core) setting (take i schedule) first)
 
   -- then it is in one of them, or is to commit in time
   abbrev pub AreWaiting : Schedule → Sight → Type 0
   AreWaiting schedule v =
-      (h from : ℕ) → from ≤ length schedule → CouldActSince h from schedule → IsInSince h from schedule ⊎ IsToCommit v h from schedule
+      (h from : ℕ) → from ≤ length schedule → CouldActSince h from schedule
+      → IsInSince h from schedule ⊎ IsToCommit v h from schedule
 
 -- so it is behind one round more, where all who could act then are to commit within 254 cycles
 abbrev pub PacesGoOn : Type 0
 PacesGoOn =
-    (core : List CoreOp) (setting : Setting) (first : State Position) (schedule : Schedule) (v v' : Sight)
+    (core : List CoreOp) (setting : Setting) (first : State Position)
+    (schedule : Schedule) (v v' : Sight)
     → AreWaiting core setting first schedule v → Turns v v'
-    → ((h : ℕ) → CouldAct (next core) setting h (run (next core) setting (schedule ++ counts_for v.stages ∷ []) first) → ActsWithin v' h most_between)
+    → ((h : ℕ) → CouldAct (next core) setting h (run (next core) setting (schedule
+    ++ counts_for v.stages ∷ []) first) → ActsWithin v' h most_between)
     → AreWaiting core setting first (schedule ++ counts_for v.stages ∷ []) v'
 
 -- and the pace of 256 rounds is kept in one more, whatever that is
 abbrev pub PacesAreKept : Type 0
 PacesAreKept =
-    (core : List CoreOp) (setting : Setting) (first : State Position) (schedule : Schedule) (v : Sight) (round : Round)
-    → KeepsPace (next core) setting schedule first → AreWaiting core setting first schedule v → KeepsPace (next core) setting (schedule ++ round ∷ []) first
+    (core : List CoreOp) (setting : Setting) (first : State Position) (schedule : Schedule)
+    (v : Sight) (round : Round)
+    → KeepsPace (next core) setting schedule first → AreWaiting core setting first schedule v
+    → KeepsPace (next core) setting (schedule ++ round ∷ []) first

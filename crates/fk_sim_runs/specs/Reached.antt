@@ -21,27 +21,33 @@ use Rattle.fk_sim_runs.specs.Lists.{IsOfOneGroup}
 abbrev pub the_end : List CoreOp → Position
 the_end core = position (length core) []
 
--- what is known of a state: its groups have one program, and those who begin one are at one index; there is one group at most, and each
--- processor is in the list or at its end, has as many values as its operation expects, may do it, and has words alone
+-- what is known of a state: its groups have one program, and those who begin one are at one index;
+-- there is one group at most, and each processor is in the list or at its end, has as many values
+-- as its operation expects, may do it, and has words alone
 pub record IsReached (core : List CoreOp) (setting : Setting) (s : State Position) : Type 0 where
   pub sound : IsSound setting.processors s.tree
   pub one_program : HaveOneProgram (next core) s
   pub beginners : BeginAtOne (next core) (λ w. landing core w.at) s
   pub one_group : HasOneGroup (next core) setting s
-  pub within : (h : ℕ) (r : Runner Position) → slice_get s.runners h ≡ Some r → StaysInList core r.left ⊎ (r.left ≡ the_end core)
-  pub depth : (h : ℕ) (r : Runner Position) (op : CoreOp) → slice_get s.runners h ≡ Some r → slice_get core (landing core r.left.at) ≡ Some op
+  pub within : (h : ℕ) (r : Runner Position) → slice_get s.runners h ≡ Some r
+      → StaysInList core r.left ⊎ (r.left ≡ the_end core)
+  pub depth : (h : ℕ) (r : Runner Position) (op : CoreOp) → slice_get s.runners h ≡ Some r
+      → slice_get core (landing core r.left.at) ≡ Some op
       → length (values r.has) ≡ op.depth
-  pub may : (h : ℕ) (r : Runner Position) (op : CoreOp) (operation : Operation) → slice_get s.runners h ≡ Some r
-      → slice_get core (landing core r.left.at) ≡ Some op → operation_of op.kind op.number ≡ Some operation → MayDo operation r
+  pub may : (h : ℕ) (r : Runner Position) (op : CoreOp) (operation : Operation)
+      → slice_get s.runners h ≡ Some r
+      → slice_get core (landing core r.left.at) ≡ Some op
+      → operation_of op.kind op.number ≡ Some operation → MayDo operation r
   pub in_range : (h : ℕ) (r : Runner Position) → slice_get s.runners h ≡ Some r → IsInRange r.has
 
--- after each lawful schedule without a stopped last round, in whose rounds each processor does one operation at most, of what a
--- machine may be given
+-- after each lawful schedule without a stopped last round, in whose rounds each processor does one
+-- operation at most, of what a machine may be given
 abbrev pub RunsReach : Type 0
 RunsReach =
     (core : List CoreOp) (nestings : Nestings) (main : ℕ) → IsOfOneGroup core nestings main
     → (words firsts input : List ℕ) (p : ℕ) (schedule : Schedule)
     → let setting = setting_of p words input in
     let first = list_opening main words firsts input p in
-    1 ≤ p → AreGiven words firsts input p → IsLawful (next core) setting schedule first → AreSingle schedule → (run (next core) setting schedule first).fault ≡ None
+    1 ≤ p → AreGiven words firsts input p → IsLawful (next core) setting schedule first
+    → AreSingle schedule → (run (next core) setting schedule first).fault ≡ None
     → IsReached core setting (run (next core) setting schedule first)

@@ -1,4 +1,5 @@
--- The words of the group to come, in runs of lists with one group at a time: they are 0 when it begins.
+-- The words of the group to come, in runs of lists with one group at a time: they are
+-- 0 when it begins.
 use Rattle.std.specs.Prelude.{◌≡◌, ℕ, ◌^◌, ◌<◌, List, length, true}
 use Rattle.fk_num.specs.Word.{Memory}
 use Rattle.fk_tree.specs.Tree.{Tree}
@@ -26,14 +27,19 @@ IsReady setting tree control = IsReadyForGroup tree (group_space setting).low co
 -- a cycle of a machine that follows a state leaves it so
 abbrev pub ReachedCyclesStayReady : Type 0
 ReachedCyclesStayReady =
-    (core : List CoreOp) (image : Image) (places : Places) (nestings : Nestings) (cycles : Cycles) (firsts : List ℕ) (main : ℕ) (setting : Setting)
+    (core : List CoreOp) (image : Image) (places : Places) (nestings : Nestings) (cycles : Cycles)
+    (firsts : List ℕ) (main : ℕ) (setting : Setting)
     (s : State Position) (nodes : List ℕ) (printed : List ℕ) (stages : List Stage) (m : Machine)
-    → GroupLaw core image places nestings cycles firsts main → IsOfOneGroup core nestings main → IsReached core setting s → HasSpace setting
+    → GroupLaw core image places nestings cycles firsts main → IsOfOneGroup core nestings main
+    → IsReached core setting s → HasSpace setting
     → length m.harts < 2 ^ 31 → is_running m.stand ≡ true
-    → GoesWith core image places nestings setting (spaces_of setting) s nodes printed stages m → is_possible (next core) setting (counts_for stages) s ≡ true
-    → IsReady setting s.tree m.shared.control → IsReady setting (result (next core) setting (counts_for stages) s).tree (cycle m).shared.control
+    → GoesWith core image places nestings setting (spaces_of setting) s nodes printed stages m
+    → is_possible (next core) setting (counts_for stages) s ≡ true
+    → IsReady setting s.tree m.shared.control → IsReady setting
+    (result (next core) setting (counts_for stages) s).tree (cycle m).shared.control
 
--- where the next group of a tree is to begin, all of the group space is its own, and nobody is at its words
+-- where the next group of a tree is to begin, all of the group space is its own, and
+-- nobody is at its words
 pub record FindsHeader (setting : Setting) (tree : Tree) (control : Memory) : Type 0 where
   pub rest : IsAtRest (first_of (spaces_of setting) tree.given) control
   pub low : (spaces_of setting tree.given).low ≡ (group_space setting).low
@@ -41,10 +47,13 @@ pub record FindsHeader (setting : Setting) (tree : Tree) (control : Memory) : Ty
 -- so it is behind each cycle from that in which all have met at the beginning of `start`
 abbrev pub ReachedStartsFindHeaders : Type 0
 ReachedStartsFindHeaders =
-    (core : List CoreOp) (image : Image) (places : Places) (nestings : Nestings) (main : ℕ) (setting : Setting)
+    (core : List CoreOp) (image : Image) (places : Places) (nestings : Nestings) (main : ℕ)
+    (setting : Setting)
     (s : State Position) (nodes : List ℕ) (printed : List ℕ) (stages : List Stage) (m : Machine)
     → IsOfOneGroup core nestings main → IsReached core setting s → HasSpace setting
     → length m.harts < 2 ^ 31 → is_running m.stand ≡ true
-    → GoesToStart core image places nestings setting (spaces_of setting) s nodes printed stages m → is_possible (next core) setting (counts_for stages) s ≡ true
+    → GoesToStart core image places nestings setting (spaces_of setting) s nodes printed stages m
+    → is_possible (next core) setting (counts_for stages) s ≡ true
     → IsReady setting s.tree m.shared.control
-    → FindsHeader setting s.tree (cycle m).shared.control × IsReady setting (result (next core) setting (counts_for stages) s).tree (cycle m).shared.control
+    → FindsHeader setting s.tree (cycle m).shared.control × IsReady setting
+    (result (next core) setting (counts_for stages) s).tree (cycle m).shared.control

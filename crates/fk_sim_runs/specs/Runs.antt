@@ -1,5 +1,6 @@
 -- Machines of an image that has the law of blocks of groups follow core runs with groups.
-use Rattle.std.specs.Prelude.{◌≡◌, ℕ, zero, suc, ◌≤◌, List, [], ◌∷◌, ◌++◌, Bool, true, false, Option, None, ◌⊎◌}
+use Rattle.std.specs.Prelude.{◌≡◌, ℕ, zero, suc, ◌≤◌, List, [], ◌∷◌, ◌++◌, Bool, true, false}
+use Rattle.std.specs.Prelude.{Option, None, ◌⊎◌}
 use Rattle.fk_num.specs.Word.{Memory}
 use Rattle.fk_space.specs.Space.{Space}
 use Rattle.fk_tree.specs.Tree.{Tree}
@@ -30,50 +31,73 @@ use Rattle.fk_sim_runs.specs.Opening.{OpensWith}
 use Rattle.fk_sim_runs.specs.Pace.{AreInTime, Sight, Turns}
 use Rattle.fk_sim_runs.specs.Able.{WhoWaitsResumes}
 
--- the plan that binds harts: that of the state's tree, or where all have met at the beginning of `start`, with the root in lockstep
+-- the plan that binds harts: that of the state's tree, or where all have met at the beginning of
+-- `start`, with the root in lockstep
 abbrev pub plan_in : (uniting : Bool) → Plan → Plan
 plan_in false plan = plan
 plan_in true plan = united plan
 
-abbrev pub sight_in : (uniting : Bool) → Tree → (spaces : ℕ → Space) → (nodes : List ℕ) → List Stage → (control : Memory) → (finished : ℕ) → Sight
+abbrev pub sight_in : (uniting : Bool) → Tree → (spaces : ℕ → Space) → (nodes : List ℕ) → List Stage
+    → (control : Memory) → (finished : ℕ) → Sight
 sight_in uniting tree spaces nodes stages control finished =
-    record { plan = plan_in uniting (plan_of tree spaces nodes); stages = stages; control = control; finished = finished }
+    record {
+      plan = plan_in uniting (plan_of tree spaces nodes);
+      stages = stages;
+      control = control;
+      finished = finished;
+    }
 
-module _ (core : List CoreOp) (image : Image) (places : Places) (nestings : Nestings) (setting : Setting) (spaces : ℕ → Space) where
+module _ (core : List CoreOp) (image : Image) (places : Places) (nestings : Nestings)
+    (setting : Setting) (spaces : ℕ → Space) where
   -- a machine beside a state: it goes with that, or to the beginning of `start`
-  abbrev pub GoesBeside : (uniting : Bool) → State Position → (nodes : List ℕ) → (printed : List ℕ) → List Stage → Machine → Type 0
-  GoesBeside false s nodes printed stages m = GoesWith core image places nestings setting spaces s nodes printed stages m
-  GoesBeside true s nodes printed stages m = GoesToStart core image places nestings setting spaces s nodes printed stages m
+  abbrev pub GoesBeside : (uniting : Bool) → State Position → (nodes : List ℕ) → (printed : List ℕ)
+      → List Stage → Machine → Type 0
+  GoesBeside false s nodes printed stages m =
+      GoesWith core image places nestings setting spaces s nodes printed stages m
+  GoesBeside true s nodes printed stages m =
+      GoesToStart core image places nestings setting spaces s nodes printed stages m
 
-  -- so that it may go further: all its harts are in time, and nobody is at the words of the group to come
-  pub record StandsBeside (uniting : Bool) (s : State Position) (nodes : List ℕ) (printed : List ℕ) (stages : List Stage) (m : Machine) : Type 0 where
+  -- so that it may go further: all its harts are in time, and nobody is at the words of
+  -- the group to come
+  pub record StandsBeside (uniting : Bool) (s : State Position) (nodes : List ℕ) (printed : List ℕ)
+      (stages : List Stage) (m : Machine) : Type 0 where
     pub goes : GoesBeside uniting s nodes printed stages m
     pub in_time : AreInTime stages
     pub ready : IsReadyForGroup s.tree (first_of spaces 1) m.shared.control
 
   -- its cycle is a possible round
-  abbrev pub IsRound : (uniting : Bool) → State Position → (nodes : List ℕ) → (printed : List ℕ) → List Stage → Machine → Type 0
+  abbrev pub IsRound : (uniting : Bool) → State Position → (nodes : List ℕ) → (printed : List ℕ)
+      → List Stage → Machine → Type 0
   IsRound false s nodes printed stages m =
-      GoesOn core image places nestings setting spaces s nodes printed stages m ⊎ Unites core image places nestings setting spaces s nodes printed stages m
-  IsRound true s nodes printed stages m = Starts core image places nestings setting spaces s nodes printed stages m
+      GoesOn core image places nestings setting spaces s nodes printed stages m
+      ⊎ Unites core image places nestings setting spaces s nodes printed stages m
+  IsRound true s nodes printed stages m =
+      Starts core image places nestings setting spaces s nodes printed stages m
 
   -- after the cycle it is so beside the state behind the round, and those who meet have moved
-  pub record GoesFurther (uniting : Bool) (s : State Position) (nodes : List ℕ) (printed : List ℕ) (stages : List Stage) (m : Machine) : Type 0 where
+  pub record GoesFurther (uniting : Bool) (s : State Position) (nodes : List ℕ) (printed : List ℕ)
+      (stages : List Stage) (m : Machine) : Type 0 where
     pub uniting' : Bool
     pub nodes' : List ℕ
     pub stages' : List Stage
-    pub stands : StandsBeside uniting' (result (next core) setting (counts_for stages) s) nodes' (printed ++ (cycle m).shared.output) stages' (cycle m)
+    pub stands : StandsBeside uniting' (result (next core) setting (counts_for stages) s) nodes'
+        (printed ++ (cycle m).shared.output) stages' (cycle m)
     pub turns : Turns (sight_in uniting s.tree spaces nodes stages m.shared.control m.begun)
-        (sight_in uniting' (result (next core) setting (counts_for stages) s).tree spaces nodes' stages' (cycle m).shared.control (cycle m).begun)
+        (sight_in uniting' (result (next core) setting (counts_for stages) s).tree spaces nodes'
+        stages' (cycle m).shared.control (cycle m).begun)
 
-  -- In the run that begins with a state, behind a lawful schedule of rounds of machines: so it is with each cycle whose round is
-  -- possible and keeps the schedule lawful, and who waits for parts is to go on behind them
+  -- In the run that begins with a state, behind a lawful schedule of rounds of machines: so it is
+  -- with each cycle whose round is possible and keeps the schedule lawful, and who waits for parts
+  -- is to go on behind them
   pub record AlwaysGoesFurther (first : State Position) : Type 0 where
-    pub waits : (schedule : Schedule) → IsLawful (next core) setting schedule first → AreSingle schedule → (run (next core) setting schedule first).fault ≡ None
+    pub waits : (schedule : Schedule) → IsLawful (next core) setting schedule first
+        → AreSingle schedule → (run (next core) setting schedule first).fault ≡ None
         → WhoWaitsResumes core (run (next core) setting schedule first)
-    pub further : (schedule : Schedule) (uniting : Bool) (nodes : List ℕ) (printed : List ℕ) (stages : List Stage) (m : Machine)
+    pub further : (schedule : Schedule) (uniting : Bool) (nodes : List ℕ) (printed : List ℕ)
+        (stages : List Stage) (m : Machine)
         → IsLawful (next core) setting schedule first → AreSingle schedule
-        → StandsBeside uniting (run (next core) setting schedule first) nodes printed stages m → is_running m.stand ≡ true
+        → StandsBeside uniting (run (next core) setting schedule first) nodes printed stages m
+        → is_running m.stand ≡ true
         → IsRound uniting (run (next core) setting schedule first) nodes printed stages m
         → IsLawful (next core) setting (schedule ++ counts_for stages ∷ []) first
         → GoesFurther uniting (run (next core) setting schedule first) nodes printed stages m
@@ -81,10 +105,12 @@ module _ (core : List CoreOp) (image : Image) (places : Places) (nestings : Nest
 -- so a machine with so many harts follows the run, for every input and every number of cycles
 abbrev pub MachinesFollowGroupRuns : Type 0
 MachinesFollowGroupRuns =
-    (core : List CoreOp) (image : Image) (places : Places) (nestings : Nestings) (cycles : Cycles) (firsts : List ℕ) (main : ℕ) (spaces : ℕ → Space) (input : List ℕ) (p n : ℕ)
+    (core : List CoreOp) (image : Image) (places : Places) (nestings : Nestings) (cycles : Cycles)
+    (firsts : List ℕ) (main : ℕ) (spaces : ℕ → Space) (input : List ℕ) (p n : ℕ)
     → GroupLaw core image places nestings cycles firsts main → JumpsLead core → p ≤ 1024
     → OpensWith core image places nestings spaces firsts main input p
-    → AlwaysGoesFurther core image places nestings (setting_of p image.globals.items input) spaces (list_opening main image.globals.items firsts input p)
+    → AlwaysGoesFurther core image places nestings (setting_of p image.globals.items input) spaces
+    (list_opening main image.globals.items firsts input p)
     → Follows (next core) image input p n (list_opening main image.globals.items firsts input p)
 
 -- ---- what is to be known of the run
@@ -94,43 +120,59 @@ abbrev pub places_in : Tree → (number count : ℕ) → List ℕ
 places_in tree number zero = []
 places_in tree number (suc n) = tree.places number ∷ places_in tree (suc number) n
 
-module _ (core : List CoreOp) (nestings : Nestings) (setting : Setting) (spaces : ℕ → Space) (s : State Position) (stages : List Stage) (m : Machine) where
+module _ (core : List CoreOp) (nestings : Nestings) (setting : Setting) (spaces : ℕ → Space)
+    (s : State Position) (stages : List Stage) (m : Machine) where
   abbrev pub tree_behind : Tree
   tree_behind = (result (next core) setting (counts_for stages) s).tree
 
-  -- behind the round of a cycle the tree is sound, and its nodes own words apart; all processors go on, and groups too; and nobody is
-  -- at the words of the group to come
+  -- behind the round of a cycle the tree is sound, and its nodes own words apart; all processors go
+  -- on, and groups too; and nobody is at the words of the group to come
   pub record IsBehind (did : List Doing) (afters : List (Option Stage)) : Type 0 where
     pub tree : IsTree setting tree_behind spaces
-    pub ahead : AllNext core nestings setting tree_behind 0 afters did (owners_after s.tree tree_behind did)
-    pub groups : GroupsGoOn core nestings tree_behind (places_in tree_behind 0 setting.processors) afters (owners_after s.tree tree_behind did)
+    pub ahead : AllNext core nestings setting tree_behind 0 afters did
+        (owners_after s.tree tree_behind did)
+    pub groups : GroupsGoOn core nestings tree_behind
+        (places_in tree_behind 0 setting.processors) afters (owners_after s.tree tree_behind did)
     pub ready : IsReadyForGroup tree_behind (first_of spaces 1) (cycle m).shared.control
 
 -- where it is so, and the round is a known one, the machine goes further
 abbrev pub OrderlyRoundsGoFurther : Type 0
 OrderlyRoundsGoFurther =
-    (core : List CoreOp) (image : Image) (places : Places) (nestings : Nestings) (setting : Setting) (spaces : ℕ → Space) (s : State Position) (nodes : List ℕ) (printed : List ℕ)
-    (stages : List Stage) (m : Machine) (r : GoesOn core image places nestings setting spaces s nodes printed stages m)
-    → is_running m.stand ≡ true → GoesWith core image places nestings setting spaces s nodes printed stages m → AreInTime stages
+    (core : List CoreOp) (image : Image) (places : Places) (nestings : Nestings) (setting : Setting)
+    (spaces : ℕ → Space) (s : State Position) (nodes : List ℕ) (printed : List ℕ)
+    (stages : List Stage) (m : Machine)
+    (r : GoesOn core image places nestings setting spaces s nodes printed stages m)
+    → is_running m.stand ≡ true
+    → GoesWith core image places nestings setting spaces s nodes printed stages m → AreInTime stages
     → IsKnownRound s.tree r.did → IsBehind core nestings setting spaces s stages m r.did r.afters
     → GoesFurther core image places nestings setting spaces false s nodes printed stages m
 
 -- so it does where all have met at the beginning of `start`, if jumps lead all to one index
 abbrev pub UnionsGoFurther : Type 0
 UnionsGoFurther =
-    (core : List CoreOp) (image : Image) (places : Places) (nestings : Nestings) (setting : Setting) (spaces : ℕ → Space) (s : State Position) (nodes : List ℕ) (printed : List ℕ)
+    (core : List CoreOp) (image : Image) (places : Places) (nestings : Nestings) (setting : Setting)
+    (spaces : ℕ → Space) (s : State Position) (nodes : List ℕ) (printed : List ℕ)
     (stages : List Stage) (m : Machine) (i : ℕ)
     → Unites core image places nestings setting spaces s nodes printed stages m
-    → is_running m.stand ≡ true → GoesWith core image places nestings setting spaces s nodes printed stages m → setting.processors ≤ 1024
-    → AllLandAt core i s.runners → IsReadyForGroup (tree_behind core nestings setting spaces s stages m) (first_of spaces 1) (cycle m).shared.control
+    → is_running m.stand ≡ true
+    → GoesWith core image places nestings setting spaces s nodes printed stages m
+    → setting.processors ≤ 1024
+    → AllLandAt core i s.runners
+    → IsReadyForGroup (tree_behind core nestings setting spaces s stages m) (first_of spaces 1)
+    (cycle m).shared.control
     → GoesFurther core image places nestings setting spaces false s nodes printed stages m
 
 -- and from there on to where the group begins, which has the whole group space
 abbrev pub StartsGoFurther : Type 0
 StartsGoFurther =
-    (core : List CoreOp) (image : Image) (places : Places) (nestings : Nestings) (setting : Setting) (spaces : ℕ → Space) (s : State Position) (nodes : List ℕ) (printed : List ℕ)
-    (stages : List Stage) (m : Machine) (r : Starts core image places nestings setting spaces s nodes printed stages m)
-    → is_running m.stand ≡ true → GoesToStart core image places nestings setting spaces s nodes printed stages m → setting.processors ≤ 1024
+    (core : List CoreOp) (image : Image) (places : Places) (nestings : Nestings) (setting : Setting)
+    (spaces : ℕ → Space) (s : State Position) (nodes : List ℕ) (printed : List ℕ)
+    (stages : List Stage) (m : Machine)
+    (r : Starts core image places nestings setting spaces s nodes printed stages m)
+    → is_running m.stand ≡ true
+    → GoesToStart core image places nestings setting spaces s nodes printed stages m
+    → setting.processors ≤ 1024
     → IsBehind core nestings setting spaces s stages m r.did r.afters
-    → IsAtRest (first_of spaces s.tree.given) (cycle m).shared.control → (spaces s.tree.given).low ≡ (group_space setting).low
+    → IsAtRest (first_of spaces s.tree.given) (cycle m).shared.control
+    → (spaces s.tree.given).low ≡ (group_space setting).low
     → GoesFurther core image places nestings setting spaces true s nodes printed stages m

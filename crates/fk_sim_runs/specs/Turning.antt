@@ -1,5 +1,6 @@
 -- What a cycle behind which the tree changes makes of harts and of those who meet.
-use Rattle.std.specs.Prelude.{◌≡◌, ℕ, ◌+◌, ◌^◌, ◌<◌, List, [], ◌∷◌, length, Option, Some, None, slice_get}
+use Rattle.std.specs.Prelude.{◌≡◌, ℕ, ◌+◌, ◌^◌, ◌<◌, List, [], ◌∷◌, length, Option, Some, None}
+use Rattle.std.specs.Prelude.{slice_get}
 use Rattle.fk_num.specs.Word.{Memory}
 use Rattle.fk_image.specs.declared.Image.{Image}
 use Rattle.fk_machine.specs.Hart.{Hart, Setting}
@@ -23,31 +24,41 @@ AreFreshInTime afters stages = ⊥
 abbrev pub NobodyHasUnited : List Stage → Type 0
 NobodyHasUnited stages = (h w : ℕ) → slice_get stages h ≡ Some (Meets Unites w (Leaving 0)) → ⊥
 
--- Where a plan goes on behind a cycle, all are in time there, who is at a distance is nearer, and those who meet have moved
+-- Where a plan goes on behind a cycle, all are in time there, who is at a distance is nearer, and
+-- those who meet have moved
 abbrev pub PlansTurn : (S P D : Type 0) → Type 0
 PlansTurn S P D =
-    (source : Source S P D) (image : Image) (plan plan' : Plan) (tests tests' : Tests P D) (t : Setting) (stages stages' : List Stage) (afters : List (Option Stage)) (hs hs' : List Hart)
+    (source : Source S P D) (image : Image) (plan plan' : Plan) (tests tests' : Tests P D)
+    (t : Setting) (stages stages' : List Stage) (afters : List (Option Stage)) (hs hs' : List Hart)
     (ps qs qs' : List P) (control control' : Memory)
-    → length hs < 2 ^ 31 → tests.lead ≡ lead → IsBound source image plan (told_by tests) t stages hs ps (λ g. control) → Pairwise Remains stages afters
-    → TreeChanges source image plan (told_by tests) plan' (told_by tests') t hs' afters stages' qs qs' control'
-    → GoesOn source image plan (told_by tests) plan' (told_by tests') t stages stages' hs' qs' (λ g. control) control'
+    → length hs < 2 ^ 31
+    → tests.lead ≡ lead → IsBound source image plan (told_by tests) t stages hs ps (λ g. control)
+    → Pairwise Remains stages afters
+    → TreeChanges source image plan (told_by tests) plan'
+    (told_by tests') t hs' afters stages' qs qs' control'
+    → GoesOn source image plan (told_by tests) plan' (told_by tests') t stages stages' hs' qs'
+    (λ g. control) control'
     → NobodyHasUnited stages → AreInTime stages → AreFreshInTime afters stages'
     → AreInTime stages'
-    × Turns (record { plan = plan; stages = stages; control = control; finished = t.finished }) (record { plan = plan'; stages = stages'; control = control'; finished = t.finished + 1 })
+    × Turns (record { plan = plan; stages = stages; control = control; finished = t.finished })
+    (record { plan = plan'; stages = stages'; control = control'; finished = t.finished + 1 })
 
 -- ---- where all have met at the beginning of `start`
 
--- behind the cycle in which they leave, near their common commit, all are in time, and nobody meets others
+-- behind the cycle in which they leave, near their common commit, all are in time, and
+-- nobody meets others
 abbrev pub UnionsTurn : Type 0
 UnionsTurn =
     (plan plan' : Plan) (stages stages' : List Stage) (control control' : Memory) (finished : ℕ)
     → length stages < 2 ^ 31 → AllUnite stages → AllNear stages stages' → AreNearBegin stages'
     → AreInTime stages'
-    × Turns (record { plan = plan; stages = stages; control = control; finished = finished }) (record { plan = plan'; stages = stages'; control = control'; finished = finished + 1 })
+    × Turns (record { plan = plan; stages = stages; control = control; finished = finished })
+    (record { plan = plan'; stages = stages'; control = control'; finished = finished + 1 })
 
 -- nor does anybody in the cycles from there on, in the last of which all commit
 abbrev pub UnitedTurn : Type 0
 UnitedTurn =
     (plan plan' : Plan) (stages stages' : List Stage) (control control' : Memory) (finished : ℕ)
     → length stages < 2 ^ 31 → AreNearBegin stages → AllNear stages stages'
-    → Turns (record { plan = plan; stages = stages; control = control; finished = finished }) (record { plan = plan'; stages = stages'; control = control'; finished = finished + 1 })
+    → Turns (record { plan = plan; stages = stages; control = control; finished = finished })
+    (record { plan = plan'; stages = stages'; control = control'; finished = finished + 1 })

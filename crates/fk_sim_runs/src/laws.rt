@@ -1,19 +1,24 @@
 //! Laws of lists with one group at a time, and of machines that follow their core runs.
 
 ghost use Rattle.fk_sim_runs.specs.Reached.{RunsReach};
-ghost use Rattle.fk_sim_runs.specs.Begins.{UnitersBegin, ReachedBeginnersAreInRoot, ReachedBeginnersLandAtOneIndex, ReachedWaitersResume};
-ghost use Rattle.fk_sim_runs.specs.Behind.{UnitedHadNext, RunsReachRounds, ReachedRoundsGoOn, ReachedStagesGoOn};
-ghost use Rattle.fk_sim_runs.specs.Facts.{ReachedTreesHaveSpaces, ReachedProcessorsHaveNext, ReachedGroupsHaveNext, ReachedRoundsAreKnown};
+ghost use Rattle.fk_sim_runs.specs.Begins.{UnitersBegin, ReachedBeginnersAreInRoot};
+ghost use Rattle.fk_sim_runs.specs.Begins.{ReachedBeginnersLandAtOneIndex, ReachedWaitersResume};
+ghost use Rattle.fk_sim_runs.specs.Behind.{UnitedHadNext, RunsReachRounds, ReachedRoundsGoOn};
+ghost use Rattle.fk_sim_runs.specs.Behind.{ReachedStagesGoOn};
+ghost use Rattle.fk_sim_runs.specs.Facts.{ReachedTreesHaveSpaces, ReachedProcessorsHaveNext};
+ghost use Rattle.fk_sim_runs.specs.Facts.{ReachedGroupsHaveNext, ReachedRoundsAreKnown};
 ghost use Rattle.fk_sim_runs.specs.Ready.{ReachedCyclesStayReady, ReachedStartsFindHeaders};
 ghost use Rattle.fk_sim_runs.specs.Opening.{OpeningsAreFollowed};
 ghost use Rattle.fk_sim_runs.specs.Pace.{PacesGoOn, PacesAreKept};
 ghost use Rattle.fk_sim_runs.specs.Turning.{PlansTurn, UnionsTurn, UnitedTurn};
 ghost use Rattle.fk_sim_runs.specs.Able.{WhoCouldActWill, WhoHasUnitedWill};
-ghost use Rattle.fk_sim_runs.specs.Runs.{MachinesFollowGroupRuns, OrderlyRoundsGoFurther, UnionsGoFurther, StartsGoFurther};
+ghost use Rattle.fk_sim_runs.specs.Runs.{MachinesFollowGroupRuns, OrderlyRoundsGoFurther};
+ghost use Rattle.fk_sim_runs.specs.Runs.{UnionsGoFurther, StartsGoFurther};
 ghost use Rattle.fk_sim_runs.specs.Follow.{MachinesFollowGroups};
 
-/// After every lawful schedule in whose rounds each processor does one operation at most it is known of each processor where it
-/// stands, that it is in the list or at its end, that it may do its next operation, and that its values and variables are words.
+/// After every lawful schedule in whose rounds each processor does one operation at most it is
+/// known of each processor where it stands, that it is in the list or at its end, that it may do
+/// its next operation, and that its values and variables are words.
 pub fn runs_reach()
     ensures { RunsReach }
 {
@@ -25,8 +30,8 @@ pub fn reached_trees_have_spaces()
     ensures { ReachedTreesHaveSpaces }
 {}
 
-/// Who is not at its end in it is about to do an operation by itself, with those whom it meets at a word of its node, or with its
-/// group in lockstep.
+/// Who is not at its end in it is about to do an operation by itself, with those whom it meets at a
+/// word of its node, or with its group in lockstep.
 pub fn reached_processors_have_next()
     ensures { ReachedProcessorsHaveNext }
 {}
@@ -36,8 +41,8 @@ pub fn reached_groups_have_next()
     ensures { ReachedGroupsHaveNext }
 {}
 
-/// In a round of a machine nobody changes the tree; or all begin a group, or go on in the root; or a group comes to a body, ends
-/// it, or ends.
+/// In a round of a machine nobody changes the tree; or all begin a group, or go on in the root; or
+/// a group comes to a body, ends it, or ends.
 pub fn reached_rounds_are_known()
     ensures { ReachedRoundsAreKnown }
 {}
@@ -52,7 +57,8 @@ pub fn united_had_next()
     ensures { UnitedHadNext }
 {}
 
-/// Who is about to begin the group of a `start` in such a state is in the root, with its level and the whole group space.
+/// Who is about to begin the group of a `start` in such a state is in the root, with its level and
+/// the whole group space.
 pub fn reached_beginners_are_in_root()
     ensures { ReachedBeginnersAreInRoot }
 {}
@@ -74,53 +80,58 @@ pub fn runs_reach_rounds()
     runs_reach();
 }
 
-/// Behind a round of a machine the tree is sound and its nodes own words apart, and who has committed goes on, by itself and in its
-/// group.
+/// Behind a round of a machine the tree is sound and its nodes own words apart, and who has
+/// committed goes on, by itself and in its group.
 pub fn reached_rounds_go_on()
     ensures { ReachedRoundsGoOn }
 {}
 
-/// So it is where stages tell what each processor is about to do, and then nobody begins the group of a `start`.
+/// So it is where stages tell what each processor is about to do, and then nobody begins the
+/// group of a `start`.
 pub fn reached_stages_go_on()
     ensures { ReachedStagesGoOn }
 {}
 
-/// In a state without a group nobody is at the words of the one to come, which begin with the group space: a cycle of a machine that
-/// follows such a state leaves the next state so.
+/// In a state without a group nobody is at the words of the one to come, which begin with the group
+/// space: a cycle of a machine that follows such a state leaves the next state so.
 pub fn reached_cycles_stay_ready()
     ensures { ReachedCyclesStayReady }
 {}
 
-/// Where all have met at the beginning of `start`, the group that is to begin finds its words at 0, and has all of the group space.
+/// Where all have met at the beginning of `start`, the group that is to begin finds its words at 0,
+/// and has all of the group space.
 pub fn reached_starts_find_headers()
     ensures { ReachedStartsFindHeaders }
 {}
 
-/// A machine of an image that has the law of blocks of groups goes with the core run from its first cycle on: each of its harts
-/// is at most 254 private instructions before its first commit, or 251 before it arrives where it meets others, 211 at `start`.
+/// A machine of an image that has the law of blocks of groups goes with the core run from its first
+/// cycle on: each of its harts is at most 254 private instructions before its first commit, or 251
+/// before it arrives where it meets others, 211 at `start`.
 pub fn openings_are_followed()
     ensures { OpeningsAreFollowed }
 {}
 
-/// Where each cycle goes from one sight of the harts to the next, and who could act is to commit within 254 cycles, with all whom
-/// it meets, this one is in a round by then.
+/// Where each cycle goes from one sight of the harts to the next, and who could act is to commit
+/// within 254 cycles, with all whom it meets, this one is in a round by then.
 pub fn paces_go_on()
     ensures { PacesGoOn }
 {}
 
-/// So who could act before each of 256 rounds is in one of them, also where a fault ends the last of these.
+/// So who could act before each of 256 rounds is in one of them, also where a fault ends
+/// the last of these.
 pub fn paces_are_kept()
     ensures { PacesAreKept }
 {}
 
-/// Where a plan goes on behind a cycle, and all who have committed are at stages in time, so all are: who is at a distance from its
-/// commit is one cycle nearer, and those who meet at a word have moved.
+/// Where a plan goes on behind a cycle, and all who have committed are at stages in time, so
+/// all are: who is at a distance from its commit is one cycle nearer, and those who meet at a
+/// word have moved.
 pub fn plans_turn<S, P, D>()
     ensures { PlansTurn S P D }
 {}
 
-/// Behind the cycle in which all leave the word where they meet at the beginning of `start` they are in time, fewer than 40 cycles
-/// from their common commit, and nobody meets others.
+/// Behind the cycle in which all leave the word where they meet at the beginning of `start` they
+/// are in time, fewer than 40 cycles from their common commit, and nobody meets others.
 pub fn unions_turn()
     ensures { UnionsTurn }
 {}
@@ -130,8 +141,9 @@ pub fn united_turn()
     ensures { UnitedTurn }
 {}
 
-/// Where the plan of a state's tree binds all harts, at stages in time, who could act in that state is to commit within 254 cycles:
-/// it is near its commit, or all whom it meets have entered, and have time to leave.
+/// Where the plan of a state's tree binds all harts, at stages in time, who could act in that state
+/// is to commit within 254 cycles: it is near its commit, or all whom it meets have entered, and
+/// have time to leave.
 pub fn who_could_act_will()
     ensures { WhoCouldActWill }
 {}
@@ -141,32 +153,38 @@ pub fn who_has_united_will()
     ensures { WhoHasUnitedWill }
 {}
 
-/// A machine of an image that has the law of blocks of groups follows a lawful schedule of the list's core runs, one round for
-/// each cycle, in which who could act is in one of any 256 rounds. Its output, shared data and stand, a fault at a site included,
-/// are those of that core run. So it is where each cycle goes further (`AlwaysGoesFurther`), as it does in runs of lists with one group.
+/// A machine of an image that has the law of blocks of groups follows a lawful schedule of the
+/// list's core runs, one round for each cycle, in which who could act is in one of any 256
+/// rounds. Its output, shared data and stand, a fault at a site included, are those of that core
+/// run. So it is where each cycle goes further (`AlwaysGoesFurther`), as it does in runs of
+/// lists with one group.
 pub fn machines_follow_group_runs()
     ensures { MachinesFollowGroupRuns }
 {}
 
-/// A cycle goes further where its round is a known one, the tree behind it is sound, its processors go on (`IsBehind`), and its harts
-/// are in time: they are so behind it, and those who meet have moved.
+/// A cycle goes further where its round is a known one, the tree behind it is sound, its
+/// processors go on (`IsBehind`), and its harts are in time: they are so behind it, and those who
+/// meet have moved.
 pub fn orderly_rounds_go_further()
     ensures { OrderlyRoundsGoFurther }
 {}
 
-/// So does the cycle in which all have met at the beginning of `start`, if jumps lead all to one index.
+/// So does the cycle in which all have met at the beginning of `start`, if jumps lead
+/// all to one index.
 pub fn unions_go_further()
     ensures { UnionsGoFurther }
 {}
 
-/// And each from there to that in which the group begins, where nobody is at its words, and it has the whole group space.
+/// And each from there to that in which the group begins, where nobody is at its words, and it has
+/// the whole group space.
 pub fn starts_go_further()
     ensures { StartsGoFurther }
 {}
 
-/// A machine of an image that has the law of blocks of groups follows a lawful schedule of the core runs of a list with one group
-/// at a time, one round for each cycle, in which who could act is in one of any 256 rounds. Its output, shared data and stand, a
-/// fault at a site included, are those of that core run.
+/// A machine of an image that has the law of blocks of groups follows a lawful schedule of the core
+/// runs of a list with one group at a time, one round for each cycle, in which who could act is in
+/// one of any 256 rounds. Its output, shared data and stand, a fault at a site included, are those
+/// of that core run.
 ///
 /// So it is for every input, 1 to 1,024 harts and every number of cycles.
 pub fn machines_follow_groups()

@@ -1,8 +1,9 @@
-//! Machines follow the core runs of lists with one group at a time: which operation each processor and each group does next, which
-//! steps a round takes, and so, from the opening on and in the pace of lawful schedules, whole runs.
+//! Machines follow the core runs of lists with one group at a time: which operation each processor
+//! and each group does next, which steps a round takes, and so, from the opening on and in the pace
+//! of lawful schedules, whole runs.
 //!
-//! The definitions stand in `specs/`, and what is proved of them in `laws`. They rest on the law of blocks of groups, and
-//! know no code.
+//! The definitions stand in `specs/`, and what is proved of them in `laws`. They rest on the law of
+//! blocks of groups, and know no code.
 #![tactic(auto)]
 
 pub mod laws;

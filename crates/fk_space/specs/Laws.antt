@@ -8,8 +8,8 @@ pub record IsSplit (s : Space) (k words : ℕ) : Type 0 where
   pub some : 1 ≤ k
   pub fits : share s k ≡ Some words
 
--- a part is a space of its share, in the free words of the parent behind those kept back. The parent's own words lie
--- below and above these
+-- a part is a space of its share, in the free words of the parent behind those kept back. The
+-- parent's own words lie below and above these
 pub record IsPart (s : Space) (k words : ℕ) (part : Space) : Type 0 where
   pub space : IsSpace part
   pub size : part.low + words ≡ part.high
@@ -17,11 +17,13 @@ pub record IsPart (s : Space) (k words : ℕ) (part : Space) : Type 0 where
   pub below : part.high ≤ s.blocks
 
 abbrev pub PartsAreInside : Type 0
-PartsAreInside = (s : Space) (k words i : ℕ) → IsSplit s k words → i < k → IsPart s k words (child s k i)
+PartsAreInside = (s : Space) (k words i : ℕ) → IsSplit s k words → i < k
+    → IsPart s k words (child s k i)
 
 -- no two parts share a word: each ends before every later one begins
 abbrev pub PartsAreApart : Type 0
-PartsAreApart = (s : Space) (k words i j : ℕ) → IsSplit s k words → i < j → j < k → (child s k i).high ≤ (child s k j).low
+PartsAreApart = (s : Space) (k words i j : ℕ) → IsSplit s k words → i < j → j < k
+    → (child s k i).high ≤ (child s k j).low
 
 -- once a block didn't fit, no block is served, however small
 abbrev pub FullStaysFull : Type 0

@@ -1,5 +1,6 @@
 -- Spaces of groups in the shared words, and the heap that serves all.
-use Rattle.std.specs.Prelude.{ℕ, ◌+◌, ◌-◌, ◌*◌, ◌/◌, ◌^◌, ◌≤◌, nat_le, nat_lt, Option, Some, None, if◌then◌else◌}
+use Rattle.std.specs.Prelude.{ℕ, ◌+◌, ◌-◌, ◌*◌, ◌/◌, ◌^◌, ◌≤◌, nat_le, nat_lt, Option, Some, None}
+use Rattle.std.specs.Prelude.{if◌then◌else◌}
 
 -- a range of words: a header of 8, then the frames taken so far, the free words, and the blocks
 pub record Space : Type 0 where
@@ -8,7 +9,8 @@ pub record Space : Type 0 where
   pub frames : ℕ
   pub blocks : ℕ
 
--- the frames stand behind the header, the blocks behind the frames, and all of it in the 2^20 shared words
+-- the frames stand behind the header, the blocks behind the frames, and all of it in the
+-- 2^20 shared words
 pub record IsSpace (s : Space) : Type 0 where
   pub header : s.low + 8 ≤ s.frames
   pub ordered : s.frames ≤ s.blocks
@@ -28,7 +30,8 @@ equal_part s k = (free s - 4 * k) / k
 
 -- no parts where the words kept back are not free, or where a part gets fewer than 16
 abbrev pub share : Space → (k : ℕ) → Option ℕ
-share s k = if nat_lt (free s) (4 * k) then None else if nat_lt (equal_part s k) 16 then None else Some (equal_part s k)
+share s k = if nat_lt (free s) (4 * k) then None else if nat_lt (equal_part s k) 16 then None
+    else Some (equal_part s k)
 
 -- part i stands directly after part i - 1, and the first after the words kept back
 abbrev pub child : Space → (k i : ℕ) → Space
@@ -36,13 +39,15 @@ child s k i = whole (s.frames + 4 * k + i * equal_part s k) (equal_part s k)
 
 -- a frame is taken upwards
 abbrev pub frame : Space → (words : ℕ) → Option Space
-frame s words = if nat_lt (free s) words then None else Some (record s { frames = s.frames + words })
+frame s words = if nat_lt (free s) words then None
+    else Some (record s { frames = s.frames + words })
 
 -- a block is taken downwards: its first word, and the space after it
 abbrev pub block : Space → (words : ℕ) → Option (ℕ × Space)
-block s words = if nat_lt (free s) words then None else Some (s.blocks - words, record s { blocks = s.blocks - words })
+block s words = if nat_lt (free s) words then None
+    else Some (s.blocks - words, record s { blocks = s.blocks - words })
 
--- a block of a heap that only grows: the new top, and the block's first word. Where it doesn't fit, the heap is full
--- from then on
+-- a block of a heap that only grows: the new top, and the block's first word. Where it doesn't fit,
+-- the heap is full from then on
 abbrev pub heap : (top limit words : ℕ) → ℕ × Option ℕ
 heap top limit words = if nat_le words (limit - top) then (top + words, Some top) else (limit, None)

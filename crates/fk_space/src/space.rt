@@ -33,11 +33,14 @@ impl Model for Space {
 
     ghost Value = { Words };
 
-    ghost view = { λ s. record { low = s.low; high = s.high; frames = s.frames; blocks = s.blocks } };
+    ghost view = { λ s.
+        record { low = s.low; high = s.high; frames = s.frames; blocks = s.blocks } };
 
-    ghost invariant = { λ s. IsSpace (record { low = s.low; high = s.high; frames = s.frames; blocks = s.blocks }) };
+    ghost invariant = { λ s.
+        IsSpace (record { low = s.low; high = s.high; frames = s.frames; blocks = s.blocks }) };
 
-    ghost inverse = { λ s. record { low = s.low; high = s.high; frames = s.frames; blocks = s.blocks } };
+    ghost inverse = { λ s.
+        record { low = s.low; high = s.high; frames = s.frames; blocks = s.blocks } };
 }
 
 impl Space {
@@ -63,8 +66,9 @@ impl Space {
         self.blocks - self.frames
     }
 
-    /// The words that each of `k` parts gets: an even share of the free words, less 4 for each
-    /// part, rounded down. `None` where these 4 `k` words are not free, or where the share is below 16.
+    /// The words that each of `k` parts gets: an even share of the free words, less 4 for
+    /// each part, rounded down. `None` where these 4 `k` words are not free, or where the
+    /// share is below 16.
     pub fn share(&self, k: u32) -> Option<u32>
         requires { 1 ≤ k }
         ensures { result ≡ share self.now k }

@@ -13,7 +13,8 @@ use Rattle.fk_syntax.specs.declared.program.Item.{Item}
 use Rattle.fk_syntax.specs.declared.program.Item.TheVariants as i
 use Rattle.fk_syntax.specs.declared.program.Program.{Program}
 use Rattle.fk_syntax.specs.View.{named, type_of, tree_of}
-use Rattle.fk_syntax.specs.Program.{DeclaredTree, Statement, FunctionTree, ItemTree, ProgramTree, branch, statements_of}
+use Rattle.fk_syntax.specs.Program.{DeclaredTree, Statement, FunctionTree, ItemTree, ProgramTree}
+use Rattle.fk_syntax.specs.Program.{branch, statements_of}
 use Rattle.fk_syntax.specs.Program as p
 
 abbrev pub declared_of : Declared → DeclaredTree
@@ -31,14 +32,17 @@ statement_step s.Empty = p.Empty
 statement_step (s.Expression value) = p.Expression (tree_of value)
 statement_step (s.Block statements) = p.Block (statements_of statements.items)
 statement_step (s.Declare variables) = p.Declare (map declared_of variables.items)
-statement_step (s.If spot condition then otherwise) = branch spot (tree_of condition) then.value (option_map (λ (b : Box Statement Global). b.value) otherwise)
+statement_step (s.If spot condition then otherwise) = branch spot (tree_of condition) then.value
+    (option_map (λ (b : Box Statement Global). b.value) otherwise)
 statement_step (s.While spot condition body) = p.While spot (tree_of condition) body.value
 statement_step (s.DoWhile spot body condition) = p.DoWhile spot body.value (tree_of condition)
-statement_step (s.For spot before condition after body) = p.For spot (option_map tree_of before) (option_map tree_of condition) (option_map tree_of after) body.value
+statement_step (s.For spot before condition after body) = p.For spot (option_map tree_of before)
+    (option_map tree_of condition) (option_map tree_of after) body.value
 statement_step (s.Start spot count body) = p.Start spot (option_map tree_of count) body.value
 statement_step (s.Farm spot body) = p.Farm spot body.value
 statement_step (s.Seq spot body) = p.Seq spot body.value
-statement_step (s.Fork spot parts part rank body) = p.Fork spot (tree_of parts) (tree_of part) (option_map tree_of rank) body.value
+statement_step (s.Fork spot parts part rank body) =
+    p.Fork spot (tree_of parts) (tree_of part) (option_map tree_of rank) body.value
 statement_step (s.Barrier spot) = p.Barrier spot
 statement_step (s.Break spot) = p.Break spot
 statement_step (s.Continue spot) = p.Continue spot

@@ -9,7 +9,8 @@ use Rattle.fk_syntax.specs.declared.expression.Suffix.{Suffix}
 use Rattle.fk_syntax.specs.declared.expression.Expr.TheOpen.{Expr-F, Suffix-F, Link-F}
 use Rattle.fk_syntax.specs.declared.expression.Expr.TheOpen as e
 use Rattle.fk_syntax.specs.declared.expression.Expr.TheFolds.{fold-Expr, fold-Suffix, fold-Link}
-use Rattle.fk_syntax.specs.Tree.{Named, BaseType, TypeTree, Tree, LinkTree, SuffixTree, links_of, trees_of, suffixes_of}
+use Rattle.fk_syntax.specs.Tree.{Named, BaseType, TypeTree, Tree, LinkTree, SuffixTree, links_of}
+use Rattle.fk_syntax.specs.Tree.{trees_of, suffixes_of}
 use Rattle.fk_syntax.specs.Tree as t
 
 abbrev pub named : Name → Named
@@ -37,7 +38,8 @@ tree_step (e.Cast spot type operand) = t.Cast spot (type_of type) operand.value
 tree_step (e.Chain first links) = t.Chain first.value (links_of links.items)
 tree_step (e.Postfix whole suffixes) = t.Postfix whole.value (suffixes_of suffixes.items)
 tree_step (e.Assign spot sign target value) = t.Assign spot sign target.value value.value
-tree_step (e.Choose spot condition first second) = t.Choose spot condition.value first.value second.value
+tree_step (e.Choose spot condition first second) =
+    t.Choose spot condition.value first.value second.value
 
 -- a suffix, where the expressions in it are trees
 abbrev pub suffix_step : Suffix-F Tree SuffixTree LinkTree → SuffixTree

@@ -169,7 +169,8 @@ impl<'a> Expr<'a> {
         second: Expr<'a>,
     ) -> Result<Expr<'a>, AllocError>
         ensures { IfOk result (λ e. tree_of e
-            ≡ t.Choose spot (tree_of condition.entry) (tree_of first.entry) (tree_of second.entry)) }
+            ≡ t.Choose spot (tree_of condition.entry) (tree_of first.entry)
+            (tree_of second.entry)) }
     {
         let condition = boxed(alloc, condition)?;
         let first = boxed(alloc, first)?;

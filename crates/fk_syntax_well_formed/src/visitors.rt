@@ -92,7 +92,8 @@ impl Visitor for Distinct<'_, '_> {
 
 // Whether at most one node of the program has this index.
 fn stands_once(program: &Program, at: u32) -> bool
-    ensures { result ≡ nat_le (times_of at (nodes (items_indices (program_of program.now).items))) 1 }
+    ensures { result
+        ≡ nat_le (times_of at (nodes (items_indices (program_of program.now).items))) 1 }
 {
     let mut tally = Tally { at, count: 0 };
     visit_program(program, &mut tally);

@@ -10,8 +10,13 @@ ghost use Rattle.fk_syntax.specs.declared.nodes.Index.TheVariants.{Node};
 ghost use Rattle.fk_syntax.specs.Tree.{links_of, trees_of, suffixes_of};
 ghost use Rattle.fk_syntax.specs.View.{tree_of, link_of, suffix_of, type_of};
 ghost use Rattle.fk_syntax.specs.Program.{statements_of};
-ghost use Rattle.fk_syntax.specs.ProgramView.{declared_of, statement_of, function_of, item_of, program_of};
-ghost use Rattle.fk_syntax.specs.Nodes.{type_indices, tree_indices, links_indices, trees_indices, suffixes_indices, optional_indices, declared_indices, declarations_indices, statement_indices, statements_indices, function_indices, item_indices, items_indices};
+ghost use Rattle.fk_syntax.specs.ProgramView.{declared_of, statement_of, function_of, item_of};
+ghost use Rattle.fk_syntax.specs.ProgramView.{program_of};
+ghost use Rattle.fk_syntax.specs.Nodes.{type_indices, tree_indices, links_indices, trees_indices};
+ghost use Rattle.fk_syntax.specs.Nodes.{suffixes_indices, optional_indices, declared_indices};
+ghost use Rattle.fk_syntax.specs.Nodes.{declarations_indices, statement_indices};
+ghost use Rattle.fk_syntax.specs.Nodes.{statements_indices, function_indices, item_indices};
+ghost use Rattle.fk_syntax.specs.Nodes.{items_indices};
 
 use fk_syntax::{
     Base, Declared, Expr, Function, Index, Item, Link, Program, Spot, Stmt, Suffix, TypeName,

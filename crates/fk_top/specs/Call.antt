@@ -1,5 +1,6 @@
 -- Whole calls: why each ends as it does, and what the store and the sinks then have.
-use Rattle.std.specs.Prelude.{◌≡◌, ◌≢◌, ℕ, ◌≤◌, ◌⊎◌, List, [], length, vec_len, Option, Some, None, IsSome, Ok}
+use Rattle.std.specs.Prelude.{◌≡◌, ◌≢◌, ℕ, ◌≤◌, ◌⊎◌, List, [], length, vec_len, Option, Some, None}
+use Rattle.std.specs.Prelude.{IsSome, Ok}
 use Rattle.std.specs.Io.KnownBytes.{append_known}
 use Rattle.fk_ports.specs.Faults.{HasRisen}
 use Rattle.fk_ports.specs.Known.{TakesPrefix, GivesAtMost, MovesFirst}
@@ -16,10 +17,13 @@ use Rattle.fk_top_input.specs.Input.{input_of}
 use Rattle.fk_top_words.specs.Command.{Command, Run, Build, Exec, ListCode, Reads}
 use Rattle.fk_top.specs.declared.report.Report.TheVariants as reports
 use Rattle.fk_top.specs.declared.status.Status.{Status}
-use Rattle.fk_top.specs.declared.status.Status.TheVariants.{Done, Refused, Usage, ReadFault, WriteFault, Memory, SourceFault, Trap, ImageRefused, InputRefused}
+use Rattle.fk_top.specs.declared.status.Status.TheVariants.{Done, Refused, Usage, ReadFault}
+use Rattle.fk_top.specs.declared.status.Status.TheVariants.{WriteFault, Memory, SourceFault, Trap}
+use Rattle.fk_top.specs.declared.status.Status.TheVariants.{ImageRefused, InputRefused}
 use Rattle.fk_top.specs.Words.{Runs, IsRun, IsBuild, IsExec, file_of, most_bytes, most_input}
 use Rattle.fk_top.specs.Report.{line_of}
-use Rattle.fk_top.specs.Outcome.{Put, Outcome, silent, status_of, IsShown, most_numbers, numbers_for, IsBuiltFrom, ComesTo}
+use Rattle.fk_top.specs.Outcome.{Put, Outcome, silent, status_of, IsShown, most_numbers}
+use Rattle.fk_top.specs.Outcome.{numbers_for, IsBuiltFrom, ComesTo}
 
 -- ---- the outside, before and after a call
 
@@ -44,19 +48,28 @@ pub record Given : Type 0 where
   pub faults : Change ℕ
 
 abbrev pub given_of : {S : Type 0} → (S → Option (List ℕ)) → (S → ℕ) → S → S → Given
-given_of left faults old new = record { left = change_of left old new; faults = change_of faults old new }
+given_of left faults old new =
+    record { left = change_of left old new; faults = change_of faults old new }
 
--- what a call reads: its words, what the store has before it, where it tells that, with its faults of `fetch`, and the input
+-- what a call reads: its words, what the store has before it, where it tells that, with its faults
+-- of `fetch`, and the input
 pub record Request : Type 0 where
   pub words : List (List ℕ)
   pub files : Option Files
   pub faults : Change ℕ
   pub input : Given
 
--- the request of these words over a store and an input, by the words in which the store tells of itself
-abbrev pub request_of : {S : Type 0} → (S → Option Files) → (S → ℕ) → List (List ℕ) → S → S → Given → Request
+-- the request of these words over a store and an input, by the words in which the
+-- store tells of itself
+abbrev pub request_of : {S : Type 0} → (S → Option Files) → (S → ℕ) → List (List ℕ) → S → S
+    → Given → Request
 request_of files fetch_faults words old new input =
-    record { words = words; files = files old; faults = change_of fetch_faults old new; input = input }
+    record {
+      words = words;
+      files = files old;
+      faults = change_of fetch_faults old new;
+      input = input;
+    }
 
 -- what a store has, where it tells that, and its faults of `put`
 pub record Stored : Type 0 where
@@ -64,7 +77,8 @@ pub record Stored : Type 0 where
   pub faults : Change ℕ
 
 abbrev pub stored_of : {S : Type 0} → (S → Option Files) → (S → ℕ) → S → S → Stored
-stored_of files put_faults old new = record { files = change_of files old new; faults = change_of put_faults old new }
+stored_of files put_faults old new =
+    record { files = change_of files old new; faults = change_of put_faults old new }
 
 -- what a sink took, where it tells that, and its faults
 pub record Sunk : Type 0 where
@@ -72,7 +86,8 @@ pub record Sunk : Type 0 where
   pub faults : Change ℕ
 
 abbrev pub sunk_of : {S : Type 0} → (S → Option (List ℕ)) → (S → ℕ) → S → S → Sunk
-sunk_of taken faults old new = record { taken = change_of taken old new; faults = change_of faults old new }
+sunk_of taken faults old new =
+    record { taken = change_of taken old new; faults = change_of faults old new }
 
 pub record Call : Type 0 where
   pub request : Request
@@ -126,8 +141,8 @@ pub record IsUnread (request : Request) : Type 0 where
   pub reads : Reads request.words command
   pub cause : IsFileUnread request command ⊎ IsInputUnread request command
 
--- the words are a command, and its file was read: its first bytes, where the store tells them; and then, where it runs,
--- the first bytes of the input, where that tells them
+-- the words are a command, and its file was read: its first bytes, where the store tells them; and
+-- then, where it runs, the first bytes of the input, where that tells them
 pub record HasRead (request : Request) (outcome : Outcome) : Type 0 where
   pub command : Command
   pub reads : Reads request.words command
@@ -135,7 +150,8 @@ pub record HasRead (request : Request) (outcome : Outcome) : Type 0 where
   pub first_bytes : AppendsFile request.files (file_of command) (most_bytes command) [] bytes
   pub at_most : length bytes ≤ most_bytes command
   pub text : List ℕ
-  pub first_input : MovesFirst (most_input command) request.input.left.before request.input.left.after [] text
+  pub first_input : MovesFirst
+      (most_input command) request.input.left.before request.input.left.after [] text
   pub comes_to : ComesTo command bytes text outcome
 
 -- why a call comes to an outcome
@@ -154,8 +170,8 @@ pub record HasEnded (call : Call) (status : Status) : Type 0 where
   pub out_took : Took call.out outcome.output
   pub err_took : Took call.err outcome.line
 
--- the put failed, and nothing was given; or it was done, if there was one, and `out` failed, and nothing was reported;
--- or `out` took all of the output, and `err` failed
+-- the put failed, and nothing was given; or it was done, if there was one, and `out` failed, and
+-- nothing was reported; or `out` took all of the output, and `err` failed
 abbrev pub AreCut : Stored → Sunk → Sunk → Outcome → Type 0
 AreCut store out err outcome =
     (FailedToPut store outcome.put × Took out [] × Took err [])
@@ -185,10 +201,11 @@ HasCause call status = HasEnded call status
 -- the store failed in the put of a build, or a sink failed
 abbrev pub FailsToWrite : Call → Type 0
 FailsToWrite call =
-    (IsBuild call.request.words × Rose call.store.faults) ⊎ Rose call.out.faults ⊎ Rose call.err.faults
+    (IsBuild call.request.words × Rose call.store.faults) ⊎ Rose call.out.faults
+    ⊎ Rose call.err.faults
 
--- what failed is told: where the answer isn't WriteFault no count of `put`, `out` or `err` rose, and where it is neither
--- that nor ReadFault, those of `fetch` and of the input didn't either
+-- what failed is told: where the answer isn't WriteFault no count of `put`, `out` or `err` rose,
+-- and where it is neither that nor ReadFault, those of `fetch` and of the input didn't either
 pub record TellsFaults (call : Call) (status : Status) : Type 0 where
   pub fetch : status ≢ WriteFault → status ≢ ReadFault → IsSame call.request.faults
   pub input : status ≢ WriteFault → status ≢ ReadFault → IsSame call.request.input.faults
@@ -215,8 +232,8 @@ abbrev pub Puts : Command → Type 0
 Puts (Build file image) = Unit {0}
 Puts command = ⊥
 
--- the words are a command whose file is held, with these bytes, what is left of the input is this text, and no fault
--- rose in the call
+-- the words are a command whose file is held, with these bytes, what is left of the input is this
+-- text, and no fault rose in the call
 pub record IsInOrder (call : Call) (command : Command) (bytes text : List ℕ) : Type 0 where
   pub reads : Reads call.request.words command
   pub files : Files
@@ -229,7 +246,8 @@ pub record IsInOrder (call : Call) (command : Command) (bytes text : List ℕ) :
   pub out_steady : ¬ Rose call.out.faults
   pub err_steady : ¬ Rose call.err.faults
 
--- a text of at most 1,048,576 bytes, which keeps the rules of the language, has a layout and is built
+-- a text of at most 1,048,576 bytes, which keeps the rules of the language, has a
+-- layout and is built
 pub record IsText (source : List ℕ) : Type 0 where
   pub short : length source ≤ 1048576
   pub built : IsBuilt source
@@ -238,21 +256,26 @@ pub record IsText (source : List ℕ) : Type 0 where
 abbrev pub IsImage : List ℕ → Type 0
 IsImage bytes = (image : Image) × IsImageOf bytes image
 
--- the file that a command reads is in order: a text, which has the variable that is to be shown, or an image
+-- the file that a command reads is in order: a text, which has the variable that is to be
+-- shown, or an image
 abbrev pub IsReadable : Command → List ℕ → Type 0
-IsReadable (Run file harts cycles show) source = IsText source × (shown : Option Row) × IsShown source show shown
+IsReadable (Run file harts cycles show) source = IsText source × (shown : Option Row)
+    × IsShown source show shown
 IsReadable (Build file image) source = IsText source
 IsReadable (Exec image harts cycles) bytes = IsImage bytes
 IsReadable (ListCode image) bytes = IsImage bytes
 
 -- the text has numbers, and no more than there may be beside so many globals
 abbrev pub IsInputBeside : ℕ → List ℕ → Type 0
-IsInputBeside globals text = (numbers : List ℕ) × (input_of (most_numbers globals) text ≡ Ok numbers)
+IsInputBeside globals text = (numbers : List ℕ)
+    × (input_of (most_numbers globals) text ≡ Ok numbers)
 
--- the input of a command is in order beside the shared variables of its text, or beside the globals of its image
+-- the input of a command is in order beside the shared variables of its text, or beside the
+-- globals of its image
 abbrev pub IsAccepted : Command → List ℕ → List ℕ → Type 0
 IsAccepted (Run file harts cycles show) source text =
-    (program : ProgramTree) × (facts : Facts) × IsChecked source program facts × IsInputBeside (length (words_by program facts)) text
+    (program : ProgramTree) × (facts : Facts) × IsChecked source program facts
+    × IsInputBeside (length (words_by program facts)) text
 IsAccepted (Build file image) source text = Unit {0}
 IsAccepted (Exec image harts cycles) bytes text =
     (read : Image) × IsImageOf bytes read × IsInputBeside (vec_len read.globals) text
@@ -261,15 +284,19 @@ IsAccepted (ListCode image) bytes text = Unit {0}
 -- the status of how the machine of an image stands over the numbers of a text
 abbrev pub IsOfStand : Image → List ℕ → ℕ → ℕ → Status → Type 0
 IsOfStand image text harts cycles status =
-    (input : List ℕ) × (numbers_for image text ≡ Ok input) × (status ≡ status_of (machine image input harts cycles).stand)
+    (input : List ℕ) × (numbers_for image text ≡ Ok input)
+    × (status ≡ status_of (machine image input harts cycles).stand)
 
--- the answers where both are: want of memory, or that of the run of an image, of the source or of the bytes, or Done
+-- the answers where both are: want of memory, or that of the run of an image, of the source or of
+-- the bytes, or Done
 abbrev pub IsOfAccepted : Command → List ℕ → List ℕ → Status → Type 0
 IsOfAccepted (Run file harts cycles show) source text status =
-    (status ≡ Memory) ⊎ ((image : Image) × IsBuiltFrom source image × IsOfStand image text harts cycles status)
+    (status ≡ Memory)
+    ⊎ ((image : Image) × IsBuiltFrom source image × IsOfStand image text harts cycles status)
 IsOfAccepted (Build file image) source text status = (status ≡ Memory) ⊎ (status ≡ Done)
 IsOfAccepted (Exec image harts cycles) bytes text status =
-    (status ≡ Memory) ⊎ ((read : Image) × IsImageOf bytes read × IsOfStand read text harts cycles status)
+    (status ≡ Memory)
+    ⊎ ((read : Image) × IsImageOf bytes read × IsOfStand read text harts cycles status)
 IsOfAccepted (ListCode image) bytes text status = (status ≡ Memory) ⊎ (status ≡ Done)
 
 -- where the file isn't
@@ -286,8 +313,8 @@ IsOfUnaccepted status = (status ≡ Memory) ⊎ (status ≡ InputRefused)
 -- ---- what holds of a call and its answer
 
 pub record IsAnswer (call : Call) (status : Status) : Type 0 where
-  -- each answer has its cause; the status, the bytes that were put and those that `out` and `err` got are those of one
-  -- image, faithful to the bytes that were fetched, or which those bytes spell
+  -- each answer has its cause; the status, the bytes that were put and those that `out` and `err`
+  -- got are those of one image, faithful to the bytes that were fetched, or which those bytes spell
   pub answer : HasCause call status
   -- words that are no command
   pub usage : status ≡ Usage → IsNoCommand call.request.words
@@ -305,11 +332,14 @@ pub record IsAnswer (call : Call) (status : Status) : Type 0 where
   pub left : ¬ IsRun call.request.words → IsSame call.request.input.left
   pub input_faults : ¬ IsRun call.request.words → IsSame call.request.input.faults
   -- what is in order is not refused, and what isn't is: the file before the input
-  pub complete : (command : Command) (bytes text : List ℕ) → IsInOrder call command bytes text → IsReadable command bytes
+  pub complete : (command : Command) (bytes text : List ℕ) → IsInOrder call command bytes text
+      → IsReadable command bytes
       → IsAccepted command bytes text → IsOfAccepted command bytes text status
-  pub refused : (command : Command) (bytes text : List ℕ) → IsInOrder call command bytes text → ¬ IsReadable command bytes
+  pub refused : (command : Command) (bytes text : List ℕ) → IsInOrder call command bytes text
+      → ¬ IsReadable command bytes
       → IsOfUnreadable command status
-  pub input_refused : (command : Command) (bytes text : List ℕ) → IsInOrder call command bytes text → IsReadable command bytes
+  pub input_refused : (command : Command) (bytes text : List ℕ) → IsInOrder call command bytes text
+      → IsReadable command bytes
       → ¬ IsAccepted command bytes text → IsOfUnaccepted status
   -- only a build puts
   pub files : ¬ IsBuild call.request.words → IsSame call.store.files

@@ -1,5 +1,6 @@
 -- What a command comes to over the file and the input that it reads.
-use Rattle.std.specs.Prelude.{◌≡◌, ℕ, ◌+◌, ◌-◌, ◌≤◌, ◌⊎◌, List, [], ◌∷◌, ◌++◌, length, map, min, vec_len, slice_get, Option, Some, None, Result, Ok, Err}
+use Rattle.std.specs.Prelude.{◌≡◌, ℕ, ◌+◌, ◌-◌, ◌≤◌, ◌⊎◌, List, [], ◌∷◌, ◌++◌, length, map, min}
+use Rattle.std.specs.Prelude.{vec_len, slice_get, Option, Some, None, Result, Ok, Err}
 use Rattle.std.specs.List.{range_with_len}
 use Rattle.fk_image.specs.declared.Image.{Image}
 use Rattle.fk_image.specs.Spelling.{IsImageOf}
@@ -19,7 +20,8 @@ use Rattle.fk_top.specs.declared.kinds.FaultKind.TheVariants as fault
 use Rattle.fk_top.specs.declared.report.Report.{Report}
 use Rattle.fk_top.specs.declared.report.Report.TheVariants as reports
 use Rattle.fk_top.specs.declared.status.Status.{Status}
-use Rattle.fk_top.specs.declared.status.Status.TheVariants.{Done, Refused, SourceFault, CycleBound, Trap, ImageRefused, InputRefused}
+use Rattle.fk_top.specs.declared.status.Status.TheVariants.{Done, Refused, SourceFault, CycleBound}
+use Rattle.fk_top.specs.declared.status.Status.TheVariants.{Trap, ImageRefused, InputRefused}
 use Rattle.fk_top.specs.Report.{fault_kind, trap_kind, line_of, no_global_line, show_line}
 use Rattle.fk_top.specs.Refused.{IsRefusedBy, IsNoImageAs, input_report_of}
 
@@ -28,7 +30,8 @@ pub record Put : Type 0 where
   pub name : List ℕ
   pub bytes : List ℕ
 
--- what a call comes to: its status, the file that it puts, if it puts one, the bytes for `out`, and the line for `err`
+-- what a call comes to: its status, the file that it puts, if it puts one, the bytes for `out`, and
+-- the line for `err`
 pub record Outcome : Type 0 where
   pub status : Status
   pub put : Option Put
@@ -50,7 +53,8 @@ status_of (Trapped hart pc kind) = Trap
 
 -- the report of a fault at a site, which has a kind, a line and a column; there may be no such site
 abbrev pub fault_report : Option (ℕ × ℕ × ℕ) → ℕ → ℕ → Report
-fault_report None processor cycles = reports.Fault fault.Other (record { line = 0; column = 0 }) processor cycles
+fault_report None processor cycles =
+    reports.Fault fault.Other (record { line = 0; column = 0 }) processor cycles
 fault_report (Some site) processor cycles =
     reports.Fault (fault_kind site.0) (record { line = site.1; column = site.2 }) processor cycles
 
@@ -58,8 +62,10 @@ fault_report (Some site) processor cycles =
 abbrev pub stand_report : Image → ℕ → Stand → ℕ → Report
 stand_report image bound Finished cycles = reports.Finished cycles
 stand_report image bound Running cycles = reports.Stopped bound
-stand_report image bound (Faulted site hart) cycles = fault_report (slice_get image.sites.items site) hart cycles
-stand_report image bound (Trapped hart pc kind) cycles = reports.Trap (trap_kind kind) pc hart cycles
+stand_report image bound (Faulted site hart) cycles =
+    fault_report (slice_get image.sites.items site) hart cycles
+stand_report image bound (Trapped hart pc kind) cycles =
+    reports.Trap (trap_kind kind) pc hart cycles
 
 -- the words of a variable, as the machine has them
 abbrev pub words_in : Machine → Row → List ℕ
@@ -121,7 +127,8 @@ pub record RefusesImage (bytes : List ℕ) (outcome : Outcome) : Type 0 where
   pub refused : IsNoImageAs bytes report
   pub is : outcome ≡ silent ImageRefused (line_of report)
 
--- the image is faithful to the source, which isn't too long, keeps the rules of the language, has a layout and is built
+-- the image is faithful to the source, which isn't too long, keeps the rules of the language, has a
+-- layout and is built
 pub record IsBuiltFrom (source : List ℕ) (image : Image) : Type 0 where
   pub short : length source ≤ 1048576
   pub built : IsBuilt source
@@ -141,7 +148,8 @@ IsShown source None None = Unit {0}
 IsShown source (Some name) (Some row) = HasGlobal source name (Some row)
 IsShown source _ _ = ⊥
 
--- where there are so many globals an input has at most so many numbers: 65,536, and with the globals 524,288
+-- where there are so many globals an input has at most so many numbers: 65,536, and with
+-- the globals 524,288
 abbrev pub most_numbers : ℕ → ℕ
 most_numbers globals = min 65536 (524288 - globals)
 
@@ -158,17 +166,20 @@ pub record RefusesInput (image : Image) (text : List ℕ) (outcome : Outcome) : 
   pub is : outcome ≡ silent InputRefused (line_of report)
 
 -- the machine of an image ran over the numbers of the text, and the variable was shown
-pub record RunsOn (image : Image) (text : List ℕ) (harts cycles : ℕ) (shown : Option Row) (outcome : Outcome) : Type 0 where
+pub record RunsOn (image : Image) (text : List ℕ) (harts cycles : ℕ) (shown : Option Row)
+    (outcome : Outcome) : Type 0 where
   pub input : List ℕ
   pub numbers : numbers_for image text ≡ Ok input
   pub is : outcome ≡ ran image input harts cycles shown
 
 -- what comes of an image and an input text
 abbrev pub EndsOn : Image → List ℕ → ℕ → ℕ → Option Row → Outcome → Type 0
-EndsOn image text harts cycles shown outcome = RefusesInput image text outcome ⊎ RunsOn image text harts cycles shown outcome
+EndsOn image text harts cycles shown outcome = RefusesInput image text outcome
+    ⊎ RunsOn image text harts cycles shown outcome
 
 -- an image of the source was run, and the variable was shown; or the input was refused
-pub record RunsSource (source text : List ℕ) (harts cycles : ℕ) (show : Option Text) (outcome : Outcome) : Type 0 where
+pub record RunsSource (source text : List ℕ) (harts cycles : ℕ) (show : Option Text)
+    (outcome : Outcome) : Type 0 where
   pub image : Image
   pub compiled : IsBuiltFrom source image
   pub shown : Option Row
@@ -198,7 +209,10 @@ pub record ListsImage (bytes : List ℕ) (outcome : Outcome) : Type 0 where
 -- what a command comes to over the bytes that it read, and those of the input
 abbrev pub ComesTo : Command → List ℕ → List ℕ → Outcome → Type 0
 ComesTo (Run file harts cycles show) source text outcome =
-    RefusesSource source outcome ⊎ LacksGlobal source show outcome ⊎ RunsSource source text harts cycles show outcome
-ComesTo (Build file image) source text outcome = RefusesSource source outcome ⊎ PutsImage source image outcome
-ComesTo (Exec image harts cycles) bytes text outcome = RefusesImage bytes outcome ⊎ RunsImage bytes text harts cycles outcome
+    RefusesSource source outcome ⊎ LacksGlobal source show outcome
+    ⊎ RunsSource source text harts cycles show outcome
+ComesTo (Build file image) source text outcome = RefusesSource source outcome
+    ⊎ PutsImage source image outcome
+ComesTo (Exec image harts cycles) bytes text outcome = RefusesImage bytes outcome
+    ⊎ RunsImage bytes text harts cycles outcome
 ComesTo (ListCode image) bytes text outcome = RefusesImage bytes outcome ⊎ ListsImage bytes outcome

@@ -1,5 +1,6 @@
 -- The report lines.
-use Rattle.std.specs.Prelude.{ℕ, Bool, true, false, List, [], ◌∷◌, ◌++◌, ◌==◌, if◌then◌else◌, codes, flat_map}
+use Rattle.std.specs.Prelude.{ℕ, Bool, true, false, List, [], ◌∷◌, ◌++◌, ◌==◌, if◌then◌else◌, codes}
+use Rattle.std.specs.Prelude.{flat_map}
 use Rattle.std.specs.Fmt.{decimal, signed_decimal}
 use Rattle.fk_num.specs.Word.{signed}
 use Rattle.fk_syntax.specs.declared.place.Place.{Place}
@@ -9,7 +10,15 @@ use Rattle.fk_top.specs.declared.kinds.FaultKind.TheVariants as fault
 use Rattle.fk_top.specs.declared.kinds.TrapKind.{TrapKind}
 use Rattle.fk_top.specs.declared.kinds.TrapKind.TheVariants as trap
 use Rattle.fk_top.specs.declared.report.Report.{Report}
-use Rattle.fk_top.specs.declared.report.Report.TheVariants.{Finished, Built, Listed, Fault, Stopped, Trap, BadByte, OpenComment, OpenString, WideNumber, Unexpected, EndOfText, Nesting, Rule, TooManySites, GlobalsTooLarge, SourceTooLong, Magic, Version, Short, LongTail, BadTable, BadWord, NotANumber, OutOfRange, TooMany, NotBuilt, CommandLine, ReadFault}
+use Rattle.fk_top.specs.declared.report.Report.TheVariants.{Finished, Built, Listed, Fault, Stopped}
+use Rattle.fk_top.specs.declared.report.Report.TheVariants.{Trap, BadByte, OpenComment, OpenString}
+use Rattle.fk_top.specs.declared.report.Report.TheVariants.{WideNumber, Unexpected, EndOfText}
+use Rattle.fk_top.specs.declared.report.Report.TheVariants.{Nesting, Rule, TooManySites}
+use Rattle.fk_top.specs.declared.report.Report.TheVariants.{GlobalsTooLarge, SourceTooLong, Magic}
+use Rattle.fk_top.specs.declared.report.Report.TheVariants.{Version, Short, LongTail, BadTable}
+use Rattle.fk_top.specs.declared.report.Report.TheVariants.{BadWord, NotANumber, OutOfRange}
+use Rattle.fk_top.specs.declared.report.Report.TheVariants.{TooMany, NotBuilt, CommandLine}
+use Rattle.fk_top.specs.declared.report.Report.TheVariants.{ReadFault}
 
 -- the fault of an operation, by its kind; most kinds have none
 abbrev pub fault_kind : ℕ → FaultKind
@@ -56,7 +65,8 @@ text_of (Built words) = codes "built " ++ decimal words ++ codes " words"
 text_of (Listed words) = codes "listed " ++ decimal words ++ codes " words"
 text_of (Fault kind place processor cycles) =
     codes "fault " ++ fault_name kind ++ codes " at " ++ place_text place
-    ++ codes " by processor " ++ decimal processor ++ codes " after " ++ decimal cycles ++ codes " cycles"
+    ++ codes " by processor " ++ decimal processor ++ codes " after " ++ decimal cycles
+    ++ codes " cycles"
 text_of (Stopped cycles) = codes "stopped after " ++ decimal cycles ++ codes " cycles"
 text_of (Trap kind pc hart cycles) =
     codes "trap " ++ trap_name kind ++ codes " at 0x" ++ eight_digits pc
@@ -68,13 +78,15 @@ text_of (WideNumber place) = codes "refused 4 WideNumber at " ++ place_text plac
 text_of (Unexpected place) = codes "refused 5 Unexpected at " ++ place_text place
 text_of EndOfText = codes "refused 6 EndOfText"
 text_of (Nesting place) = codes "refused 7 Nesting at " ++ place_text place
-text_of (Rule place number) = codes "refused 8 Rule " ++ decimal number ++ codes " at " ++ place_text place
+text_of (Rule place number) =
+    codes "refused 8 Rule " ++ decimal number ++ codes " at " ++ place_text place
 text_of (TooManySites count) = codes "refused 9 TooManySites " ++ decimal count
 text_of (GlobalsTooLarge words) = codes "refused 11 GlobalsTooLarge " ++ decimal words
 text_of (SourceTooLong bytes) = codes "refused 12 SourceTooLong " ++ decimal bytes
 text_of Magic = codes "refused 13 Magic"
 text_of (Version version) = codes "refused 14 Version " ++ decimal version
-text_of (Short bytes wanted) = codes "refused 15 Short " ++ decimal bytes ++ codes " " ++ decimal wanted
+text_of (Short bytes wanted) =
+    codes "refused 15 Short " ++ decimal bytes ++ codes " " ++ decimal wanted
 text_of (LongTail wanted) = codes "refused 16 LongTail " ++ decimal wanted
 text_of (BadTable entry) = codes "refused 17 BadTable " ++ decimal entry
 text_of (BadWord word) = codes "refused 18 BadWord " ++ decimal word

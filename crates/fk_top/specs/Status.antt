@@ -1,7 +1,10 @@
 -- The codes of statuses.
 use Rattle.std.specs.Prelude.{ℕ}
 use Rattle.fk_top.specs.declared.status.Status.{Status}
-use Rattle.fk_top.specs.declared.status.Status.TheVariants.{Done, Refused, Usage, ReadFault, WriteFault, Memory, SourceFault, CycleBound, Trap, ImageRefused, InputRefused}
+use Rattle.fk_top.specs.declared.status.Status.TheVariants.{Done, Refused, Usage, ReadFault}
+use Rattle.fk_top.specs.declared.status.Status.TheVariants.{WriteFault, Memory, SourceFault}
+use Rattle.fk_top.specs.declared.status.Status.TheVariants.{CycleBound, Trap, ImageRefused}
+use Rattle.fk_top.specs.declared.status.Status.TheVariants.{InputRefused}
 
 abbrev pub code_of : Status → ℕ
 code_of Done = 0

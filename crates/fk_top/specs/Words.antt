@@ -35,7 +35,8 @@ most_bytes (Build file image) = 1048577
 most_bytes (Exec image harts cycles) = 5434905
 most_bytes (ListCode image) = 5434905
 
--- at most so many bytes of the input are taken: one more than an input text may have, by a command that runs
+-- at most so many bytes of the input are taken: one more than an input text may have, by a
+-- command that runs
 abbrev pub most_input : Command → ℕ
 most_input (Run file harts cycles show) = 1048577
 most_input (Build file image) = 0

@@ -21,7 +21,8 @@ pub fn run_bytes<'a>(
     text: &[u8],
     run: RunWords,
 ) -> Result<Ending<'a>, AllocError>
-    ensures { IfOk result (λ e. RefusesImage bytes.now (outcome_of e) ⊎ RunsImage bytes.now text.now run.entry.harts run.entry.cycles (outcome_of e)) }
+    ensures { IfOk result (λ e. RefusesImage bytes.now (outcome_of e)
+        ⊎ RunsImage bytes.now text.now run.entry.harts run.entry.cycles (outcome_of e)) }
 {
     match read_image(alloc, bytes) {
         Ok(image) => run_ending(alloc, &image, text, run, None),
@@ -31,7 +32,8 @@ pub fn run_bytes<'a>(
 
 /// Reads an image and lists its code.
 pub fn list_bytes<'a>(alloc: Global, bytes: &[u8]) -> Result<Ending<'a>, AllocError>
-    ensures { IfOk result (λ e. RefusesImage bytes.now (outcome_of e) ⊎ ListsImage bytes.now (outcome_of e)) }
+    ensures { IfOk result
+        (λ e. RefusesImage bytes.now (outcome_of e) ⊎ ListsImage bytes.now (outcome_of e)) }
 {
     match read_image(alloc, bytes) {
         Ok(image) => Ok(Ending {

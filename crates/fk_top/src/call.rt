@@ -1,12 +1,14 @@
 //! One call of the program.
 
-ghost use Rattle.std.specs.Prelude.{◌≡◌, ◌≢◌, ◌⊎◌, None, flat_map, map, option_map, string_bytes, IsErrOf, IsOk, OnErr, OnOk};
+ghost use Rattle.std.specs.Prelude.{◌≡◌, ◌≢◌, ◌⊎◌, None, flat_map, map, option_map, string_bytes};
+ghost use Rattle.std.specs.Prelude.{IsErrOf, IsOk, OnErr, OnOk};
 ghost use Rattle.std.specs.Io.KnownBytes.{append_known};
 ghost use Rattle.fk_ports.specs.Faults.{HasRisen};
 ghost use Rattle.fk_ports.specs.Known.{TakesPrefix};
 ghost use Rattle.fk_top.specs.Ending.{last_line, outcome_of, put_of, shown_line, with_line};
 ghost use Rattle.fk_top.specs.Report.{frame_line, word_text, words_text};
-ghost use Rattle.fk_top.specs.Call.{Ends, FailedToPut, HasCause, HasPut, IsAnswer, Request, call_of, given_of, request_of, stored_of, sunk_of};
+ghost use Rattle.fk_top.specs.Call.{Ends, FailedToPut, HasCause, HasPut, IsAnswer, Request};
+ghost use Rattle.fk_top.specs.Call.{call_of, given_of, request_of, stored_of, sunk_of};
 
 use crate::ending::{Ending, LastLine, PutFile, Shown};
 use crate::find::find_ending;
@@ -15,17 +17,17 @@ use fk_num::{signed_text, unsigned_text};
 use fk_ports::{Failed, Sink, Source, Store, StoreFault, give_all};
 use std::alloc::{AllocError, Global};
 
-/// One call of the program: what these words, those after the program's name, ask for, over a store of
-/// files, standard input, standard output and standard error.
+/// One call of the program: what these words, those after the program's name, ask for, over a store
+/// of files, standard input, standard output and standard error.
 ///
 /// The commands are `run FILE --harts P --cycles N [--show NAME]`, `build FILE -o IMAGE`,
 /// `exec IMAGE --harts P --cycles N` and `list IMAGE`. `run` and `exec` take the input numbers from
-/// `input`, once the file is read. A file is put before anything is given, output is given when the run
-/// has ended, the line of a variable that is shown comes behind it, and the report is the last line that
-/// `err` gets.
+/// `input`, once the file is read. A file is put before anything is given, output is given when the
+/// run has ended, the line of a variable that is shown comes behind it, and the report is the last
+/// line that `err` gets.
 ///
-/// `IsAnswer` says fact by fact what holds of the words, the answer, and what the store and the sinks have
-/// before the call and after it.
+/// `IsAnswer` says fact by fact what holds of the words, the answer, and what the store and the
+/// sinks have before the call and after it.
 pub fn fork95<F: Store, S: Source, K: Sink, E: Sink>(
     alloc: Global,
     words: &[String],
@@ -35,7 +37,8 @@ pub fn fork95<F: Store, S: Source, K: Sink, E: Sink>(
     err: &mut E,
 ) -> Status
     ensures call { let given = given_of S.left S.faults input.old input.new in
-        let request = request_of F.files F.fetch_faults (map string_bytes words.now) files.old files.new given in
+        let request =
+        request_of F.files F.fetch_faults (map string_bytes words.now) files.old files.new given in
         let store = stored_of F.files F.put_faults files.old files.new in
         let printed = sunk_of K.taken K.faults out.old out.new in
         let reported = sunk_of E.taken E.faults err.old err.new in
@@ -57,13 +60,15 @@ fn give_ending<F: Store, K: Sink, E: Sink>(
     ensures cause { let store = stored_of F.files F.put_faults files.old files.new in
         let printed = sunk_of K.taken K.faults out.old out.new in
         let reported = sunk_of E.taken E.faults err.old err.new in
-        (request : Request) → Ends request (outcome_of ending.now) → HasCause (call_of request store printed reported) result }
+        (request : Request) → Ends request (outcome_of ending.now)
+        → HasCause (call_of request store printed reported) result }
 
     // But in a write fault no write failed, and want of memory comes in a put alone.
     ensures put { result ≢ Status.WriteFault → F.put_faults files.new ≡ F.put_faults files.old }
     ensures out { result ≢ Status.WriteFault → K.faults out.new ≡ K.faults out.old }
     ensures err { result ≢ Status.WriteFault → E.faults err.new ≡ E.faults err.old }
-    ensures status { ending.now.put ≡ None → (result ≡ ending.now.status) ⊎ (result ≡ Status.WriteFault) }
+    ensures status { ending.now.put ≡ None
+        → (result ≡ ending.now.status) ⊎ (result ≡ Status.WriteFault) }
     ensures nothing_put { ending.now.put ≡ None → F.put_faults files.new ≡ F.put_faults files.old }
     ensures fetch_faults { F.fetch_faults files.new ≡ F.fetch_faults files.old }
 {
@@ -83,8 +88,10 @@ fn give_ending<F: Store, K: Sink, E: Sink>(
 
 // Gives the output, and then the line of the variable that is shown, if one is.
 fn give_output<K: Sink>(out: &mut K, output: &[u8], shown: &Option<Shown>) -> Result<(), Failed>
-    ensures all { OnOk result (K.taken out.new ≡ append_known (K.taken out.old) (with_line output.now shown.now)) }
-    ensures prefix { OnErr result (TakesPrefix (K.taken out.old) (K.taken out.new) (with_line output.now shown.now)) }
+    ensures all { OnOk result
+        (K.taken out.new ≡ append_known (K.taken out.old) (with_line output.now shown.now)) }
+    ensures prefix { OnErr result
+        (TakesPrefix (K.taken out.old) (K.taken out.new) (with_line output.now shown.now)) }
     ensures fault { OnErr result (HasRisen (K.faults out.old) (K.faults out.new)) }
     ensures steady { OnOk result (K.faults out.new ≡ K.faults out.old) }
 {
@@ -97,8 +104,10 @@ fn give_output<K: Sink>(out: &mut K, output: &[u8], shown: &Option<Shown>) -> Re
 
 // Gives the line of a variable that is shown.
 fn give_shown<K: Sink>(out: &mut K, shown: &Shown) -> Result<(), Failed>
-    ensures all { OnOk result (K.taken out.new ≡ append_known (K.taken out.old) (shown_line shown.now)) }
-    ensures prefix { OnErr result (TakesPrefix (K.taken out.old) (K.taken out.new) (shown_line shown.now)) }
+    ensures all { OnOk result
+        (K.taken out.new ≡ append_known (K.taken out.old) (shown_line shown.now)) }
+    ensures prefix { OnErr result
+        (TakesPrefix (K.taken out.old) (K.taken out.new) (shown_line shown.now)) }
     ensures fault { OnErr result (HasRisen (K.faults out.old) (K.faults out.new)) }
     ensures steady { OnOk result (K.faults out.new ≡ K.faults out.old) }
 {
@@ -109,8 +118,10 @@ fn give_shown<K: Sink>(out: &mut K, shown: &Shown) -> Result<(), Failed>
 
 // Gives words as numbers, with a blank before each.
 fn give_words<K: Sink>(out: &mut K, words: &[u32], signed: bool) -> Result<(), Failed>
-    ensures all { OnOk result (K.taken out.new ≡ append_known (K.taken out.old) (words_text signed words.now)) }
-    ensures prefix { OnErr result (TakesPrefix (K.taken out.old) (K.taken out.new) (words_text signed words.now)) }
+    ensures all { OnOk result
+        (K.taken out.new ≡ append_known (K.taken out.old) (words_text signed words.now)) }
+    ensures prefix { OnErr result
+        (TakesPrefix (K.taken out.old) (K.taken out.new) (words_text signed words.now)) }
     ensures fault { OnErr result (HasRisen (K.faults out.old) (K.faults out.new)) }
     ensures steady { OnOk result (K.faults out.new ≡ K.faults out.old) }
 {
@@ -122,8 +133,10 @@ fn give_words<K: Sink>(out: &mut K, words: &[u32], signed: bool) -> Result<(), F
 
 // Gives a word as a number, with a blank before it.
 fn give_word<K: Sink>(out: &mut K, word: u32, signed: bool) -> Result<(), Failed>
-    ensures all { OnOk result (K.taken out.new ≡ append_known (K.taken out.old) (word_text signed word)) }
-    ensures prefix { OnErr result (TakesPrefix (K.taken out.old) (K.taken out.new) (word_text signed word)) }
+    ensures all { OnOk result
+        (K.taken out.new ≡ append_known (K.taken out.old) (word_text signed word)) }
+    ensures prefix { OnErr result
+        (TakesPrefix (K.taken out.old) (K.taken out.new) (word_text signed word)) }
     ensures fault { OnErr result (HasRisen (K.faults out.old) (K.faults out.new)) }
     ensures steady { OnOk result (K.faults out.new ≡ K.faults out.old) }
 {
@@ -138,8 +151,10 @@ fn give_word<K: Sink>(out: &mut K, word: u32, signed: bool) -> Result<(), Failed
 
 // Gives the last line.
 fn give_line<E: Sink>(err: &mut E, line: &LastLine) -> Result<(), Failed>
-    ensures all { OnOk result (E.taken err.new ≡ append_known (E.taken err.old) (last_line line.now)) }
-    ensures prefix { OnErr result (TakesPrefix (E.taken err.old) (E.taken err.new) (last_line line.now)) }
+    ensures all { OnOk result
+        (E.taken err.new ≡ append_known (E.taken err.old) (last_line line.now)) }
+    ensures prefix { OnErr result
+        (TakesPrefix (E.taken err.old) (E.taken err.new) (last_line line.now)) }
     ensures fault { OnErr result (HasRisen (E.faults err.old) (E.faults err.new)) }
     ensures steady { OnOk result (E.faults err.new ≡ E.faults err.old) }
 {
@@ -154,8 +169,10 @@ fn give_line<E: Sink>(err: &mut E, line: &LastLine) -> Result<(), Failed>
 
 // Gives the line of a function whose private frame has so many words.
 fn give_frame<E: Sink>(err: &mut E, name: &[u8], words: u32) -> Result<(), Failed>
-    ensures all { OnOk result (E.taken err.new ≡ append_known (E.taken err.old) (frame_line name.now words)) }
-    ensures prefix { OnErr result (TakesPrefix (E.taken err.old) (E.taken err.new) (frame_line name.now words)) }
+    ensures all { OnOk result
+        (E.taken err.new ≡ append_known (E.taken err.old) (frame_line name.now words)) }
+    ensures prefix { OnErr result
+        (TakesPrefix (E.taken err.old) (E.taken err.new) (frame_line name.now words)) }
     ensures fault { OnErr result (HasRisen (E.faults err.old) (E.faults err.new)) }
     ensures steady { OnOk result (E.faults err.new ≡ E.faults err.old) }
 {
@@ -174,8 +191,10 @@ fn give_frame<E: Sink>(err: &mut E, name: &[u8], words: u32) -> Result<(), Faile
 
 // Gives pieces, one after the other.
 fn give_pieces<K: Sink>(sink: &mut K, pieces: &[&[u8]]) -> Result<(), Failed>
-    ensures all { OnOk result (K.taken sink.new ≡ append_known (K.taken sink.old) (flat_map (λ piece. piece.now) pieces.now)) }
-    ensures prefix { OnErr result (TakesPrefix (K.taken sink.old) (K.taken sink.new) (flat_map (λ piece. piece.now) pieces.now)) }
+    ensures all { OnOk result (K.taken sink.new ≡ append_known (K.taken sink.old)
+        (flat_map (λ piece. piece.now) pieces.now)) }
+    ensures prefix { OnErr result (TakesPrefix (K.taken sink.old) (K.taken sink.new)
+        (flat_map (λ piece. piece.now) pieces.now)) }
     ensures fault { OnErr result (HasRisen (K.faults sink.old) (K.faults sink.new)) }
     ensures steady { OnOk result (K.faults sink.new ≡ K.faults sink.old) }
 {
@@ -187,11 +206,14 @@ fn give_pieces<K: Sink>(sink: &mut K, pieces: &[&[u8]]) -> Result<(), Failed>
 
 // Puts a file, if there is one.
 fn put_file<F: Store>(file: &Option<PutFile>, files: &mut F) -> Result<(), StoreFault>
-    ensures put { OnOk result (HasPut (stored_of F.files F.put_faults files.old files.new) (option_map put_of file.now)) }
-    ensures fault { IsErrOf result StoreFault.Fault → FailedToPut (stored_of F.files F.put_faults files.old files.new) (option_map put_of file.now) }
+    ensures put { OnOk result
+        (HasPut (stored_of F.files F.put_faults files.old files.new) (option_map put_of file.now)) }
+    ensures fault { IsErrOf result StoreFault.Fault → FailedToPut
+        (stored_of F.files F.put_faults files.old files.new) (option_map put_of file.now) }
     ensures memory { IsErrOf result StoreFault.Memory → F.files files.new ≡ F.files files.old }
     ensures steady { OnOk result (F.put_faults files.new ≡ F.put_faults files.old) }
-    ensures refused { IsErrOf result StoreFault.Memory → F.put_faults files.new ≡ F.put_faults files.old }
+    ensures refused { IsErrOf result StoreFault.Memory
+        → F.put_faults files.new ≡ F.put_faults files.old }
     ensures nothing { file.now ≡ None → IsOk result }
     ensures fetch_faults { F.fetch_faults files.new ≡ F.fetch_faults files.old }
 {

@@ -79,7 +79,8 @@ pub fn refused_source<'a>(
     alloc: Global,
     line: Option<LastLine<'a>>,
 ) -> Result<Ending<'a>, AllocError>
-    ensures { MatchOption line.entry (IsErr result) (λ l. IsOkAnd result (λ e. outcome_of e ≡ silent Status.Refused (last_line l))) }
+    ensures { MatchOption line.entry (IsErr result)
+        (λ l. IsOkAnd result (λ e. outcome_of e ≡ silent Status.Refused (last_line l))) }
 {
     match line {
         Some(line) => Ok(Ending {
@@ -99,7 +100,8 @@ pub fn refused<'a>(
     status: Status,
     report: Option<Report>,
 ) -> Result<Ending<'a>, AllocError>
-    ensures { MatchOption report (IsErr result) (λ r. IsOkAnd result (λ e. outcome_of e ≡ silent status (line_of r))) }
+    ensures { MatchOption report (IsErr result)
+        (λ r. IsOkAnd result (λ e. outcome_of e ≡ silent status (line_of r))) }
 {
     match report {
         Some(report) => Ok(silent(alloc, status, report)),

@@ -19,23 +19,29 @@ use fk_ports::{Source, Store, StoreFault};
 use fk_top_words::{CommandWords, WordsFault, read_words};
 use std::alloc::{AllocError, Global};
 
-/// What the words come to over a store and an input. In the store it changes nothing, and it gives nothing
-/// to anybody. A file or an input that could not be read is an ending too, and no want of memory.
+/// What the words come to over a store and an input. In the store it changes nothing, and it
+/// gives nothing to anybody. A file or an input that could not be read is an ending too, and
+/// no want of memory.
 pub fn find_ending<'a, F: Store, S: Source>(
     alloc: Global,
     words: &'a [String],
     files: &mut F,
     input: &mut S,
 ) -> Result<Ending<'a>, AllocError>
-    ensures ends { IfOk result (λ e. Ends (request_of F.files F.fetch_faults (map string_bytes words.now) files.old files.new
+    ensures ends { IfOk result (λ e.
+        Ends (request_of F.files F.fetch_faults (map string_bytes words.now) files.old files.new
         (given_of S.left S.faults input.old input.new)) (outcome_of e)) }
-    ensures steady { IfOk result (λ e. (outcome_of e ≡ silent Status.ReadFault (line_of Report.ReadFault))
-        ⊎ ((F.fetch_faults files.new ≡ F.fetch_faults files.old) × (S.faults input.new ≡ S.faults input.old))) }
-    ensures unread { OnErr result ((F.fetch_faults files.new ≡ F.fetch_faults files.old) × (S.faults input.new ≡ S.faults input.old)) }
+    ensures steady { IfOk result
+        (λ e. (outcome_of e ≡ silent Status.ReadFault (line_of Report.ReadFault))
+        ⊎ ((F.fetch_faults files.new ≡ F.fetch_faults files.old)
+        × (S.faults input.new ≡ S.faults input.old))) }
+    ensures unread { OnErr result ((F.fetch_faults files.new ≡ F.fetch_faults files.old)
+        × (S.faults input.new ≡ S.faults input.old)) }
     ensures files { F.files files.new ≡ F.files files.old }
     ensures put_faults { F.put_faults files.new ≡ F.put_faults files.old }
     ensures left { ¬ IsRun (map string_bytes words.now) → S.left input.new ≡ S.left input.old }
-    ensures input_faults { ¬ IsRun (map string_bytes words.now) → S.faults input.new ≡ S.faults input.old }
+    ensures input_faults { ¬ IsRun (map string_bytes words.now)
+        → S.faults input.new ≡ S.faults input.old }
 {
     let command = match read_words(alloc, words) {
         Ok(command) => command,
@@ -56,7 +62,8 @@ pub fn find_ending<'a, F: Store, S: Source>(
 
 // The ending where the file or the input could not be read. Want of memory has none.
 fn unread<'a>(alloc: Global, fault: StoreFault) -> Result<Ending<'a>, AllocError>
-    ensures fault { fault ≡ StoreFault.Fault → IsOkAnd result (λ e. outcome_of e ≡ silent Status.ReadFault (line_of Report.ReadFault)) }
+    ensures fault { fault ≡ StoreFault.Fault
+        → IsOkAnd result (λ e. outcome_of e ≡ silent Status.ReadFault (line_of Report.ReadFault)) }
     ensures memory { fault ≡ StoreFault.Memory → IsErr result }
 {
     match fault {
@@ -72,7 +79,8 @@ fn command_ending<'a>(
     bytes: &[u8],
     text: &[u8],
 ) -> Result<Ending<'a>, AllocError>
-    ensures { IfOk result (λ e. ComesTo (command_of command.entry) bytes.now text.now (outcome_of e)) }
+    ensures { IfOk result
+        (λ e. ComesTo (command_of command.entry) bytes.now text.now (outcome_of e)) }
 {
     match command {
         CommandWords::Run(run, show) => run_source(alloc, bytes, text, run, show),

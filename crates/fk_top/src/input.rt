@@ -11,21 +11,25 @@ use fk_ports::{Source, StoreFault, take_all};
 use fk_top_words::CommandWords;
 use std::alloc::Global;
 
-/// The input text of a command that runs: the first bytes that the input has left. Of one that doesn't run it is
-/// empty, and nothing is asked of the input.
+/// The input text of a command that runs: the first bytes that the input has left. Of one that
+/// doesn't run it is empty, and nothing is asked of the input.
 pub fn take_input<S: Source>(
     alloc: Global,
     command: CommandWords,
     input: &mut S,
 ) -> Result<Vec<u8>, StoreFault>
-    ensures taken { IfOk result (λ text. MovesFirst (most_input (command_of command.entry)) (S.left input.old) (S.left input.new) [] text.items) }
+    ensures taken { IfOk result (λ text. MovesFirst (most_input (command_of command.entry))
+        (S.left input.old) (S.left input.new) [] text.items) }
     ensures runs { IsErrOf result StoreFault.Fault → Runs (command_of command.entry) }
-    ensures lost { IsErrOf result StoreFault.Fault → GivesAtMost (most_input (command_of command.entry)) (S.left input.old) (S.left input.new) }
-    ensures fault { IsErrOf result StoreFault.Fault → HasRisen (S.faults input.old) (S.faults input.new) }
+    ensures lost { IsErrOf result StoreFault.Fault → GivesAtMost
+        (most_input (command_of command.entry)) (S.left input.old) (S.left input.new) }
+    ensures fault { IsErrOf result StoreFault.Fault
+        → HasRisen (S.faults input.old) (S.faults input.new) }
     ensures memory { IsErrOf result StoreFault.Memory → S.faults input.new ≡ S.faults input.old }
     ensures steady { OnOk result (S.faults input.new ≡ S.faults input.old) }
     ensures left { ¬ Runs (command_of command.entry) → S.left input.new ≡ S.left input.old }
-    ensures input_faults { ¬ Runs (command_of command.entry) → S.faults input.new ≡ S.faults input.old }
+    ensures input_faults { ¬ Runs (command_of command.entry)
+        → S.faults input.new ≡ S.faults input.old }
 {
     let most = most_input(command);
     if most == 0 {

@@ -21,7 +21,8 @@ pub enum Report {
     Built(u32),
     /// The words of code were listed: how many.
     Listed(u32),
-    /// The program faulted: its operation's fault and place, the processor, and after how many cycles.
+    /// The program faulted: its operation's fault and place, the processor, and after
+    /// how many cycles.
     Fault {
         kind: FaultKind,
         place: Place,
@@ -75,7 +76,8 @@ pub enum Report {
     NotANumber(u32),
     /// A word of the input is no number of 32 bits: which.
     OutOfRange(u32),
-    /// The input has more words than it may have: which is one too many, or 0 where its text is too long.
+    /// The input has more words than it may have: which is one too many, or 0 where its
+    /// text is too long.
     TooMany(u32),
     /// The source is not of the form that is built.
     NotBuilt,
@@ -244,7 +246,8 @@ fn trap_text(kind: TrapKind, pc: u32, hart: u32, cycles: u32) -> Line
 // Appends after how many cycles it was.
 fn append_cycles(line: &mut Line, cycles: u32)
     requires room { array_vec_len line.old + 34 ≤ 159 }
-    ensures items { line.new.items ≡ line.old.items ++ codes " after " ++ decimal cycles ++ codes " cycles" }
+    ensures items { line.new.items ≡ line.old.items ++ codes " after " ++ decimal cycles
+        ++ codes " cycles" }
     ensures len { array_vec_len line.new ≤ array_vec_len line.old + 34 }
 {
     append(line, b" after ");

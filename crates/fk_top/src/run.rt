@@ -40,7 +40,8 @@ pub fn run_ending<'a>(
     variable: Option<Variable<'a>>,
 ) -> Result<Ending<'a>, AllocError>
     requires limits { IsWithinLimits image.now }
-    ensures { IfOk result (λ e. EndsOn image.now text.now run.entry.harts run.entry.cycles (option_map variable_of variable.entry) (outcome_of e)) }
+    ensures { IfOk result (λ e. EndsOn image.now text.now run.entry.harts run.entry.cycles
+        (option_map variable_of variable.entry) (outcome_of e)) }
 {
     let limit = most_numbers(image.globals.len());
     let input = match read_input(alloc, text, limit) {
@@ -79,7 +80,8 @@ fn most_numbers(globals: usize) -> u32
     MOST_NUMBERS.min(MOST_WORDS - globals) as u32
 }
 
-// Runs an image over input numbers on so many harts, until it ends or the bound on the cycles is reached.
+// Runs an image over input numbers on so many harts, until it ends or the bound on the
+// cycles is reached.
 fn run_image<'a>(
     alloc: Global,
     image: &Image,
@@ -94,9 +96,12 @@ fn run_image<'a>(
     requires few_inputs { length input.now ≤ 65536 }
     requires room { vec_len image.now.globals + length input.now ≤ 524288 }
     ensures output { IfOk result (λ ran. with_line ran.output.items ran.shown
-        ≡ with_shown (output_of image.now input.now harts bound) (option_map variable_of variable.entry) (machine image.now input.now harts bound)) }
-    ensures stand { IfOk result (λ ran. ran.stand ≡ (machine image.now input.now harts bound).stand) }
-    ensures cycles { IfOk result (λ ran. ran.cycles ≡ (machine image.now input.now harts bound).begun) }
+        ≡ with_shown (output_of image.now input.now harts bound)
+        (option_map variable_of variable.entry) (machine image.now input.now harts bound)) }
+    ensures stand { IfOk result
+        (λ ran. ran.stand ≡ (machine image.now input.now harts bound).stand) }
+    ensures cycles { IfOk result
+        (λ ran. ran.cycles ≡ (machine image.now input.now harts bound).begun) }
 {
     let mut machine = Machine::new(alloc, image, input, harts)?;
     let mut output = Vec::new(alloc);
@@ -116,7 +121,8 @@ fn show<'a>(
     variable: Option<Variable<'a>>,
 ) -> Result<Option<Shown<'a>>, AllocError>
     ensures { IfOk result (λ shown. (output : List ℕ)
-        → with_line output shown ≡ with_shown output (option_map variable_of variable.entry) (machine_of machine.now)) }
+        → with_line output shown ≡ with_shown output (option_map variable_of variable.entry)
+        (machine_of machine.now)) }
 {
     let Some(variable) = variable else {
         return Ok(None);
@@ -130,7 +136,8 @@ fn show<'a>(
 
 // The words of a variable, as the machine has them.
 fn words_of(alloc: Global, machine: &Machine, variable: Variable) -> Result<Vec<u32>, AllocError>
-    ensures { IfOk result (λ words. words.items ≡ words_in (machine_of machine.now) (variable_of variable.entry)) }
+    ensures { IfOk result
+        (λ words. words.items ≡ words_in (machine_of machine.now) (variable_of variable.entry)) }
 {
     let mut words = Vec::with_capacity(alloc, variable.words as usize)?;
     for index in 0..variable.words {

@@ -1,7 +1,8 @@
 //! What a command comes to over a source.
 
 ghost use Rattle.std.specs.Prelude.{◌⊎◌, option_map, IfOk};
-ghost use Rattle.fk_top.specs.Outcome.{IsBuiltFrom, LacksGlobal, PutsImage, RefusesSource, RunsSource};
+ghost use Rattle.fk_top.specs.Outcome.{IsBuiltFrom, LacksGlobal, PutsImage, RefusesSource};
+ghost use Rattle.fk_top.specs.Outcome.{RunsSource};
 ghost use Rattle.fk_top.specs.Ending.{outcome_of};
 
 use crate::ending::{Ending, LastLine, PutFile, no_global, refused_source};
@@ -16,7 +17,8 @@ use fk_image::{Image, write_image};
 use fk_top_words::RunWords;
 use std::alloc::{AllocError, Global};
 
-/// Compiles a source, runs it over an input text, and shows the variable of a name, if one is named.
+/// Compiles a source, runs it over an input text, and shows the variable of a name,
+/// if one is named.
 pub fn run_source<'a>(
     alloc: Global,
     source: &[u8],
@@ -24,8 +26,10 @@ pub fn run_source<'a>(
     run: RunWords,
     show: Option<&'a str>,
 ) -> Result<Ending<'a>, AllocError>
-    ensures { IfOk result (λ e. RefusesSource source.now (outcome_of e) ⊎ LacksGlobal source.now (option_map (λ s. s.now) show.entry) (outcome_of e)
-        ⊎ RunsSource source.now text.now run.entry.harts run.entry.cycles (option_map (λ s. s.now) show.entry) (outcome_of e)) }
+    ensures { IfOk result (λ e. RefusesSource source.now (outcome_of e)
+        ⊎ LacksGlobal source.now (option_map (λ s. s.now) show.entry) (outcome_of e)
+        ⊎ RunsSource source.now text.now run.entry.harts run.entry.cycles
+        (option_map (λ s. s.now) show.entry) (outcome_of e)) }
 {
     match compile(alloc, source) {
         Ok(image) => run_and_show(alloc, source, &image, text, run, show),
@@ -43,8 +47,10 @@ fn run_and_show<'a>(
     show: Option<&'a str>,
 ) -> Result<Ending<'a>, AllocError>
     requires { IsBuiltFrom source.now image.now }
-    ensures { IfOk result (λ e. RefusesSource source.now (outcome_of e) ⊎ LacksGlobal source.now (option_map (λ s. s.now) show.entry) (outcome_of e)
-        ⊎ RunsSource source.now text.now run.entry.harts run.entry.cycles (option_map (λ s. s.now) show.entry) (outcome_of e)) }
+    ensures { IfOk result (λ e. RefusesSource source.now (outcome_of e)
+        ⊎ LacksGlobal source.now (option_map (λ s. s.now) show.entry) (outcome_of e)
+        ⊎ RunsSource source.now text.now run.entry.harts run.entry.cycles
+        (option_map (λ s. s.now) show.entry) (outcome_of e)) }
 {
     let Some(name) = show else {
         return run_ending(alloc, image, text, run, None);
@@ -70,7 +76,8 @@ pub fn build_source<'a>(
     source: &[u8],
     name: &'a str,
 ) -> Result<Ending<'a>, AllocError>
-    ensures { IfOk result (λ e. RefusesSource source.now (outcome_of e) ⊎ PutsImage source.now name.now (outcome_of e)) }
+    ensures { IfOk result (λ e. RefusesSource source.now (outcome_of e)
+        ⊎ PutsImage source.now name.now (outcome_of e)) }
 {
     match compile(alloc, source) {
         Ok(image) => {

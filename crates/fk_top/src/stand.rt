@@ -42,7 +42,8 @@ pub fn stand_report(image: &Image, bound: u32, stand: Stand, cycles: u32) -> Rep
     }
 }
 
-// The report of a fault at a site, its kind, line and column. Where the image has no such site the place is 0:0.
+// The report of a fault at a site, its kind, line and column. Where the image has no such site
+// the place is 0:0.
 fn fault_report(site: Option<(u32, u32, u32)>, processor: u32, cycles: u32) -> Report
     ensures { result ≡ fault_report site processor cycles }
 {

@@ -1,11 +1,14 @@
 -- Input texts: the numbers that a text gives, or its first word at fault.
-use Rattle.std.specs.Prelude.{ℕ, ℤ, Bool, pos, neg_ℤ, ◌^◌, ◌==◌, ◌&&◌, ◌||◌, true, false, not, int_le, int_lt, nat_lt, List, [], ◌∷◌, Option, Some, None, Result, Ok, Err, drop, filter, length, map, if◌then◌else◌}
+use Rattle.std.specs.Prelude.{ℕ, ℤ, Bool, pos, neg_ℤ, ◌^◌, ◌==◌, ◌&&◌, ◌||◌, true, false, not}
+use Rattle.std.specs.Prelude.{int_le, int_lt, nat_lt, List, [], ◌∷◌, Option, Some, None, Result, Ok}
+use Rattle.std.specs.Prelude.{Err, drop, filter, length, map, if◌then◌else◌}
 use Rattle.std.specs.List.{enumerate_from, filter_map, slice_split}
 use Rattle.std.specs.Str.Parse.{digits_value}
 use Rattle.fk_num.specs.Numeral.{is_numeral}
 use Rattle.fk_num.specs.Op.{word_of}
 use Rattle.fk_top_input.specs.declared.fault.InputFault.{InputFault}
-use Rattle.fk_top_input.specs.declared.fault.InputFault.TheVariants.{NotANumber, OutOfRange, TooMany}
+use Rattle.fk_top_input.specs.declared.fault.InputFault.TheVariants.{NotANumber, OutOfRange}
+use Rattle.fk_top_input.specs.declared.fault.InputFault.TheVariants.{TooMany}
 
 -- ---- the words of a text
 
@@ -59,7 +62,8 @@ number_fault place word =
 
 -- the fault of a word, of which there may be `limit`; places count from 1
 abbrev pub fault_of : ℕ → ℕ × List ℕ → Option InputFault
-fault_of limit (place, word) = if nat_lt limit place then Some (TooMany place) else number_fault place word
+fault_of limit (place, word) = if nat_lt limit place then Some (TooMany place)
+    else number_fault place word
 
 -- the faults of these words, in their order, where the first has this place
 abbrev pub faults_from : ℕ → ℕ → List (List ℕ) → List InputFault

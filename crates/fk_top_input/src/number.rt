@@ -30,9 +30,12 @@ pub(crate) fn read_number(word: &[u8], place: u32) -> Result<u32, InputFault>
 
 /// The number of decimal digits, which is at most this.
 fn read_digits(digits: &[u8], most: u32, place: u32) -> Result<u32, InputFault>
-    ensures number { IfOk result (λ n. (is_numeral digits.now ≡ true) × (digits_value 10 digits.now ≡ n) × (n ≤ most)) }
-    ensures fault { IfErr result (λ fault. fault ≡ (if is_numeral digits.now then InputFault.OutOfRange place else InputFault.NotANumber place)) }
-    ensures too_large { IfErr result (λ fault. is_numeral digits.now ≡ true → most < digits_value 10 digits.now) }
+    ensures number { IfOk result
+        (λ n. (is_numeral digits.now ≡ true) × (digits_value 10 digits.now ≡ n) × (n ≤ most)) }
+    ensures fault { IfErr result (λ fault. fault ≡ (if is_numeral digits.now
+        then InputFault.OutOfRange place else InputFault.NotANumber place)) }
+    ensures too_large { IfErr result (λ fault. is_numeral digits.now ≡ true
+        → most < digits_value 10 digits.now) }
 {
     if !is_numeral(digits) {
         return Err(InputFault::NotANumber(place));

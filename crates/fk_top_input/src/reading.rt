@@ -16,7 +16,8 @@ const MOST_BYTES: usize = 1_048_576;
 /// whatever it is.
 pub fn read_input(alloc: Global, bytes: &[u8], limit: u32) -> Result<Vec<u32>, InputFault>
     ensures numbers { IfOk result (λ numbers. input_of limit bytes.now ≡ Ok numbers.items) }
-    ensures fault { IfErr result (λ fault. (fault ≡ InputFault.Memory) ⊎ (input_of limit bytes.now ≡ Err fault)) }
+    ensures fault { IfErr result
+        (λ fault. (fault ≡ InputFault.Memory) ⊎ (input_of limit bytes.now ≡ Err fault)) }
 {
     if bytes.len() > MOST_BYTES {
         return Err(InputFault::TooMany(0));

@@ -26,7 +26,8 @@ fn word_end(text: &[u8]) -> usize
 
 /// The first word of a text, and the text behind it.
 pub(crate) fn first_word(text: &[u8]) -> Option<(&[u8], &[u8])>
-    ensures word { MatchOption result (words text.now ≡ []) (λ p. words text.now ≡ p.0.now ∷ words p.1.now) }
+    ensures word { MatchOption result (words text.now ≡ [])
+        (λ p. words text.now ≡ p.0.now ∷ words p.1.now) }
     ensures shorter { IfSome result (λ p. length p.1.now + 1 ≤ length text.now) }
 {
     let start = word_start(text)?;

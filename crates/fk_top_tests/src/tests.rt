@@ -1,5 +1,5 @@
-//! A whole call over objects that never fail. All other calls stand in `tools/commands.py`, those over
-//! files, inputs and outputs that fail among them.
+//! A whole call over objects that never fail. All other calls stand in `tools/commands.py`, those
+//! over files, inputs and outputs that fail among them.
 
 ghost use Rattle.std.specs.Prelude.{◌≢◌};
 

@@ -1,5 +1,6 @@
 -- How the words behind a command word spell what the command is given.
-use Rattle.std.specs.Prelude.{◌≡◌, ◌≢◌, ℕ, Bool, true, false, ◌==◌, List, [], ◌∷◌, ◌++◌, Option, Some, None, codes, filter, map}
+use Rattle.std.specs.Prelude.{◌≡◌, ◌≢◌, ℕ, Bool, true, false, ◌==◌, List, [], ◌∷◌, ◌++◌, Option}
+use Rattle.std.specs.Prelude.{Some, None, codes, filter, map}
 
 abbrev pub Text : Type 0
 Text = List ℕ
@@ -40,19 +41,23 @@ pub data Spells : List Text → List Argument → Type 0 where
   Plain : {words : List Text} {arguments : List Argument} (word : Text) → is_dashed word ≡ false
       → Spells words arguments → Spells (word ∷ words) (argument File word ∷ arguments)
   -- an option and its value, as `--harts 4` and `-o IMAGE`
-  Apart : {words : List Text} {arguments : List Argument} (part : Part) (option value : Text) → option_word part ≡ Some option
+  Apart : {words : List Text} {arguments : List Argument} (part : Part) (option value : Text)
+      → option_word part ≡ Some option
       → is_dashed value ≡ false
       → Spells words arguments → Spells (option ∷ value ∷ words) (argument part value ∷ arguments)
   -- in one word, as `--harts=4` and `-o=IMAGE`
-  Joined : {words : List Text} {arguments : List Argument} (part : Part) (option value word : Text) → option_word part ≡ Some option
+  Joined : {words : List Text} {arguments : List Argument} (part : Part) (option value word : Text)
+      → option_word part ≡ Some option
       → word ≡ option ++ codes "=" ++ value
       → Spells words arguments → Spells (word ∷ words) (argument part value ∷ arguments)
   -- `-oIMAGE`
-  Attached : {words : List Text} {arguments : List Argument} (first : ℕ) (rest word : Text) → first ≢ 61
+  Attached : {words : List Text} {arguments : List Argument} (first : ℕ)
+      (rest word : Text) → first ≢ 61
       → word ≡ codes "-o" ++ first ∷ rest
       → Spells words arguments → Spells (word ∷ words) (argument Image (first ∷ rest) ∷ arguments)
   -- `--`, behind which each word is the name of a file
-  Ended : (words : List Text) (word : Text) (arguments : List Argument) → word ≡ codes "--" → arguments ≡ map (argument File) words
+  Ended : (words : List Text) (word : Text) (arguments : List Argument) → word ≡ codes "--"
+      → arguments ≡ map (argument File) words
       → Spells (word ∷ words) arguments
 
 -- ---- the values of each part

@@ -18,11 +18,15 @@ pub record RunsBy (rows : List Row) (harts cycles : ℕ) : Type 0 where
 
 abbrev pub AsksFor : Text → List Row → Command → Type 0
 AsksFor name rows (Run file harts cycles show) =
-    (name ≡ codes "run") × (first_of (codes "file") rows ≡ Some file) × RunsBy rows harts cycles × (first_of (codes "show") rows ≡ show)
+    (name ≡ codes "run") × (first_of (codes "file") rows ≡ Some file) × RunsBy rows harts cycles
+    × (first_of (codes "show") rows ≡ show)
 AsksFor name rows (Build file image) =
-    (name ≡ codes "build") × (first_of (codes "file") rows ≡ Some file) × (first_of (codes "image") rows ≡ Some image)
-AsksFor name rows (Exec image harts cycles) = (name ≡ codes "exec") × (first_of (codes "file") rows ≡ Some image) × RunsBy rows harts cycles
-AsksFor name rows (ListCode image) = (name ≡ codes "list") × (first_of (codes "file") rows ≡ Some image)
+    (name ≡ codes "build") × (first_of (codes "file") rows ≡ Some file)
+    × (first_of (codes "image") rows ≡ Some image)
+AsksFor name rows (Exec image harts cycles) = (name ≡ codes "exec")
+    × (first_of (codes "file") rows ≡ Some image) × RunsBy rows harts cycles
+AsksFor name rows (ListCode image) = (name ≡ codes "list")
+    × (first_of (codes "file") rows ≡ Some image)
 
 -- the same of the command that `clap` met, where it met one
 abbrev pub AsksOf : Option (Text × List Row) → Command → Type 0

@@ -5,8 +5,9 @@ use Rattle.fk_top_words.specs.Arguments.{Text, Values, Gives}
 use Rattle.fk_top_words.specs.declared.command.CommandWords.{CommandWords}
 use Rattle.fk_top_words.specs.declared.command.CommandWords.TheVariants as words
 
--- compile a file and run it, and then show a variable, if one is named; compile it into an image; run an image;
--- list an image's code. What is run is run by so many harts, for at most so many cycles
+-- compile a file and run it, and then show a variable, if one is named; compile it into an
+-- image; run an image; list an image's code. What is run is run by so many harts, for at
+-- most so many cycles
 pub data Command : Type 0 where
   Run : (file : Text) (harts cycles : ℕ) (show : Option Text) → Command
   Build : (file image : Text) → Command
@@ -17,8 +18,10 @@ abbrev pub once_or_never : Option Text → List Text
 once_or_never None = []
 once_or_never (Some value) = value ∷ []
 
--- a file, `--harts P` and `--cycles N`, each once, with P from 1 to 1,024 and N below 2^32, and `--show` once or never
-pub record ReadsRun (words : List Text) (file : Text) (harts cycles : ℕ) (show : Option Text) : Type 0 where
+-- a file, `--harts P` and `--cycles N`, each once, with P from 1 to 1,024 and N below 2^32, and
+-- `--show` once or never
+pub record ReadsRun (words : List Text) (file : Text) (harts cycles : ℕ)
+    (show : Option Text) : Type 0 where
   pub harts_text : Text
   pub cycles_text : Text
   pub given : Gives words (record {
@@ -38,10 +41,12 @@ only_file file = record { file = file ∷ []; harts = []; cycles = []; show = []
 
 -- the words behind the command word of each command
 abbrev pub ReadsBehind : Text → List Text → Command → Type 0
-ReadsBehind word words (Run file harts cycles show) = (word ≡ codes "run") × ReadsRun words file harts cycles show
+ReadsBehind word words (Run file harts cycles show) = (word ≡ codes "run")
+    × ReadsRun words file harts cycles show
 ReadsBehind word words (Build file image) =
     (word ≡ codes "build") × Gives words (record (only_file file) { image = image ∷ [] })
-ReadsBehind word words (Exec image harts cycles) = (word ≡ codes "exec") × ReadsRun words image harts cycles None
+ReadsBehind word words (Exec image harts cycles) = (word ≡ codes "exec")
+    × ReadsRun words image harts cycles None
 ReadsBehind word words (ListCode image) = (word ≡ codes "list") × Gives words (only_file image)
 
 -- the words that each command has, those after the program's name

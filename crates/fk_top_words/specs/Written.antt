@@ -1,5 +1,6 @@
 -- The commands as `clap` has them: what is written down of each argument and each command.
-use Rattle.std.specs.Prelude.{◌≡◌, ℕ, Bool, true, false, List, [], ◌∷◌, Option, Some, None, codes, map}
+use Rattle.std.specs.Prelude.{◌≡◌, ℕ, Bool, true, false, List, [], ◌∷◌, Option, Some, None, codes}
+use Rattle.std.specs.Prelude.{map}
 use Rattle.clap.specs.declared.builder.action.ArgAction.TheVariants.{Set}
 use Rattle.clap.specs.declared.builder.command.Command.{Command}
 use Rattle.clap.specs.declared.builder.command.Command.TheViews.{out-Command}
@@ -40,7 +41,8 @@ written p = record (new_rule (id_of p)) {
 
 -- an option `--name` with a value
 abbrev pub option_rule : Text → Bool → Rule
-option_rule name required = record (new_rule name) { long = Some name; action = Some Set; required = required }
+option_rule name required =
+    record (new_rule name) { long = Some name; action = Some Set; required = required }
 
 abbrev pub run_parts : List Part
 run_parts = File ∷ Harts ∷ Cycles ∷ Show ∷ []

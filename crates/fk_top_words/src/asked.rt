@@ -22,8 +22,10 @@ pub(crate) fn asked<'a>(matches: &ArgMatches<'a>) -> Option<CommandWords<'a>>
 
 /// The command of this name that these values ask for.
 fn asked_for<'a>(given: &ArgMatches<'a>, name: &str) -> Option<CommandWords<'a>>
-    ensures some { IfSome result (λ c. AsksFor name.now (rows_of (found_of given.now)) (command_of c)) }
-    ensures none { IsNone result → (c : Command) → AsksFor name.now (rows_of (found_of given.now)) c → ⊥ }
+    ensures some { IfSome result
+        (λ c. AsksFor name.now (rows_of (found_of given.now)) (command_of c)) }
+    ensures none { IsNone result → (c : Command)
+        → AsksFor name.now (rows_of (found_of given.now)) c → ⊥ }
 {
     let file = text_of(given, "file")?;
     match name {
@@ -38,7 +40,8 @@ fn asked_for<'a>(given: &ArgMatches<'a>, name: &str) -> Option<CommandWords<'a>>
 /// The run of a file with these values, where its numbers are in range.
 fn asked_run<'a>(given: &ArgMatches<'a>, file: &'a str) -> Option<RunWords<'a>>
     ensures file { IfSome result (λ run. run.file.now ≡ file.now) }
-    ensures some { IfSome result (λ run. RunsBy (rows_of (found_of given.now)) run.harts run.cycles) }
+    ensures some { IfSome result
+        (λ run. RunsBy (rows_of (found_of given.now)) run.harts run.cycles) }
     ensures none { IsNone result → (p : ℕ) (n : ℕ) → RunsBy (rows_of (found_of given.now)) p n → ⊥ }
 {
     let harts = number_of(given, "harts")?;

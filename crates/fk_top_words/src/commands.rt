@@ -4,7 +4,9 @@ ghost use Rattle.std.specs.Prelude.{◌≡◌, ℕ, List, [], false, IfOk, codes
 ghost use Rattle.clap.specs.Simple.{App, app_of, with_rule, with_subcommand};
 ghost use Rattle.clap.specs.Walk.{Rule, rule_of};
 ghost use Rattle.fk_top_words.specs.Arguments.{Part, File, Image};
-ghost use Rattle.fk_top_words.specs.Written.{written, option_rule, IsLocal, leaf, written_command, run_parts, build_parts, exec_parts, list_parts, written_top, written_app};
+ghost use Rattle.fk_top_words.specs.Written.{written, option_rule, IsLocal, leaf, written_command};
+ghost use Rattle.fk_top_words.specs.Written.{run_parts, build_parts, exec_parts, list_parts};
+ghost use Rattle.fk_top_words.specs.Written.{written_top, written_app};
 
 use clap::{Arg, ArgAction, Command};
 use std::alloc::{AllocError, Global};
@@ -46,7 +48,8 @@ fn taking<'a>(
     arg: Arg<'a>,
 ) -> Result<Command<'a>, AllocError>
     requires { arg.global ≡ false }
-    ensures { (app : App) (rule : Rule) → rule_of arg.entry ≡ rule → IfOk command.entry (IsLocal app)
+    ensures { (app : App) (rule : Rule) → rule_of arg.entry ≡ rule
+        → IfOk command.entry (IsLocal app)
         → IfOk result (IsLocal (with_rule app rule)) }
 {
     command?.arg(arg)
@@ -57,7 +60,8 @@ fn holding<'a>(
     command: Result<Command<'a>, AllocError>,
     inner: Result<Command<'a>, AllocError>,
 ) -> Result<Command<'a>, AllocError>
-    ensures { (app : App) (name : List ℕ) (parts : List Part) → IfOk command.entry (λ c. app_of c ≡ app)
+    ensures { (app : App) (name : List ℕ) (parts : List Part)
+        → IfOk command.entry (λ c. app_of c ≡ app)
         → IfOk inner.entry (IsLocal (leaf name parts))
         → IfOk result (λ c. app_of c ≡ with_subcommand app (written_command name parts)) }
 {

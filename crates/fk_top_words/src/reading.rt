@@ -10,11 +10,12 @@ use crate::fault::WordsFault;
 use clap::error::ErrorKind;
 use std::alloc::Global;
 
-/// The command that these words ask for, those after the program's name. It is `Usage` exactly where
-/// they are no command, and want of memory is an answer of its own.
+/// The command that these words ask for, those after the program's name. It is `Usage` exactly
+/// where they are no command, and want of memory is an answer of its own.
 pub fn read_words<'a>(alloc: Global, words: &'a [String]) -> Result<CommandWords<'a>, WordsFault>
     ensures reads { IfOk result (λ c. Reads (map string_bytes words.now) (command_of c)) }
-    ensures usage { IfErr result (λ fault. fault ≡ WordsFault.Usage → (c : Command) → Reads (map string_bytes words.now) c → ⊥) }
+    ensures usage { IfErr result (λ fault. fault ≡ WordsFault.Usage → (c : Command)
+        → Reads (map string_bytes words.now) c → ⊥) }
 {
     match commands(alloc)?.try_get_matches_from(words) {
         Ok(matches) => asked(&matches).ok_or(WordsFault::Usage),

@@ -1,5 +1,6 @@
 -- What is so of every tree that the steps make of a root.
-use Rattle.std.specs.Prelude.{◌≡◌, ◌≢◌, ℕ, ◌≤◌, ◌<◌, nat_lt, Bool, true, false, ◌&&◌, List, [], ◌∷◌, Option, Some, None}
+use Rattle.std.specs.Prelude.{◌≡◌, ◌≢◌, ℕ, ◌≤◌, ◌<◌, nat_lt, Bool, true, false, ◌&&◌, List, [], ◌∷◌}
+use Rattle.std.specs.Prelude.{Option, Some, None}
 use Rattle.fk_tree.specs.declared.node.Kind.{Kind}
 use Rattle.fk_tree.specs.declared.node.Kind.TheVariants.{Lockstep, Waiting}
 use Rattle.fk_tree.specs.Tree.{Tree, members, parent, kind, is_member, below, is_from}
@@ -7,7 +8,8 @@ use Rattle.fk_tree.specs.Tree.{Tree, members, parent, kind, is_member, below, is
 abbrev pub Has : Tree → ℕ → ℕ → Type 0
 Has tree n h = is_member h (members tree n) ≡ true
 
--- a member of a node and of none of its children: it acts in that node, which then is a leaf for it, or waits there
+-- a member of a node and of none of its children: it acts in that node, which then is a leaf for
+-- it, or waits there
 pub record IsAt (tree : Tree) (h n : ℕ) : Type 0 where
   pub member : Has tree n h
   pub own : (m : ℕ) → m ≢ 0 → parent tree m ≡ n → Has tree m h → ⊥
@@ -33,9 +35,11 @@ pub record IsSound (p : ℕ) (tree : Tree) : Type 0 where
   pub free : kind tree 0 ≢ Some Lockstep
   pub placed : (h : ℕ) → h < p → IsAt tree h (tree.places h)
   pub only : (h n : ℕ) → IsAt tree h n → n ≡ tree.places h
-  -- the members of a child are among those of its parent, and apart from those of its other children
+  -- the members of a child are among those of its parent, and apart from those of
+  -- its other children
   pub among : (m h : ℕ) → m ≢ 0 → Has tree m h → Has tree (parent tree m) h
-  pub apart : (m n h : ℕ) → m ≢ 0 → n ≢ 0 → parent tree m ≡ parent tree n → Has tree m h → Has tree n h → m ≡ n
+  pub apart : (m n h : ℕ) → m ≢ 0 → n ≢ 0 → parent tree m ≡ parent tree n → Has tree m h
+      → Has tree n h → m ≡ n
   pub within : (n h : ℕ) → Has tree n h → h < p
   pub ascending : (n : ℕ) → is_ascending (members tree n) ≡ true
   -- a node that is there has members, a number that was given, and a parent that waits for it

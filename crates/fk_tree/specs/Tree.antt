@@ -1,17 +1,19 @@
 -- The tree of groups.
-use Rattle.std.specs.Prelude.{◌≡◌, ◌≢◌, ℕ, zero, suc, ◌+◌, ◌-◌, ◌==◌, nat_le, nat_lt, Bool, true, false, not, ◌&&◌, ◌||◌, List, [], ◌∷◌, Option, Some, None, is_none, filter, if◌then◌else◌}
+use Rattle.std.specs.Prelude.{◌≡◌, ◌≢◌, ℕ, zero, suc, ◌+◌, ◌-◌, ◌==◌, nat_le, nat_lt, Bool, true}
+use Rattle.std.specs.Prelude.{false, not, ◌&&◌, ◌||◌, List, [], ◌∷◌, Option, Some, None, is_none}
+use Rattle.std.specs.Prelude.{filter, if◌then◌else◌}
 use Rattle.fk_tree.specs.declared.node.Kind.{Kind}
 use Rattle.fk_tree.specs.declared.node.Kind.TheVariants.{Lockstep, Waiting, Asynchronous}
 
--- a group: its members in ascending order, the node that it is a part of, and its kind. The members of a node that
--- waits are those of its parts, and those who wait
+-- a group: its members in ascending order, the node that it is a part of, and its kind. The members
+-- of a node that waits are those of its parts, and those who wait
 pub record Node : Type 0 where
   pub members : List ℕ
   pub parent : ℕ
   pub kind : Kind
 
--- the node of each number, how many numbers were given, and where each processor is: the leaf of which it is a
--- member, or the node at which it waits
+-- the node of each number, how many numbers were given, and where each processor is: the leaf of
+-- which it is a member, or the node at which it waits
 pub record Tree : Type 0 where
   pub nodes : ℕ → Option Node
   pub given : ℕ
@@ -83,7 +85,8 @@ place_in old first (Some i) = first + i
 abbrev pub is_from : (first count i : ℕ) → Bool
 is_from first count i = nat_le first i && nat_lt i (first + count)
 
--- a node waits for k parts of those of its members that go into one. The parts have the next numbers
+-- a node waits for k parts of those of its members that go into one. The parts have
+-- the next numbers
 abbrev pub split : ℕ → (k : ℕ) → (part : ℕ → Option ℕ) → Tree → Tree
 split n k part tree =
     let first = tree.given in
@@ -92,7 +95,8 @@ split n k part tree =
           then node_of (filter (λ h. is_in (i - first) (part h)) (members tree n)) n Lockstep
           else (with_kind n (Waiting first k) tree).nodes i;
       given = first + k;
-      places = λ h. if is_member h (members tree n) then place_in (tree.places h) first (part h) else tree.places h;
+      places = λ h. if is_member h (members tree n) then place_in (tree.places h) first (part h)
+          else tree.places h;
     }
 
 -- the root waits for one group of the processors below a count
@@ -110,7 +114,8 @@ left_by stays (Some node) = node_of (filter stays node.members) node.parent node
 abbrev pub shrink : ℕ → (stays : ℕ → Bool) → Tree → Tree
 shrink n stays tree = record tree {
   nodes = with_node n (left_by stays (tree.nodes n)) tree.nodes;
-  places = λ h. if is_member h (members tree n) && not (stays h) then parent tree n else tree.places h;
+  places = λ h. if is_member h (members tree n) && not (stays h) then parent tree n
+      else tree.places h;
 }
 
 -- a part ends: all leave

@@ -1,9 +1,13 @@
 //! Steps on the nodes that have not ended, by their numbers.
 
-ghost use Rattle.std.specs.Prelude.{◌≡◌, ◌≢◌, ℕ, ◌+◌, ◌^◌, ◌<◌, ◌≤◌, ◌==◌, ◌-◌, nat_lt, true, length, vec_len, ◌↔◌, IsTrue, filter, slice_index, [], is_none, if◌then◌else◌, OnErr, IfOk};
-ghost use Rattle.fk_tree.specs.Tree.{with_node, turned, below, root, kind_after as going_on, parts_by, stays_by, is_member, members_of, parent_of, kind_of};
+ghost use Rattle.std.specs.Prelude.{◌≡◌, ◌≢◌, ℕ, ◌+◌, ◌^◌, ◌<◌, ◌≤◌, ◌==◌, ◌-◌, nat_lt, true};
+ghost use Rattle.std.specs.Prelude.{length, vec_len, ◌↔◌, IsTrue, filter, slice_index, [], is_none};
+ghost use Rattle.std.specs.Prelude.{if◌then◌else◌, OnErr, IfOk};
+ghost use Rattle.fk_tree.specs.Tree.{with_node, turned, below, root, kind_after as going_on};
+ghost use Rattle.fk_tree.specs.Tree.{parts_by, stays_by, is_member, members_of, parent_of, kind_of};
 ghost use Rattle.fk_tree.specs.Sound.{is_ascending};
-ghost use Rattle.fk_tree.specs.Seen.{nodes_seen, living_seen, living_parts, with_member, divided, placed_by, left_to};
+ghost use Rattle.fk_tree.specs.Seen.{nodes_seen, living_seen, living_parts, with_member, divided};
+ghost use Rattle.fk_tree.specs.Seen.{placed_by, left_to};
 
 use crate::node::{Kind, LiveNode};
 use std::alloc::{AllocError, Global};
@@ -74,10 +78,12 @@ pub(crate) fn join(
     processor: u32,
 ) -> Result<bool, AllocError>
     ensures nodes { IfOk result (λ made. (i : ℕ) → nodes_seen nodes.new i
-        ≡ with_node number (with_member parent processor (nodes_seen nodes.old number)) (nodes_seen nodes.old) i) }
+        ≡ with_node number (with_member parent processor (nodes_seen nodes.old number))
+        (nodes_seen nodes.old) i) }
     ensures made { IfOk result (λ made. made ≡ is_none (nodes_seen nodes.old number)) }
     ensures living { (i : ℕ) → living_seen nodes.new i ≡ living_seen nodes.old i }
-    ensures err { OnErr result ((i : ℕ) → i ≢ number → nodes_seen nodes.new i ≡ nodes_seen nodes.old i) }
+    ensures err { OnErr result ((i : ℕ) → i ≢ number
+        → nodes_seen nodes.new i ≡ nodes_seen nodes.old i) }
 {
     if let Some(node) = nodes.get_mut(&number) {
         node.members.push(processor)?;
@@ -117,10 +123,13 @@ pub(crate) fn divide(
     requires numbers { first + parts < 2 ^ 63 }
     requires fresh { (i : ℕ) → first ≤ i → nodes_seen nodes.old i ≡ None }
     ensures nodes { IfOk result (λ living. (i : ℕ) → nodes_seen nodes.new i
-        ≡ divided first parent parts (parts_by parts members.now of.now) members.now (nodes_seen nodes.old) i) }
-    ensures count { IfOk result (λ living. living ≡ living_parts (nodes_seen nodes.new) first parts) }
+        ≡ divided first parent parts (parts_by parts members.now of.now) members.now
+        (nodes_seen nodes.old) i) }
+    ensures count { IfOk result
+        (λ living. living ≡ living_parts (nodes_seen nodes.new) first parts) }
     ensures living { (i : ℕ) → living_seen nodes.new i ≡ living_seen nodes.old i }
-    ensures err { OnErr result ((i : ℕ) → i < first → nodes_seen nodes.new i ≡ nodes_seen nodes.old i) }
+    ensures err { OnErr result ((i : ℕ) → i < first
+        → nodes_seen nodes.new i ≡ nodes_seen nodes.old i) }
 {
     let mut living = 0;
     for (index, member) in members.iter().enumerate() {
@@ -150,7 +159,8 @@ pub(crate) fn place(places: &mut [u64], first: u64, parts: u32, members: &[u32],
     requires numbers { first + parts < 2 ^ 63 }
     requires within { (h : ℕ) → is_member h members.now ≡ true → h < length places.old }
     ensures { (h : ℕ) → slice_index places.new h
-        ≡ placed_by first (parts_by parts members.now of.now) members.now (slice_index places.old) h }
+        ≡ placed_by first (parts_by parts members.now of.now) members.now
+        (slice_index places.old) h }
 {
     for (index, member) in members.iter().enumerate() {
         let part = of[index];
@@ -206,9 +216,11 @@ fn leave(members: &mut Vec<u32>, places: &mut [u64], node: u64, stay: &[bool])
     requires length { length stay.now ≡ length members.old.items }
     requires ascending { is_ascending members.old.items ≡ true }
     requires within { (h : ℕ) → is_member h members.old.items ≡ true → h < length places.old }
-    ensures members { members.new.items ≡ filter (stays_by members.old.items stay.now) members.old.items }
+    ensures members { members.new.items
+        ≡ filter (stays_by members.old.items stay.now) members.old.items }
     ensures places { (h : ℕ) → slice_index places.new h
-        ≡ left_to node (stays_by members.old.items stay.now) members.old.items (slice_index places.old) h }
+        ≡ left_to node (stays_by members.old.items stay.now) members.old.items
+        (slice_index places.old) h }
 {
     let mut kept = 0;
     for (index, stays) in stay.iter().enumerate() {
@@ -227,16 +239,20 @@ fn leave(members: &mut Vec<u32>, places: &mut [u64], node: u64, stay: &[bool])
 pub(crate) fn shrink(nodes: &mut Nodes, places: &mut [u64], number: u64, stay: &[bool]) -> bool
     requires length { length stay.now ≡ length (members_of (nodes_seen nodes.old number)) }
     requires ascending { is_ascending (members_of (nodes_seen nodes.old number)) ≡ true }
-    requires within { (h : ℕ) → is_member h (members_of (nodes_seen nodes.old number)) ≡ true → h < length places.old }
+    requires within { (h : ℕ) → is_member h (members_of (nodes_seen nodes.old number)) ≡ true
+        → h < length places.old }
     requires there { nodes_seen nodes.old number ≢ None }
     ensures members { members_of (nodes_seen nodes.new number)
-        ≡ filter (stays_by (members_of (nodes_seen nodes.old number)) stay.now) (members_of (nodes_seen nodes.old number)) }
-    ensures parent { parent_of (nodes_seen nodes.new number) ≡ parent_of (nodes_seen nodes.old number) }
+        ≡ filter (stays_by (members_of (nodes_seen nodes.old number)) stay.now)
+        (members_of (nodes_seen nodes.old number)) }
+    ensures parent { parent_of (nodes_seen nodes.new number)
+        ≡ parent_of (nodes_seen nodes.old number) }
     ensures kind { kind_of (nodes_seen nodes.new number) ≡ kind_of (nodes_seen nodes.old number) }
     ensures others { (i : ℕ) → i ≢ number → nodes_seen nodes.new i ≡ nodes_seen nodes.old i }
     ensures living { (i : ℕ) → living_seen nodes.new i ≡ living_seen nodes.old i }
     ensures places { (h : ℕ) → slice_index places.new h
-        ≡ left_to (parent_of (nodes_seen nodes.old number)) (stays_by (members_of (nodes_seen nodes.old number)) stay.now)
+        ≡ left_to (parent_of (nodes_seen nodes.old number))
+        (stays_by (members_of (nodes_seen nodes.old number)) stay.now)
         (members_of (nodes_seen nodes.old number)) (slice_index places.old) h }
     ensures stay { IsTrue result ↔ (members_of (nodes_seen nodes.new number) ≢ []) }
 {

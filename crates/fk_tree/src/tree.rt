@@ -25,7 +25,8 @@ pub struct Tree {
 }
 
 impl Tree {
-    ghost use Rattle.std.specs.Prelude.{◌≡◌, ◌≢◌, ℕ, ◌+◌, ◌^◌, ◌<◌, ◌⊎◌, length, Some, true, false, OnOk, OnErr, IfOk};
+    ghost use Rattle.std.specs.Prelude.{◌≡◌, ◌≢◌, ℕ, ◌+◌, ◌^◌, ◌<◌, ◌⊎◌, length, Some, true, false};
+    ghost use Rattle.std.specs.Prelude.{OnOk, OnErr, IfOk};
     ghost use Rattle.fk_tree.specs.Tree as t;
     ghost use Rattle.fk_tree.specs.declared.node.Kind.TheVariants.{Lockstep, Waiting, Asynchronous};
     ghost use Rattle.fk_tree.specs.View.{tree_of, processors};
@@ -95,7 +96,8 @@ impl Tree {
         requires length { length of.now ≡ length (t.members (tree_of self.old) node) }
         requires numbers { (tree_of self.old).given + parts < 2 ^ 63 }
         ensures tree { OnOk result (tree_of self.new
-            ≡ t.split node parts (t.parts_by parts (t.members (tree_of self.old) node) of.now) (tree_of self.old)) }
+            ≡ t.split node parts (t.parts_by parts (t.members (tree_of self.old) node) of.now)
+            (tree_of self.old)) }
         ensures first { IfOk result (λ first. first ≡ (tree_of self.old).given) }
         ensures err { OnErr result (tree_of self.new ≡ tree_of self.old) }
         ensures processors { processors self.new ≡ processors self.old }
@@ -139,7 +141,8 @@ impl Tree {
         requires lockstep { t.kind (tree_of self.old) node ≡ Some Lockstep }
         requires length { length stay.now ≡ length (t.members (tree_of self.old) node) }
         ensures tree { tree_of self.new
-            ≡ t.shrink node (t.stays_by (t.members (tree_of self.old) node) stay.now) (tree_of self.old) }
+            ≡ t.shrink node (t.stays_by (t.members (tree_of self.old) node) stay.now)
+            (tree_of self.old) }
         ensures processors { processors self.new ≡ processors self.old }
     {
         if shrink(&mut self.nodes, &mut self.places, node, stay) {
@@ -179,7 +182,8 @@ impl Tree {
         requires length { length of.now ≡ length (t.members (tree_of self.old) node) }
         requires numbers { (tree_of self.old).given + parts < 2 ^ 63 }
         ensures tree { OnOk result (tree_of self.new
-            ≡ t.split node parts (t.parts_by parts (t.members (tree_of self.old) node) of.now) (tree_of self.old)) }
+            ≡ t.split node parts (t.parts_by parts (t.members (tree_of self.old) node) of.now)
+            (tree_of self.old)) }
         ensures first { IfOk result (λ first. first ≡ (tree_of self.old).given) }
         ensures err { OnErr result (tree_of self.new ≡ tree_of self.old) }
         ensures processors { processors self.new ≡ processors self.old }

@@ -4,7 +4,8 @@ use Rattle.fk_syntax.specs.declared.facts.Note.{Note}
 
 -- nothing is known yet of regions and sharing
 abbrev pub note_of : ℕ → ℕ → Note
-note_of kind binding = record { kind = kind; binding = binding; sync = false; shared = false; splits = false }
+note_of kind binding =
+    record { kind = kind; binding = binding; sync = false; shared = false; splits = false }
 
 -- a note of each token, by the number of its kind and what it names
 abbrev pub notes_of : List ℕ → List ℕ → List Note

@@ -70,11 +70,11 @@ fn checked_by<'p, 'a>(
 ///   which is its sign, name or number, has the type of the expression. The name of a variable or
 ///   parameter has, where that is declared, its type, and the name of a function the type that its
 ///   calls have. A token that has no type has the number 0.
-/// - Its binding is for the name of a variable, a parameter or a function, where it is declared or in
-///   an expression, the number of the declaration that it means, from 0, of a function that of the
-///   header with the body; or 2^32 - 1 for a name that is declared before each text. For a member
-///   after `.` or `->` it is the words that lie before it in its struct, and for `sizeof` the bytes
-///   that it gives. For other tokens it is 0.
+/// - Its binding is for the name of a variable, a parameter or a function, where it is declared or
+///   in an expression, the number of the declaration that it means, from 0, of a function that of
+///   the header with the body; or 2^32 - 1 for a name that is declared before each text. For a
+///   member after `.` or `->` it is the words that lie before it in its struct, and for `sizeof`
+///   the bytes that it gives. For other tokens it is 0.
 /// - What is known of regions and sharing is false everywhere.
 ///
 /// # Errors

@@ -6,7 +6,8 @@ use Rattle.fk_types_names.specs.Locals.{IsFirstOf}
 
 -- the first one of each function, where there is one
 abbrev pub AreBodies : List DeclarationTree → (List ℕ → Option ℕ) → Type 0
-AreBodies declared bodies = (name : List ℕ) → IsFirstOf (HasBodyAt (map Declares declared) name) (bodies name)
+AreBodies declared bodies = (name : List ℕ)
+    → IsFirstOf (HasBodyAt (map Declares declared) name) (bodies name)
 
 -- the number of what a declaration stands for, which has a number itself
 abbrev pub meant_by : (List ℕ → Option ℕ) → ℕ → DeclarationTree → ℕ

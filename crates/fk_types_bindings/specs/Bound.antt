@@ -1,5 +1,6 @@
 -- Numbers at the tokens that they belong to.
-use Rattle.std.specs.Prelude.{◌≡◌, ◌≢◌, ◌⊎◌, ℕ, ◌<◌, List, Option, Some, None, Contains, length, slice_get, slice_set}
+use Rattle.std.specs.Prelude.{◌≡◌, ◌≢◌, ◌⊎◌, ℕ, ◌<◌, List, Option, Some, None, Contains, length}
+use Rattle.std.specs.Prelude.{slice_get, slice_set}
 use Rattle.fk_syntax.specs.Program.{ProgramTree}
 use Rattle.fk_types_names.specs.Outline.{DeclarationTree, name_of}
 use Rattle.fk_types_judgments.specs.Names.{Env}
@@ -14,10 +15,12 @@ with_told numbers at (Some number) = slice_set numbers at number
 
 -- no two of some things have one token
 abbrev pub AreApart : {X : Type 0} → (X → ℕ) → List X → Type 0
-AreApart {X} token xs = (i j : ℕ) (x y : X) → i < j → slice_get xs i ≡ Some x → slice_get xs j ≡ Some y → token x ≢ token y
+AreApart {X} token xs = (i j : ℕ) (x y : X) → i < j → slice_get xs i ≡ Some x
+    → slice_get xs j ≡ Some y → token x ≢ token y
 
 -- this is the number of one of some things, whose token this is
-pub record IsSetBy {X : Type 0} (token : X → ℕ) (Has : ℕ → X → ℕ → Type 0) (xs : List X) (at number : ℕ) : Type 0 where
+pub record IsSetBy {X : Type 0} (token : X → ℕ) (Has : ℕ → X → ℕ → Type 0) (xs : List X)
+    (at number : ℕ) : Type 0 where
   pub index : ℕ
   pub thing : X
   pub there : slice_get xs index ≡ Some thing
@@ -25,19 +28,25 @@ pub record IsSetBy {X : Type 0} (token : X → ℕ) (Has : ℕ → X → ℕ →
   pub has : Has index thing number
 
 -- at the token of each of some things its number is set, where it has one, and nothing else
-pub record AreSet {X : Type 0} (token : X → ℕ) (Has : ℕ → X → ℕ → Type 0) (xs : List X) (old new : List ℕ) : Type 0 where
+pub record AreSet {X : Type 0} (token : X → ℕ) (Has : ℕ → X → ℕ → Type 0) (xs : List X)
+    (old new : List ℕ) : Type 0 where
   pub same_length : length new ≡ length old
-  pub each : AreApart token xs → (i : ℕ) (x : X) (number : ℕ) → slice_get xs i ≡ Some x → token x < length old → Has i x number → slice_get new (token x) ≡ Some number
-  pub others : (at : ℕ) → ((x : X) → Contains xs x → token x ≢ at) → slice_get new at ≡ slice_get old at
-  pub only : (at number : ℕ) → slice_get new at ≡ Some number → (slice_get old at ≡ Some number) ⊎ IsSetBy token Has xs at number
+  pub each : AreApart token xs → (i : ℕ) (x : X) (number : ℕ) → slice_get xs i ≡ Some x
+      → token x < length old → Has i x number → slice_get new (token x) ≡ Some number
+  pub others : (at : ℕ) → ((x : X) → Contains xs x → token x ≢ at)
+      → slice_get new at ≡ slice_get old at
+  pub only : (at number : ℕ) → slice_get new at ≡ Some number
+      → (slice_get old at ≡ Some number) ⊎ IsSetBy token Has xs at number
 
 -- declarations have the numbers of what they stand for, at their names
 abbrev pub name_token : DeclarationTree → ℕ
 name_token declaration = (name_of declaration).at
 
 abbrev pub AreDeclared : (List ℕ → Option ℕ) → List DeclarationTree → List ℕ → List ℕ → Type 0
-AreDeclared bodies declared old new = AreSet name_token (λ i d number. number ≡ meant_by bodies i d) declared old new
+AreDeclared bodies declared old new =
+    AreSet name_token (λ i d number. number ≡ meant_by bodies i d) declared old new
 
 -- references have the number of what they refer to
 abbrev pub AreReferred : Env → ProgramTree → List ReferenceTree → List ℕ → List ℕ → Type 0
-AreReferred env program references old new = AreSet token_of (λ i r number. Refers env program r number) references old new
+AreReferred env program references old new =
+    AreSet token_of (λ i r number. Refers env program r number) references old new

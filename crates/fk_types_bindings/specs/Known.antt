@@ -21,7 +21,8 @@ pub record IsKnown (env : Env) (program : ProgramTree) (known : TypedProgram) : 
   pub types : AreTypes env program known.types.now
 
 -- so many words lie before the member of a name in a struct; those above the limit are all alike
-pub record IsOffsetOf (structs : List StructTree) (index : ℕ) (name : List ℕ) (told : ℕ) : Type 0 where
+pub record IsOffsetOf (structs : List StructTree) (index : ℕ) (name : List ℕ)
+    (told : ℕ) : Type 0 where
   pub place : ℕ
   pub words : ℕ
   pub named : member_named structs index name ≡ Some place
@@ -30,7 +31,8 @@ pub record IsOffsetOf (structs : List StructTree) (index : ℕ) (name : List ℕ
 
 -- what is told of a reference is what it refers to, and nothing where that is nothing
 abbrev pub IsTold : Env → ProgramTree → ReferenceTree → Option ℕ → Type 0
-IsTold env program reference told = (number : ℕ) → (Refers env program reference number ↔ (told ≡ Some number))
+IsTold env program reference told = (number : ℕ)
+    → (Refers env program reference number ↔ (told ≡ Some number))
 
 -- the number of what a name means
 abbrev pub number_meant : Option Meaning → Option ℕ

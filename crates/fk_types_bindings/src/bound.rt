@@ -109,8 +109,8 @@ fn set_all(numbers: &mut [u32], known: &TypedProgram, bodies: &Table, references
 /// What each token of a program names, as a number, by the index of the token:
 /// - for the name of a variable, a parameter or a function, where it is declared or in an
 ///   expression, the number of the declaration that it means, from 0 in the order in which their
-///   names stand in the text, or 2^32 - 1 for a name that is declared before each text. The name of a
-///   function means the header that has the body, at its other headers too;
+///   names stand in the text, or 2^32 - 1 for a name that is declared before each text. The name of
+///   a function means the header that has the body, at its other headers too;
 /// - for a member after `.` or `->`, the words that lie before it in its struct;
 /// - for `sizeof`, the bytes that it gives;
 /// - for every other token 0.

@@ -87,7 +87,8 @@ impl TypedProgram<'_, '_, '_> {
             → member_named (structs_in self.now.structs.now) index member.now ≡ Some place
             → HasOffset (structs_in self.now.structs.now) index place words
             → result ≡ Some (capped words) }
-        ensures right { IfSome result (IsOffsetOf (structs_in self.now.structs.now) index member.now) }
+        ensures right { IfSome result
+            (IsOffsetOf (structs_in self.now.structs.now) index member.now) }
     {
         let place = self.structs.find_member(index, member)?;
         self.structs.offset(index, place)

@@ -10,6 +10,7 @@ use Rattle.fk_types_rules.specs.Pieces.{PieceBreaks}
 use Rattle.fk_types_rules.specs.Noted.{piece_noted}
 
 -- the first that a piece breaks is told, and the types in it are noted by token
-pub record IsPieceRead (env : Env) (piece : PieceTree) (before after : List (Option ExpressionType)) (fault : Option Fault) : Type 0 where
+pub record IsPieceRead (env : Env) (piece : PieceTree) (before after : List (Option ExpressionType))
+    (fault : Option Fault) : Type 0 where
   pub least : IsLeast (PieceBreaks env piece) fault
   pub types : after ≡ fold with_note before (piece_noted env piece)

@@ -145,9 +145,9 @@ fn piece_fault(scope: &Scope, types: &mut [Option<ExpressionType>], piece: Piece
 /// declarations break by their types, what expressions break by the types of their parts and by
 /// their use, and initial values and `return` by what they are stored in or given as.
 ///
-/// The types in the pieces are noted in a table by token: those of expressions at their signs, names
-/// and numbers, that of a variable or parameter at its name, and that of the calls of a function at
-/// the function's. It takes no memory, and time linear in the pieces.
+/// The types in the pieces are noted in a table by token: those of expressions at their signs,
+/// names and numbers, that of a variable or parameter at its name, and that of the calls of a
+/// function at the function's. It takes no memory, and time linear in the pieces.
 pub fn pieces_fault(
     scope: &Scope,
     types: &mut [Option<ExpressionType>],

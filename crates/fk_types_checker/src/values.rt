@@ -12,7 +12,8 @@ ghost use Rattle.fk_types_judgments.specs.Names.{Env};
 ghost use Rattle.fk_types_forms.specs.Parts.{IsPart};
 ghost use Rattle.fk_types_forms.specs.Scope.{env_in};
 ghost use Rattle.fk_types_rules.specs.Pieces as b;
-ghost use Rattle.fk_types_rules.specs.Pieces.{ConversionBreaks, InitialBreaks, FileInitialBreaks, UsedBreaks, ReturnBreaks};
+ghost use Rattle.fk_types_rules.specs.Pieces.{ConversionBreaks, InitialBreaks, FileInitialBreaks};
+ghost use Rattle.fk_types_rules.specs.Pieces.{UsedBreaks, ReturnBreaks};
 ghost use Rattle.fk_types_rules.specs.Constant.{ConstantBreaks};
 
 use crate::constant::is_more;

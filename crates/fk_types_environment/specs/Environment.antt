@@ -20,4 +20,6 @@ env_of structs names environment = record {
 
 -- it is right about each program that has these structs and names
 abbrev pub IsRight : Structs → Names → Environment → Type 0
-IsRight structs names environment = (program : ProgramTree) → structs_in structs ≡ structs_of program.items → AreNames program names → IsEnv program (env_of structs names environment)
+IsRight structs names environment = (program : ProgramTree)
+    → structs_in structs ≡ structs_of program.items → AreNames program names
+    → IsEnv program (env_of structs names environment)

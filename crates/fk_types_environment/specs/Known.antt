@@ -12,7 +12,8 @@ use Rattle.fk_types_forms.specs.declared.names.Entity.{Entity}
 use Rattle.fk_types_forms.specs.Scope.{known_meant}
 
 -- what is kept of the parameters and the result of a function is right
-pub record HasSignature (structs : List StructTree) (function : FunctionTree) (signature : Signature) : Type 0 where
+pub record HasSignature (structs : List StructTree) (function : FunctionTree)
+    (signature : Signature) : Type 0 where
   pub type : Option DataType
   pub right : IsSignature structs function signature.parameters.items type
   pub gives : signature.result ≡ option_map result_of type

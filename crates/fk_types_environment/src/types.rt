@@ -4,7 +4,8 @@ ghost use Rattle.std.specs.Prelude.{map, IfOk};
 ghost use Rattle.std.specs.List.{AllZip};
 ghost use Rattle.fk_syntax.specs.ProgramView.{declared_of, function_of};
 ghost use Rattle.fk_types_structs.specs.Whole.{structs_in, IsSound};
-ghost use Rattle.fk_types_environment.specs.Types.{HasVariableType, HasParameterType, HasResultType, AreMemberTypes};
+ghost use Rattle.fk_types_environment.specs.Types.{HasVariableType, HasParameterType};
+ghost use Rattle.fk_types_environment.specs.Types.{HasResultType, AreMemberTypes};
 
 use fk_syntax::{Declared, Function};
 use fk_types_struct_rules::{declaration_fault, parameter_fault, result_fault};

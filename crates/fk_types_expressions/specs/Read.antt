@@ -13,11 +13,13 @@ abbrev pub with_note : List (Option ExpressionType) → Noted → List (Option E
 with_note types n = slice_set types n.at n.type
 
 -- an expression was read, and its types were noted
-pub record IsRead (env : Env) (term : Term) (before after : List (Option ExpressionType)) (part : Part) : Type 0 where
+pub record IsRead (env : Env) (term : Term) (before after : List (Option ExpressionType))
+    (part : Part) : Type 0 where
   pub is : IsPart env term part
   pub types : after ≡ fold with_note before (noted env term)
 
 -- and arguments were
-pub record AreRead (env : Env) (parameters : List Parameter) (terms : Terms) (before after : List (Option ExpressionType)) (known : Arguments) : Type 0 where
+pub record AreRead (env : Env) (parameters : List Parameter) (terms : Terms)
+    (before after : List (Option ExpressionType)) (known : Arguments) : Type 0 where
   pub are : AreArguments env parameters terms known
   pub types : after ≡ fold with_note before (all_noted env terms)

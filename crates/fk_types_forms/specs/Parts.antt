@@ -26,7 +26,8 @@ pub record IsPart (env : Env) (term : Term) (part : Part) : Type 0 where
   pub fault : IsLeast (Broken env term) part.fault
 
 -- and what is known of arguments about them
-pub record AreArguments (env : Env) (parameters : List Parameter) (terms : Terms) (known : Arguments) : Type 0 where
+pub record AreArguments (env : Env) (parameters : List Parameter) (terms : Terms)
+    (known : Arguments) : Type 0 where
   pub fit : known.do_fit ≡ do_all_fit env parameters terms
   pub first : known.first ≡ first_value env terms
   pub fault : IsLeast (ArgumentsBreak env parameters terms) known.fault

@@ -1,5 +1,6 @@
 -- What the code knows where an expression stands, as the definitions have it.
-use Rattle.std.specs.Prelude.{ℕ, Bool, true, false, List, [], ◌∷◌, map, Option, Some, None, slice_get, Vec}
+use Rattle.std.specs.Prelude.{ℕ, Bool, true, false, List, [], ◌∷◌, map, Option, Some, None}
+use Rattle.std.specs.Prelude.{slice_get, Vec}
 use Rattle.std.specs.Option.{option_and_then}
 use Rattle.std.specs.declared.alloc.Global.{Global}
 use Rattle.fk_types_structs.specs.declared.types.DataType.{DataType}
@@ -29,7 +30,8 @@ parameter_of (p.Typed type) = n.Typed type
 parameter_of p.Words = n.Words
 
 abbrev pub signature_meant : Signature → Meant
-signature_meant signature = n.Called (map n.Typed signature.parameters.items) (n.Always signature.result)
+signature_meant signature =
+    n.Called (map n.Typed signature.parameters.items) (n.Always signature.result)
 
 -- what a name is
 abbrev pub meant_of : Thing → Meant
@@ -73,7 +75,8 @@ meant_by known name (Some m.Predeclared) = predeclared_meant name
 meant_by known name (Some m.Undeclared) = n.Undeclared
 
 abbrev pub member_in : List (Vec (Option DataType) Global) → ℕ → ℕ → Option DataType
-member_in members index place = option_and_then (λ (v : Vec (Option DataType) Global). option_and_then (λ type. type) (slice_get v.items place)) (slice_get members index)
+member_in members index place = option_and_then (λ (v : Vec (Option DataType) Global).
+    option_and_then (λ type. type) (slice_get v.items place)) (slice_get members index)
 
 abbrev pub env_in : Scope → Env
 env_in scope = record {

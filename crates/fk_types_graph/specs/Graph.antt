@@ -4,7 +4,8 @@ use Rattle.std.specs.declared.alloc.Global.{Global}
 
 -- an edge leads from a vertex to another
 abbrev pub HasEdge : List (Vec ℕ Global) → ℕ → ℕ → Type 0
-HasEdge graph from to = (row : Vec ℕ Global) × (slice_get graph from ≡ Some row) × Contains row.items to
+HasEdge graph from to = (row : Vec ℕ Global) × (slice_get graph from ≡ Some row)
+    × Contains row.items to
 
 -- a walk of so many steps, where a relation says what one step is
 abbrev pub Walk : (ℕ → ℕ → Type 0) → ℕ → ℕ → ℕ → Type 0

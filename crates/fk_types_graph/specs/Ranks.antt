@@ -6,7 +6,8 @@ use Rattle.fk_types_graph.specs.Marks.{IsMarked}
 
 -- the ranks from one to another are marked
 abbrev pub Covers : List Bool → ℕ → ℕ → Type 0
-Covers marks low high = (rank : ℕ) → low ≤ rank → rank ≤ high → rank < length marks → IsMarked marks rank
+Covers marks low high = (rank : ℕ) → low ≤ rank → rank ≤ high → rank < length marks
+    → IsMarked marks rank
 
 -- what was marked is marked
 pub record Keeps (before after : List Bool) : Type 0 where
@@ -15,8 +16,10 @@ pub record Keeps (before after : List Bool) : Type 0 where
 
 -- the ranks from one to those of some vertices are marked
 abbrev pub CoversAll : List Bool → List ℕ → ℕ → List ℕ → Type 0
-CoversAll marks ranks low vertices = (to : ℕ) → Contains vertices to → to < length ranks → Covers marks low (slice_index ranks to)
+CoversAll marks ranks low vertices = (to : ℕ) → Contains vertices to → to < length ranks
+    → Covers marks low (slice_index ranks to)
 
 -- the ranks that edges pass from the first vertices are marked
 abbrev pub CoversFirst : List Bool → List ℕ → List (Vec ℕ Global) → ℕ → Type 0
-CoversFirst marks ranks graph count = (from to : ℕ) → from < count → HasEdge graph from to → to < length ranks → Covers marks (slice_index ranks from) (slice_index ranks to)
+CoversFirst marks ranks graph count = (from to : ℕ) → from < count → HasEdge graph from to
+    → to < length ranks → Covers marks (slice_index ranks from) (slice_index ranks to)

@@ -1,6 +1,7 @@
 //! What is reached from a vertex.
 
-ghost use Rattle.std.specs.Prelude.{◌≡◌, ◌↔◌, ℕ, ◌+◌, ◌<◌, [], ◌∷◌, Some, false, not, Vec, length, slice_get, count_by, IsTrue, IfOk, OnOk};
+ghost use Rattle.std.specs.Prelude.{◌≡◌, ◌↔◌, ℕ, ◌+◌, ◌<◌, [], ◌∷◌, Some, false, not, Vec, length};
+ghost use Rattle.std.specs.Prelude.{slice_get, count_by, IsTrue, IfOk, OnOk};
 ghost use Rattle.std.specs.declared.alloc.Global.{Global};
 ghost use Rattle.std.specs.Bool.{OnTrue, OnFalse};
 ghost use Rattle.fk_types_graph.specs.Graph.{IsOnCycle};

@@ -1,6 +1,7 @@
 -- What expressions break: what one of their parts breaks, as the part is used, and what they break
 -- themselves by the types of their parts.
-use Rattle.std.specs.Prelude.{ℕ, Bool, true, false, not, ◌&&◌, List, length, nat_eq, Option, Some, None, is_some, is_none, slice_get, IsTrue}
+use Rattle.std.specs.Prelude.{ℕ, Bool, true, false, not, ◌&&◌, List, length, nat_eq, Option, Some}
+use Rattle.std.specs.Prelude.{None, is_some, is_none, slice_get, IsTrue}
 use Rattle.std.specs.Option.{option_and_then}
 use Rattle.fk_syntax.specs.declared.place.Place.{Place}
 use Rattle.fk_syntax.specs.declared.place.Spot.{Spot}
@@ -16,9 +17,16 @@ use Rattle.fk_types_operators.specs.declared.values.Operand.{Operand}
 use Rattle.fk_types_operators.specs.declared.values.ExpressionType.{ExpressionType}
 use Rattle.fk_types_operators.specs.Values.{value_of, is_array}
 use Rattle.fk_types_operators.specs.Signs.{is_integer, binary, prefixed, counted, chosen}
-use Rattle.fk_types_judgments.specs.Term.{Term, Terms, Number, Puts, Sizeof, Use, GroupNumber, GroupRank, Prefix, Dereference, Address, Count, Cast, Binary, Comma, Index, Call, Member, Through, Assign, Choose, no_terms, also, count_of, first_place}
-use Rattle.fk_types_judgments.specs.Names.{Parameter, Meant, Kept, Constant, Called, Main, Undeclared, Env}
-use Rattle.fk_types_judgments.specs.Typing.{value_in, operand_in, is_zero, left_of, is_no_target, is_no_value_type, pointed, struct_of, struct_at, member_place, does_assign, called_as, parameters_of, does_take, type_of}
+use Rattle.fk_types_judgments.specs.Term.{Term, Terms, Number, Puts, Sizeof, Use, GroupNumber}
+use Rattle.fk_types_judgments.specs.Term.{GroupRank, Prefix, Dereference, Address, Count, Cast}
+use Rattle.fk_types_judgments.specs.Term.{Binary, Comma, Index, Call, Member, Through, Assign}
+use Rattle.fk_types_judgments.specs.Term.{Choose, no_terms, also, count_of, first_place}
+use Rattle.fk_types_judgments.specs.Names.{Parameter, Meant, Kept, Constant, Called, Main}
+use Rattle.fk_types_judgments.specs.Names.{Undeclared, Env}
+use Rattle.fk_types_judgments.specs.Typing.{value_in, operand_in, is_zero, left_of, is_no_target}
+use Rattle.fk_types_judgments.specs.Typing.{is_no_value_type, pointed, struct_of, struct_at}
+use Rattle.fk_types_judgments.specs.Typing.{member_place, does_assign, called_as, parameters_of}
+use Rattle.fk_types_judgments.specs.Typing.{does_take, type_of}
 
 -- a rule that is broken at a place where a test holds
 abbrev pub where_so : Rule → Place → Bool → Breaks
@@ -37,18 +45,21 @@ abbrev pub is_no_value : ExpressionType → Bool
 is_no_value type = is_none (value_of type)
 
 abbrev pub ValueBreaks : Env → Term → Breaks
-ValueBreaks env term = where_so rules.NoValue (first_place term) (is_such is_no_value (type_of env term))
+ValueBreaks env term =
+    where_so rules.NoValue (first_place term) (is_such is_no_value (type_of env term))
 
 -- a condition that is no number and no pointer
 abbrev pub ConditionBreaks : Env → Term → Breaks
-ConditionBreaks env term = where_so rules.NoCondition (first_place term) (is_such is_no_value (type_of env term))
+ConditionBreaks env term =
+    where_so rules.NoCondition (first_place term) (is_such is_no_value (type_of env term))
 
 -- a struct as a statement of its own, or before or after a comma
 abbrev pub is_struct : ExpressionType → Bool
 is_struct type = is_none (left_of type)
 
 abbrev pub StatementBreaks : Env → Term → Breaks
-StatementBreaks env term = where_so rules.NoValue (first_place term) (is_such is_struct (type_of env term))
+StatementBreaks env term =
+    where_so rules.NoValue (first_place term) (is_such is_struct (type_of env term))
 
 -- a name that isn't declared, and a function that isn't called
 abbrev pub is_undeclared : Meant → Bool
@@ -73,11 +84,13 @@ is_main Main = true
 is_main Undeclared = false
 
 abbrev pub NameBreaks : Meant → Place → Breaks
-NameBreaks meant place = either (where_so rules.Undeclared place (is_undeclared meant)) (where_so rules.NoFunction place (is_function meant))
+NameBreaks meant place = either (where_so rules.Undeclared place (is_undeclared meant))
+    (where_so rules.NoFunction place (is_function meant))
 
 -- a name that is called: it isn't declared, or it is `main`
 abbrev pub CalledNameBreaks : Meant → Place → Breaks
-CalledNameBreaks meant place = either (where_so rules.Undeclared place (is_undeclared meant)) (where_so rules.MainCalled place (is_main meant))
+CalledNameBreaks meant place = either (where_so rules.Undeclared place (is_undeclared meant))
+    (where_so rules.MainCalled place (is_main meant))
 
 -- operands that a sign doesn't take
 abbrev pub are_refused : (Operand → Operand → Option Value) → Option Operand → Option Operand → Bool
@@ -90,7 +103,8 @@ TargetBreaks env spot place = where_so rules.NoTarget spot.place (is_no_target e
 
 -- an assignment to an array
 abbrev pub WholeBreaks : Env → Spot → Term → Breaks
-WholeBreaks env spot place = where_so rules.WholeAssigned spot.place (is_such is_array (type_of env place))
+WholeBreaks env spot place =
+    where_so rules.WholeAssigned spot.place (is_such is_array (type_of env place))
 
 -- `++` or `--` on what they don't count
 abbrev pub is_not_counted : ExpressionType → Bool
@@ -98,7 +112,8 @@ is_not_counted type = not (is_array type) && is_none (option_and_then counted (v
 
 -- an assignment of what its sign doesn't take to what is no array
 abbrev pub is_not_assigned : Sign → Option ExpressionType → Option Operand → Bool
-is_not_assigned sign (Some target) (Some from) = not (is_array target) && not (does_assign sign (value_of target) from)
+is_not_assigned sign (Some target) (Some from) =
+    not (is_array target) && not (does_assign sign (value_of target) from)
 is_not_assigned sign _ _ = false
 
 -- the rule that it breaks then
@@ -115,7 +130,8 @@ is_no_integer value = not (is_integer value)
 
 -- a member that the struct hasn't, or of what is no struct
 abbrev pub MemberBreaks : Env → Spot → Bool → Option ℕ → Named → Breaks
-MemberBreaks env spot is_typed index member = where_so rules.NoMember spot.place (is_typed && is_none (member_place env index member))
+MemberBreaks env spot is_typed index member =
+    where_so rules.NoMember spot.place (is_typed && is_none (member_place env index member))
 
 -- a call of what is no function
 abbrev pub is_no_function : Meant → Bool
@@ -140,7 +156,8 @@ is_not_taken parameter _ = false
 
 -- a cast: its struct isn't declared, or it is neither to an integer nor to a pointer
 abbrev pub CastBreaks : Env → Spot → TypeTree → Breaks
-CastBreaks env spot type = either (only rules.NoStruct (NamesNoStruct env.structs type)) (where_so rules.WrongOperands spot.place (is_no_value_type type))
+CastBreaks env spot type = either (only rules.NoStruct (NamesNoStruct env.structs type))
+    (where_so rules.WrongOperands spot.place (is_no_value_type type))
 
 -- what a part breaks where it is used as a value, as a condition, or as a statement of its own
 abbrev pub as_value : Env → Term → Breaks → Breaks
@@ -167,35 +184,55 @@ abbrev mutual
   Broken env (GroupNumber spot) = nothing
   Broken env (GroupRank spot) = nothing
   Broken env (Prefix spot sign operand) = either (as_value env operand (Broken env operand))
-      (where_so rules.WrongOperands spot.place (is_such (λ v. is_none (prefixed sign v)) (value_in (type_of env operand))))
+      (where_so rules.WrongOperands spot.place
+      (is_such (λ v. is_none (prefixed sign v)) (value_in (type_of env operand))))
   Broken env (Dereference spot pointer) = either (as_value env pointer (Broken env pointer))
       (where_so rules.NoPointer spot.place (is_such is_no_pointer (value_in (type_of env pointer))))
   Broken env (Address spot place) = either (Broken env place) (TargetBreaks env spot place)
-  Broken env (Count spot is_before place) = either (Broken env place) (either (TargetBreaks env spot place)
-      (either (WholeBreaks env spot place) (where_so rules.WrongOperands spot.place (is_such is_not_counted (type_of env place)))))
-  Broken env (Cast spot type operand) = either (as_value env operand (Broken env operand)) (CastBreaks env spot type)
-  Broken env (Binary spot sign left right) = either (either (as_value env left (Broken env left)) (as_value env right (Broken env right)))
-      (where_so rules.WrongOperands spot.place (are_refused (binary sign) (operand_in (is_zero left) (type_of env left)) (operand_in (is_zero right) (type_of env right))))
-  Broken env (Comma spot left right) = either (as_statement env left (Broken env left)) (as_statement env right (Broken env right))
-  Broken env (Index spot whole by) = either (either (as_value env whole (Broken env whole)) (as_value env by (Broken env by)))
-      (either (where_so rules.NoPointer spot.place (is_such is_no_pointer (value_in (type_of env whole))))
+  Broken env (Count spot is_before place) =
+      either (Broken env place) (either (TargetBreaks env spot place)
+      (either (WholeBreaks env spot place)
+      (where_so rules.WrongOperands spot.place (is_such is_not_counted (type_of env place)))))
+  Broken env (Cast spot type operand) =
+      either (as_value env operand (Broken env operand)) (CastBreaks env spot type)
+  Broken env (Binary spot sign left right) =
+      either (either (as_value env left (Broken env left)) (as_value env right (Broken env right)))
+      (where_so rules.WrongOperands spot.place (are_refused (binary sign) (operand_in (is_zero left)
+      (type_of env left)) (operand_in (is_zero right) (type_of env right))))
+  Broken env (Comma spot left right) =
+      either (as_statement env left (Broken env left)) (as_statement env right (Broken env right))
+  Broken env (Index spot whole by) =
+      either (either (as_value env whole (Broken env whole)) (as_value env by (Broken env by)))
+      (either
+      (where_so rules.NoPointer spot.place (is_such is_no_pointer (value_in (type_of env whole))))
       (where_so rules.WrongOperands spot.place (is_such is_no_integer (value_in (type_of env by)))))
-  Broken env (Call spot callee arguments) = either (either (as_called env callee (Broken env callee))
+  Broken env (Call spot callee arguments) =
+      either (either (as_called env callee (Broken env callee))
       (ArgumentsBreak env (parameters_of (called_as env callee (type_of env callee))) arguments))
-      (either (where_so rules.NoFunction spot.place (is_no_function (called_as env callee (type_of env callee))))
-      (where_so rules.WrongCount spot.place (is_wrong_count (called_as env callee (type_of env callee)) (count_of arguments))))
+      (either (where_so rules.NoFunction spot.place
+      (is_no_function (called_as env callee (type_of env callee))))
+      (where_so rules.WrongCount spot.place
+      (is_wrong_count (called_as env callee (type_of env callee)) (count_of arguments))))
   Broken env (Member spot whole member) = either (Broken env whole)
-      (MemberBreaks env spot (is_some (type_of env whole)) (option_and_then struct_of (type_of env whole)) member)
+      (MemberBreaks env spot (is_some (type_of env whole))
+      (option_and_then struct_of (type_of env whole)) member)
   Broken env (Through spot pointer member) = either (as_value env pointer (Broken env pointer))
-      (MemberBreaks env spot (is_some (value_in (type_of env pointer))) (option_and_then struct_at (value_in (type_of env pointer))) member)
-  Broken env (Assign spot sign place value) = either (either (Broken env place) (as_value env value (Broken env value)))
+      (MemberBreaks env spot (is_some (value_in (type_of env pointer)))
+      (option_and_then struct_at (value_in (type_of env pointer))) member)
+  Broken env (Assign spot sign place value) =
+      either (either (Broken env place) (as_value env value (Broken env value)))
       (either (TargetBreaks env spot place) (either (WholeBreaks env spot place)
-      (where_so (assign_rule sign) spot.place (is_not_assigned sign (type_of env place) (operand_in (is_zero value) (type_of env value))))))
-  Broken env (Choose spot condition first second) = either (either (as_condition env condition (Broken env condition))
+      (where_so (assign_rule sign) spot.place
+      (is_not_assigned sign (type_of env place) (operand_in (is_zero value) (type_of env value))))))
+  Broken env (Choose spot condition first second) =
+      either (either (as_condition env condition (Broken env condition))
       (either (as_value env first (Broken env first)) (as_value env second (Broken env second))))
-      (where_so rules.WrongOperands spot.place (are_refused chosen (operand_in (is_zero first) (type_of env first)) (operand_in (is_zero second) (type_of env second))))
+      (where_so rules.WrongOperands spot.place (are_refused chosen (operand_in (is_zero first)
+      (type_of env first)) (operand_in (is_zero second) (type_of env second))))
 
   pub ArgumentsBreak : Env → List Parameter → Terms → Breaks
   ArgumentsBreak env parameters no_terms = nothing
-  ArgumentsBreak env parameters (also before last) = either (ArgumentsBreak env parameters before) (either (as_value env last (Broken env last))
-      (where_so rules.NoConversion (first_place last) (is_not_taken (slice_get parameters (count_of before)) (operand_in (is_zero last) (type_of env last)))))
+  ArgumentsBreak env parameters (also before last) =
+      either (ArgumentsBreak env parameters before) (either (as_value env last (Broken env last))
+      (where_so rules.NoConversion (first_place last) (is_not_taken
+      (slice_get parameters (count_of before)) (operand_in (is_zero last) (type_of env last)))))

@@ -7,4 +7,6 @@ use Rattle.fk_types_judgments.specs.Typing.{HasType}
 
 -- an expression has at most one type
 abbrev pub HasOneType : Type 0
-HasOneType = (env : Env) (term : Term) (a b : ExpressionType) → HasType env term a → HasType env term b → a ≡ b
+HasOneType =
+    (env : Env) (term : Term) (a b : ExpressionType) → HasType env term a → HasType env term b
+    → a ≡ b

@@ -1,5 +1,6 @@
 -- What the names in expressions are.
-use Rattle.std.specs.Prelude.{◌≡◌, ℕ, Bool, ◌||◌, List, [], ◌∷◌, length, map, codes, nat_eq, Option, Some, None, slice_get, if◌then◌else◌}
+use Rattle.std.specs.Prelude.{◌≡◌, ℕ, Bool, ◌||◌, List, [], ◌∷◌, length, map, codes, nat_eq, Option}
+use Rattle.std.specs.Prelude.{Some, None, slice_get, if◌then◌else◌}
 use Rattle.std.specs.Option.{option_map}
 use Rattle.std.specs.Cmp.Lexicographic.{pointwise}
 use Rattle.fk_syntax.specs.declared.place.Place.{Place}
@@ -10,7 +11,8 @@ use Rattle.fk_check_rules.specs.Least.{Breaks}
 use Rattle.fk_types_structs.specs.declared.types.Root.TheVariants as r
 use Rattle.fk_types_structs.specs.declared.types.DataType.{DataType}
 use Rattle.fk_types_structs.specs.Types.{StructTree, structs_of, type_declared, type_spelled}
-use Rattle.fk_types_struct_rules.specs.Declarations.{DeclarationBreaks, ParameterBreaks, ResultBreaks}
+use Rattle.fk_types_struct_rules.specs.Declarations.{DeclarationBreaks, ParameterBreaks}
+use Rattle.fk_types_struct_rules.specs.Declarations.{ResultBreaks}
 use Rattle.fk_types_names.specs.declared.names.Meaning.{Meaning}
 use Rattle.fk_types_names.specs.declared.names.Meaning.TheVariants as m
 use Rattle.fk_types_names.specs.Outline.{DeclarationTree, Variable, Header, declarations}
@@ -55,10 +57,12 @@ input = record { root = r.Int; stars = 0; length = Some 65536 }
 
 -- the names that are declared before each text
 abbrev pub is_multiprefix : List ℕ → Bool
-is_multiprefix name = is_text name (codes "mpadd") || is_text name (codes "mpmax") || is_text name (codes "mpand") || is_text name (codes "mpor")
+is_multiprefix name = is_text name (codes "mpadd") || is_text name (codes "mpmax")
+    || is_text name (codes "mpand") || is_text name (codes "mpor")
 
 abbrev pub is_request : List ℕ → Bool
-is_request name = is_text name (codes "shmalloc") || is_text name (codes "shalloc") || is_text name (codes "malloc")
+is_request name = is_text name (codes "shmalloc") || is_text name (codes "shalloc")
+    || is_text name (codes "malloc")
 
 abbrev pub is_output : List ℕ → Bool
 is_output name = is_text name (codes "putint") || is_text name (codes "putchar")
@@ -66,7 +70,8 @@ is_output name = is_text name (codes "putint") || is_text name (codes "putchar")
 abbrev pub predeclared_meant : List ℕ → Meant
 predeclared_meant name =
     if is_multiprefix name then Called (Words ∷ Typed (Some int) ∷ []) Pointed
-    else (if is_request name then Called (Typed (Some int) ∷ []) (Always (Some (result_of void_pointer)))
+    else (if is_request name then Called (Typed (Some int) ∷ [])
+    (Always (Some (result_of void_pointer)))
     else (if is_output name then Called (Typed (Some int) ∷ []) (Always (Some Nothing))
     else (if is_text name (codes "groupsize") then Called [] (Always (Some (Computed Int)))
     else (if is_text name (codes "__input") then Kept (Some input)
@@ -82,32 +87,44 @@ pub record Env : Type 0 where
 -- what is declared has this type, and none where its declaration is broken
 abbrev pub HasDeclaredType : List StructTree → Breaks → Option DataType → Option DataType → Type 0
 HasDeclaredType structs broken spelled None = (place : Place) × (rule : Rule) × broken place rule
-HasDeclaredType structs broken spelled (Some type) = (spelled ≡ Some type) × ((place : Place) (rule : Rule) → ¬ broken place rule)
+HasDeclaredType structs broken spelled (Some type) = (spelled ≡ Some type)
+    × ((place : Place) (rule : Rule) → ¬ broken place rule)
 
 -- the parameters and the result of a function
-pub record IsSignature (structs : List StructTree) (function : FunctionTree) (parameters : List (Option DataType)) (result : Option DataType) : Type 0 where
+pub record IsSignature (structs : List StructTree) (function : FunctionTree)
+    (parameters : List (Option DataType)) (result : Option DataType) : Type 0 where
   pub same : length parameters ≡ length function.parameters
-  pub each : (i : ℕ) (p : DeclaredTree) (type : Option DataType) → slice_get function.parameters i ≡ Some p → slice_get parameters i ≡ Some type
+  pub each : (i : ℕ) (p : DeclaredTree) (type : Option DataType)
+      → slice_get function.parameters i ≡ Some p → slice_get parameters i ≡ Some type
       → HasDeclaredType structs (ParameterBreaks structs p) (type_declared structs p) type
-  pub gives : HasDeclaredType structs (ResultBreaks structs function.result function.name.place) (type_spelled structs function.result None) result
+  pub gives : HasDeclaredType structs (ResultBreaks structs function.result function.name.place)
+      (type_spelled structs function.result None) result
 
 -- what is declared is this
 abbrev pub IsDeclared : List StructTree → DeclarationTree → Meant → Type 0
 IsDeclared structs (Variable variable) meant = (type : Option DataType)
-    × HasDeclaredType structs (DeclarationBreaks structs variable) (type_declared structs variable) type × (meant ≡ Kept type)
-IsDeclared structs (Header function) meant = (parameters : List (Option DataType)) × (result : Option DataType)
+    × HasDeclaredType structs (DeclarationBreaks structs variable)
+    (type_declared structs variable) type × (meant ≡ Kept type)
+IsDeclared structs (Header function) meant = (parameters : List (Option DataType))
+    × (result : Option DataType)
     × IsSignature structs function parameters result
-    × (meant ≡ (if is_text function.name.bytes (codes "main") then Main else Called (map Typed parameters) (Always (option_map result_of result))))
+    × (meant ≡ (if is_text function.name.bytes (codes "main") then Main
+    else Called (map Typed parameters) (Always (option_map result_of result))))
 
 -- what a name of a meaning is
 abbrev pub IsMeant : ProgramTree → List ℕ → Meaning → Meant → Type 0
-IsMeant program name (m.Declared number) meant = (d : DeclarationTree) × (slice_get (declarations program) number ≡ Some d) × IsDeclared (structs_of program.items) d meant
+IsMeant program name (m.Declared number) meant = (d : DeclarationTree)
+    × (slice_get (declarations program) number ≡ Some d)
+    × IsDeclared (structs_of program.items) d meant
 IsMeant program name m.Predeclared meant = meant ≡ predeclared_meant name
 IsMeant program name m.Undeclared meant = meant ≡ Undeclared
 
 -- what is known is right about a program
 pub record IsEnv (program : ProgramTree) (env : Env) : Type 0 where
   pub structs : env.structs ≡ structs_of program.items
-  pub meant : (name : Named) (meaning : Meaning) → Means program name.at meaning → IsMeant program name.bytes meaning (env.meant name)
-  pub member_type : (index place : ℕ) (s : StructTree) (d : DeclaredTree) → slice_get env.structs index ≡ Some s → slice_get s.members place ≡ Some d
-      → HasDeclaredType env.structs (DeclarationBreaks env.structs d) (type_declared env.structs d) (env.member_type index place)
+  pub meant : (name : Named) (meaning : Meaning) → Means program name.at meaning
+      → IsMeant program name.bytes meaning (env.meant name)
+  pub member_type : (index place : ℕ) (s : StructTree) (d : DeclaredTree)
+      → slice_get env.structs index ≡ Some s → slice_get s.members place ≡ Some d
+      → HasDeclaredType env.structs (DeclarationBreaks env.structs d) (type_declared env.structs d)
+      (env.member_type index place)

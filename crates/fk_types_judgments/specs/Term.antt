@@ -70,12 +70,14 @@ abbrev mutual
   term_of (t.Chain first links) = with_links (term_of first) links
   term_of (t.Postfix whole suffixes) = with_suffixes (term_of whole) suffixes
   term_of (t.Assign spot sign target value) = Assign spot sign (term_of target) (term_of value)
-  term_of (t.Choose spot condition first second) = Choose spot (term_of condition) (term_of first) (term_of second)
+  term_of (t.Choose spot condition first second) =
+      Choose spot (term_of condition) (term_of first) (term_of second)
 
   -- what stands before signs that group to the left, with them
   pub with_links : Term → Links → Term
   with_links before t.no_links = before
-  with_links before (t.link spot sign right others) = with_links (joined_term spot sign before (term_of right)) others
+  with_links before (t.link spot sign right others) =
+      with_links (joined_term spot sign before (term_of right)) others
 
   pub with_arguments : Terms → Trees → Terms
   with_arguments before t.no_trees = before
@@ -84,10 +86,13 @@ abbrev mutual
   -- what stands before suffixes, with them
   pub with_suffixes : Term → Suffixes → Term
   with_suffixes before t.no_suffixes = before
-  with_suffixes before (t.index spot by others) = with_suffixes (Index spot before (term_of by)) others
-  with_suffixes before (t.call spot arguments others) = with_suffixes (Call spot before (with_arguments no_terms arguments)) others
+  with_suffixes before (t.index spot by others) =
+      with_suffixes (Index spot before (term_of by)) others
+  with_suffixes before (t.call spot arguments others) =
+      with_suffixes (Call spot before (with_arguments no_terms arguments)) others
   with_suffixes before (t.dot spot member others) = with_suffixes (Member spot before member) others
-  with_suffixes before (t.arrow spot member others) = with_suffixes (Through spot before member) others
+  with_suffixes before (t.arrow spot member others) =
+      with_suffixes (Through spot before member) others
   with_suffixes before (t.up spot others) = with_suffixes (Count spot false before) others
   with_suffixes before (t.down spot others) = with_suffixes (Count spot false before) others
 

@@ -1,6 +1,7 @@
--- The types of expressions, by equations over the table of signs. An expression that breaks a rule has
--- none, and neither has one that holds such a part.
-use Rattle.std.specs.Prelude.{◌≡◌, ℕ, zero, Bool, true, false, not, ◌&&◌, List, [], ◌∷◌, ◌++◌, length, nat_eq, Option, Some, None, is_some, slice_get, if◌then◌else◌}
+-- The types of expressions, by equations over the table of signs. An expression that breaks a rule
+-- has none, and neither has one that holds such a part.
+use Rattle.std.specs.Prelude.{◌≡◌, ℕ, zero, Bool, true, false, not, ◌&&◌, List, [], ◌∷◌, ◌++◌}
+use Rattle.std.specs.Prelude.{length, nat_eq, Option, Some, None, is_some, slice_get, if◌then◌else◌}
 use Rattle.std.specs.Option.{option_map, option_and_then}
 use Rattle.fk_syntax.specs.declared.sign.Sign.{Sign}
 use Rattle.fk_syntax.specs.declared.sign.Sign.TheVariants as s
@@ -14,24 +15,32 @@ use Rattle.fk_types_operators.specs.declared.values.Value.{Value}
 use Rattle.fk_types_operators.specs.declared.values.Value.TheVariants.{Int, Unsigned, Pointer}
 use Rattle.fk_types_operators.specs.declared.values.Operand.{Operand}
 use Rattle.fk_types_operators.specs.declared.values.ExpressionType.{ExpressionType}
-use Rattle.fk_types_operators.specs.declared.values.ExpressionType.TheVariants.{Stored, Computed, Nothing}
+use Rattle.fk_types_operators.specs.declared.values.ExpressionType.TheVariants.{Stored, Computed}
+use Rattle.fk_types_operators.specs.declared.values.ExpressionType.TheVariants.{Nothing}
 use Rattle.fk_types_operators.specs.Values.{target, value_stored, value_of, is_array, address_of}
-use Rattle.fk_types_operators.specs.Signs.{is_void, is_integer, converts, binary, prefixed, counted, chosen, sign_within}
-use Rattle.fk_types_judgments.specs.Term.{Term, Terms, Number, Puts, Sizeof, Use, GroupNumber, GroupRank, Prefix, Dereference, Address, Count, Cast, Binary, Comma, Index, Call, Member, Through, Assign, Choose, no_terms, also, count_of}
-use Rattle.fk_types_judgments.specs.Names.{Parameter, Typed, Words, Result, Always, Pointed, Meant, Kept, Constant, Called, Main, Undeclared, Env}
+use Rattle.fk_types_operators.specs.Signs.{is_void, is_integer, converts, binary, prefixed, counted}
+use Rattle.fk_types_operators.specs.Signs.{chosen, sign_within}
+use Rattle.fk_types_judgments.specs.Term.{Term, Terms, Number, Puts, Sizeof, Use, GroupNumber}
+use Rattle.fk_types_judgments.specs.Term.{GroupRank, Prefix, Dereference, Address, Count, Cast}
+use Rattle.fk_types_judgments.specs.Term.{Binary, Comma, Index, Call, Member, Through, Assign}
+use Rattle.fk_types_judgments.specs.Term.{Choose, no_terms, also, count_of}
+use Rattle.fk_types_judgments.specs.Names.{Parameter, Typed, Words, Result, Always, Pointed, Meant}
+use Rattle.fk_types_judgments.specs.Names.{Kept, Constant, Called, Main, Undeclared, Env}
 
 -- an expression of a type as a value, and as what a sign works on
 abbrev pub value_in : Option ExpressionType → Option Value
 value_in type = option_and_then value_of type
 
 abbrev pub operand_in : Bool → Option ExpressionType → Option Operand
-operand_in is_zero type = option_map (λ (v : Value). record { value = v; is_zero = is_zero }) (value_in type)
+operand_in is_zero type =
+    option_map (λ (v : Value). record { value = v; is_zero = is_zero }) (value_in type)
 
 abbrev pub computed : Option Value → Option ExpressionType
 computed value = option_map Computed value
 
 -- what two operands give together, where both are there
-abbrev pub of_both : (Operand → Operand → Option Value) → Option Operand → Option Operand → Option Value
+abbrev pub of_both : (Operand → Operand → Option Value) → Option Operand
+    → Option Operand → Option Value
 of_both f (Some a) (Some b) = f a b
 of_both f _ _ = None
 
@@ -84,7 +93,8 @@ is_no_value_type type = is_no_value_base type.base && nat_eq type.stars 0
 -- the type of a `sizeof`
 abbrev pub sizeof_type : Option DataType → Option ExpressionType
 sizeof_type None = None
-sizeof_type (Some type) = if is_void (target type.root type.stars) then None else Some (Computed Unsigned)
+sizeof_type (Some type) = if is_void (target type.root type.stars) then None
+    else Some (Computed Unsigned)
 
 -- what a cast gives
 abbrev pub cast_type : Option DataType → Option Value → Option ExpressionType
@@ -93,7 +103,8 @@ cast_type _ _ = None
 
 -- what a pointer points to. Nothing is known of what a `void *` points to
 abbrev pub pointed : Value → Option ExpressionType
-pointed (Pointer t) = if is_void t then None else Some (Stored (record { root = t.root; stars = t.stars; length = None }))
+pointed (Pointer t) = if is_void t then None
+    else Some (Stored (record { root = t.root; stars = t.stars; length = None }))
 pointed Int = None
 pointed Unsigned = None
 
@@ -123,7 +134,8 @@ abbrev pub member_place : Env → Option ℕ → Named → Option ℕ
 member_place env index member = option_and_then (λ i. member_named env.structs i member.bytes) index
 
 abbrev pub member_type : Env → Option ℕ → Named → Option ExpressionType
-member_type env index member = option_and_then (λ i. option_and_then (λ place. option_map Stored (env.member_type i place)) (member_named env.structs i member.bytes)) index
+member_type env index member = option_and_then (λ i. option_and_then (λ place.
+    option_map Stored (env.member_type i place)) (member_named env.structs i member.bytes)) index
 
 -- a value converts to a type, which a struct or an array as it is isn't
 abbrev pub does_convert : Operand → Option Value → Bool
@@ -134,19 +146,22 @@ does_convert from (Some to) = converts from to
 -- takes
 abbrev pub does_sign_take : Sign → Option Value → Operand → Bool
 does_sign_take sign None from = false
-does_sign_take sign (Some to) from = is_some (option_and_then (λ within. binary within (record { value = to; is_zero = false }) from) (sign_within sign))
+does_sign_take sign (Some to) from = is_some (option_and_then
+    (λ within. binary within (record { value = to; is_zero = false }) from) (sign_within sign))
 
 abbrev pub does_assign : Sign → Option Value → Operand → Bool
 does_assign s.Assign to from = does_convert from to
 does_assign sign to from = does_sign_take sign to from
 
 abbrev pub assigned : Sign → Option ExpressionType → Option Operand → Option ExpressionType
-assigned sign (Some target) (Some from) = if not (is_array target) && does_assign sign (value_of target) from then computed (value_of target) else None
+assigned sign (Some target) (Some from) = if not (is_array target)
+    && does_assign sign (value_of target) from then computed (value_of target) else None
 assigned sign _ _ = None
 
 -- `++` and `--` on what is stored
 abbrev pub counted_type : ExpressionType → Option ExpressionType
-counted_type type = if is_array type then None else computed (option_and_then counted (value_of type))
+counted_type type = if is_array type then None
+    else computed (option_and_then counted (value_of type))
 
 -- what stands on both sides of a comma
 abbrev pub last_of : Option ExpressionType → Option ExpressionType → Option ExpressionType
@@ -175,8 +190,8 @@ does_take Words from = is_some (word_at from.value)
 does_take (Typed None) from = true
 does_take (Typed (Some type)) from = does_convert from (value_stored type)
 
--- an argument fits: it has a value, which its parameter takes. More arguments than parameters are told
--- by their count
+-- an argument fits: it has a value, which its parameter takes. More arguments than parameters are
+-- told by their count
 abbrev pub does_fit : Option Parameter → Option Operand → Bool
 does_fit (Some parameter) (Some from) = does_take parameter from
 does_fit None (Some from) = true
@@ -195,7 +210,8 @@ result_in (Always type) first = type
 result_in Pointed first = computed (option_and_then word_at first)
 
 abbrev pub call_type : Meant → ℕ → Bool → Option Value → Option ExpressionType
-call_type (Called parameters result) count do_fit first = if nat_eq count (length parameters) && do_fit then result_in result first else None
+call_type (Called parameters result) count do_fit first =
+    if nat_eq count (length parameters) && do_fit then result_in result first else None
 call_type (Kept type) count do_fit first = None
 call_type (Constant value) count do_fit first = None
 call_type Main count do_fit first = None
@@ -225,32 +241,47 @@ abbrev mutual
   type_of env (Use name) = name_type (env.meant name)
   type_of env (GroupNumber spot) = Some (Computed Int)
   type_of env (GroupRank spot) = Some (Computed Int)
-  type_of env (Prefix spot sign operand) = computed (option_and_then (prefixed sign) (value_in (type_of env operand)))
+  type_of env (Prefix spot sign operand) =
+      computed (option_and_then (prefixed sign) (value_in (type_of env operand)))
   type_of env (Dereference spot pointer) = option_and_then pointed (value_in (type_of env pointer))
-  type_of env (Address spot place) = if is_no_target env place then None else computed (option_and_then address_of (type_of env place))
-  type_of env (Count spot is_before place) = if is_no_target env place then None else option_and_then counted_type (type_of env place)
-  type_of env (Cast spot type operand) = cast_type (type_spelled env.structs type None) (value_in (type_of env operand))
-  type_of env (Binary spot sign left right) = computed (of_both (binary sign) (operand_in (is_zero left) (type_of env left)) (operand_in (is_zero right) (type_of env right)))
+  type_of env (Address spot place) = if is_no_target env place then None
+      else computed (option_and_then address_of (type_of env place))
+  type_of env (Count spot is_before place) = if is_no_target env place then None
+      else option_and_then counted_type (type_of env place)
+  type_of env (Cast spot type operand) =
+      cast_type (type_spelled env.structs type None) (value_in (type_of env operand))
+  type_of env (Binary spot sign left right) =
+      computed (of_both (binary sign) (operand_in (is_zero left) (type_of env left))
+      (operand_in (is_zero right) (type_of env right)))
   type_of env (Comma spot left right) = last_of (type_of env left) (type_of env right)
-  type_of env (Index spot whole by) = element (value_in (type_of env whole)) (value_in (type_of env by))
-  type_of env (Call spot callee arguments) = call_type (called_as env callee (type_of env callee)) (count_of arguments)
-      (do_all_fit env (parameters_of (called_as env callee (type_of env callee))) arguments) (first_value env arguments)
-  type_of env (Member spot whole member) = member_type env (option_and_then struct_of (type_of env whole)) member
-  type_of env (Through spot pointer member) = member_type env (option_and_then struct_at (value_in (type_of env pointer))) member
-  type_of env (Assign spot sign place value) = if is_no_target env place then None else assigned sign (type_of env place) (operand_in (is_zero value) (type_of env value))
+  type_of env (Index spot whole by) =
+      element (value_in (type_of env whole)) (value_in (type_of env by))
+  type_of env (Call spot callee arguments) =
+      call_type (called_as env callee (type_of env callee)) (count_of arguments)
+      (do_all_fit env (parameters_of (called_as env callee (type_of env callee))) arguments)
+      (first_value env arguments)
+  type_of env (Member spot whole member) =
+      member_type env (option_and_then struct_of (type_of env whole)) member
+  type_of env (Through spot pointer member) =
+      member_type env (option_and_then struct_at (value_in (type_of env pointer))) member
+  type_of env (Assign spot sign place value) = if is_no_target env place then None
+      else assigned sign (type_of env place) (operand_in (is_zero value) (type_of env value))
   type_of env (Choose spot condition first second) = branched (value_in (type_of env condition))
-      (operand_in (is_zero first) (type_of env first)) (operand_in (is_zero second) (type_of env second))
+      (operand_in (is_zero first) (type_of env first))
+      (operand_in (is_zero second) (type_of env second))
 
   -- each argument fits its parameter
   pub do_all_fit : Env → List Parameter → Terms → Bool
   do_all_fit env parameters no_terms = true
   do_all_fit env parameters (also before last) = do_all_fit env parameters before
-      && does_fit (slice_get parameters (count_of before)) (operand_in (is_zero last) (type_of env last))
+      && does_fit (slice_get parameters (count_of before))
+      (operand_in (is_zero last) (type_of env last))
 
   -- the value of the first argument that has one
   pub first_value : Env → Terms → Option Value
   first_value env no_terms = None
-  first_value env (also before last) = either_value (first_value env before) (value_in (type_of env last))
+  first_value env (also before last) =
+      either_value (first_value env before) (value_in (type_of env last))
 
 -- an expression has a type
 abbrev pub HasType : Env → Term → ExpressionType → Type 0
@@ -273,19 +304,32 @@ abbrev mutual
   noted env (Use name) = note name.at (type_of env (Use name))
   noted env (GroupNumber spot) = note spot.at (type_of env (GroupNumber spot))
   noted env (GroupRank spot) = note spot.at (type_of env (GroupRank spot))
-  noted env (Prefix spot sign operand) = noted env operand ++ note spot.at (type_of env (Prefix spot sign operand))
-  noted env (Dereference spot pointer) = noted env pointer ++ note spot.at (type_of env (Dereference spot pointer))
-  noted env (Address spot place) = noted env place ++ note spot.at (type_of env (Address spot place))
-  noted env (Count spot is_before place) = noted env place ++ note spot.at (type_of env (Count spot is_before place))
-  noted env (Cast spot type operand) = noted env operand ++ note spot.at (type_of env (Cast spot type operand))
-  noted env (Binary spot sign left right) = noted env left ++ noted env right ++ note spot.at (type_of env (Binary spot sign left right))
-  noted env (Comma spot left right) = noted env left ++ noted env right ++ note spot.at (type_of env (Comma spot left right))
-  noted env (Index spot whole by) = noted env whole ++ noted env by ++ note spot.at (type_of env (Index spot whole by))
-  noted env (Call spot callee arguments) = noted env callee ++ all_noted env arguments ++ note spot.at (type_of env (Call spot callee arguments))
-  noted env (Member spot whole member) = noted env whole ++ note spot.at (type_of env (Member spot whole member))
-  noted env (Through spot pointer member) = noted env pointer ++ note spot.at (type_of env (Through spot pointer member))
-  noted env (Assign spot sign place value) = noted env place ++ noted env value ++ note spot.at (type_of env (Assign spot sign place value))
-  noted env (Choose spot condition first second) = noted env condition ++ noted env first ++ noted env second ++ note spot.at (type_of env (Choose spot condition first second))
+  noted env (Prefix spot sign operand) =
+      noted env operand ++ note spot.at (type_of env (Prefix spot sign operand))
+  noted env (Dereference spot pointer) =
+      noted env pointer ++ note spot.at (type_of env (Dereference spot pointer))
+  noted env (Address spot place) =
+      noted env place ++ note spot.at (type_of env (Address spot place))
+  noted env (Count spot is_before place) =
+      noted env place ++ note spot.at (type_of env (Count spot is_before place))
+  noted env (Cast spot type operand) =
+      noted env operand ++ note spot.at (type_of env (Cast spot type operand))
+  noted env (Binary spot sign left right) =
+      noted env left ++ noted env right ++ note spot.at (type_of env (Binary spot sign left right))
+  noted env (Comma spot left right) =
+      noted env left ++ noted env right ++ note spot.at (type_of env (Comma spot left right))
+  noted env (Index spot whole by) =
+      noted env whole ++ noted env by ++ note spot.at (type_of env (Index spot whole by))
+  noted env (Call spot callee arguments) = noted env callee ++ all_noted env arguments
+      ++ note spot.at (type_of env (Call spot callee arguments))
+  noted env (Member spot whole member) =
+      noted env whole ++ note spot.at (type_of env (Member spot whole member))
+  noted env (Through spot pointer member) =
+      noted env pointer ++ note spot.at (type_of env (Through spot pointer member))
+  noted env (Assign spot sign place value) = noted env place ++ noted env value
+      ++ note spot.at (type_of env (Assign spot sign place value))
+  noted env (Choose spot condition first second) = noted env condition ++ noted env first
+      ++ noted env second ++ note spot.at (type_of env (Choose spot condition first second))
 
   pub all_noted : Env → Terms → List Noted
   all_noted env no_terms = []

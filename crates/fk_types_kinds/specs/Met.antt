@@ -1,5 +1,6 @@
 -- The kinds of types, as they are met from token to token.
-use Rattle.std.specs.Prelude.{◌≡◌, ◌⊎◌, ℕ, ◌<◌, List, [], ◌∷◌, ◌++◌, Option, Some, None, length, slice_get}
+use Rattle.std.specs.Prelude.{◌≡◌, ◌⊎◌, ℕ, ◌<◌, List, [], ◌∷◌, ◌++◌, Option, Some, None, length}
+use Rattle.std.specs.Prelude.{slice_get}
 use Rattle.fk_syntax.specs.declared.facts.Kind.{Kind}
 use Rattle.fk_types_structs.specs.Types.{StructTree}
 use Rattle.fk_types_operators.specs.declared.values.ExpressionType.{ExpressionType}
@@ -7,27 +8,35 @@ use Rattle.fk_types_rules.specs.Kinds.{IsKind}
 use Rattle.fk_types_rules.specs.Noted.{type_at}
 
 -- a kind is first met at a token: all tokens before it that have a type have lesser numbers
-pub record IsFirstMet (types : List (Option ExpressionType)) (numbers : List ℕ) (number at : ℕ) : Type 0 where
+pub record IsFirstMet (types : List (Option ExpressionType)) (numbers : List ℕ)
+    (number at : ℕ) : Type 0 where
   pub has_type : (type : ExpressionType) × (type_at types at ≡ Some type)
   pub here : slice_get numbers at ≡ Some number
-  pub first : (before other : ℕ) (type : ExpressionType) → before < at → type_at types before ≡ Some type → slice_get numbers before ≡ Some other → other < number
+  pub first : (before other : ℕ) (type : ExpressionType) → before < at
+      → type_at types before ≡ Some type → slice_get numbers before ≡ Some other → other < number
 
 -- the kinds of the types of tokens: each token that has a type has the number of its kind, and each
 -- other one 0; no two kinds are the same, and each is first met at a token
-pub record AreMet (structs : List StructTree) (types : List (Option ExpressionType)) (kinds : List Kind) (numbers : List ℕ) : Type 0 where
+pub record AreMet (structs : List StructTree) (types : List (Option ExpressionType))
+    (kinds : List Kind) (numbers : List ℕ) : Type 0 where
   pub same_length : length numbers ≡ length types
   pub numbered : (at : ℕ) (type : ExpressionType) → type_at types at ≡ Some type
-      → (number : ℕ) × (kind : Kind) × (slice_get numbers at ≡ Some number) × (slice_get kinds number ≡ Some kind) × IsKind structs type kind
-  pub unmet : (at number : ℕ) → type_at types at ≡ None → slice_get numbers at ≡ Some number → number ≡ 0
-  pub distinct : (i j : ℕ) (kind : Kind) → slice_get kinds i ≡ Some kind → slice_get kinds j ≡ Some kind → i ≡ j
+      → (number : ℕ) × (kind : Kind) × (slice_get numbers at ≡ Some number)
+      × (slice_get kinds number ≡ Some kind) × IsKind structs type kind
+  pub unmet : (at number : ℕ) → type_at types at ≡ None
+      → slice_get numbers at ≡ Some number → number ≡ 0
+  pub distinct : (i j : ℕ) (kind : Kind) → slice_get kinds i ≡ Some kind
+      → slice_get kinds j ≡ Some kind → i ≡ j
   pub first : (number : ℕ) → number < length kinds → (at : ℕ) × IsFirstMet types numbers number at
 
 -- a kind has its number among others; one that isn't among them comes last
 abbrev pub IsNumbered : List Kind → Kind → List Kind → ℕ → Type 0
 IsNumbered before kind after number = ((after ≡ before) × (slice_get before number ≡ Some kind))
-    ⊎ ((after ≡ before ++ kind ∷ []) × (number ≡ length before) × ((i : ℕ) → ¬ (slice_get before i ≡ Some kind)))
+    ⊎ ((after ≡ before ++ kind ∷ []) × (number ≡ length before)
+    × ((i : ℕ) → ¬ (slice_get before i ≡ Some kind)))
 
 -- what one more token is: the kind of its type is numbered, where it has one
 abbrev pub IsNext : List StructTree → Option ExpressionType → List Kind → List Kind → ℕ → Type 0
 IsNext structs None before after number = (after ≡ before) × (number ≡ 0)
-IsNext structs (Some type) before after number = (kind : Kind) × IsKind structs type kind × IsNumbered before kind after number
+IsNext structs (Some type) before after number = (kind : Kind) × IsKind structs type kind
+    × IsNumbered before kind after number

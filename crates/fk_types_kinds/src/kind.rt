@@ -2,7 +2,8 @@
 
 ghost use Rattle.std.specs.Prelude.{◌≡◌, ◌≤◌, false};
 ghost use Rattle.fk_types_structs.specs.Whole.{structs_in, IsSound};
-ghost use Rattle.fk_types_rules.specs.Kinds.{IsWords, IsStep, IsValueKind, IsArrayKind, IsPlainKind, IsStoredKind, IsKind};
+ghost use Rattle.fk_types_rules.specs.Kinds.{IsWords, IsStep, IsValueKind, IsArrayKind};
+ghost use Rattle.fk_types_rules.specs.Kinds.{IsPlainKind, IsStoredKind, IsKind};
 
 use fk_syntax::Kind;
 use fk_types_operators::{ExpressionType, Target, Value};
@@ -105,9 +106,9 @@ fn kind_of_stored(structs: &Structs, stored: &DataType) -> Kind
     }
 }
 
-/// What code needs to know of a type. A pointer is unsigned and has the bytes of what it points to as
-/// its step, an array those of an element, and `void *` has 0. Of a struct the words are known, and of
-/// the call of a `void` function that it gives none.
+/// What code needs to know of a type. A pointer is unsigned and has the bytes of what it points to
+/// as its step, an array those of an element, and `void *` has 0. Of a struct the words are known,
+/// and of the call of a `void` function that it gives none.
 pub fn kind_of(structs: &Structs, kind: &ExpressionType) -> Kind
     requires { IsSound structs.now }
     ensures { IsKind (structs_in structs.now) kind.now result }

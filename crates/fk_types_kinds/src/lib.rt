@@ -1,5 +1,5 @@
-//! The kinds of types: what code needs to know of them, and the numbers of those that occur in a text,
-//! in the order in which they are first met.
+//! The kinds of types: what code needs to know of them, and the numbers of those that occur in a
+//! text, in the order in which they are first met.
 #![tactic(auto)]
 
 mod kind;

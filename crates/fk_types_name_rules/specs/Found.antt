@@ -17,10 +17,14 @@ nothing place rule = ⊥
 abbrev pub MarkBreaks : List MarkTree → ℕ → MarkTree → Breaks
 MarkBreaks marks at Opens = nothing
 MarkBreaks marks at Closes = nothing
-MarkBreaks marks at (Declares d) = told r.DeclaredTwice (name_of d).place (IsAgain marks at d ⊎ IsTaken marks at d)
-MarkBreaks marks at (Uses name) = told r.Undeclared name.place (MeansAt marks name.bytes at Undeclared)
+MarkBreaks marks at (Declares d) =
+    told r.DeclaredTwice (name_of d).place (IsAgain marks at d ⊎ IsTaken marks at d)
+MarkBreaks marks at (Uses name) =
+    told r.Undeclared name.place (MeansAt marks name.bytes at Undeclared)
 
 abbrev pub ItemBreaks : List ItemTree → ℕ → ItemTree → Breaks
 ItemBreaks items at (StructItem name members) = nothing
 ItemBreaks items at (VariablesItem variables) = nothing
-ItemBreaks items at (FunctionItem function) = either (told r.HeadersDiffer function.name.place (IsWrongHeader items at function)) (told r.NoMain function.name.place (IsWrongMain function))
+ItemBreaks items at (FunctionItem function) =
+    either (told r.HeadersDiffer function.name.place (IsWrongHeader items at function))
+    (told r.NoMain function.name.place (IsWrongMain function))

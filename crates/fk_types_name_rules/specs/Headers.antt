@@ -1,24 +1,28 @@
 -- The rules about the headers of functions, and about `main`.
-use Rattle.std.specs.Prelude.{◌≡◌, ◌⊎◌, ℕ, ◌<◌, ◌≤◌, List, [], ◌∷◌, Some, slice_get, IsSome, IsSomeAnd, codes}
+use Rattle.std.specs.Prelude.{◌≡◌, ◌⊎◌, ℕ, ◌<◌, ◌≤◌, List, [], ◌∷◌, Some, slice_get, IsSome}
+use Rattle.std.specs.Prelude.{IsSomeAnd, codes}
 use Rattle.fk_syntax.specs.declared.place.Place.{Place}
 use Rattle.fk_syntax.specs.declared.program.Mode.TheVariants.{Async}
 use Rattle.fk_syntax.specs.Tree.{Named, BaseType, TypeTree}
 use Rattle.fk_syntax.specs.Tree as t
-use Rattle.fk_syntax.specs.Program.{DeclaredTree, FunctionTree, ItemTree, ProgramTree, StructItem, VariablesItem, FunctionItem}
+use Rattle.fk_syntax.specs.Program.{DeclaredTree, FunctionTree, ItemTree, ProgramTree, StructItem}
+use Rattle.fk_syntax.specs.Program.{VariablesItem, FunctionItem}
 
 -- types begin with the same words
 abbrev pub IsSameBase : BaseType → BaseType → Type 0
 IsSameBase t.Int other = other ≡ t.Int
 IsSameBase t.Unsigned other = other ≡ t.Unsigned
 IsSameBase t.Void other = other ≡ t.Void
-IsSameBase (t.Struct name) other = (same : Named) × (other ≡ t.Struct same) × (same.bytes ≡ name.bytes)
+IsSameBase (t.Struct name) other = (same : Named) × (other ≡ t.Struct same)
+    × (same.bytes ≡ name.bytes)
 
 abbrev pub IsSameType : TypeTree → TypeTree → Type 0
 IsSameType type other = IsSameBase type.base other.base × (other.stars ≡ type.stars)
 
 -- parameters have the same type and sharing, whatever their names are
 abbrev pub IsSameParameter : DeclaredTree → DeclaredTree → Type 0
-IsSameParameter parameter other = (other.shared ≡ parameter.shared) × IsSameType parameter.kind other.kind × (other.length ≡ parameter.length)
+IsSameParameter parameter other = (other.shared ≡ parameter.shared)
+    × IsSameType parameter.kind other.kind × (other.length ≡ parameter.length)
 
 abbrev pub AreSameParameters : List DeclaredTree → List DeclaredTree → Type 0
 AreSameParameters [] [] = Unit {0}
@@ -28,7 +32,8 @@ AreSameParameters (x ∷ xs) (y ∷ ys) = IsSameParameter x y × AreSameParamete
 
 -- headers agree in mode, result and parameters
 abbrev pub Agree : FunctionTree → FunctionTree → Type 0
-Agree header other = (other.mode ≡ header.mode) × IsSameType header.result other.result × AreSameParameters header.parameters other.parameters
+Agree header other = (other.mode ≡ header.mode) × IsSameType header.result other.result
+    × AreSameParameters header.parameters other.parameters
 
 -- an item is a header of the function of this name
 abbrev pub HeaderHere : List ℕ → ItemTree → Type 0
@@ -50,7 +55,8 @@ HasBodyAt items bytes at = IsSomeAnd (slice_get items at) (BodyHere bytes)
 
 -- a header of a function that has another one before it
 abbrev pub HasLaterAt : List ItemTree → List ℕ → ℕ → Type 0
-HasLaterAt items bytes at = HasHeaderAt items bytes at × (k : ℕ) × (k < at) × HasHeaderAt items bytes k
+HasLaterAt items bytes at = HasHeaderAt items bytes at × (k : ℕ) × (k < at)
+    × HasHeaderAt items bytes k
 
 -- the least number of which something holds
 abbrev pub IsFirst : (ℕ → Type 0) → ℕ → Type 0
@@ -58,23 +64,30 @@ IsFirst P at = P at × ((k : ℕ) → P k → at ≤ k)
 
 -- a header doesn't agree with the first one of its function
 abbrev pub Differs : List ItemTree → FunctionTree → Type 0
-Differs items function = (first : ℕ) × (header : FunctionTree) × IsFirst (HasHeaderAt items function.name.bytes) first × (slice_get items first ≡ Some (FunctionItem header)) × (¬ Agree header function)
+Differs items function = (first : ℕ)
+    × (header : FunctionTree) × IsFirst (HasHeaderAt items function.name.bytes) first
+    × (slice_get items first ≡ Some (FunctionItem header)) × (¬ Agree header function)
 
 -- a header has a body, and an earlier one of its function has one too
 abbrev pub RepeatsBody : List ItemTree → ℕ → FunctionTree → Type 0
-RepeatsBody items at function = IsSome function.body × (k : ℕ) × (k < at) × HasBodyAt items function.name.bytes k
+RepeatsBody items at function = IsSome function.body × (k : ℕ) × (k < at)
+    × HasBodyAt items function.name.bytes k
 
 -- a function has no body, and this is its second header or the only one
 abbrev pub LacksBody : List ItemTree → ℕ → FunctionTree → Type 0
 LacksBody items at function = ((k : ℕ) → ¬ HasBodyAt items function.name.bytes k)
-    × (IsFirst (HasLaterAt items function.name.bytes) at ⊎ ((k : ℕ) → ¬ HasLaterAt items function.name.bytes k))
+    × (IsFirst (HasLaterAt items function.name.bytes) at
+    ⊎ ((k : ℕ) → ¬ HasLaterAt items function.name.bytes k))
 
 abbrev pub IsWrongHeader : List ItemTree → ℕ → FunctionTree → Type 0
-IsWrongHeader items at function = Differs items function ⊎ (RepeatsBody items at function ⊎ LacksBody items at function)
+IsWrongHeader items at function = Differs items function
+    ⊎ (RepeatsBody items at function ⊎ LacksBody items at function)
 
 -- the headers of a function differ, or it has no body or two
 abbrev pub HasWrongHeader : List ItemTree → Place → Type 0
-HasWrongHeader items place = (at : ℕ) × (function : FunctionTree) × (slice_get items at ≡ Some (FunctionItem function)) × IsWrongHeader items at function × (place ≡ function.name.place)
+HasWrongHeader items place = (at : ℕ) × (function : FunctionTree)
+    × (slice_get items at ≡ Some (FunctionItem function)) × IsWrongHeader items at function
+    × (place ≡ function.name.place)
 
 -- no function is called `main`
 abbrev pub HasNoMain : List ItemTree → Type 0
@@ -82,9 +95,11 @@ HasNoMain items = (k : ℕ) → ¬ HasHeaderAt items (codes "main") k
 
 -- a header of `main` has parameters, or another mode than `async`
 abbrev pub IsWrongMain : FunctionTree → Type 0
-IsWrongMain function = (function.name.bytes ≡ codes "main") × (¬ ((function.parameters ≡ []) × (function.mode ≡ Async)))
+IsWrongMain function = (function.name.bytes ≡ codes "main")
+    × (¬ ((function.parameters ≡ []) × (function.mode ≡ Async)))
 
 -- there is no `main`, told at the end of the text, or one of another form
 abbrev pub LacksMain : ProgramTree → Place → Type 0
 LacksMain program place = (HasNoMain program.items × (place ≡ program.end))
-    ⊎ ((at : ℕ) × (function : FunctionTree) × (slice_get program.items at ≡ Some (FunctionItem function)) × IsWrongMain function × (place ≡ function.name.place))
+    ⊎ ((at : ℕ) × (function : FunctionTree) × (slice_get program.items at
+    ≡ Some (FunctionItem function)) × IsWrongMain function × (place ≡ function.name.place))

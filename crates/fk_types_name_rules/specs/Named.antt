@@ -1,15 +1,18 @@
 -- The rules about the names of variables and functions: where they are used, and where declared.
-use Rattle.std.specs.Prelude.{◌≡◌, ◌⊎◌, ℕ, ◌<◌, ◌≤◌, Bool, true, false, List, Some, slice_get, Contains}
+use Rattle.std.specs.Prelude.{◌≡◌, ◌⊎◌, ℕ, ◌<◌, ◌≤◌, Bool, true, false, List, Some, slice_get}
+use Rattle.std.specs.Prelude.{Contains}
 use Rattle.fk_syntax.specs.declared.place.Place.{Place}
 use Rattle.fk_syntax.specs.Tree.{Named}
 use Rattle.fk_types_names.specs.declared.names.Meaning.TheVariants.{Undeclared}
-use Rattle.fk_types_names.specs.Outline.{DeclarationTree, MarkTree, Variable, Header, Opens, Closes, Declares, Uses, name_of}
+use Rattle.fk_types_names.specs.Outline.{DeclarationTree, MarkTree, Variable, Header, Opens, Closes}
+use Rattle.fk_types_names.specs.Outline.{Declares, Uses, name_of}
 use Rattle.fk_types_names.specs.Visible.{depth, DeclaresAt}
 use Rattle.fk_types_names.specs.Means.{predeclared, UsesAt, MeansAt}
 
 -- a name in an expression means nothing
 abbrev pub UsesUndeclared : List MarkTree → Place → Type 0
-UsesUndeclared marks place = (at : ℕ) × (name : Named) × UsesAt marks name at × MeansAt marks name.bytes at Undeclared × (place ≡ name.place)
+UsesUndeclared marks place = (at : ℕ) × (name : Named) × UsesAt marks name at
+    × MeansAt marks name.bytes at Undeclared × (place ≡ name.place)
 
 -- what stands at one index stands before another in one scope, which doesn't end between the two
 pub record IsBefore (marks : List MarkTree) (first second : ℕ) : Type 0 where
@@ -32,9 +35,11 @@ are_headers (Declares (Variable variable)) d = false
 are_headers (Declares (Header function)) (Variable variable) = false
 are_headers (Declares (Header function)) (Header other) = true
 
--- a declaration has the name of an earlier one of its scope, and they are not headers of one function
+-- a declaration has the name of an earlier one of its scope, and they are not
+-- headers of one function
 abbrev pub IsAgain : List MarkTree → ℕ → DeclarationTree → Type 0
-IsAgain marks at d = (first : ℕ) × (mark : MarkTree) × IsFirstBefore marks (name_of d).bytes at first × (slice_get marks first ≡ Some mark) × (are_headers mark d ≡ false)
+IsAgain marks at d = (first : ℕ) × (mark : MarkTree) × IsFirstBefore marks
+    (name_of d).bytes at first × (slice_get marks first ≡ Some mark) × (are_headers mark d ≡ false)
 
 -- a declaration of file scope has a name that is declared before each text
 abbrev pub IsTaken : List MarkTree → ℕ → DeclarationTree → Type 0
@@ -42,4 +47,6 @@ IsTaken marks at d = (depth marks at ≡ 0) × Contains predeclared (name_of d).
 
 -- a name is declared twice
 abbrev pub DeclaresTwice : List MarkTree → Place → Type 0
-DeclaresTwice marks place = (at : ℕ) × (d : DeclarationTree) × (slice_get marks at ≡ Some (Declares d)) × (IsAgain marks at d ⊎ IsTaken marks at d) × (place ≡ (name_of d).place)
+DeclaresTwice marks place = (at : ℕ) × (d : DeclarationTree)
+    × (slice_get marks at ≡ Some (Declares d)) × (IsAgain marks at d ⊎ IsTaken marks at d)
+    × (place ≡ (name_of d).place)

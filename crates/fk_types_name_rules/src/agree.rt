@@ -3,7 +3,8 @@
 ghost use Rattle.std.specs.Prelude.{◌↔◌, IsTrue, map};
 ghost use Rattle.fk_syntax.specs.View.{base_of, type_of};
 ghost use Rattle.fk_syntax.specs.ProgramView.{declared_of, function_of};
-ghost use Rattle.fk_types_name_rules.specs.Headers.{IsSameBase, IsSameType, IsSameParameter, AreSameParameters, Agree};
+ghost use Rattle.fk_types_name_rules.specs.Headers.{IsSameBase, IsSameType, IsSameParameter};
+ghost use Rattle.fk_types_name_rules.specs.Headers.{AreSameParameters, Agree};
 
 use fk_syntax::{Base, Declared, Function, TypeName};
 

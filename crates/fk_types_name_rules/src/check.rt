@@ -21,8 +21,8 @@ use fk_syntax::{Item, Place, Program};
 use fk_types_names::{Mark, Outline, Reader};
 use std::alloc::{AllocError, Global};
 
-// The first that names break where they are used and where they are declared, by a reader before the
-// first mark.
+// The first that names break where they are used and where they are declared, by a reader
+// before the first mark.
 fn fault_from<'m, 'p, 't>(
     reader: &mut Reader<'m, 'p, 't>,
     marks: &'m [Mark<'p, 't>],
@@ -90,11 +90,11 @@ fn functions_fault(alloc: Global, items: &[Item], end: Place) -> Result<Option<F
     Ok(known_fault(items, end, &headers))
 }
 
-/// The first rule about the names of variables and functions that a program breaks, by its place and
-/// then by its number: a name in an expression that means nothing; a name that is declared twice in
-/// one scope, or at file scope before each text; headers of one function that differ, or a function
-/// without a body or with two; no `main`, or one with parameters, `sync` or `straight`. It takes
-/// linear time, and fails only for want of memory.
+/// The first rule about the names of variables and functions that a program breaks, by its place
+/// and then by its number: a name in an expression that means nothing; a name that is declared
+/// twice in one scope, or at file scope before each text; headers of one function that differ, or a
+/// function without a body or with two; no `main`, or one with parameters, `sync` or `straight`. It
+/// takes linear time, and fails only for want of memory.
 pub fn name_fault(alloc: Global, program: &Program) -> Result<Option<Fault>, AllocError>
     ensures { IfOk result (IsLeast (NamesBreak (program_of program.now))) }
 {

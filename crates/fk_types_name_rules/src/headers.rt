@@ -1,13 +1,16 @@
 //! The headers of functions, and what they break.
 
-ghost use Rattle.std.specs.Prelude.{◌≡◌, ◌≢◌, ◌↔◌, ℕ, List, Some, IsTrue, IfOk, IfSome, IsNone, map, slice_get};
+ghost use Rattle.std.specs.Prelude.{◌≡◌, ◌≢◌, ◌↔◌, ℕ, List, Some, IsTrue, IfOk, IfSome, IsNone};
+ghost use Rattle.std.specs.Prelude.{map, slice_get};
 ghost use Rattle.fk_syntax.specs.Program.{FunctionItem};
 ghost use Rattle.fk_syntax.specs.ProgramView.{function_of, item_of};
 ghost use Rattle.fk_check_rules.specs.declared.rule.Rule.TheVariants as rules;
 ghost use Rattle.fk_check_rules.specs.Least.{IsLeast};
 ghost use Rattle.fk_types_names.specs.Locals.{IsFirstOf};
 ghost use Rattle.fk_types_names.specs.TableView.{shown};
-ghost use Rattle.fk_types_name_rules.specs.Headers.{HeaderHere, BodyHere, HasHeaderAt, HasBodyAt, HasLaterAt, Differs, RepeatsBody, LacksBody, IsWrongHeader, IsWrongMain, HasNoMain};
+ghost use Rattle.fk_types_name_rules.specs.Headers.{HeaderHere, BodyHere, HasHeaderAt, HasBodyAt};
+ghost use Rattle.fk_types_name_rules.specs.Headers.{HasLaterAt, Differs, RepeatsBody, LacksBody};
+ghost use Rattle.fk_types_name_rules.specs.Headers.{IsWrongHeader, IsWrongMain, HasNoMain};
 ghost use Rattle.fk_types_name_rules.specs.Found.{ItemBreaks};
 ghost use Rattle.fk_types_name_rules.specs.Known.{AreHeaders};
 

@@ -1,5 +1,6 @@
 -- How the meanings of names are found, from mark to mark.
-use Rattle.std.specs.Prelude.{◌≡◌, ◌≢◌, ℕ, ◌<◌, List, Bool, true, false, Option, Some, length, slice_get, slice_index}
+use Rattle.std.specs.Prelude.{◌≡◌, ◌≢◌, ℕ, ◌<◌, List, Bool, true, false, Option, Some, length}
+use Rattle.std.specs.Prelude.{slice_get, slice_index}
 use Rattle.fk_syntax.specs.Tree.{Named}
 use Rattle.fk_types_names.specs.declared.names.Meaning.{Meaning}
 use Rattle.fk_types_names.specs.declared.names.Survey.{Survey}
@@ -24,10 +25,14 @@ is_header (Uses name) = false
 pub record IsSurvey (marks : List MarkTree) (survey : Survey) : Type 0 where
   pub size : length survey.numbers.items ≡ length marks
   pub numbers : (k : ℕ) → k < length marks → slice_index survey.numbers.items k ≡ binding marks k
-  pub definitions : (name : List ℕ) → IsFirstOf (HasBodyAt marks name) (shown survey.definitions name)
+  pub definitions : (name : List ℕ)
+      → IsFirstOf (HasBodyAt marks name) (shown survey.definitions name)
 
 -- the meanings of the names before an index are found, and no others
-pub record AreFound (marks : List MarkTree) (tokens : ℕ) (meanings : List (Option Meaning)) (upto : ℕ) : Type 0 where
+pub record AreFound (marks : List MarkTree) (tokens : ℕ) (meanings : List (Option Meaning))
+    (upto : ℕ) : Type 0 where
   pub size : length meanings ≡ tokens
-  pub found : (k : ℕ) (name : Named) → k < upto → UsesAt marks name k → (m : Meaning) × (slice_get meanings name.at ≡ Some (Some m)) × MeansAt marks name.bytes k m
-  pub only : (t : ℕ) (m : Meaning) → slice_get meanings t ≡ Some (Some m) → (k : ℕ) × (name : Named) × UsesAt marks name k × (name.at ≡ t) × MeansAt marks name.bytes k m
+  pub found : (k : ℕ) (name : Named) → k < upto → UsesAt marks name k
+      → (m : Meaning) × (slice_get meanings name.at ≡ Some (Some m)) × MeansAt marks name.bytes k m
+  pub only : (t : ℕ) (m : Meaning) → slice_get meanings t ≡ Some (Some m) → (k : ℕ) × (name : Named)
+      × UsesAt marks name k × (name.at ≡ t) × MeansAt marks name.bytes k m

@@ -7,4 +7,5 @@ use Rattle.fk_types_names.specs.Means.{Means}
 
 -- a token has at most one meaning
 abbrev pub MeansOnce : Type 0
-MeansOnce = (program : ProgramTree) (token : ℕ) (m n : Meaning) → IsWellFormed program → Means program token m → Means program token n → m ≡ n
+MeansOnce = (program : ProgramTree) (token : ℕ) (m n : Meaning) → IsWellFormed program
+    → Means program token m → Means program token n → m ≡ n

@@ -1,5 +1,6 @@
 -- The declarations of open scopes, outer ones first, and what they make visible.
-use Rattle.std.specs.Prelude.{◌≡◌, ◌⊎◌, ℕ, ◌<◌, ◌≤◌, List, [], ◌∷◌, Option, Some, MatchOption, cond, nat_eq}
+use Rattle.std.specs.Prelude.{◌≡◌, ◌⊎◌, ℕ, ◌<◌, ◌≤◌, List, [], ◌∷◌, Option, Some, MatchOption, cond}
+use Rattle.std.specs.Prelude.{nat_eq}
 use Rattle.std.specs.Cmp.Lexicographic.{pointwise}
 use Rattle.fk_types_names.specs.declared.reader.Local.{Local}
 
@@ -27,7 +28,8 @@ Hide shows (l ∷ ls) = (l.hides ≡ shows l.name.now) × Hide (shown_with shows
 
 -- later ones are as deep, and deeper where they have the same name
 abbrev pub IsAround : (ℕ → ℕ) → Local → Local → Type 0
-IsAround depth l r = (depth l.mark ≤ depth r.mark) × (l.name.now ≡ r.name.now → depth l.mark < depth r.mark)
+IsAround depth l r = (depth l.mark ≤ depth r.mark)
+    × (l.name.now ≡ r.name.now → depth l.mark < depth r.mark)
 
 abbrev pub Nest : (ℕ → ℕ) → List Local → Type 0
 Nest depth [] = Unit {0}
@@ -46,9 +48,11 @@ abbrev pub IsFor : (ℕ → ℕ) → List ℕ → ℕ → Local → Type 0
 IsFor depth name i l = (l.name.now ≡ name) × (depth l.mark ≡ depth i) × (l.mark ≤ i)
 
 -- the local declarations are among these, and are all of those that are the first of their names
-pub record Holds (named : List ℕ → ℕ → Type 0) (depth : ℕ → ℕ) (among all : ℕ → Type 0) (file table : List ℕ → Option ℕ) (locals : List Local) : Type 0 where
+pub record Holds (named : List ℕ → ℕ → Type 0) (depth : ℕ → ℕ) (among all : ℕ → Type 0)
+    (file table : List ℕ → Option ℕ) (locals : List Local) : Type 0 where
   pub shows : (name : List ℕ) → table name ≡ shown_after file locals name
   pub hides : Hide file locals
   pub sound : Each (IsLocal named depth among) locals
   pub nest : Nest depth locals
-  pub complete : (name : List ℕ) (i : ℕ) → named name i → all i → 0 < depth i → One (IsFor depth name i) locals
+  pub complete : (name : List ℕ) (i : ℕ) → named name i → all i → 0 < depth i
+      → One (IsFor depth name i) locals

@@ -1,10 +1,12 @@
 -- What a name means.
-use Rattle.std.specs.Prelude.{◌≡◌, ◌⊎◌, ℕ, ◌<◌, List, [], ◌∷◌, length, take, Some, slice_get, Contains, codes, IsSome, IsSomeAnd}
+use Rattle.std.specs.Prelude.{◌≡◌, ◌⊎◌, ℕ, ◌<◌, List, [], ◌∷◌, length, take, Some, slice_get}
+use Rattle.std.specs.Prelude.{Contains, codes, IsSome, IsSomeAnd}
 use Rattle.fk_syntax.specs.Tree.{Named}
 use Rattle.fk_syntax.specs.Program.{ProgramTree}
 use Rattle.fk_types_names.specs.declared.names.Meaning.{Meaning}
 use Rattle.fk_types_names.specs.declared.names.Meaning.TheVariants as m
-use Rattle.fk_types_names.specs.Outline.{DeclarationTree, MarkTree, Variable, Header, Opens, Closes, Declares, Uses, outline, declared_in}
+use Rattle.fk_types_names.specs.Outline.{DeclarationTree, MarkTree, Variable, Header, Opens, Closes}
+use Rattle.fk_types_names.specs.Outline.{Declares, Uses, outline, declared_in}
 use Rattle.fk_types_names.specs.Visible.{IsInnermost, IsHidden}
 
 -- names that are declared before each text
@@ -23,7 +25,8 @@ abbrev pub DefinesHere : List ℕ → MarkTree → Type 0
 DefinesHere bytes Opens = ⊥
 DefinesHere bytes Closes = ⊥
 DefinesHere bytes (Declares (Variable variable)) = ⊥
-DefinesHere bytes (Declares (Header function)) = (function.name.bytes ≡ bytes) × IsSome function.body
+DefinesHere bytes (Declares (Header function)) = (function.name.bytes ≡ bytes)
+    × IsSome function.body
 DefinesHere bytes (Uses name) = ⊥
 
 -- and the mark stands at an index

@@ -15,4 +15,5 @@ meaning_in names token = option_and_then (λ m. m) (slice_get names.meanings.ite
 -- the declarations of a program, and what each name in its expressions means
 pub record AreNames (program : ProgramTree) (names : Names) : Type 0 where
   pub declared : map declaration_of names.declarations.items ≡ declarations program
-  pub means : (token : ℕ) (meaning : Meaning) → (meaning_in names token ≡ Some meaning) ↔ Means program token meaning
+  pub means : (token : ℕ) (meaning : Meaning)
+      → (meaning_in names token ≡ Some meaning) ↔ Means program token meaning

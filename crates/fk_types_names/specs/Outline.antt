@@ -3,7 +3,8 @@ use Rattle.std.specs.Prelude.{List, [], ◌∷◌, ◌++◌, Option, Some, None}
 use Rattle.fk_syntax.specs.Tree as t
 use Rattle.fk_syntax.specs.Tree.{Named, Tree, Links, Trees, Suffixes}
 use Rattle.fk_syntax.specs.Program as p
-use Rattle.fk_syntax.specs.Program.{DeclaredTree, Statement, Statements, FunctionTree, ItemTree, ProgramTree}
+use Rattle.fk_syntax.specs.Program.{DeclaredTree, Statement, Statements, FunctionTree, ItemTree}
+use Rattle.fk_syntax.specs.Program.{ProgramTree}
 
 -- what has a name of its own, structs and their members apart; each header of a function is one
 pub data DeclarationTree : Type 0 where
@@ -35,7 +36,8 @@ abbrev mutual
   tree_marks (t.Chain first links) = tree_marks first ++ links_marks links
   tree_marks (t.Postfix whole suffixes) = tree_marks whole ++ suffixes_marks suffixes
   tree_marks (t.Assign spot sign target value) = tree_marks target ++ tree_marks value
-  tree_marks (t.Choose spot condition first second) = tree_marks condition ++ tree_marks first ++ tree_marks second
+  tree_marks (t.Choose spot condition first second) =
+      tree_marks condition ++ tree_marks first ++ tree_marks second
 
   pub links_marks : Links → List MarkTree
   links_marks t.no_links = []
@@ -78,14 +80,19 @@ abbrev mutual
   statement_marks (p.Block statements) = scope (statements_marks statements)
   statement_marks (p.Declare variables) = variables_marks variables
   statement_marks (p.If spot condition then) = tree_marks condition ++ scope (statement_marks then)
-  statement_marks (p.IfElse spot condition then otherwise) = tree_marks condition ++ scope (statement_marks then) ++ scope (statement_marks otherwise)
-  statement_marks (p.While spot condition body) = tree_marks condition ++ scope (statement_marks body)
-  statement_marks (p.DoWhile spot body condition) = scope (statement_marks body) ++ tree_marks condition
-  statement_marks (p.For spot before condition after body) = optional_marks before ++ optional_marks condition ++ optional_marks after ++ scope (statement_marks body)
+  statement_marks (p.IfElse spot condition then otherwise) =
+      tree_marks condition ++ scope (statement_marks then) ++ scope (statement_marks otherwise)
+  statement_marks (p.While spot condition body) =
+      tree_marks condition ++ scope (statement_marks body)
+  statement_marks (p.DoWhile spot body condition) =
+      scope (statement_marks body) ++ tree_marks condition
+  statement_marks (p.For spot before condition after body) = optional_marks before
+      ++ optional_marks condition ++ optional_marks after ++ scope (statement_marks body)
   statement_marks (p.Start spot count body) = optional_marks count ++ scope (statement_marks body)
   statement_marks (p.Farm spot body) = scope (statement_marks body)
   statement_marks (p.Seq spot body) = scope (statement_marks body)
-  statement_marks (p.Fork spot parts part rank body) = tree_marks parts ++ tree_marks part ++ optional_marks rank ++ scope (statement_marks body)
+  statement_marks (p.Fork spot parts part rank body) =
+      tree_marks parts ++ tree_marks part ++ optional_marks rank ++ scope (statement_marks body)
   statement_marks (p.Barrier spot) = []
   statement_marks (p.Break spot) = []
   statement_marks (p.Continue spot) = []
@@ -101,7 +108,8 @@ body_marks (Some body) = statements_marks body
 
 -- parameters and the body's outermost block are one scope
 abbrev pub function_marks : FunctionTree → List MarkTree
-function_marks function = Declares (Header function) ∷ scope (variables_marks function.parameters ++ body_marks function.body)
+function_marks function = Declares (Header function)
+    ∷ scope (variables_marks function.parameters ++ body_marks function.body)
 
 abbrev pub item_marks : ItemTree → List MarkTree
 item_marks (p.StructItem name members) = []

@@ -23,12 +23,15 @@ pub record Knows (reader : Reader) (among all : ℕ → Type 0) : Type 0 where
   pub depths : AreDepths (marks_of reader) reader.depths.items
   pub file : List ℕ → Option ℕ
   pub first : (name : List ℕ) → IsOfFile (marks_of reader) name (file name)
-  pub holds : Holds (DeclaresAt (marks_of reader)) (depth (marks_of reader)) among all file (shown reader.visible) reader.locals.items
+  pub holds : Holds (DeclaresAt (marks_of reader))
+      (depth (marks_of reader)) among all file (shown reader.visible) reader.locals.items
 
 -- what is visible at an index
 abbrev pub IsAt : Reader → ℕ → Type 0
-IsAt reader at = Knows reader (λ i. IsVisible (marks_of reader) i at) (λ i. IsVisible (marks_of reader) i at)
+IsAt reader at =
+    Knows reader (λ i. IsVisible (marks_of reader) i at) (λ i. IsVisible (marks_of reader) i at)
 
 -- and what is declared there
 abbrev pub IsPast : Reader → ℕ → Type 0
-IsPast reader at = Knows reader (λ i. IsVisible (marks_of reader) i at ⊎ (i ≡ at)) (λ i. IsVisible (marks_of reader) i at ⊎ (i ≡ at))
+IsPast reader at = Knows reader (λ i. IsVisible (marks_of reader) i at ⊎ (i ≡ at))
+    (λ i. IsVisible (marks_of reader) i at ⊎ (i ≡ at))

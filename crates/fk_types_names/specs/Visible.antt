@@ -1,5 +1,6 @@
 -- Which declarations are visible where.
-use Rattle.std.specs.Prelude.{◌≡◌, ◌⊎◌, ℕ, ◌-◌, ◌<◌, ◌≤◌, Bool, true, false, List, count_by, take, IsSomeAnd, slice_get}
+use Rattle.std.specs.Prelude.{◌≡◌, ◌⊎◌, ℕ, ◌-◌, ◌<◌, ◌≤◌, Bool, true, false, List, count_by, take}
+use Rattle.std.specs.Prelude.{IsSomeAnd, slice_get}
 use Rattle.fk_types_names.specs.Outline.{MarkTree, Opens, Closes, Declares, Uses, name_of}
 
 abbrev pub is_opening : MarkTree → Bool
@@ -40,7 +41,8 @@ pub record IsVisible (marks : List MarkTree) (at from : ℕ) : Type 0 where
 pub record IsInnermost (marks : List MarkTree) (bytes : List ℕ) (from at : ℕ) : Type 0 where
   pub declares : DeclaresAt marks bytes at
   pub visible : IsVisible marks at from
-  pub innermost : (k : ℕ) → DeclaresAt marks bytes k → IsVisible marks k from → (depth marks k < depth marks at) ⊎ ((depth marks k ≡ depth marks at) × (at ≤ k))
+  pub innermost : (k : ℕ) → DeclaresAt marks bytes k → IsVisible marks k from
+      → (depth marks k < depth marks at) ⊎ ((depth marks k ≡ depth marks at) × (at ≤ k))
 
 -- no declaration of the name is visible
 abbrev pub IsHidden : List MarkTree → List ℕ → ℕ → Type 0

@@ -5,9 +5,14 @@ ghost use Rattle.std.specs.Option.{option_map};
 ghost use Rattle.fk_syntax.specs.Tree.{links_of, trees_of, suffixes_of};
 ghost use Rattle.fk_syntax.specs.View.{tree_of, link_of, suffix_of, named};
 ghost use Rattle.fk_syntax.specs.Program.{statements_of};
-ghost use Rattle.fk_syntax.specs.ProgramView.{declared_of, statement_of, function_of, item_of, program_of};
+ghost use Rattle.fk_syntax.specs.ProgramView.{declared_of, statement_of, function_of, item_of};
+ghost use Rattle.fk_syntax.specs.ProgramView.{program_of};
 ghost use Rattle.fk_types_names.specs.Outline as o;
-ghost use Rattle.fk_types_names.specs.Outline.{tree_marks, links_marks, trees_marks, suffixes_marks, optional_marks, variable_marks, variables_marks, body_marks, scope, statement_marks, statements_marks, function_marks, item_marks, items_marks, name_of};
+ghost use Rattle.fk_types_names.specs.Outline.{tree_marks, links_marks, trees_marks};
+ghost use Rattle.fk_types_names.specs.Outline.{suffixes_marks, optional_marks, variable_marks};
+ghost use Rattle.fk_types_names.specs.Outline.{variables_marks, body_marks, scope, statement_marks};
+ghost use Rattle.fk_types_names.specs.Outline.{statements_marks, function_marks, item_marks};
+ghost use Rattle.fk_types_names.specs.Outline.{items_marks, name_of};
 ghost use Rattle.fk_types_names.specs.View.{mark_of, declaration_of};
 ghost use Rattle.fk_types_names.specs.OutlineView.{marks_in};
 ghost use Rattle.fk_types_names.specs.Visible.{is_opening, is_closing};
@@ -114,7 +119,8 @@ impl<'p, 'a> Outline<'p, 'a> {
 
     #[cycle(expression)]
     fn add_expression(expression: &'p Expr<'a>, into: &mut Self) -> Result<(), AllocError>
-        ensures { OnOk result (marks_in into.new ≡ marks_in into.old ++ tree_marks (tree_of expression.now)) }
+        ensures { OnOk result
+            (marks_in into.new ≡ marks_in into.old ++ tree_marks (tree_of expression.now)) }
     {
         match expression {
             Expr::Number(_, _, _)
@@ -423,7 +429,8 @@ impl<'p, 'a> Outline<'p, 'a> {
     }
 
     fn add_item(item: &'p Item<'a>, into: &mut Self) -> Result<(), AllocError>
-        ensures { OnOk result (marks_in into.new ≡ marks_in into.old ++ item_marks (item_of item.now)) }
+        ensures { OnOk result
+            (marks_in into.new ≡ marks_in into.old ++ item_marks (item_of item.now)) }
     {
         match item {
             Item::Struct(_, _) => Ok(()),
@@ -433,7 +440,8 @@ impl<'p, 'a> Outline<'p, 'a> {
     }
 
     fn add_items(items: &'p [Item<'a>], into: &mut Self) -> Result<(), AllocError>
-        ensures { OnOk result (marks_in into.new ≡ marks_in into.old ++ items_marks (map item_of items.now)) }
+        ensures { OnOk result
+            (marks_in into.new ≡ marks_in into.old ++ items_marks (map item_of items.now)) }
     {
         for item in items {
             Self::add_item(item, into)?;

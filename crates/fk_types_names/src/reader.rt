@@ -1,6 +1,8 @@
 //! What is visible while a text is read.
 
-ghost use Rattle.std.specs.Prelude.{◌≡◌, ◌≢◌, ◌+◌, ◌<◌, ◌≤◌, ◌++◌, ◌∷◌, [], ℕ, IfOk, OnOk, IsNone, IfSome, MatchOption, length, List, Some, false, IsTrue, slice_get, slice_index};
+ghost use Rattle.std.specs.Prelude.{◌≡◌, ◌≢◌, ◌+◌, ◌<◌, ◌≤◌, ◌++◌, ◌∷◌, [], ℕ, IfOk, OnOk, IsNone};
+ghost use Rattle.std.specs.Prelude.{IfSome, MatchOption, length, List, Some, false, IsTrue};
+ghost use Rattle.std.specs.Prelude.{slice_get, slice_index};
 ghost use Rattle.fk_types_names.specs.View.{mark_of};
 ghost use Rattle.fk_types_names.specs.Visible.{DeclaresAt, IsHidden, IsInnermost, IsVisible, depth};
 ghost use Rattle.fk_types_names.specs.Reading.{IsAt, IsPast, marks_of};

@@ -1,6 +1,7 @@
 //! What is known of each mark of an outline by itself.
 
-ghost use Rattle.std.specs.Prelude.{◌≡◌, ◌+◌, ℕ, ◌<◌, ◌++◌, List, IfOk, OnOk, map, length, slice_index, IfSome, IsNone};
+ghost use Rattle.std.specs.Prelude.{◌≡◌, ◌+◌, ℕ, ◌<◌, ◌++◌, List, IfOk, OnOk, map, length};
+ghost use Rattle.std.specs.Prelude.{slice_index, IfSome, IsNone};
 ghost use Rattle.fk_types_names.specs.View.{mark_of, declaration_of};
 ghost use Rattle.fk_types_names.specs.Outline.{declared_by, declared_in};
 ghost use Rattle.fk_types_names.specs.Means.{HasBodyAt, DefinesHere, binding};

@@ -1,6 +1,7 @@
 //! A mark for each name.
 
-ghost use Rattle.std.specs.Prelude.{◌≡◌, ◌≢◌, ℕ, List, Option, Some, None, OnOk, IfOk, IsNone, IfSome};
+ghost use Rattle.std.specs.Prelude.{◌≡◌, ◌≢◌, ℕ, List, Option, Some, None, OnOk, IfOk, IsNone};
+ghost use Rattle.std.specs.Prelude.{IfSome};
 
 use indexmap::IndexMap;
 use std::alloc::{AllocError, Global};

@@ -3,7 +3,8 @@ use Rattle.std.specs.Prelude.{List, [], ◌∷◌, ◌++◌, Option, Some, None}
 use Rattle.fk_syntax.specs.declared.place.Spot.{Spot}
 use Rattle.fk_syntax.specs.Tree.{TypeTree, Tree}
 use Rattle.fk_syntax.specs.Program as p
-use Rattle.fk_syntax.specs.Program.{DeclaredTree, Statement, Statements, FunctionTree, ItemTree, ProgramTree}
+use Rattle.fk_syntax.specs.Program.{DeclaredTree, Statement, Statements, FunctionTree, ItemTree}
+use Rattle.fk_syntax.specs.Program.{ProgramTree}
 use Rattle.fk_types_obligations.specs.declared.piece.Role.{Role}
 use Rattle.fk_types_obligations.specs.declared.piece.Role.TheVariants as role
 
@@ -40,15 +41,23 @@ abbrev mutual
   statement_pieces result (p.Expression value) = Used role.Alone value ∷ []
   statement_pieces result (p.Block statements) = statements_pieces result statements
   statement_pieces result (p.Declare variables) = variables_pieces variables
-  statement_pieces result (p.If spot condition body) = Used role.Condition condition ∷ statement_pieces result body
-  statement_pieces result (p.IfElse spot condition body otherwise) = Used role.Condition condition ∷ statement_pieces result body ++ statement_pieces result otherwise
-  statement_pieces result (p.While spot condition body) = Used role.Condition condition ∷ statement_pieces result body
-  statement_pieces result (p.DoWhile spot body condition) = statement_pieces result body ++ Used role.Condition condition ∷ []
-  statement_pieces result (p.For spot before condition after body) = optional_pieces role.Alone before ++ optional_pieces role.Condition condition ++ optional_pieces role.Alone after ++ statement_pieces result body
-  statement_pieces result (p.Start spot count body) = optional_pieces role.Word count ++ statement_pieces result body
+  statement_pieces result (p.If spot condition body) =
+      Used role.Condition condition ∷ statement_pieces result body
+  statement_pieces result (p.IfElse spot condition body otherwise) = Used role.Condition condition
+      ∷ statement_pieces result body ++ statement_pieces result otherwise
+  statement_pieces result (p.While spot condition body) =
+      Used role.Condition condition ∷ statement_pieces result body
+  statement_pieces result (p.DoWhile spot body condition) =
+      statement_pieces result body ++ Used role.Condition condition ∷ []
+  statement_pieces result (p.For spot before condition after body) =
+      optional_pieces role.Alone before ++ optional_pieces role.Condition condition
+      ++ optional_pieces role.Alone after ++ statement_pieces result body
+  statement_pieces result (p.Start spot count body) =
+      optional_pieces role.Word count ++ statement_pieces result body
   statement_pieces result (p.Farm spot body) = statement_pieces result body
   statement_pieces result (p.Seq spot body) = statement_pieces result body
-  statement_pieces result (p.Fork spot parts part rank body) = Used role.Word parts ∷ Used role.Word part ∷ optional_pieces role.Word rank ++ statement_pieces result body
+  statement_pieces result (p.Fork spot parts part rank body) = Used role.Word parts
+      ∷ Used role.Word part ∷ optional_pieces role.Word rank ++ statement_pieces result body
   statement_pieces result (p.Barrier spot) = []
   statement_pieces result (p.Break spot) = []
   statement_pieces result (p.Continue spot) = []
@@ -56,14 +65,16 @@ abbrev mutual
 
   pub statements_pieces : TypeTree → Statements → List PieceTree
   statements_pieces result p.no_statements = []
-  statements_pieces result (p.statement first others) = statement_pieces result first ++ statements_pieces result others
+  statements_pieces result (p.statement first others) =
+      statement_pieces result first ++ statements_pieces result others
 
 abbrev pub body_pieces : TypeTree → Option Statements → List PieceTree
 body_pieces result None = []
 body_pieces result (Some body) = statements_pieces result body
 
 abbrev pub function_pieces : FunctionTree → List PieceTree
-function_pieces function = Header function ∷ parameters_pieces function.parameters ++ body_pieces function.result function.body
+function_pieces function = Header function ∷ parameters_pieces function.parameters
+    ++ body_pieces function.result function.body
 
 abbrev pub item_pieces : ItemTree → List PieceTree
 item_pieces (p.StructItem name members) = []

@@ -13,4 +13,5 @@ piece_of (c.Variable variable) = p.Variable (declared_of variable.now)
 piece_of (c.Parameter parameter) = p.Parameter (declared_of parameter.now)
 piece_of (c.Header function) = p.Header (function_of function.now)
 piece_of (c.Used role value) = p.Used role (tree_of value.now)
-piece_of (c.Return result spot value) = p.Return (type_of result.now) spot (option_map tree_of value.now)
+piece_of (c.Return result spot value) =
+    p.Return (type_of result.now) spot (option_map tree_of value.now)

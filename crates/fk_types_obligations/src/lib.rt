@@ -1,5 +1,5 @@
-//! What stands in a Fork95 text side by side: what it declares, and each of its expressions with how
-//! it is used.
+//! What stands in a Fork95 text side by side: what it declares, and each of its expressions
+//! with how it is used.
 #![tactic(auto)]
 
 mod piece;

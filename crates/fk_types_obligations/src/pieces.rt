@@ -7,7 +7,10 @@ ghost use Rattle.fk_syntax.specs.Program.{statements_of};
 ghost use Rattle.fk_syntax.specs.ProgramView.{declared_of, statement_of, function_of, item_of};
 ghost use Rattle.fk_types_obligations.specs.declared.piece.Role.TheVariants as r;
 ghost use Rattle.fk_types_obligations.specs.Pieces as t;
-ghost use Rattle.fk_types_obligations.specs.Pieces.{optional_pieces, variables_pieces, file_pieces, parameters_pieces, statement_pieces, statements_pieces, function_pieces, item_pieces, items_pieces};
+ghost use Rattle.fk_types_obligations.specs.Pieces.{optional_pieces, variables_pieces, file_pieces};
+ghost use Rattle.fk_types_obligations.specs.Pieces.{parameters_pieces, statement_pieces};
+ghost use Rattle.fk_types_obligations.specs.Pieces.{statements_pieces, function_pieces};
+ghost use Rattle.fk_types_obligations.specs.Pieces.{item_pieces, items_pieces};
 ghost use Rattle.fk_types_obligations.specs.View.{piece_of};
 ghost use Rattle.fk_types_obligations.specs.PiecesView.{pieces_in};
 

@@ -8,7 +8,8 @@ use Rattle.fk_types_operators.specs.declared.values.Target.{Target}
 use Rattle.fk_types_operators.specs.declared.values.Value.{Value}
 use Rattle.fk_types_operators.specs.declared.values.Value.TheVariants.{Int, Unsigned, Pointer}
 use Rattle.fk_types_operators.specs.declared.values.ExpressionType.{ExpressionType}
-use Rattle.fk_types_operators.specs.declared.values.ExpressionType.TheVariants.{Stored, Computed, Nothing}
+use Rattle.fk_types_operators.specs.declared.values.ExpressionType.TheVariants.{Stored, Computed}
+use Rattle.fk_types_operators.specs.declared.values.ExpressionType.TheVariants.{Nothing}
 
 abbrev pub target : Root → ℕ → Target
 target root stars = record { root = root; stars = stars }

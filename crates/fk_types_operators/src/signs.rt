@@ -2,7 +2,9 @@
 
 ghost use Rattle.std.specs.Prelude.{◌≡◌};
 ghost use Rattle.fk_types_operators.specs.Signs as t;
-ghost use Rattle.fk_types_operators.specs.Signs.{is_void, is_same_target, do_convert, is_integer, joined, moved, summed, shifted, int_if, are_ordered, are_comparable, met};
+ghost use Rattle.fk_types_operators.specs.Signs.{is_void, is_same_target, do_convert, is_integer};
+ghost use Rattle.fk_types_operators.specs.Signs.{joined, moved, summed, shifted, int_if};
+ghost use Rattle.fk_types_operators.specs.Signs.{are_ordered, are_comparable, met};
 
 use crate::values::{Operand, Target, Value};
 use fk_syntax::Sign;

@@ -1,7 +1,8 @@
 //! The types of expressions, and what each is as a value.
 
 ghost use Rattle.std.specs.Prelude.{◌≡◌};
-ghost use Rattle.fk_types_operators.specs.Values.{value_under, value_held, value_stored, value_of, result_of, is_array, address_of};
+ghost use Rattle.fk_types_operators.specs.Values.{value_under, value_held, value_stored, value_of};
+ghost use Rattle.fk_types_operators.specs.Values.{result_of, is_array, address_of};
 
 use fk_types_structs::{DataType, Root};
 

@@ -33,8 +33,8 @@ abbrev mutual
   after_suffixes at (t.up spot others) = after_suffixes spot.at others
   after_suffixes at (t.down spot others) = after_suffixes spot.at others
 
--- a variable or a function; a member of the expression with this main token, after `.` or after `->`;
--- or the type of a `sizeof`
+-- a variable or a function; a member of the expression with this main token, after `.` or after
+-- `->`; or the type of a `sizeof`
 pub data ReferenceTree : Type 0 where
   Name : (name : Named) → ReferenceTree
   Member : (whole : ℕ) (is_arrow : Bool) (member : Named) → ReferenceTree
@@ -52,13 +52,17 @@ abbrev mutual
   tree_references (t.Prefix spot sign operand) = tree_references operand
   tree_references (t.Cast spot type operand) = tree_references operand
   tree_references (t.Chain first links) = tree_references first ++ links_references links
-  tree_references (t.Postfix whole suffixes) = tree_references whole ++ suffixes_references (main_token whole) suffixes
-  tree_references (t.Assign spot sign target value) = tree_references target ++ tree_references value
-  tree_references (t.Choose spot condition first second) = tree_references condition ++ tree_references first ++ tree_references second
+  tree_references (t.Postfix whole suffixes) =
+      tree_references whole ++ suffixes_references (main_token whole) suffixes
+  tree_references (t.Assign spot sign target value) =
+      tree_references target ++ tree_references value
+  tree_references (t.Choose spot condition first second) =
+      tree_references condition ++ tree_references first ++ tree_references second
 
   pub links_references : Links → List ReferenceTree
   links_references t.no_links = []
-  links_references (t.link spot sign right others) = tree_references right ++ links_references others
+  links_references (t.link spot sign right others) =
+      tree_references right ++ links_references others
 
   pub trees_references : Trees → List ReferenceTree
   trees_references t.no_trees = []
@@ -67,10 +71,14 @@ abbrev mutual
   -- those of suffixes of an expression with this main token
   pub suffixes_references : ℕ → Suffixes → List ReferenceTree
   suffixes_references at t.no_suffixes = []
-  suffixes_references at (t.index spot by others) = tree_references by ++ suffixes_references spot.at others
-  suffixes_references at (t.call spot arguments others) = trees_references arguments ++ suffixes_references spot.at others
-  suffixes_references at (t.dot spot member others) = Member at false member ∷ suffixes_references spot.at others
-  suffixes_references at (t.arrow spot member others) = Member at true member ∷ suffixes_references spot.at others
+  suffixes_references at (t.index spot by others) =
+      tree_references by ++ suffixes_references spot.at others
+  suffixes_references at (t.call spot arguments others) =
+      trees_references arguments ++ suffixes_references spot.at others
+  suffixes_references at (t.dot spot member others) =
+      Member at false member ∷ suffixes_references spot.at others
+  suffixes_references at (t.arrow spot member others) =
+      Member at true member ∷ suffixes_references spot.at others
   suffixes_references at (t.up spot others) = suffixes_references spot.at others
   suffixes_references at (t.down spot others) = suffixes_references spot.at others
 

@@ -4,7 +4,10 @@ ghost use Rattle.std.specs.Prelude.{◌≡◌, ◌∷◌, ◌++◌, [], map, IfO
 ghost use Rattle.std.specs.Option.{option_map};
 ghost use Rattle.fk_syntax.specs.Tree.{links_of, trees_of, suffixes_of};
 ghost use Rattle.fk_syntax.specs.View.{tree_of, link_of, suffix_of};
-ghost use Rattle.fk_types_references.specs.References.{main_token, after_links, after_suffixes, tree_references, links_references, trees_references, suffixes_references, optional_references};
+ghost use Rattle.fk_types_references.specs.References.{main_token, after_links, after_suffixes};
+ghost use Rattle.fk_types_references.specs.References.{tree_references, links_references};
+ghost use Rattle.fk_types_references.specs.References.{trees_references, suffixes_references};
+ghost use Rattle.fk_types_references.specs.References.{optional_references};
 ghost use Rattle.fk_types_references.specs.View.{reference_of};
 ghost use Rattle.fk_types_references.specs.Found.{found_in};
 

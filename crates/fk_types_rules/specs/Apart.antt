@@ -8,14 +8,17 @@ use Rattle.fk_types_rules.specs.Bound.{pieces_references, token_of}
 
 -- no two of some declarations, or of some references, have one token
 abbrev pub AreDeclaredApart : List DeclarationTree → Type 0
-AreDeclaredApart declared = (i j : ℕ) (d e : DeclarationTree) → i < j → slice_get declared i ≡ Some d → slice_get declared j ≡ Some e → (name_of d).at ≢ (name_of e).at
+AreDeclaredApart declared = (i j : ℕ) (d e : DeclarationTree) → i < j → slice_get declared i
+    ≡ Some d → slice_get declared j ≡ Some e → (name_of d).at ≢ (name_of e).at
 
 abbrev pub AreReferencesApart : List ReferenceTree → Type 0
-AreReferencesApart references = (i j : ℕ) (r s : ReferenceTree) → i < j → slice_get references i ≡ Some r → slice_get references j ≡ Some s → token_of r ≢ token_of s
+AreReferencesApart references = (i j : ℕ) (r s : ReferenceTree) → i < j
+    → slice_get references i ≡ Some r → slice_get references j ≡ Some s → token_of r ≢ token_of s
 
 -- and none is both
 abbrev pub AreNeverBoth : List DeclarationTree → List ReferenceTree → Type 0
-AreNeverBoth declared references = (d : DeclarationTree) (r : ReferenceTree) → Contains declared d → Contains references r → (name_of d).at ≢ token_of r
+AreNeverBoth declared references = (d : DeclarationTree) (r : ReferenceTree) → Contains declared d
+    → Contains references r → (name_of d).at ≢ token_of r
 
 -- each token of a program is the name of one declaration or names one thing, or neither
 pub record AreTokensApart (program : ProgramTree) : Type 0 where

@@ -1,5 +1,6 @@
 -- What the tokens of a program name.
-use Rattle.std.specs.Prelude.{◌≡◌, ℕ, ◌*◌, ◌^◌, ◌-◌, Bool, true, false, List, [], ◌∷◌, ◌++◌, Option, Some, None, slice_get, Contains}
+use Rattle.std.specs.Prelude.{◌≡◌, ℕ, ◌*◌, ◌^◌, ◌-◌, Bool, true, false, List, [], ◌∷◌, ◌++◌, Option}
+use Rattle.std.specs.Prelude.{Some, None, slice_get, Contains}
 use Rattle.std.specs.Option.{option_and_then}
 use Rattle.fk_syntax.specs.declared.place.Spot.{Spot}
 use Rattle.fk_syntax.specs.Tree.{Named, TypeTree}
@@ -17,7 +18,8 @@ use Rattle.fk_types_judgments.specs.Names.{Env}
 use Rattle.fk_types_judgments.specs.Typing.{struct_of, struct_at}
 use Rattle.fk_types_obligations.specs.Pieces.{PieceTree, pieces}
 use Rattle.fk_types_obligations.specs.Pieces as p
-use Rattle.fk_types_references.specs.References.{ReferenceTree, Name, Member, Size, tree_references, optional_references}
+use Rattle.fk_types_references.specs.References.{ReferenceTree, Name, Member, Size, tree_references}
+use Rattle.fk_types_references.specs.References.{optional_references}
 use Rattle.fk_types_rules.specs.Noted.{HasTypeAt}
 
 -- what the expressions of a piece name
@@ -38,14 +40,18 @@ abbrev pub struct_before : Bool → ExpressionType → Option ℕ
 struct_before false type = struct_of type
 struct_before true type = option_and_then struct_at (value_of type)
 
--- what a reference names, as a number: a declaration, or what is declared before each text; the words
--- before a member; the bytes of a type. Sizes above the limit are all alike
+-- what a reference names, as a number: a declaration, or what is declared before each text; the
+-- words before a member; the bytes of a type. Sizes above the limit are all alike
 pub data Refers (env : Env) (program : ProgramTree) : ReferenceTree → ℕ → Type 0 where
-  declared : (name : Named) (number : ℕ) → Means program name.at (m.Declared number) → Refers env program (Name name) number
-  predeclared : (name : Named) → Means program name.at m.Predeclared → Refers env program (Name name) (2 ^ 32 - 1)
-  member : (whole : ℕ) (is_arrow : Bool) (name : Named) (type : ExpressionType) (index place words : ℕ)
+  declared : (name : Named) (number : ℕ) → Means program name.at (m.Declared number)
+      → Refers env program (Name name) number
+  predeclared : (name : Named) → Means program name.at m.Predeclared
+      → Refers env program (Name name) (2 ^ 32 - 1)
+  member : (whole : ℕ) (is_arrow : Bool) (name : Named) (type : ExpressionType)
+      (index place words : ℕ)
       → HasTypeAt env program whole type → struct_before is_arrow type ≡ Some index
-      → member_named env.structs index name.bytes ≡ Some place → HasOffset env.structs index place words
+      → member_named env.structs index name.bytes ≡ Some place
+      → HasOffset env.structs index place words
       → Refers env program (Member whole is_arrow name) (capped words)
   size : (spot : Spot) (tree : TypeTree) (type : DataType) (words : ℕ)
       → type_spelled env.structs tree None ≡ Some type → HasTypeWords env.structs type words
@@ -60,14 +66,19 @@ token_of (Size spot type) = spot.at
 -- what the token of an index names: what stands there refers to it, or is the name of a declaration
 -- that stands for it
 pub data IsBound (env : Env) (program : ProgramTree) (at : ℕ) : ℕ → Type 0 where
-  refers : (r : ReferenceTree) (number : ℕ) → Contains (pieces_references (pieces program)) r → token_of r ≡ at → Refers env program r number → IsBound env program at number
-  declares : (d : DeclarationTree) (here meant : ℕ) → slice_get (outline program) here ≡ Some (Declares d) → (name_of d).at ≡ at
-      → StandsFor (outline program) (name_of d).bytes here d meant → IsBound env program at (binding (outline program) meant)
+  refers : (r : ReferenceTree) (number : ℕ) → Contains (pieces_references (pieces program)) r
+      → token_of r ≡ at → Refers env program r number → IsBound env program at number
+  declares : (d : DeclarationTree) (here meant : ℕ)
+      → slice_get (outline program) here ≡ Some (Declares d) → (name_of d).at ≡ at
+      → StandsFor (outline program) (name_of d).bytes here d meant
+      → IsBound env program at (binding (outline program) meant)
 
 -- each token that names anything has its number
 abbrev pub AreBound : Env → ProgramTree → List ℕ → Type 0
-AreBound env program numbers = (at number : ℕ) → IsBound env program at number → slice_get numbers at ≡ Some number
+AreBound env program numbers = (at number : ℕ) → IsBound env program at number
+    → slice_get numbers at ≡ Some number
 
 -- and each other token has 0
 abbrev pub AreUnbound : Env → ProgramTree → List ℕ → Type 0
-AreUnbound env program numbers = (at number : ℕ) → ((bound : ℕ) → ¬ IsBound env program at bound) → slice_get numbers at ≡ Some number → number ≡ 0
+AreUnbound env program numbers = (at number : ℕ) → ((bound : ℕ) → ¬ IsBound env program at bound)
+    → slice_get numbers at ≡ Some number → number ≡ 0

@@ -12,14 +12,16 @@ use Rattle.fk_types_judgments.specs.Names.{Env, IsEnv}
 use Rattle.fk_types_obligations.specs.Pieces.{pieces}
 use Rattle.fk_types_rules.specs.Pieces.{PieceBreaks}
 
--- the sum of the rules: what its structs, its names and its pieces break, where this is known of its
--- names
+-- the sum of the rules: what its structs, its names and its pieces break, where this is
+-- known of its names
 abbrev pub Broken : Env → ProgramTree → Breaks
-Broken env program = either (either (StructsBreak env.structs) (NamesBreak program)) (among (λ i. PieceBreaks env) (pieces program))
+Broken env program = either (either (StructsBreak env.structs) (NamesBreak program))
+    (among (λ i. PieceBreaks env) (pieces program))
 
--- why a program has no facts: the first rule that it breaks, by place and then by number, where what
--- is known of its names is right
+-- why a program has no facts: the first rule that it breaks, by place and then by number, where
+-- what is known of its names is right
 abbrev pub IsRefusal : ProgramTree → CheckFault → Type 0
 IsRefusal program (c.Rule place number) = (env : Env) × IsEnv program env
-    × (rule : Rule) × IsLeast (Broken env program) (Some (record { place = place; rule = rule })) × (number ≡ number_of rule)
+    × (rule : Rule) × IsLeast (Broken env program) (Some (record { place = place; rule = rule }))
+    × (number ≡ number_of rule)
 IsRefusal program c.Memory = Unit {0}

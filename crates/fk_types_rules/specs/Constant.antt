@@ -2,13 +2,15 @@
 use Rattle.std.specs.Prelude.{Bool, true, false, ◌||◌, is_some}
 use Rattle.fk_check_rules.specs.declared.rule.Rule.TheVariants as rules
 use Rattle.fk_check_rules.specs.Least.{Breaks}
-use Rattle.fk_types_judgments.specs.Term.{Term, Number, Puts, Sizeof, Use, GroupNumber, GroupRank, Prefix, Dereference, Address, Count, Cast, Binary, Comma, Index, Call, Member, Through, Assign, Choose, first_place}
+use Rattle.fk_types_judgments.specs.Term.{Term, Number, Puts, Sizeof, Use, GroupNumber, GroupRank}
+use Rattle.fk_types_judgments.specs.Term.{Prefix, Dereference, Address, Count, Cast, Binary, Comma}
+use Rattle.fk_types_judgments.specs.Term.{Index, Call, Member, Through, Assign, Choose, first_place}
 use Rattle.fk_types_judgments.specs.Names.{Env}
 use Rattle.fk_types_judgments.specs.Typing.{type_of}
 use Rattle.fk_types_judgments.specs.Broken.{where_so}
 
--- an expression holds more than numbers, `sizeof`, casts, signs that take values, `?` with its `:` and
--- the comma. A name that is broken itself breaks nothing more by it
+-- an expression holds more than numbers, `sizeof`, casts, signs that take values, `?` with its `:`
+-- and the comma. A name that is broken itself breaks nothing more by it
 abbrev pub is_more : Env → Term → Bool
 is_more env (Number spot value unsigned) = false
 is_more env (Puts spot) = true
@@ -28,7 +30,8 @@ is_more env (Call spot callee arguments) = true
 is_more env (Member spot whole member) = true
 is_more env (Through spot pointer member) = true
 is_more env (Assign spot sign place value) = true
-is_more env (Choose spot condition first second) = is_more env condition || is_more env first || is_more env second
+is_more env (Choose spot condition first second) =
+    is_more env condition || is_more env first || is_more env second
 
 -- an initial value outside functions that holds more
 abbrev pub ConstantBreaks : Env → Term → Breaks

@@ -13,9 +13,12 @@ use Rattle.fk_types_rules.specs.Kinds.{IsKind}
 use Rattle.fk_types_rules.specs.Noted.{HasTypeAt}
 use Rattle.fk_types_rules.specs.Bound.{IsBound}
 
--- a note says the type of its token and what it names, with 0 where there is none, and nothing else yet
-pub record IsNote (env : Env) (program : ProgramTree) (kinds : List Kind) (at : ℕ) (note : Note) : Type 0 where
-  pub kind : (type : ExpressionType) → HasTypeAt env program at type → (kind : Kind) × (slice_get kinds note.kind ≡ Some kind) × IsKind env.structs type kind
+-- a note says the type of its token and what it names, with 0 where there is none, and
+-- nothing else yet
+pub record IsNote (env : Env) (program : ProgramTree) (kinds : List Kind) (at : ℕ)
+    (note : Note) : Type 0 where
+  pub kind : (type : ExpressionType) → HasTypeAt env program at type
+      → (kind : Kind) × (slice_get kinds note.kind ≡ Some kind) × IsKind env.structs type kind
   pub binding : (bound : ℕ) → IsBound env program at bound → note.binding ≡ bound
   pub untyped : ((type : ExpressionType) → ¬ HasTypeAt env program at type) → note.kind ≡ 0
   pub unbound : ((bound : ℕ) → ¬ IsBound env program at bound) → note.binding ≡ 0
@@ -24,16 +27,22 @@ pub record IsNote (env : Env) (program : ProgramTree) (kinds : List Kind) (at : 
   pub splits : note.splits ≡ false
 
 -- a kind is first met at a token: tokens before it have earlier ones
-pub record IsMetAt (env : Env) (program : ProgramTree) (notes : List Note) (number at : ℕ) : Type 0 where
-  pub here : (note : Note) × (type : ExpressionType) × (slice_get notes at ≡ Some note) × HasTypeAt env program at type × (note.kind ≡ number)
-  pub first : (before : ℕ) (note : Note) (type : ExpressionType) → before < at → slice_get notes before ≡ Some note → HasTypeAt env program before type → note.kind < number
+pub record IsMetAt (env : Env) (program : ProgramTree) (notes : List Note)
+    (number at : ℕ) : Type 0 where
+  pub here : (note : Note) × (type : ExpressionType) × (slice_get notes at ≡ Some note)
+      × HasTypeAt env program at type × (note.kind ≡ number)
+  pub first : (before : ℕ) (note : Note) (type : ExpressionType) → before < at
+      → slice_get notes before ≡ Some note → HasTypeAt env program before type → note.kind < number
 
 -- the facts, where this is known of the program
 pub record AreFactsIn (env : Env) (program : ProgramTree) (facts : Facts) : Type 0 where
   pub tokens : length facts.notes.items ≡ program.tokens
-  pub notes : (at : ℕ) (note : Note) → slice_get facts.notes.items at ≡ Some note → IsNote env program facts.kinds.items at note
-  pub distinct : (i j : ℕ) (kind : Kind) → slice_get facts.kinds.items i ≡ Some kind → slice_get facts.kinds.items j ≡ Some kind → i ≡ j
-  pub met : (number : ℕ) → number < length facts.kinds.items → (at : ℕ) × IsMetAt env program facts.notes.items number at
+  pub notes : (at : ℕ) (note : Note) → slice_get facts.notes.items at ≡ Some note
+      → IsNote env program facts.kinds.items at note
+  pub distinct : (i j : ℕ) (kind : Kind) → slice_get facts.kinds.items i ≡ Some kind
+      → slice_get facts.kinds.items j ≡ Some kind → i ≡ j
+  pub met : (number : ℕ) → number < length facts.kinds.items
+      → (at : ℕ) × IsMetAt env program facts.notes.items number at
 
 -- the facts of a program that keeps the rules
 pub record AreFacts (program : ProgramTree) (facts : Facts) : Type 0 where

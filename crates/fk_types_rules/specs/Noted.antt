@@ -18,15 +18,19 @@ optional_noted env None = []
 optional_noted env (Some tree) = noted env (term_of tree)
 
 abbrev pub declared_noted : Env → DeclaredTree → List Noted
-declared_noted env declared = note declared.name.at (option_map Stored (type_declared env.structs declared))
+declared_noted env declared =
+    note declared.name.at (option_map Stored (type_declared env.structs declared))
 
 -- the types in a piece, each by its token: those of its expressions at their main tokens, and of
 -- what it declares at its name; of a function that is what it gives
 abbrev pub piece_noted : Env → PieceTree → List Noted
-piece_noted env (p.FileVariable variable) = declared_noted env variable ++ optional_noted env variable.first
-piece_noted env (p.Variable variable) = declared_noted env variable ++ optional_noted env variable.first
+piece_noted env (p.FileVariable variable) =
+    declared_noted env variable ++ optional_noted env variable.first
+piece_noted env (p.Variable variable) =
+    declared_noted env variable ++ optional_noted env variable.first
 piece_noted env (p.Parameter parameter) = declared_noted env parameter
-piece_noted env (p.Header function) = note function.name.at (option_map result_of (type_spelled env.structs function.result None))
+piece_noted env (p.Header function) =
+    note function.name.at (option_map result_of (type_spelled env.structs function.result None))
 piece_noted env (p.Used role value) = noted env (term_of value)
 piece_noted env (p.Return result spot value) = optional_noted env value
 
@@ -36,13 +40,17 @@ pieces_noted env (x ∷ xs) = piece_noted env x ++ pieces_noted env xs
 
 -- the token of an index has a type
 abbrev pub HasTypeAt : Env → ProgramTree → ℕ → ExpressionType → Type 0
-HasTypeAt env program at type = Contains (pieces_noted env (pieces program)) (record { at = at; type = Some type })
+HasTypeAt env program at type =
+    Contains (pieces_noted env (pieces program)) (record { at = at; type = Some type })
 
 -- the type that a table has at a token
 abbrev pub type_at : List (Option ExpressionType) → ℕ → Option ExpressionType
 type_at types at = option_and_then (λ type. type) (slice_get types at)
 
 -- a table has the types of the tokens of a program
-pub record AreTypes (env : Env) (program : ProgramTree) (types : List (Option ExpressionType)) : Type 0 where
-  pub told : (at : ℕ) (type : ExpressionType) → type_at types at ≡ Some type → HasTypeAt env program at type
-  pub all : (at : ℕ) (type : ExpressionType) → HasTypeAt env program at type → type_at types at ≡ Some type
+pub record AreTypes (env : Env) (program : ProgramTree)
+    (types : List (Option ExpressionType)) : Type 0 where
+  pub told : (at : ℕ) (type : ExpressionType) → type_at types at ≡ Some type
+      → HasTypeAt env program at type
+  pub all : (at : ℕ) (type : ExpressionType) → HasTypeAt env program at type
+      → type_at types at ≡ Some type

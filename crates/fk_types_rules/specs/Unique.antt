@@ -15,4 +15,5 @@ TokensAreApart = (program : ProgramTree) → IsWellFormed program → AreTokensA
 -- a token has one type at most: a table in which each is noted has them all
 abbrev pub TablesHaveTypes : Type 0
 TablesHaveTypes = (env : Env) (program : ProgramTree) → IsWellFormed program
-    → AreTypes env program (fold with_note (replicate program.tokens None) (pieces_noted env (pieces program)))
+    → AreTypes env program
+    (fold with_note (replicate program.tokens None) (pieces_noted env (pieces program)))

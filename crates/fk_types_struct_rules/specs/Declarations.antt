@@ -12,7 +12,8 @@ use Rattle.fk_types_structs.specs.Sizes.{HasTypeWords}
 
 -- a type names a struct that is not declared, at its name
 abbrev pub NamesNoStruct : List StructTree → TypeTree → Place → Type 0
-NamesNoStruct structs type place = (name : Named) × (type.base ≡ t.Struct name) × (struct_named structs name.bytes ≡ None) × (place ≡ name.place)
+NamesNoStruct structs type place = (name : Named) × (type.base ≡ t.Struct name)
+    × (struct_named structs name.bytes ≡ None) × (place ≡ name.place)
 
 -- a type is `void`, and no pointer
 abbrev pub IsVoid : TypeTree → Type 0
@@ -24,7 +25,8 @@ IsStruct type = (name : Named) × (type.base ≡ t.Struct name) × (type.stars �
 
 -- the length of an array is 0 or above the limit
 abbrev pub HasWrongLength : DeclaredTree → Type 0
-HasWrongLength declared = (length : ℕ) × (declared.length ≡ Some length) × ((length ≡ 0) ⊎ (524288 < length))
+HasWrongLength declared = (length : ℕ) × (declared.length ≡ Some length)
+    × ((length ≡ 0) ⊎ (524288 < length))
 
 -- a type has more words than the limit
 abbrev pub IsTooLarge : List StructTree → DataType → Type 0
@@ -32,7 +34,8 @@ IsTooLarge structs type = (words : ℕ) × HasTypeWords structs type words × (5
 
 -- what is declared has such a type
 abbrev pub HasLargeType : List StructTree → DeclaredTree → Type 0
-HasLargeType structs declared = (type : DataType) × (type_declared structs declared ≡ Some type) × IsTooLarge structs type
+HasLargeType structs declared = (type : DataType) × (type_declared structs declared ≡ Some type)
+    × IsTooLarge structs type
 
 -- a fact, told at one place
 abbrev pub At : Place → Type 0 → Place → Type 0
@@ -43,16 +46,20 @@ abbrev pub DeclarationBreaks : List StructTree → DeclaredTree → Breaks
 DeclarationBreaks structs declared =
     either (only rules.NoStruct (NamesNoStruct structs declared.kind))
     (either (only rules.NoVariable (At declared.name.place (IsVoid declared.kind)))
-    (only rules.WrongSize (At declared.name.place (HasWrongLength declared ⊎ HasLargeType structs declared))))
+    (only rules.WrongSize
+    (At declared.name.place (HasWrongLength declared ⊎ HasLargeType structs declared))))
 
 -- what a parameter breaks: it is no struct either
 abbrev pub ParameterBreaks : List StructTree → DeclaredTree → Breaks
-ParameterBreaks structs parameter = either (DeclarationBreaks structs parameter) (only rules.NoVariable (At parameter.name.place (IsStruct parameter.kind)))
+ParameterBreaks structs parameter = either (DeclarationBreaks structs parameter)
+    (only rules.NoVariable (At parameter.name.place (IsStruct parameter.kind)))
 
 -- what the result of a function breaks by its type, told at the function's name
 abbrev pub ResultBreaks : List StructTree → TypeTree → Place → Breaks
-ResultBreaks structs type here = either (only rules.NoStruct (NamesNoStruct structs type)) (only rules.NoVariable (At here (IsStruct type)))
+ResultBreaks structs type here = either (only rules.NoStruct (NamesNoStruct structs type))
+    (only rules.NoVariable (At here (IsStruct type)))
 
 -- what a `sizeof` breaks by its type
 abbrev pub SizeofBreaks : List StructTree → TypeTree → Place → Breaks
-SizeofBreaks structs type here = either (only rules.NoStruct (NamesNoStruct structs type)) (only rules.NoVariable (At here (IsVoid type)))
+SizeofBreaks structs type here = either (only rules.NoStruct (NamesNoStruct structs type))
+    (only rules.NoVariable (At here (IsVoid type)))

@@ -10,10 +10,12 @@ use Rattle.fk_types_struct_rules.specs.Structs.{held_at, Holds}
 -- the structs that the first members of a struct hold
 pub record AreHeld (structs : List StructTree) (index count : ℕ) (held : List ℕ) : Type 0 where
   pub told : (other : ℕ) → Contains held other → Holds structs index other
-  pub all : (place other : ℕ) → place < count → held_at structs index place ≡ Some other → Contains held other
+  pub all : (place other : ℕ) → place < count → held_at structs index place ≡ Some other
+      → Contains held other
 
 -- the structs that each of the first structs holds
-pub record AreFirstEdges (structs : List StructTree) (count : ℕ) (graph : List (Vec ℕ Global)) : Type 0 where
+pub record AreFirstEdges (structs : List StructTree) (count : ℕ)
+    (graph : List (Vec ℕ Global)) : Type 0 where
   pub same_length : length graph ≡ count
   pub told : (a b : ℕ) → HasEdge graph a b → Holds structs a b
   pub all : (a b : ℕ) → a < count → Holds structs a b → HasEdge graph a b

@@ -22,7 +22,8 @@ held_by root stars = None
 
 -- the struct that a member is, or that it is an array of
 abbrev pub held_at : List StructTree → ℕ → ℕ → Option ℕ
-held_at structs index place = option_and_then (λ (type : DataType). held_by type.root type.stars) (member_type structs index place)
+held_at structs index place = option_and_then (λ (type : DataType). held_by type.root type.stars)
+    (member_type structs index place)
 
 -- a struct holds another by one of its members
 abbrev pub Holds : List StructTree → ℕ → ℕ → Type 0
@@ -34,11 +35,13 @@ HoldsItself structs index = LeadsTo (Holds structs) index index
 
 -- a struct is declared again: its name means an earlier one
 abbrev pub IsSecondStruct : List StructTree → ℕ → StructTree → Type 0
-IsSecondStruct structs index s = (earlier : ℕ) × (struct_named structs s.name.bytes ≡ Some earlier) × (earlier < index)
+IsSecondStruct structs index s = (earlier : ℕ) × (struct_named structs s.name.bytes ≡ Some earlier)
+    × (earlier < index)
 
 -- a member is declared again: its name means an earlier one of its struct
 abbrev pub IsSecondMember : List StructTree → ℕ → ℕ → DeclaredTree → Type 0
-IsSecondMember structs index place member = (earlier : ℕ) × (member_named structs index member.name.bytes ≡ Some earlier) × (earlier < place)
+IsSecondMember structs index place member = (earlier : ℕ)
+    × (member_named structs index member.name.bytes ≡ Some earlier) × (earlier < place)
 
 -- what a struct breaks by its name and its words, told at its name
 abbrev pub NameBreaks : List StructTree → ℕ → StructTree → Breaks
@@ -48,11 +51,14 @@ NameBreaks structs index s =
 
 -- what a member breaks
 abbrev pub MemberBreaks : List StructTree → ℕ → ℕ → DeclaredTree → Breaks
-MemberBreaks structs index place member = either (only rules.DeclaredTwice (At member.name.place (IsSecondMember structs index place member))) (DeclarationBreaks structs member)
+MemberBreaks structs index place member = either
+    (only rules.DeclaredTwice (At member.name.place (IsSecondMember structs index place member)))
+    (DeclarationBreaks structs member)
 
 -- what a struct breaks by its name, its words and its members
 abbrev pub StructBreaks : List StructTree → ℕ → StructTree → Breaks
-StructBreaks structs index s = either (NameBreaks structs index s) (among (MemberBreaks structs index) s.members)
+StructBreaks structs index s =
+    either (NameBreaks structs index s) (among (MemberBreaks structs index) s.members)
 
 -- what a struct breaks that holds itself, told at its name
 abbrev pub HoldingBreaks : List StructTree → ℕ → StructTree → Breaks
@@ -60,4 +66,5 @@ HoldingBreaks structs index s = only rules.NoStruct (At s.name.place (HoldsItsel
 
 -- what the structs of a text break where they are declared
 abbrev pub StructsBreak : List StructTree → Breaks
-StructsBreak structs = either (among (HoldingBreaks structs) structs) (among (StructBreaks structs) structs)
+StructsBreak structs =
+    either (among (HoldingBreaks structs) structs) (among (StructBreaks structs) structs)

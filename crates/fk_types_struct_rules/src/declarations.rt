@@ -1,5 +1,5 @@
-//! The rules about types where they are written: of a variable, a member, a parameter, a result or in
-//! `sizeof`.
+//! The rules about types where they are written: of a variable, a member, a parameter, a
+//! result or in `sizeof`.
 
 ghost use Rattle.std.specs.Prelude.{◌≡◌, ◌↔◌, ◌⊎◌, IsTrue};
 ghost use Rattle.fk_syntax.specs.View.{type_of};
@@ -7,7 +7,10 @@ ghost use Rattle.fk_syntax.specs.ProgramView.{declared_of};
 ghost use Rattle.fk_check_rules.specs.declared.rule.Rule.TheVariants as rules;
 ghost use Rattle.fk_check_rules.specs.Least.{IsLeast, only};
 ghost use Rattle.fk_types_structs.specs.Whole.{structs_in, IsSound};
-ghost use Rattle.fk_types_struct_rules.specs.Declarations.{NamesNoStruct, IsVoid, HasWrongLength, IsTooLarge, HasLargeType, IsStruct, At, DeclarationBreaks, ParameterBreaks, ResultBreaks, SizeofBreaks};
+ghost use Rattle.fk_types_struct_rules.specs.Declarations.{NamesNoStruct, IsVoid, HasWrongLength};
+ghost use Rattle.fk_types_struct_rules.specs.Declarations.{IsTooLarge, HasLargeType, IsStruct, At};
+ghost use Rattle.fk_types_struct_rules.specs.Declarations.{DeclarationBreaks, ParameterBreaks};
+ghost use Rattle.fk_types_struct_rules.specs.Declarations.{ResultBreaks, SizeofBreaks};
 
 use fk_check_rules::{Fault, Rule, first_of};
 use fk_syntax::{Base, Declared, Place, TypeName};
@@ -132,7 +135,8 @@ fn wrong_size(structs: &Structs, declared: &Declared) -> Option<Fault>
 /// `void`, or a wrong length or size.
 pub fn declaration_fault(structs: &Structs, declared: &Declared) -> Option<Fault>
     requires { IsSound structs.now }
-    ensures { IsLeast (DeclarationBreaks (structs_in structs.now) (declared_of declared.now)) result }
+    ensures { IsLeast
+        (DeclarationBreaks (structs_in structs.now) (declared_of declared.now)) result }
 {
     let size = wrong_size(structs, declared);
     let later = first_of(void(&declared.kind, declared.name.place), size);
@@ -142,7 +146,8 @@ pub fn declaration_fault(structs: &Structs, declared: &Declared) -> Option<Fault
 /// The first that a parameter breaks by its type alone: what any declaration breaks, and a struct.
 pub fn parameter_fault(structs: &Structs, parameter: &Declared) -> Option<Fault>
     requires { IsSound structs.now }
-    ensures { IsLeast (ParameterBreaks (structs_in structs.now) (declared_of parameter.now)) result }
+    ensures { IsLeast
+        (ParameterBreaks (structs_in structs.now) (declared_of parameter.now)) result }
 {
     let whole = whole_struct(&parameter.kind, parameter.name.place);
     first_of(declaration_fault(structs, parameter), whole)

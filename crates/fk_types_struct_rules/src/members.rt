@@ -5,7 +5,8 @@ ghost use Rattle.fk_syntax.specs.ProgramView.{declared_of};
 ghost use Rattle.fk_check_rules.specs.Least.{IsLeast, among};
 ghost use Rattle.fk_types_structs.specs.View.{outline_tree};
 ghost use Rattle.fk_types_structs.specs.Whole.{structs_in, IsSound};
-ghost use Rattle.fk_types_struct_rules.specs.Structs.{IsSecondStruct, IsSecondMember, NameBreaks, MemberBreaks, StructBreaks};
+ghost use Rattle.fk_types_struct_rules.specs.Structs.{IsSecondStruct, IsSecondMember, NameBreaks};
+ghost use Rattle.fk_types_struct_rules.specs.Structs.{MemberBreaks, StructBreaks};
 
 use crate::declarations::{declaration_fault, is_too_large};
 use fk_check_rules::{Fault, Rule, fault_if, first_of};

@@ -6,4 +6,5 @@ use Rattle.fk_types_structs.specs.Sizes.{HasTypeWords}
 
 -- a type has at most one number of words
 abbrev pub HasOneSize : Type 0
-HasOneSize = (structs : List StructTree) (type : DataType) (m n : ℕ) → HasTypeWords structs type m → HasTypeWords structs type n → m ≡ n
+HasOneSize = (structs : List StructTree) (type : DataType) (m n : ℕ) → HasTypeWords structs type m
+    → HasTypeWords structs type n → m ≡ n

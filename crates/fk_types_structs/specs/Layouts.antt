@@ -7,14 +7,16 @@ use Rattle.fk_types_structs.specs.Table.{AreOffsets}
 use Rattle.fk_types_structs.specs.View.{Finds}
 
 -- a layout is that of a struct
-pub record IsLayout (sizes : Sizes) (structs : List StructTree) (s : StructTree) (layout : Layout) : Type 0 where
+pub record IsLayout (sizes : Sizes) (structs : List StructTree) (s : StructTree)
+    (layout : Layout) : Type 0 where
   pub places : Finds layout.places.entries (member_names s.members)
   pub offsets : AreOffsets sizes (member_types structs s) layout.offsets.items
 
 -- layouts are those of the first structs
 abbrev pub AreFirstLayouts : Sizes → List StructTree → ℕ → List Layout → Type 0
 AreFirstLayouts sizes structs count layouts = (length layouts ≡ count)
-    × ((index : ℕ) (layout : Layout) (s : StructTree) → index < count → slice_get layouts index ≡ Some layout → slice_get structs index ≡ Some s → IsLayout sizes structs s layout)
+    × ((index : ℕ) (layout : Layout) (s : StructTree) → index < count → slice_get layouts index
+    ≡ Some layout → slice_get structs index ≡ Some s → IsLayout sizes structs s layout)
 
 abbrev pub AreLayouts : Sizes → List StructTree → List Layout → Type 0
 AreLayouts sizes structs layouts = AreFirstLayouts sizes structs (length structs) layouts

@@ -6,9 +6,12 @@ use Rattle.fk_types_structs.specs.Words.{type_words, total_words, words_within}
 
 -- a type has words
 abbrev pub HasTypeWords : List StructTree → DataType → ℕ → Type 0
-HasTypeWords structs type words = (depth : ℕ) × (type_words (words_within depth (all_types structs)) type ≡ Some words)
+HasTypeWords structs type words = (depth : ℕ)
+    × (type_words (words_within depth (all_types structs)) type ≡ Some words)
 
 -- the members before a place have words
 abbrev pub HasOffset : List StructTree → ℕ → ℕ → ℕ → Type 0
-HasOffset structs index place words = (s : StructTree) × (slice_get structs index ≡ Some s) × (place < length s.members)
-    × ((depth : ℕ) × (total_words (words_within depth (all_types structs)) (take place (member_types structs s)) ≡ Some words))
+HasOffset structs index place words = (s : StructTree) × (slice_get structs index ≡ Some s)
+    × (place < length s.members)
+    × ((depth : ℕ) × (total_words (words_within depth (all_types structs))
+    (take place (member_types structs s)) ≡ Some words))

@@ -1,5 +1,6 @@
 -- A table of the words of structs.
-use Rattle.std.specs.Prelude.{◌≡◌, ℕ, ◌<◌, List, Option, Some, None, map, length, slice_get, slice_set, take, Vec}
+use Rattle.std.specs.Prelude.{◌≡◌, ℕ, ◌<◌, List, Option, Some, None, map, length, slice_get}
+use Rattle.std.specs.Prelude.{slice_set, take, Vec}
 use Rattle.std.specs.Option.{option_map, option_and_then}
 use Rattle.std.specs.declared.alloc.Global.{Global}
 use Rattle.fk_types_structs.specs.declared.types.DataType.{DataType}
@@ -14,20 +15,25 @@ types_of structs = map (λ (v : Vec (Option DataType) Global). v.items) structs
 
 -- what the table gives for a struct are its words
 abbrev pub AreFound : List (List (Option DataType)) → List (Option ℕ) → Type 0
-AreFound structs table = (index words : ℕ) → sizes_of table index ≡ Some words → (exact : ℕ) × HasWords structs index exact × (words ≡ capped exact)
+AreFound structs table = (index words : ℕ) → sizes_of table index ≡ Some words
+    → (exact : ℕ) × HasWords structs index exact × (words ≡ capped exact)
 
 -- where the table has none for a struct, none come from what it has for others
 abbrev pub AreStuck : List (List (Option DataType)) → List (Option ℕ) → Type 0
-AreStuck structs table = (index : ℕ) → index < length structs → sizes_of table index ≡ None → option_and_then (total_words (sizes_of table)) (slice_get structs index) ≡ None
+AreStuck structs table = (index : ℕ) → index < length structs → sizes_of table index ≡ None
+    → option_and_then (total_words (sizes_of table)) (slice_get structs index) ≡ None
 
 -- the table has the words of each struct, where it has any
-pub record AreWords (structs : List (List (Option DataType))) (table : List (Option ℕ)) : Type 0 where
+pub record AreWords (structs : List (List (Option DataType)))
+    (table : List (Option ℕ)) : Type 0 where
   pub same_length : length table ≡ length structs
   pub found : AreFound structs table
-  pub none : (index : ℕ) → sizes_of table index ≡ None → (exact : ℕ) → ¬ HasWords structs index exact
+  pub none : (index : ℕ) → sizes_of table index ≡ None → (exact : ℕ)
+      → ¬ HasWords structs index exact
 
 -- a struct gets its words from what the table has for others
-pub record Settles (before after : List (Option ℕ)) (index : ℕ) (types : List (Option DataType)) : Type 0 where
+pub record Settles (before after : List (Option ℕ)) (index : ℕ)
+    (types : List (Option DataType)) : Type 0 where
   pub words : ℕ
   pub were_none : sizes_of before index ≡ None
   pub are_total : total_words (sizes_of before) types ≡ Some words
@@ -36,7 +42,8 @@ pub record Settles (before after : List (Option ℕ)) (index : ℕ) (types : Lis
 -- the words before each of the first types
 abbrev pub AreFirstOffsets : Sizes → List (Option DataType) → ℕ → List (Option ℕ) → Type 0
 AreFirstOffsets sizes types count offsets = (length offsets ≡ count)
-    × ((place : ℕ) → place < count → slice_get offsets place ≡ Some (option_map capped (total_words sizes (take place types))))
+    × ((place : ℕ) → place < count
+    → slice_get offsets place ≡ Some (option_map capped (total_words sizes (take place types))))
 
 -- and before each of all
 abbrev pub AreOffsets : Sizes → List (Option DataType) → List (Option ℕ) → Type 0

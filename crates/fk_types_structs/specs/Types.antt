@@ -1,5 +1,6 @@
 -- Types, and what a type's words spell.
-use Rattle.std.specs.Prelude.{ℕ, suc, List, [], ◌∷◌, Option, Some, None, map, nat_eq, if◌then◌else◌, slice_get}
+use Rattle.std.specs.Prelude.{ℕ, suc, List, [], ◌∷◌, Option, Some, None, map, nat_eq, if◌then◌else◌}
+use Rattle.std.specs.Prelude.{slice_get}
 use Rattle.std.specs.Option.{option_map, option_and_then}
 use Rattle.std.specs.Cmp.Lexicographic.{pointwise}
 use Rattle.fk_syntax.specs.Tree.{Named, BaseType, TypeTree}
@@ -13,7 +14,8 @@ use Rattle.fk_types_structs.specs.declared.types.DataType.{DataType}
 -- the first place of a text among others
 abbrev pub first_of : List ℕ → List (List ℕ) → Option ℕ
 first_of text [] = None
-first_of text (name ∷ names) = if pointwise nat_eq text name then Some 0 else option_map suc (first_of text names)
+first_of text (name ∷ names) = if pointwise nat_eq text name then Some 0
+    else option_map suc (first_of text names)
 
 -- a struct as it is declared
 pub record StructTree : Type 0 where
@@ -23,7 +25,8 @@ pub record StructTree : Type 0 where
 -- the structs of a text, in the order of their declarations
 abbrev pub structs_of : List ItemTree → List StructTree
 structs_of [] = []
-structs_of (p.StructItem name members ∷ items) = record { name = name; members = members } ∷ structs_of items
+structs_of (p.StructItem name members ∷ items) =
+    record { name = name; members = members } ∷ structs_of items
 structs_of (item ∷ items) = structs_of items
 
 abbrev pub names_of : List StructTree → List (List ℕ)
@@ -44,7 +47,8 @@ root_of structs (t.Struct name) = option_map r.Struct (struct_named structs name
 
 -- a type with a length or none; there is none where its struct is not declared
 abbrev pub type_spelled : List StructTree → TypeTree → Option ℕ → Option DataType
-type_spelled structs tree length = option_map (λ (root : Root). record { root = root; stars = tree.stars; length = length }) (root_of structs tree.base)
+type_spelled structs tree length = option_map (λ (root : Root).
+    record { root = root; stars = tree.stars; length = length }) (root_of structs tree.base)
 
 -- the type of what is declared
 abbrev pub type_declared : List StructTree → DeclaredTree → Option DataType
@@ -60,8 +64,10 @@ all_types structs = map (member_types structs) structs
 
 -- the place of a member among those of its struct: of several of the name it is the first
 abbrev pub member_named : List StructTree → ℕ → List ℕ → Option ℕ
-member_named structs index text = option_and_then (λ (s : StructTree). first_of text (member_names s.members)) (slice_get structs index)
+member_named structs index text = option_and_then
+    (λ (s : StructTree). first_of text (member_names s.members)) (slice_get structs index)
 
 -- the type of the member at a place
 abbrev pub member_type : List StructTree → ℕ → ℕ → Option DataType
-member_type structs index place = option_and_then (λ (s : StructTree). option_and_then (type_declared structs) (slice_get s.members place)) (slice_get structs index)
+member_type structs index place = option_and_then (λ (s : StructTree).
+    option_and_then (type_declared structs) (slice_get s.members place)) (slice_get structs index)

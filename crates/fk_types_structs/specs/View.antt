@@ -9,8 +9,10 @@ use Rattle.fk_types_structs.specs.declared.outline.Outline.{Outline}
 use Rattle.fk_types_structs.specs.Types.{StructTree, first_of}
 
 abbrev pub outline_tree : Outline → StructTree
-outline_tree outline = record { name = named outline.name; members = map declared_of outline.members.now }
+outline_tree outline =
+    record { name = named outline.name; members = map declared_of outline.members.now }
 
 -- a table tells where each text stands first among names
 abbrev pub Finds : List (Bor (List ℕ) × ℕ) → List (List ℕ) → Type 0
-Finds entries names = (text : List ℕ) → lookup (λ name. pointwise nat_eq text name.now) entries ≡ first_of text names
+Finds entries names = (text : List ℕ)
+    → lookup (λ name. pointwise nat_eq text name.now) entries ≡ first_of text names

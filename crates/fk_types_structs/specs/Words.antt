@@ -1,5 +1,6 @@
 -- How many words a type takes.
-use Rattle.std.specs.Prelude.{◌≡◌, ℕ, zero, suc, ◌+◌, ◌*◌, List, [], ◌∷◌, Option, Some, None, unwrap_or, slice_get, min}
+use Rattle.std.specs.Prelude.{◌≡◌, ℕ, zero, suc, ◌+◌, ◌*◌, List, [], ◌∷◌, Option, Some, None}
+use Rattle.std.specs.Prelude.{unwrap_or, slice_get, min}
 use Rattle.std.specs.Option.{option_map, option_and_then}
 use Rattle.fk_types_structs.specs.declared.types.Root.{Root}
 use Rattle.fk_types_structs.specs.declared.types.Root.TheVariants as r
@@ -23,7 +24,8 @@ element_words sizes root (suc stars) = Some 1
 
 -- an array takes the words of its elements
 abbrev pub type_words : Sizes → DataType → Option ℕ
-type_words sizes type = option_map (λ n. n * unwrap_or type.length 1) (element_words sizes type.root type.stars)
+type_words sizes type =
+    option_map (λ n. n * unwrap_or type.length 1) (element_words sizes type.root type.stars)
 
 -- a sum, where both are there
 abbrev pub plus : Option ℕ → Option ℕ → Option ℕ
@@ -33,12 +35,14 @@ plus _ _ = None
 -- the words of types one after the other. Where one of them has none, all have none
 abbrev pub total_words : Sizes → List (Option DataType) → Option ℕ
 total_words sizes [] = Some 0
-total_words sizes (type ∷ types) = plus (option_and_then (type_words sizes) type) (total_words sizes types)
+total_words sizes (type ∷ types) =
+    plus (option_and_then (type_words sizes) type) (total_words sizes types)
 
 -- the words of a struct that lie at most so deep: the members of a struct lie one deeper than it
 abbrev pub words_within : ℕ → List (List (Option DataType)) → Sizes
 words_within zero structs index = None
-words_within (suc depth) structs index = option_and_then (total_words (words_within depth structs)) (slice_get structs index)
+words_within (suc depth) structs index =
+    option_and_then (total_words (words_within depth structs)) (slice_get structs index)
 
 -- a struct has words. One that holds itself has none, at whatever depth
 abbrev pub HasWords : List (List (Option DataType)) → ℕ → ℕ → Type 0

@@ -3,7 +3,8 @@
 ghost use Rattle.std.specs.Prelude.{◌≡◌, List, map, IfOk};
 ghost use Rattle.fk_syntax.specs.View.{base_of, type_of};
 ghost use Rattle.fk_syntax.specs.ProgramView.{declared_of};
-ghost use Rattle.fk_types_structs.specs.Types.{StructTree, names_of, root_of, type_spelled, type_declared, all_types};
+ghost use Rattle.fk_types_structs.specs.Types.{StructTree, names_of, root_of, type_spelled};
+ghost use Rattle.fk_types_structs.specs.Types.{type_declared, all_types};
 ghost use Rattle.fk_types_structs.specs.Table.{types_of};
 ghost use Rattle.fk_types_structs.specs.View.{outline_tree, Finds};
 

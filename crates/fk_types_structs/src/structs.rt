@@ -3,7 +3,8 @@
 ghost use Rattle.std.specs.Prelude.{◌≡◌, ◌↔◌, ℕ, map, length, IsTrue, IfOk, IfSome, IsNone};
 ghost use Rattle.fk_syntax.specs.View.{type_of as tree_of_type};
 ghost use Rattle.fk_syntax.specs.ProgramView.{item_of};
-ghost use Rattle.fk_types_structs.specs.Types.{structs_of, struct_named, type_spelled, member_named, member_type};
+ghost use Rattle.fk_types_structs.specs.Types.{structs_of, struct_named, type_spelled};
+ghost use Rattle.fk_types_structs.specs.Types.{member_named, member_type};
 ghost use Rattle.fk_types_structs.specs.Words.{capped};
 ghost use Rattle.fk_types_structs.specs.View.{outline_tree};
 ghost use Rattle.fk_types_structs.specs.Sizes.{HasTypeWords, HasOffset};
@@ -31,7 +32,8 @@ pub struct Structs<'p, 'a> {
 impl<'p, 'a> Structs<'p, 'a> {
     /// The structs that some items declare. Fails only for want of memory.
     pub fn new(alloc: Global, items: &'p [Item<'a>]) -> Result<Self, AllocError>
-        ensures structs { IfOk result (λ kept. structs_in kept ≡ structs_of (map item_of items.now)) }
+        ensures structs { IfOk result
+            (λ kept. structs_in kept ≡ structs_of (map item_of items.now)) }
         ensures sound { IfOk result IsSound }
     {
         let outlines = outlines(alloc, items)?;
@@ -91,8 +93,10 @@ impl<'p, 'a> Structs<'p, 'a> {
     pub fn words(&self, kind: &DataType) -> Option<u32>
         requires { IsSound self.now }
         ensures some { IfSome result
-            (λ words. (exact : ℕ) × HasTypeWords (structs_in self.now) kind.now exact × (words ≡ capped exact)) }
-        ensures none { IsNone result → (exact : ℕ) → ¬ HasTypeWords (structs_in self.now) kind.now exact }
+            (λ words. (exact : ℕ) × HasTypeWords (structs_in self.now) kind.now exact
+            × (words ≡ capped exact)) }
+        ensures none { IsNone result → (exact : ℕ)
+            → ¬ HasTypeWords (structs_in self.now) kind.now exact }
     {
         type_words(&self.sizes, kind)
     }
@@ -120,8 +124,10 @@ impl<'p, 'a> Structs<'p, 'a> {
     pub fn offset(&self, index: usize, place: usize) -> Option<u32>
         requires { IsSound self.now }
         ensures some { IfSome result
-            (λ words. (exact : ℕ) × HasOffset (structs_in self.now) index place exact × (words ≡ capped exact)) }
-        ensures none { IsNone result → (exact : ℕ) → ¬ HasOffset (structs_in self.now) index place exact }
+            (λ words. (exact : ℕ) × HasOffset (structs_in self.now) index place exact
+            × (words ≡ capped exact)) }
+        ensures none { IsNone result → (exact : ℕ)
+            → ¬ HasOffset (structs_in self.now) index place exact }
     {
         let layout = self.layouts.get(index)?;
         layout.offsets.get(place).copied().flatten()

@@ -3,8 +3,10 @@
 ghost use Rattle.std.specs.Prelude.{◌≡◌, ◌<◌, None, length, All, count_by, is_none, IfOk};
 ghost use Rattle.std.specs.Bool.{OnTrue, OnFalse};
 ghost use Rattle.std.specs.Option.{option_map, option_and_then};
-ghost use Rattle.fk_types_structs.specs.Words.{element_words, type_words, plus, total_words, capped};
-ghost use Rattle.fk_types_structs.specs.Table.{sizes_of, types_of, AreFound, AreStuck, AreWords, AreOffsets, Settles};
+ghost use Rattle.fk_types_structs.specs.Words.{element_words, type_words, plus, total_words};
+ghost use Rattle.fk_types_structs.specs.Words.{capped};
+ghost use Rattle.fk_types_structs.specs.Table.{sizes_of, types_of, AreFound, AreStuck, AreWords};
+ghost use Rattle.fk_types_structs.specs.Table.{AreOffsets, Settles};
 
 use crate::order::order;
 use crate::types::{DataType, Root};

@@ -5,8 +5,8 @@ ghost use Rattle.fk_asm.specs.Listing.{register};
 ghost use Rattle.fk_asm.specs.View.{text};
 ghost use Rattle.fk_isa.specs.Fits.{IsRegister};
 
-/// The names that the registers have in calls (RISC-V Unprivileged ISA, "RISC-V Assembly Programmer's
-/// Handbook").
+/// The names that the registers have in calls (RISC-V Unprivileged ISA, "RISC-V Assembly
+/// Programmer's Handbook").
 const NAMES: [&[u8]; 32] = [
     b"zero", b"ra", b"sp", b"gp", b"tp", b"t0", b"t1", b"t2", b"s0", b"s1", b"a0", b"a1", b"a2",
     b"a3", b"a4", b"a5", b"a6", b"a7", b"s2", b"s3", b"s4", b"s5", b"s6", b"s7", b"s8", b"s9",

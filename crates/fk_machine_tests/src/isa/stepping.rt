@@ -4,7 +4,8 @@ ghost use Rattle.std.specs.Prelude.{◌<◌};
 use fk_isa::{Effect, FlatMemory, Hart, decode, step};
 use std::process::Abort;
 
-// Of the suite rv32um of riscv-tests: a word with rd x3, rs1 x1 and rs2 x2, their words, and that of rd.
+// Of the suite rv32um of riscv-tests: a word with rd x3, rs1 x1 and rs2 x2, their
+// words, and that of rd.
 const PRODUCTS: [(u32, u32, u32, u32); 16] = [
     (0x0220_81b3, 0xaaaa_aaab, 0x0002_fe7d, 0x0000_ff7f), // mul
     (0x0220_81b3, 0xffff_ffff, 0xffff_ffff, 0x0000_0001),
