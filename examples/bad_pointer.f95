@@ -6,10 +6,11 @@
    pointers from the first node and prints the value it comes to, 10 20 30 40. Processor 4 comes to 0,
    and to use that is a fault. The run ends at once with status 6 and the report
 
-       fault BadAddress at 31:14 by processor 4 after T cycles
+       fault BadAddress at 32:14 by processor 4 after T cycles
 
-   where 31:14 is the place of the -> in the last putint. Each use of a pointer is checked so, before
+   where 32:14 is the place of the -> in the last putint. Each use of a pointer is checked so, before
    anything is read or written. */
+#include <fork.h>
 #include <io.h>
 
 struct Node {

@@ -6,8 +6,8 @@
    A task is an input number: how many numbers below it divide it? In the farm the members run apart,
    since some tasks take longer. Behind it they are one group again, in one cycle: so no flag or count
    is needed to know that all answers are there. A seq lets one member print while the others wait: the
-   most divisors that a number has, 29 (of 1008), and how many of the numbers have only one: they are
-   prime, and there are 7. */
+   most divisors that a number has, 29 (of 1008), and the first number that has so many, 1008. A farm
+   takes 12 cycles beside its body. */
 #include <fork.h>
 #include <io.h>
 
@@ -28,13 +28,11 @@ void main(void) {
       while ((task = mpadd(&next, 1)) < __inputs) divisors[task] = count(__input[task]);
     }
     seq {
-      int task, most = 0, primes = 0;
-      for (task = 0; task < __inputs; task++) {
-        if (divisors[task] > most) most = divisors[task];
-        if (divisors[task] == 1) primes++;
-      }
-      putint(most);
-      putint(primes);
+      int task, best = 0;
+      for (task = 0; task < __inputs; task++)
+        if (divisors[task] > divisors[best]) best = task;
+      putint(divisors[best]);
+      putint(__input[best]);
     }
   }
 }

@@ -13,6 +13,7 @@
        1.....
        55555.
        666666 */
+#include <fork.h>
 #include <io.h>
 
 sh int size[40];

@@ -4,6 +4,7 @@
 
    All 1,024 processors read count in one cycle, add 1, and write the same value in another. After
    three updates each, every one of them prints 3: 3,069 updates of 3,072 are lost. */
+#include <fork.h>
 #include <io.h>
 
 sh int count;

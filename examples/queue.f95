@@ -5,13 +5,12 @@
    The input numbers are the tasks: how many steps does each take to reach 1, where an even number is
    halved and an odd one goes to 3n + 1? next is the first task that nobody has taken, and mpadd takes
    it in one step, so that no task is done twice. Long tasks keep one processor busy while the others
-   go on. When all tasks are done, processor 0 prints the answers in their order, here 111 118 261 0 1
+   go on, and wait at the barrier when no task is left. Then processor 0 prints the answers in their order, here 111 118 261 0 1
    7 2 5 8 16, and each processor how many tasks it did. */
 #include <fork.h>
 #include <io.h>
 
 sh int next;
-sh int done;
 sh int answers[1000];
 sh int did[1024];
 
@@ -30,9 +29,8 @@ void main(void) {
     answers[task] = steps(__input[task]);
     did[__PROC_NR__]++;
   }
-  mpadd(&done, 1);
+  barrier;
   if (__PROC_NR__ == 0) {
-    while (done < __STARTED_PROCS__) ;
     for (i = 0; i < __inputs && i < 1000; i++) putint(answers[i]);
     puts("tasks of each processor:\n");
     for (i = 0; i < __STARTED_PROCS__; i++) putint(did[i]);

@@ -16,6 +16,7 @@
    number is pushed by three instructions. The value list stands at the end of the call's frame, which
    s1 points to, in the hart's own memory at 0x20000000, and putint is a store to the device at
    0x30000000. */
+#include <fork.h>
 #include <io.h>
 
 sh int small;

@@ -6,6 +6,7 @@
    group, g is in the group, in lockstep, s runs a seq, f a farm, b waits at a barrier, e at the end of
    a farm. From time to time one of them copies all letters into the next row of the picture, and at
    the end processor 0 prints it. */
+#include <fork.h>
 #include <io.h>
 
 sh int letter[8];

@@ -1,0 +1,129 @@
+# What ./fork95 adds on a terminal. It is read by that script, and changes no byte of the program's own.
+
+usage() {
+    cat <<'END'
+Usage:
+  fork95 run FILE --harts P --cycles N [--show NAME]   compile and run, input from standard input
+  fork95 build FILE -o IMAGE                           compile to an image
+  fork95 exec IMAGE --harts P --cycles N               run an image
+  fork95 list IMAGE                                    print an image's code
+  fork95 explain RULE|NAME                             explain a rule (1 to 40) or the name in a report
+
+P is 1 to 1024, N is 0 to 4294967295. Give no input by </dev/null.
+The first call proves and builds the program. docs/COMMANDS.md has all options, statuses and reports.
+END
+}
+
+# The row of the table for a rule's number or a name.
+row_of() {
+    awk -F '\t' -v key="$1" '$1 == key { print; found = 1 } END { exit !found }' "$here/tools/explain.tsv"
+}
+
+# Prints what is broken and what to do.
+explain() {
+    local key what todo
+    IFS=$'\t' read -r key what todo < <(row_of "$1") || return 1
+    if [[ $key =~ ^[0-9]+$ ]]; then echo "Rule $key is broken where: $what."; else echo "$key: $what"; fi
+    echo "$todo"
+}
+
+# The file that the command's words name.
+file_of() {
+    local word takes=
+    shift
+    while [ $# -gt 0 ]; do
+        word=$1
+        shift
+        if [ -n "$takes" ]; then takes=; continue; fi
+        case $word in
+            --) echo "${1-}"; return ;;
+            --harts | --cycles | --show | -o) takes=1 ;;
+            -) echo - ; return ;;
+            -*) ;;
+            *) echo "$word"; return ;;
+        esac
+    done
+}
+
+# Prints a line of the source with a caret below a column, which counts bytes.
+show_place() {
+    local file=$1 line=$2 column=$3 text
+    [ -f "$file" ] && text=$(LC_ALL=C sed -n "${line}{p;q}" "$file" | tr -d '\000') && [ -n "$text" ] || return 0
+    printf '%5s | %s\n' "$line" "$text"
+    printf '      | %s^\n' "$(printf '%s' "$text" | LC_ALL=C cut -b "1-$((column - 1))" 2>/dev/null | LC_ALL=C sed 's/[^\t]/ /g')"
+}
+
+# Says more of a word that C has and the language hasn't.
+hint_at() {
+    local text
+    text=$(LC_ALL=C sed -n "${2}{p;q}" "$1" 2>/dev/null | LC_ALL=C cut -b "$3-" | tr -d '\000')
+    case $text in
+        '#define'*) echo "There is no preprocessor: use a variable for a constant, a function for a macro." ;;
+        '#include "'*) echo 'Only #include <fork.h> and #include <io.h> are known.' ;;
+        '#'*) echo "There is no preprocessor." ;;
+        printf* | pprintf*) echo "Use putint, putchar or puts." ;;
+        char* | float* | double* | long* | short*) echo "The types are int and unsigned, of 32 bits." ;;
+        int* | unsigned*) echo "A declaration is a statement of its own: none stands inside for or an expression." ;;
+        *) ;;
+    esac
+    if LC_ALL=C grep -q '^[^ -~	]' <<<"$text"; then echo "A byte outside ASCII may stand in comments alone."; fi
+}
+
+# Helps with a report of the program: its last line on standard error.
+help_with() {
+    local report=$1 status=$2 file name line column
+    shift 2
+    file=$(file_of "$@")
+    if [[ $report =~ ^(refused|fault)\ ([0-9]+\ )?([A-Za-z]+)(\ [0-9]+)?\ at\ ([0-9]+):([0-9]+) ]]; then
+        name=${BASH_REMATCH[3]} line=${BASH_REMATCH[5]} column=${BASH_REMATCH[6]}
+        if [ "$name" = Rule ]; then name=${BASH_REMATCH[4]# }; fi
+        show_place "$file" "$line" "$column"
+        explain "$name"
+        case $name in BadByte | Unexpected | 1) hint_at "$file" "$line" "$column" ;; esac
+    elif [[ $report =~ ^refused\ [0-9]+\ ([A-Za-z]+) ]]; then
+        explain "${BASH_REMATCH[1]}"
+    elif [[ $report =~ ^stopped\ after ]]; then
+        explain stopped
+    elif [ "$report" = "refused command line" ]; then
+        help_with_words "$@"
+    elif [ "$status" = 3 ]; then
+        if [ -e "$file" ]; then echo "$file or standard input could not be read."; else echo "There is no file $file."; fi
+    elif [ "$status" = 4 ]; then
+        echo "A file or an output could not be written."
+    elif [ "$status" = 5 ]; then
+        echo "There is not enough memory: a run takes 8 MiB, and 128 KiB for each hart."
+    fi
+}
+
+# Says which word of a refused command line is at fault, where that is plain.
+help_with_words() {
+    local word
+    case ${1-} in
+        run | exec)
+            for word in --harts --cycles; do
+                [[ " $* " == *" $word"[\ =]* ]] || echo "$1 needs $word N."
+            done ;;
+        build) [[ " $* " == *" -o"* ]] || echo "build needs -o IMAGE." ;;
+        list) ;;
+        *) echo "${1-} is no command." ;;
+    esac
+    usage | head -6
+}
+
+# Runs the program with the words given, and helps behind its report where standard error is a terminal.
+run_with_help() {
+    local report status=0 last
+    if [ -t 0 ] && [[ ${1-} == run || ${1-} == exec ]]; then
+        echo "fork95: reading input numbers; Ctrl-D ends them" >&2
+    fi
+    report=$(mktemp)
+    trap 'rm -f "$report"' EXIT
+    "$program" "$@" 2>"$report" || status=$?
+    cat "$report" >&2
+    last=$(tail -n 1 "$report")
+    case $status in
+        0 | 8 | 9) ;;
+        *) help_with "$last" "$status" "$@" >&2 ;;
+    esac
+    exit "$status"
+}
