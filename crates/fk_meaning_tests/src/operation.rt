@@ -19,7 +19,7 @@ static OPERATIONS: [(Operation, u8, Option<FaultKind>); 7] = [
 #[test]
 fn operations_have_kinds_and_faults(rt: HostRuntime) {
     for (operation, kind, fault) in &OPERATIONS {
-        assert!(rt; operation.kind() == *kind, "{operation:?}");
-        assert!(rt; operation.fault() == *fault, "{operation:?}");
+        assert!(rt; operation.kind() == *kind, "kind {kind}");
+        assert!(rt; operation.fault() == *fault, "kind {kind}");
     }
 }
