@@ -98,14 +98,14 @@ module _ (functions : (binding : ℕ) → Signature) where
   is_seen (call t op f opening rest) = first op (λ s. behind rest (behind opening s)) (operations opening ++ operations rest) (two opening rest (is_seen opening) (is_seen rest))
   is_seen (ends t op rest) = one op rest (is_seen rest)
 
-functions_seen : (known : w.Known) (fs : List FunctionTree)
+functions_seen : (known : w.ProgramTables) (fs : List FunctionTree)
     → Sees (λ b. through_all building_after no_mark known b fs) (operations_in (tables_of known) (functions_in known) fs)
 functions_seen known [] = λ b. refl
 functions_seen known (f ∷ fs) =
     then (behind (functions_of known) (code_in known f)) (λ b. through_all building_after no_mark known b fs) (operations (code_in known f))
     (operations_in (tables_of known) (functions_in known) fs) (is_seen (functions_of known) (code_in known f)) (functions_seen known fs)
 
-pub text_seen : (known : w.Known)
+pub text_seen : (known : w.ProgramTables)
     → (through_all building_after no_mark known (record { whole = true }) (functions_in known)).whole
     ≡ list_all is_plain (operations_in (tables_of known) (functions_in known) (functions_in known))
 text_seen known =
@@ -113,7 +113,7 @@ text_seen known =
     ∙ of_all (operations_in (tables_of known) (functions_in known) (functions_in known))
 
 -- of a text whose tables and items are known
-module _ (known : w.Known) (tables : Tables) (tree : ProgramTree) (same_tables : tables_of known ≡ tables) (same_items : items_in known ≡ tree.items) where
+module _ (known : w.ProgramTables) (tables : Tables) (tree : ProgramTree) (same_tables : tables_of known ≡ tables) (same_items : items_in known ≡ tree.items) where
   same_operations : operations_in (tables_of known) (functions_in known) (functions_in known) ≡ operations_of tables tree
   same_operations =
       ap (λ (t : Tables). operations_in t (functions_in known) (functions_in known)) same_tables
