@@ -66,7 +66,7 @@ const COMPARED_BY_SIGN: [(Op, u32, u32, u32); 8] = [
 // Each operator gives its word.
 fn give(rt: &impl Abort, rows: &[(Op, u32, u32, u32)]) {
     for (op, a, b, given) in rows {
-        assert!(rt; apply(*op, *a, *b) == *given, "{op:?} of {a:x} and {b:x}");
+        assert!(rt; apply(*op, *a, *b) == *given, "{a:x} and {b:x}");
     }
 }
 
