@@ -48,7 +48,7 @@ abbrev pub IsAnswerOf : Question → List Spelled → ProgramTree → Answer →
 IsAnswerOf asked tokens tree answer.NoProgram = ⊥
 IsAnswerOf asked tokens tree (answer.Broken place rule) = BreaksFirst tree place rule
 IsAnswerOf asked tokens tree answer.Kept = (asked ≡ question.Rules) × Keeps tree
-IsAnswerOf asked tokens tree (answer.Known known) =
+IsAnswerOf asked tokens tree (answer.Checked known) =
     (asked ≡ question.Facts) × (map spelled known.tokens.items ≡ tokens) × HasFacts tree known.facts
 IsAnswerOf asked tokens tree (answer.Sites layout) = (asked ≡ question.Sites)
     × HasLayout tree layout

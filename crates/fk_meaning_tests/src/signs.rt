@@ -66,31 +66,25 @@ fn signs_between_operands(rt: HostRuntime) {
     }
 }
 
-// A value, and what it gives before `-`, `~` and `!`, and as it is counted by `++` and `--`.
-static ALONE: [(Value, [Option<Value>; 4]); 3] = [
+// What a value gives before `-` and `~`, before `!`, and as it is counted by `++` and `--`.
+static ALONE: [(Value, Option<Value>, Option<Value>, Option<Value>); 3] = [
     (
         Value::Unsigned,
-        [
-            Some(Value::Unsigned),
-            Some(Value::Unsigned),
-            Some(Value::Int),
-            Some(Value::Unsigned),
-        ],
+        Some(Value::Unsigned),
+        Some(Value::Int),
+        Some(Value::Unsigned),
     ),
-    (
-        INT_POINTER,
-        [None, None, Some(Value::Int), Some(INT_POINTER)],
-    ),
-    (VOID_POINTER, [None, None, Some(Value::Int), None]),
+    (INT_POINTER, None, Some(Value::Int), Some(INT_POINTER)),
+    (VOID_POINTER, None, Some(Value::Int), None),
 ];
 
 #[test]
 fn signs_on_one_value(rt: HostRuntime) {
-    for (value, expected) in &ALONE {
-        assert!(rt; prefixed(Sign::Minus, *value) == expected[0]);
-        assert!(rt; prefixed(Sign::Tilde, *value) == expected[1]);
-        assert!(rt; prefixed(Sign::Exclamation, *value) == expected[2]);
-        assert!(rt; counted(*value) == expected[3]);
+    for (value, number, negation, counts) in &ALONE {
+        assert!(rt; prefixed(Sign::Minus, *value) == *number);
+        assert!(rt; prefixed(Sign::Tilde, *value) == *number);
+        assert!(rt; prefixed(Sign::Exclamation, *value) == *negation);
+        assert!(rt; counted(*value) == *counts);
     }
     assert!(rt; sign_within(Sign::MinusAssign) == Some(Sign::Minus));
     assert!(rt; sign_within(Sign::Assign).is_none());
