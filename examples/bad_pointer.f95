@@ -9,7 +9,7 @@
        fault BadAddress at 32:14 by processor 4 after T cycles
 
    where 32:14 is the place of the -> in the last putint. Each use of a pointer is checked so, before
-   anything is read or written. */
+   anything is read or written. Cost: 784 cycles. */
 #include <fork.h>
 #include <io.h>
 

@@ -12,7 +12,9 @@
        ......
        1.....
        55555.
-       666666 */
+       666666
+
+   Cost: 3,048 cycles. */
 #include <fork.h>
 #include <io.h>
 

