@@ -26,6 +26,7 @@ FIELD = "........\n"
 OUTPUTS = {
     "bad_pointer": lines(10, 20, 30, 40),
     "breadth_first": lines(1, 3, 9, 17, 24, 10),
+    "exclusive": lines(sum(1 for number in range(1, 47, 3) if number % 2 == 0)),
     "farm": lines(29, 1008),
     "few_of_many": lines("......", "......", "1.....", "55555.", "666666"),
     "hello": lines(0, 1, 2, 3, "that were all"),
