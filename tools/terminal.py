@@ -25,6 +25,7 @@ FILES = {
     "null.f95": "void main(void) {\n  int *p = 0;\n  putint(*p);\n}\n",
     "endless.f95": "void main(void) { while (1) ; }\n",
     "good.f95": "void main(void) { putint(7); }\n",
+    "twice.f95": "void main(void) { putint(2 * __input[0]); }\n",
 }
 # words, status, and pieces that stand on the terminal
 ON_TERMINAL = [
@@ -40,6 +41,10 @@ ON_TERMINAL = [
     (["fly"], 2, ["refused command line", "fly is no command"]),
     (["run", "good.f95", *RUN], 0, ["7", "finished after"]),
 ]
+# the same, where numbers are typed on the terminal: what is typed comes last
+TYPED = [
+    (["run", "twice.f95", *RUN], 0, ["Ctrl-D", "42\n", "finished after"], b"21\n\x04"),
+]
 # words, status, and the whole of both outputs as patterns
 PLAIN = [
     (["--help"], 0, r"Usage:\n(.*\n)*", ""),
@@ -54,13 +59,16 @@ PLAIN = [
 ]
 
 
-def on_terminal(words, folder):
+def on_terminal(words, folder, typed):
     """Runs the script on a pseudo-terminal, and returns its status and all that it wrote there."""
     child, terminal = pty.fork()
     if child == 0:
         os.chdir(folder)
-        os.dup2(os.open(os.devnull, os.O_RDONLY), 0)
+        if not typed:
+            os.dup2(os.open(os.devnull, os.O_RDONLY), 0)
         os.execv(SCRIPT, [SCRIPT, *words])
+    if typed:
+        os.write(terminal, typed)
     written = b""
     while True:
         try:
@@ -74,8 +82,8 @@ def on_terminal(words, folder):
 
 
 def fault_on_terminal(row, folder):
-    words, wanted, pieces = row
-    status, written = on_terminal(words, folder)
+    words, wanted, pieces, typed = row
+    status, written = on_terminal(words, folder, typed)
     missing = [it for it in pieces if it not in written]
     if status == wanted and not missing:
         return None
@@ -103,7 +111,8 @@ def main():
     with tempfile.TemporaryDirectory() as folder:
         for name, text in FILES.items():
             Path(folder, name).write_text(text, encoding="utf-8")
-        faults = [fault_on_terminal(row, folder) for row in ON_TERMINAL]
+        faults = [fault_on_terminal((*row, b""), folder) for row in ON_TERMINAL]
+        faults += [fault_on_terminal(row, folder) for row in TYPED]
         faults += [fault_in_plain(row, folder) for row in PLAIN]
     faults.append(fault_in_table())
     for fault in filter(None, faults):
