@@ -37,8 +37,9 @@ pub fn valid_programs_have_one_program()
     ensures { ValidProgramsHaveOneProgram }
 {}
 
-/// And they have levels that differ in `$` alone: of their group and of each group round it they
-/// have the same `@`, size and space. So have those who wait at one node.
+/// Members of a group in lockstep have levels that differ in `$` alone: of their group and of each
+/// group round it they have the same `@`, size and space. The same holds of those who wait at one
+/// node.
 pub fn valid_programs_have_one_space()
     ensures { ValidProgramsHaveOneSpace }
 {}

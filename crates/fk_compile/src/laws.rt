@@ -14,8 +14,8 @@ ghost use Rattle.fk_compile.specs.Laws.{NeverTraps};
 use fk_lower_laws::laws::texts_are_proper;
 use fk_parse_laws::laws::{frames_stand_behind_first, texts_are_trim};
 
-/// Where a program is in place, and none of its operations splits a group or takes a frame or a
-/// block of one, its code leads each processor from place to place.
+/// In a plain program that is in place the code leads each processor from place to place. A plain
+/// program has no splits, no group frames, no `shalloc` and no `shmalloc`.
 pub fn programs_are_led()
     ensures { ProgramsAreLed }
 {}
@@ -26,7 +26,7 @@ pub fn asked_expressions_evaluate()
     ensures { AskedEvaluates }
 {}
 
-/// So does one that has a type: one value, or none where its type is nothing.
+/// An expression that has a type leaves one value, or none where its type is nothing.
 pub fn typed_expressions_evaluate()
     ensures { TypedEvaluates }
 {}
@@ -44,7 +44,8 @@ pub fn correct_programs_have_one_program()
     ensures { CorrectProgramsHaveOneProgram }
 {}
 
-/// So it is of the program that a text spells.
+/// In the program that a text spells, members of a group in lockstep have the same left to do,
+/// after every lawful schedule whose last round isn't stopped.
 pub fn texts_have_one_program()
     ensures { TextsHaveOneProgram }
 {
@@ -52,9 +53,9 @@ pub fn texts_have_one_program()
     texts_are_proper();
 }
 
-/// And all members of a group in lockstep have levels that differ in `$` alone: of their
-/// group and of each group round it they have the same `@`, size and space. So have those who
-/// wait at one node.
+/// In the program that a text spells, members of a group in lockstep have levels that differ in `$`
+/// alone: of their group and of each group round it they have the same `@`, size and space. The
+/// same holds of those who wait at one node.
 pub fn texts_have_one_space()
     ensures { TextsHaveOneSpace }
 {
@@ -68,10 +69,11 @@ pub fn sites_are_own()
     ensures { SitesAreOwn }
 {}
 
-/// In every run of the list of a program that keeps all rules, has a layout, and in which no group
-/// splits or takes a frame or a block, there is one group at most at a time, and its members in
-/// lockstep are at one index of the list: after every lawful schedule in whose rounds each
-/// processor does one operation at most, and whose last round isn't stopped.
+/// In every run of the list of a plain program that keeps all rules and has a layout, there is one
+/// group at most at a time, and its members in lockstep are at one index of the list. This holds
+/// after every lawful schedule in whose rounds each processor does one operation at most, and whose
+/// last round isn't stopped. A plain program has no splits, no group frames, no `shalloc` and no
+/// `shmalloc`.
 pub fn plain_programs_have_one_group()
     ensures { PlainProgramsHaveOneGroup }
 {}
@@ -104,9 +106,9 @@ pub fn grouped_lists_are_generable()
     ensures { GroupedListsAreGenerable }
 {}
 
-/// The flat list of a program that keeps all rules, has a layout, and in which no group splits or
-/// takes a frame or a block, with the depths and sites of its text, is one with one group at a
-/// time, as laws of machines ask it.
+/// The flat list of a plain program that keeps all rules and has a layout, with the depths and
+/// sites of its text, is one with one group at a time, as the laws of machines require. A plain
+/// program has no splits, no group frames, no `shalloc` and no `shmalloc`.
 pub fn plain_lists_are_of_one_group()
     ensures { PlainListsAreOfOneGroup }
 {}

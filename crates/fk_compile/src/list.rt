@@ -123,7 +123,7 @@ fn has_words(op: CoreOp)
     let _ = op.is_jump();
 }
 
-// So have those of all operations.
+// The sites and the numbers of all operations have 32 bits.
 fn have_words(ops: &[CoreOp])
     ensures { All (λ op. (op.site < 2 ^ 32) × (op.number < 2 ^ 32)) ops.now }
 {

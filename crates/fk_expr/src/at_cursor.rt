@@ -42,7 +42,7 @@ pub fn comma<'a>(
     production::comma(alloc, cursor, left)
 }
 
-/// The same of an assignment expression, which no comma joins.
+/// Reads an assignment expression, in which no comma joins, at the cursor.
 ///
 /// # Errors
 ///

@@ -43,7 +43,7 @@ pub fn expression<'a>(
     Ok((value, tokens.len() - cursor.len()))
 }
 
-/// The same of an assignment expression, which no comma joins.
+/// Reads an assignment expression, in which no comma joins, from the token at an index on.
 ///
 /// # Errors
 ///

@@ -24,7 +24,7 @@ pub fn open(cursor: &Cursor, kind: TokenKind, left: u32) -> Result<u32, SyntaxFa
     inside(cursor, left)
 }
 
-/// The same inside a token that has to begin an expression.
+/// How many levels are left inside a token that has to begin an expression.
 pub(crate) fn open_expression(cursor: &Cursor, left: u32) -> Result<u32, SyntaxFault>
     ensures read { Opens begins_expression (inner left) result cursor.now }
     ensures less { IfOk result (λ inside. inside + 1 ≡ left) }
@@ -35,7 +35,7 @@ pub(crate) fn open_expression(cursor: &Cursor, left: u32) -> Result<u32, SyntaxF
     inside(cursor, left)
 }
 
-/// The same inside a sign before an operand.
+/// How many levels are left inside a sign before an operand.
 pub(crate) fn open_prefix(cursor: &Cursor, left: u32) -> Result<u32, SyntaxFault>
     ensures read { Opens (tells prefix_told) (inner left) result cursor.now }
     ensures less { IfOk result (λ inside. inside + 1 ≡ left) }

@@ -84,12 +84,12 @@ pub fn lone_blocks_stay_in_node()
     ensures { LoneBlocksStayInNode }
 {}
 
-/// So does the block of a jump.
+/// The block of a jump keeps its hart in its node.
 pub fn jumps_stay_in_node()
     ensures { JumpsStayInNode }
 {}
 
-/// They do at most 10 cycles after the last of them came to its block.
+/// Members that meet leave at most 10 cycles after the last of them came to its block.
 pub fn members_leave_in_ten()
     ensures { MembersLeaveInTen }
 {}

@@ -21,7 +21,7 @@ const CONTROL: u32 = 0x1800_0000;
 /// How far from its first control word on the one stands that counts those at the end of
 /// a body or a part.
 const CLOSING: u32 = 4;
-/// And that of what is agreed.
+/// How far from its first control word on the one stands that holds what is agreed.
 const AGREED: u32 = 8;
 /// How far from the first device on the one stands that tells how many input numbers there are.
 const INPUTS_DEVICE: u32 = 28;

@@ -19,7 +19,7 @@ use std::alloc::AllocError;
 /// The label of the block of the first operation.
 pub(crate) const FIRST_LABEL: u32 = 128;
 
-/// So many labels, for an assembler without any.
+/// Makes `count` labels in an assembler without any.
 pub(crate) fn make_labels(into: &mut Assembler, count: u32) -> Result<(), AllocError>
     requires new { into.old ≡ empty }
     ensures made { OnOk result (into.new ≡ record empty { bound = replicate count None }) }

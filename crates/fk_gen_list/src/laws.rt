@@ -34,8 +34,9 @@ pub fn groups_begin()
     ensures { GroupsBegin }
 {}
 
-/// So a list in which no group splits has the whole law where its opening, its blocks and the code
-/// that they share stand in an image.
+/// A plain list has the whole law of blocks where its opening, its blocks and the code that they
+/// share stand in an image. A plain list has no splits, no group frames, no `shalloc` and no
+/// `shmalloc`.
 pub fn code_has_the_law()
     ensures { CodeHasTheLaw }
 {}

@@ -37,7 +37,7 @@ fn with_variable(count: u64, variable: &Declared) -> u64
     }
 }
 
-// The same of variables side by side.
+// The private variables among these, added to a count.
 #[tactic(auto, using(crate::proofs::Sizing::kept_more))]
 fn with_variables(count: u64, variables: &[Declared]) -> u64
     ensures { result
@@ -50,7 +50,7 @@ fn with_variables(count: u64, variables: &[Declared]) -> u64
     behind
 }
 
-// The same of those of file scope in an item.
+// The private variables of file scope in an item, added to a count.
 fn with_item(count: u64, item: &Item) -> u64
     ensures { result ≡ min (count + file_privates (item_of item.now ∷ [])) (2 ^ 64 - 1) }
 {

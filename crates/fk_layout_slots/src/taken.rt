@@ -63,7 +63,7 @@ impl Taken {
         }
     }
 
-    /// The same where a frame begins.
+    /// What is taken where a frame begins: no words yet.
     #[tactic(auto, unfolding(crate::specs::Places::within))]
     pub(crate) fn within(self) -> Taken
         ensures { result ≡ within_of self }
@@ -71,7 +71,7 @@ impl Taken {
         Taken { words: 0, ..self }
     }
 
-    /// The same behind the end of a frame, before which this is taken.
+    /// What is taken after the end of a frame, where `before` was taken in front of it.
     #[tactic(auto, unfolding(crate::specs::Places::outside))]
     pub(crate) fn outside(self, before: Taken) -> Taken
         ensures { result ≡ outside_of before self }

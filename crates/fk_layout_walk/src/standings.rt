@@ -109,7 +109,7 @@ fn operator(known: &ProgramTables, sign: Sign, left: u32, right: u32) -> Operati
     }
 }
 
-// The same of a pointer with steps, which an index moves.
+// Hands on the operation that moves a pointer with steps by an index.
 fn advance<V: Visitor>(visitor: &mut V, by: Move, step: u32, otherwise: Operation)
     ensures { (functions : (binding : ℕ) → e.Signature)
         → Passes V.after V.counts functions visitor.old visitor.new (e.moved by step otherwise) }

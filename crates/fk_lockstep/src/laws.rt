@@ -34,8 +34,8 @@ pub fn groups_go_on()
     ensures { GroupsGoOn }
 {}
 
-/// So it is in every form `W` in which it is kept what is left to do, where that goes on as code in
-/// step: two members at one place of a list of operations are at one place after the round.
+/// In every form `W` of what is left to do, where it goes on as code in step, two members at one
+/// place of a list of operations are at one place after the round.
 pub fn forms_go_on<W>()
     ensures { FormsGoOn W }
 {}

@@ -36,8 +36,8 @@ pub fn waiters_resume<W>()
     ensures { WaitersResume W }
 {}
 
-/// So it is in every run in whose rounds each processor does one operation at most. The members of
-/// a group have one program.
+/// In every run in whose rounds each processor does one operation at most, there is one group at
+/// most, and its members have one program.
 pub fn runs_have_one_group<W>()
     ensures { RunsHaveOneGroup W }
 {}

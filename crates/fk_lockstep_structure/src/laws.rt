@@ -13,7 +13,7 @@ pub fn code_follows()
     ensures { CodeFollows }
 {}
 
-/// So does each program in whose text they are kept.
+/// Each program in whose text the rules on steps of the tree are kept leads its processors so.
 pub fn programs_follow()
     ensures { ProgramsFollow }
 {}

@@ -7,7 +7,7 @@ ghost use Rattle.fk_lower.specs.Spans.{moved, round, span_in, offset};
 /// Where code begins.
 #[derive(Clone, Copy, PartialEq, Eq, Debug)]
 pub enum Start {
-    /// So many operations and jumps behind where it is written.
+    /// This many operations and jumps after the place where it is written.
     At(u32),
     /// Where it goes on: it does nothing.
     Next,
@@ -18,7 +18,7 @@ pub enum Start {
 }
 
 impl Start {
-    // The same of code that stands so much further on.
+    // Where code begins that stands `by` operations and jumps further on.
     pub(crate) fn moved(self, by: u32) -> Start
         requires { by + offset self < 2 ^ 32 }
         ensures { result ≡ moved by self }
@@ -53,7 +53,8 @@ pub struct Span {
     pub start: Start,
 }
 
-/// The same where code goes on elsewhere than directly behind its list, and where it goes on there.
+/// The span of code that goes on elsewhere than directly after its list (`far`), and of code that
+/// goes on there (`near`).
 #[derive(Clone, Copy, PartialEq, Eq, Debug)]
 pub struct Spans {
     pub far: Span,

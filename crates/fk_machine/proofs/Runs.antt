@@ -10,14 +10,6 @@ begun-cond : (b : Bool) (m m' : Machine) (n : ℕ) → m.begun ≤ n → m'.begu
 begun-cond true m m' n old new = new
 begun-cond false m m' n old new = old
 
--- at most n cycles are begun in n cycles
-pub begun-machine : (image : Image) (input : List ℕ) (p n : ℕ) → (machine image input p n).begun ≤ n
-begun-machine image input p zero = omega arith
-begun-machine image input p (suc n) =
-    let m = machine image input p n in
-    let h : m.begun ≤ n = begun-machine image input p n in
-    begun-cond (is_running m.stand) m (after_turns m (turns_of m)) (suc n) (omega arith) (omega arith)
-
 -- at most n more cycles are begun in n cycles
 pub begun-after : (m : Machine) (n : ℕ) → (after n m).begun ≤ m.begun + n
 begun-after m zero = omega arith
@@ -70,18 +62,6 @@ output_of-after image input p (suc n) =
     let before = output_in n m in
     ap (λ l. cond (is_running l.stand) (output_of image input p n ++ (cycle l).shared.output) (output_of image input p n)) (machine-after image input p n)
     ∙ ap (λ o. cond (is_running (after n m).stand) (o ++ (after (suc n) m).shared.output) o) (output_of-after image input p n)
-
-pub machine-stopped : (image : Image) (input : List ℕ) (p k n : ℕ) → k ≤ n → is_running (machine image input p k).stand ≡ false → machine image input p n ≡ machine image input p k
-machine-stopped image input p k n le stopped =
-    let m = machine_opening image input p in
-    let there = ap (λ l. is_running l.stand) (sym (machine-after image input p k)) ∙ stopped in
-    machine-after image input p n ∙ after-stopped m k n le there ∙ sym (machine-after image input p k)
-
-pub output_of-stopped : (image : Image) (input : List ℕ) (p k n : ℕ) → k ≤ n → is_running (machine image input p k).stand ≡ false → output_of image input p n ≡ output_of image input p k
-output_of-stopped image input p k n le stopped =
-    let m = machine_opening image input p in
-    let there = ap (λ l. is_running l.stand) (sym (machine-after image input p k)) ∙ stopped in
-    output_of-after image input p n ∙ output_in-stopped m k n le there ∙ sym (output_of-after image input p k)
 
 -- no more cycles are begun
 pub rounds-stopped : (image : Image) (input : List ℕ) (p k n : ℕ) → k ≤ n → is_running (machine image input p k).stand ≡ false → rounds image input p n ≡ rounds image input p k

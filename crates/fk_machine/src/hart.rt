@@ -8,7 +8,11 @@ ghost use Rattle.fk_machine.specs.View.{harts_of};
 use fk_isa::Hart;
 use std::alloc::{AllocError, Global};
 
-/// So many harts before their first instruction.
+/// Makes `count` harts before their first instruction.
+///
+/// # Errors
+///
+/// `AllocError` where memory is wanting.
 pub fn first_harts(alloc: Global, count: u32) -> Result<Vec<Hart>, AllocError>
     ensures len { IfOk result (λ hs. vec_len hs ≡ count) }
     ensures harts { (local : ℕ → Memory) → ((k : ℕ) → local k ≡ λ i. 0) →

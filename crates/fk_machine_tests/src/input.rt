@@ -59,7 +59,7 @@ fn the_first_word_at_fault_counts(rt: HostRuntime) {
     }
 }
 
-// So many times this piece.
+// A text of `count` copies of this piece.
 pub(crate) fn repeated(alloc: Global, piece: &[u8], count: u32) -> Result<Vec<u8>, AllocError> {
     let mut text = Vec::new(alloc);
     for _ in 0..count {

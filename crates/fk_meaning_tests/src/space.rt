@@ -5,7 +5,7 @@ fn whole() -> Space {
     Space::whole(0, 524_288)
 }
 
-// So many parts, and what each gets.
+// A number of parts, and how many words each gets.
 const DIVIDED: [(u32, Option<u32>); 4] = [
     (2, Some(262_136)),
     (26_214, Some(16)),
@@ -63,7 +63,7 @@ const FRAMED: Space = Space {
     blocks: 120,
 };
 
-// And a block the other seven.
+// Twenty words, of which a frame has taken five and a block the other seven.
 const FULL: Space = Space {
     low: 100,
     high: 120,

@@ -25,12 +25,13 @@ pub fn frames_in_order()
     ensures { FramesInOrder }
 {}
 
-/// So do those of each program that tokens spell, whatever its types are and wherever groups split.
+/// The group frames of each program that tokens spell stand in the order of their tokens, whatever
+/// its types are and wherever groups split.
 pub fn frames_stand_in_order()
     ensures { FramesStandInOrder }
 {}
 
-/// And none of them stands at the first token of a program.
+/// No group frame stands at the first token of a program.
 pub fn frames_stand_behind_first()
     ensures { FramesStandBehindFirst }
 {}

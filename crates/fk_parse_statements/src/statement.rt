@@ -65,7 +65,7 @@ fn nested<'a>(
     statement(alloc, cursor, inside)
 }
 
-/// The same in a box, as statements have it.
+/// Reads a statement one level deeper, in a box, as statements hold others.
 #[cycle(statement)]
 fn boxed<'a>(
     alloc: Global,

@@ -57,7 +57,7 @@ fn is_common(name: &[u8]) -> bool
         || name == b"__input".as_slice()
 }
 
-// And whether its calls give a group one value.
+// Of the names that are declared before each text: whether its calls give a group one value.
 fn is_of_group(name: &[u8]) -> bool
     ensures { result ≡ is_of_group name.now }
 {

@@ -16,27 +16,28 @@ ghost use Rattle.fk_sim_runs.specs.Runs.{MachinesFollowGroupRuns, OrderlyRoundsG
 ghost use Rattle.fk_sim_runs.specs.Runs.{UnionsGoFurther, StartsGoFurther};
 ghost use Rattle.fk_sim_runs.specs.Follow.{MachinesFollowGroups};
 
-/// After every lawful schedule in whose rounds each processor does one operation at most it is
-/// known of each processor where it stands, that it is in the list or at its end, that it may do
-/// its next operation, and that its values and variables are words.
+/// After every lawful schedule in whose rounds each processor does one operation at most, each
+/// processor is at an index of the list or at its end, may do its next operation, and its values
+/// and variables are words.
 pub fn runs_reach()
     ensures { RunsReach }
 {
     fk_sim_rounds::laws::lists_stay_in_range();
 }
 
-/// The tree of such a state is sound, and its nodes own words apart.
+/// The tree of a reached state is sound, and its nodes own words apart.
 pub fn reached_trees_have_spaces()
     ensures { ReachedTreesHaveSpaces }
 {}
 
-/// Who is not at its end in it is about to do an operation by itself, with those whom it meets at a
-/// word of its node, or with its group in lockstep.
+/// A processor that isn't at its end in a reached state is about to do an operation by itself, with
+/// those whom it meets at a word of its node, or with its group in lockstep.
 pub fn reached_processors_have_next()
     ensures { ReachedProcessorsHaveNext }
 {}
 
-/// The members of a group in lockstep are about to do one operation, by which they go one way.
+/// The members of a group in lockstep are about to do one operation, and take the same way at a
+/// branch.
 pub fn reached_groups_have_next()
     ensures { ReachedGroupsHaveNext }
 {}
@@ -47,53 +48,53 @@ pub fn reached_rounds_are_known()
     ensures { ReachedRoundsAreKnown }
 {}
 
-/// Who is at a stage in which it is to unite with others is about to begin the group of a `start`.
+/// A hart at a stage in which it is to unite with others is about to begin the group of a `start`.
 pub fn uniters_begin()
     ensures { UnitersBegin }
 {}
 
-/// Where all have united there, all have something left to do.
+/// Where all have united at the beginning of a `start`, all have something left to do.
 pub fn united_had_next()
     ensures { UnitedHadNext }
 {}
 
-/// Who is about to begin the group of a `start` in such a state is in the root, with its level and
-/// the whole group space.
+/// A processor that is about to begin the group of a `start` in a reached state is in the root,
+/// with its level and the whole group space.
 pub fn reached_beginners_are_in_root()
     ensures { ReachedBeginnersAreInRoot }
 {}
 
-/// Where all are about to begin it, jumps lead all to one index.
+/// Where all are about to begin the group of a `start`, jumps lead all to one index.
 pub fn reached_beginners_land_at_one_index()
     ensures { ReachedBeginnersLandAtOneIndex }
 {}
 
-/// Who waits for it is about to go on behind it.
+/// A processor that waits for the group of a `start` is about to go on after it.
 pub fn reached_waiters_resume()
     ensures { ReachedWaitersResume }
 {}
 
-/// In a run both states of its last round are known so.
+/// In a run both states of its last round are reached states.
 pub fn runs_reach_rounds()
     ensures { RunsReachRounds }
 {
     runs_reach();
 }
 
-/// Behind a round of a machine the tree is sound and its nodes own words apart, and who has
-/// committed goes on, by itself and in its group.
+/// After a round of a machine the tree is sound and its nodes own words apart, and a processor that
+/// has committed goes on, by itself and in its group.
 pub fn reached_rounds_go_on()
     ensures { ReachedRoundsGoOn }
 {}
 
-/// So it is where stages tell what each processor is about to do, and then nobody begins the
-/// group of a `start`.
+/// Where stages tell what each processor is about to do, the tree is sound after the round, those
+/// who have committed go on, and nobody begins the group of a `start`.
 pub fn reached_stages_go_on()
     ensures { ReachedStagesGoOn }
 {}
 
-/// In a state without a group nobody is at the words of the one to come, which begin with the group
-/// space: a cycle of a machine that follows such a state leaves the next state so.
+/// In a state without a group nobody is at the control words of the one to come, which begin with
+/// the group space, and a cycle of a machine that follows such a state keeps this.
 pub fn reached_cycles_stay_ready()
     ensures { ReachedCyclesStayReady }
 {}
@@ -104,89 +105,89 @@ pub fn reached_starts_find_headers()
     ensures { ReachedStartsFindHeaders }
 {}
 
-/// A machine of an image that has the law of blocks of groups goes with the core run from its first
-/// cycle on: each of its harts is at most 254 private instructions before its first commit, or 251
-/// before it arrives where it meets others, 211 at `start`.
+/// A machine of an image that has the law of blocks of groups follows the core run from its first
+/// cycle on: each of its harts is at most 254 private instructions before its first commit, 251
+/// before it arrives where it meets others, or 211 at `start`.
 pub fn openings_are_followed()
     ensures { OpeningsAreFollowed }
 {}
 
-/// Where each cycle goes from one sight of the harts to the next, and who could act is to commit
-/// within 254 cycles, with all whom it meets, this one is in a round by then.
+/// Where each cycle goes from one view of the harts to the next, and a processor that could act is
+/// to commit within 254 cycles, with all whom it meets, this one acts in a round by then.
 pub fn paces_go_on()
     ensures { PacesGoOn }
 {}
 
-/// So who could act before each of 256 rounds is in one of them, also where a fault ends
-/// the last of these.
+/// A processor that could act before each of 256 rounds acts in one of them, also where a fault
+/// ends the last of these.
 pub fn paces_are_kept()
     ensures { PacesAreKept }
 {}
 
-/// Where a plan goes on behind a cycle, and all who have committed are at stages in time, so
-/// all are: who is at a distance from its commit is one cycle nearer, and those who meet at a
-/// word have moved.
+/// Where a plan goes on after a cycle, and all who have committed are at stages in time, all are: a
+/// hart at a distance from its commit is one cycle nearer, and those who meet at a word have moved.
 pub fn plans_turn<S, P, D>()
     ensures { PlansTurn S P D }
 {}
 
-/// Behind the cycle in which all leave the word where they meet at the beginning of `start` they
-/// are in time, fewer than 40 cycles from their common commit, and nobody meets others.
+/// After the cycle in which all leave the word where they meet at the beginning of `start` they are
+/// in time, fewer than 40 cycles from their common commit, and nobody meets others.
 pub fn unions_turn()
     ensures { UnionsTurn }
 {}
 
-/// From there to their commit nobody meets others.
+/// From that cycle to their commit nobody meets others.
 pub fn united_turn()
     ensures { UnitedTurn }
 {}
 
-/// Where the plan of a state's tree binds all harts, at stages in time, who could act in that state
-/// is to commit within 254 cycles: it is near its commit, or all whom it meets have entered, and
-/// have time to leave.
+/// Where the plan of a state's tree binds all harts, at stages in time, a processor that could act
+/// in that state is to commit within 254 cycles: it is near its commit, or all whom it meets have
+/// entered, and have time to leave.
 pub fn who_could_act_will()
     ensures { WhoCouldActWill }
 {}
 
-/// So it is where all have met at the beginning of `start`, and are in lockstep in the root.
+/// A processor that could act is to commit within 254 cycles also where all have met at the
+/// beginning of `start`, and are in lockstep in the root.
 pub fn who_has_united_will()
     ensures { WhoHasUnitedWill }
 {}
 
 /// A machine of an image that has the law of blocks of groups follows a lawful schedule of the
-/// list's core runs, one round for each cycle, in which who could act is in one of any 256
-/// rounds. Its output, shared data and stand, a fault at a site included, are those of that core
-/// run. So it is where each cycle goes further (`AlwaysGoesFurther`), as it does in runs of
+/// list's core runs, one round for each cycle, in which a processor that could act acts within any
+/// 256 rounds. Its output, shared data and status, a fault at a site included, are those of that
+/// core run. This holds where each cycle goes further (`AlwaysGoesFurther`), as it does in runs of
 /// lists with one group.
 pub fn machines_follow_group_runs()
     ensures { MachinesFollowGroupRuns }
 {}
 
-/// A cycle goes further where its round is a known one, the tree behind it is sound, its
-/// processors go on (`IsBehind`), and its harts are in time: they are so behind it, and those who
-/// meet have moved.
+/// A cycle goes further where its round is a known one, the tree after it is sound, its processors
+/// go on (`IsBehind`), and its harts are in time: they are in time after it, and those who meet
+/// have moved.
 pub fn orderly_rounds_go_further()
     ensures { OrderlyRoundsGoFurther }
 {}
 
-/// So does the cycle in which all have met at the beginning of `start`, if jumps lead
-/// all to one index.
+/// The cycle in which all have met at the beginning of `start` goes further, if jumps lead all to
+/// one index.
 pub fn unions_go_further()
     ensures { UnionsGoFurther }
 {}
 
-/// And each from there to that in which the group begins, where nobody is at its words, and it has
-/// the whole group space.
+/// Each cycle from that meeting to the one in which the group begins goes further, where nobody is
+/// at the group's words, and it has the whole group space.
 pub fn starts_go_further()
     ensures { StartsGoFurther }
 {}
 
 /// A machine of an image that has the law of blocks of groups follows a lawful schedule of the core
-/// runs of a list with one group at a time, one round for each cycle, in which who could act is in
-/// one of any 256 rounds. Its output, shared data and stand, a fault at a site included, are those
-/// of that core run.
+/// runs of a list with one group at a time, one round for each cycle, in which a processor that
+/// could act acts within any 256 rounds. Its output, shared data and status, a fault at a site
+/// included, are those of that core run.
 ///
-/// So it is for every input, 1 to 1,024 harts and every number of cycles.
+/// This holds for every input, 1 to 1,024 harts and every number of cycles.
 pub fn machines_follow_groups()
     ensures { MachinesFollowGroups }
 {

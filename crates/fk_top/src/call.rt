@@ -63,7 +63,7 @@ fn give_ending<F: Store, K: Sink, E: Sink>(
         (request : Request) → Ends request (outcome_of ending.now)
         → HasCause (call_of request store printed reported) result }
 
-    // But in a write fault no write failed, and want of memory comes in a put alone.
+    // Only a write fault tells that a write failed, and only a put can want memory.
     ensures put { result ≢ Status.WriteFault → F.put_faults files.new ≡ F.put_faults files.old }
     ensures out { result ≢ Status.WriteFault → K.faults out.new ≡ K.faults out.old }
     ensures err { result ≢ Status.WriteFault → E.faults err.new ≡ E.faults err.old }

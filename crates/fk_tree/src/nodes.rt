@@ -99,7 +99,7 @@ pub(crate) fn join(
     Ok(true)
 }
 
-/// The same processors once more.
+/// Copies a list of processors.
 pub(crate) fn copy_of(alloc: Global, processors: &[u32]) -> Result<Vec<u32>, AllocError>
     ensures { IfOk result (λ copy. copy.items ≡ processors.now) }
 {

@@ -56,7 +56,7 @@ impl Tree {
     /// where it has ended or was never made.
     pub fn members(&self, node: u64) -> &[u32]
         ensures members { result.now ≡ t.members (tree_of self.now) node }
-        // So it is of every tree: each processor is at exactly one node.
+        // In every tree each processor is at exactly one node.
         ensures sound { IsSound (processors self.now) (tree_of self.now) }
     {
         match self.nodes.get(&node) {

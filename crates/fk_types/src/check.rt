@@ -46,7 +46,7 @@ fn checked<'c, 'p, 'a>(
     }
 }
 
-// The same by the names alone.
+// Checks a program whose names are known.
 fn checked_by<'p, 'a>(
     alloc: Global,
     program: &'p Program<'a>,

@@ -27,7 +27,7 @@ pub(crate) fn value_in(kind: Option<ExpressionType>) -> Option<Value>
     }
 }
 
-/// And as what a sign works on.
+/// An expression of a type, as the operand of a sign.
 pub(crate) fn operand_in(is_zero: bool, kind: Option<ExpressionType>) -> Option<Operand>
     ensures { result ≡ y.operand_in is_zero kind }
 {

@@ -46,7 +46,7 @@ fn word(is_unsigned: bool, step: u32) -> Kind
     }
 }
 
-// So many words that are neither a number nor a pointer.
+// The kind of this many words that are neither a number nor a pointer.
 fn plain(words: u32) -> Kind
     ensures { result ≡ record { words = words; unsigned = false; array = false; step = 0 } }
 {
