@@ -4,7 +4,7 @@ use Rattle.std.specs.Prelude.{Some, None, IfSome, ◌⊎◌}
 use Rattle.fk_asm.specs.declared.line.Line.{Line}
 use Rattle.fk_asm.specs.Assembly.{Assembly}
 
--- a line, and its commit, if it has one: the count + 256 * the event
+-- A line, and its commit, if it has one: the count + 256 * the event.
 pub record MarkedLine : Type 0 where
   pub line : Line
   pub commit : Option ℕ
@@ -18,17 +18,17 @@ committing line commit = record { line = line; commit = Some commit }
 abbrev pub lines_of : List MarkedLine → List Line
 lines_of block = map (λ m. m.line) block
 
--- the entry of the word at an index
+-- The commit entry of the word at an index.
 abbrev pub entry_at : ℕ → Option ℕ → List (ℕ × ℕ)
 entry_at k None = []
 entry_at k (Some commit) = (4 * k, commit) ∷ []
 
--- the commit entries of lines that begin at an index
+-- The commit entries of lines from an index on.
 abbrev pub entries_from : ℕ → List MarkedLine → List (ℕ × ℕ)
 entries_from k [] = []
 entries_from k (m ∷ block) = entry_at k m.commit ++ entries_from (k + 1) block
 
--- an assembler after a block
+-- The assembler after a block.
 abbrev pub with_block : Assembly → List MarkedLine → Assembly
 with_block a block =
     record {
@@ -37,8 +37,8 @@ with_block a block =
       commits = a.commits ++ entries_from (length a.lines) block;
     }
 
--- an assembler to which only so many lines of a block were added, with their entries, and perhaps
--- with that of the next line
+-- An assembler to which only `count` lines of a block were added, with their entries, and perhaps
+-- with the entry of the next line.
 pub record HasBegun (block : List MarkedLine) (old new : Assembly) : Type 0 where
   pub count : ℕ
   pub lines : new.lines ≡ (with_block old (take count block)).lines
@@ -46,6 +46,6 @@ pub record HasBegun (block : List MarkedLine) (old new : Assembly) : Type 0 wher
   pub entries : (new.commits ≡ (with_block old (take count block)).commits)
       ⊎ (new.commits ≡ (with_block old (take (count + 1) block)).commits)
 
--- the labels that a block goes to are made
+-- The labels to which a block goes are made.
 abbrev pub GoesToMade : List (Option ℕ) → MarkedLine → Type 0
 GoesToMade bound m = IfSome m.line.label (λ label. label < length bound)

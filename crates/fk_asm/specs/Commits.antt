@@ -2,8 +2,8 @@
 use Rattle.std.specs.Prelude.{◌≡◌, ℕ, ◌*◌, ◌/◌, ◌%◌, ◌<◌, ◌≤◌, List, map, All}
 use Rattle.std.specs.List.Sorted.{IsStrictlyIncreasing}
 
--- an entry: the address of a word, and the count of its operations, 1 to 255, + 256 *
--- its event, up to 6
+-- A commit entry: the address of a word, and the count of its operations, 1 to 255, + 256 * its
+-- event, up to 6.
 pub record IsEntry (entry : ℕ × ℕ) : Type 0 where
   pub aligned : entry.0 % 4 ≡ 0
   pub counted : 1 ≤ entry.1 % 256
@@ -12,7 +12,7 @@ pub record IsEntry (entry : ℕ × ℕ) : Type 0 where
 abbrev pub Rise : List (ℕ × ℕ) → Type 0
 Rise commits = IsStrictlyIncreasing (map (λ entry. entry.0) commits)
 
--- the commit table of so many words
+-- A commit table for code of `words` words.
 pub record IsCommitTable (words : ℕ) (commits : List (ℕ × ℕ)) : Type 0 where
   pub entries : All IsEntry commits
   pub within : All (λ entry. entry.0 < 4 * words) commits

@@ -22,25 +22,25 @@ use Rattle.fk_isa.specs.declared.instruction.Instruction.TheVariants.{AmoMaxuW}
 
 -- ---- numbers
 
--- the hexadecimal digits of a number, without leading zeros
+-- The hexadecimal digits of a number, without leading zeros.
 abbrev pub hexadecimal : ℕ → List ℕ
 hexadecimal n = digits 16 false n
 
--- the hexadecimal digit of a number at a place, counted from its last digit on
+-- The hexadecimal digit of a number at a place, counted from its last digit on.
 abbrev pub digit_at : ℕ → ℕ → ℕ
 digit_at n place = digit_glyph false (n / 16 ^ place % 16)
 
--- a word in eight hexadecimal digits
+-- A word in eight hexadecimal digits.
 unfoldable pub eight_digits : ℕ → List ℕ
 eight_digits w = map (digit_at w) (7 ∷ 6 ∷ 5 ∷ 4 ∷ 3 ∷ 2 ∷ 1 ∷ 0 ∷ [])
 
--- the decimal of a word's signed value
+-- The signed value of a word in decimal.
 abbrev pub immediate : ℕ → List ℕ
 immediate w = signed_decimal (signed w)
 
 -- ---- registers
 
--- the names of the registers 0 to 31
+-- The names of the registers 0 to 31.
 abbrev pub register_names : List (List ℕ)
 register_names =
     codes "zero" ∷ codes "ra" ∷ codes "sp" ∷ codes "gp" ∷ codes "tp" ∷
@@ -53,17 +53,17 @@ register_names =
     codes "t3" ∷ codes "t4" ∷ codes "t5" ∷ codes "t6" ∷
     []
 
--- the name of a register
+-- The name of a register.
 unfoldable pub register : ℕ → List ℕ
 register number = slice_index_or register_names number []
 
 -- ---- the shapes of texts
 
--- a name and the first register after it
+-- A name and the first register after it.
 abbrev pub name_and_register : List ℕ → ℕ → List ℕ
 name_and_register name r = name ++ codes " " ++ register r ++ codes ", "
 
--- the register of an address
+-- The register of an address.
 abbrev pub in_parentheses : ℕ → List ℕ
 in_parentheses r = codes "(" ++ register r ++ codes ")"
 
@@ -92,7 +92,7 @@ with_distance name a b distance =
 unfoldable pub three_registers : List ℕ → ℕ → ℕ → ℕ → List ℕ
 three_registers name a b c = name_and_register name a ++ register b ++ codes ", " ++ register c
 
--- what the bits aq and rl add to a name
+-- The suffix of a name for the bits aq and rl.
 unfoldable pub ordering : Bool → Bool → List ℕ
 ordering false false = []
 ordering true false = codes ".aq"
@@ -110,7 +110,7 @@ atomic name aq rl rd value base = name_and_register (name ++ ordering aq rl) rd 
 
 -- ---- the table
 
--- the text of an instruction
+-- The text of an instruction.
 abbrev pub text_of : Instruction → List ℕ
 text_of (Lui rd imm) = upper (codes "lui") rd imm
 text_of (Auipc rd imm) = upper (codes "auipc") rd imm
@@ -172,15 +172,15 @@ text_of (AmoMaxW rd rs1 rs2 aq rl) = atomic (codes "amomax.w") aq rl rd rs2 rs1
 text_of (AmoMinuW rd rs1 rs2 aq rl) = atomic (codes "amominu.w") aq rl rd rs2 rs1
 text_of (AmoMaxuW rd rs1 rs2 aq rl) = atomic (codes "amomaxu.w") aq rl rd rs2 rs1
 
--- the text of a word that has no row in the table of instructions
+-- The text of a word that has no row in the table of instructions.
 unfoldable pub unknown : ℕ → List ℕ
 unknown w = codes ".word 0x" ++ eight_digits w
 
--- the text of a word: that of its row
+-- The text of a word: that of its row.
 unfoldable pub listed : ℕ → List ℕ
 listed w = option_map_or text_of (row w) (unknown w)
 
--- a line of a listing: the address, the word and its text
+-- A line of a listing: the address, the word and its text.
 unfoldable pub line_of : ℕ → ℕ → List ℕ
 line_of address w = eight_digits address ++ codes ": " ++ eight_digits w ++ codes "  "
     ++ listed w ++ 10 ∷ []

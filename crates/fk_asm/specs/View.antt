@@ -1,4 +1,4 @@
--- Texts of the code as those of the definitions.
+-- The texts of the code, as those of the definitions.
 use Rattle.std.specs.Prelude.{ℕ, List}
 use denote.Ref.{Bor}
 

@@ -16,11 +16,11 @@ use fk_isa::Instruction;
 use std::alloc::{AllocError, Global};
 use std::marker::Model;
 
-/// Lines of code so far, with labels to jump to, and the entries of the commit table.
+/// An assembler: the lines of code so far, labels to jump to, and the entries of the commit table.
 #[derive(Drop)]
 pub struct Assembler {
     lines: Vec<Line>,
-    // the index of the word that each label is bound to
+    // the index of the word to which each label is bound
     bound: Vec<Option<u32>>,
     commits: Vec<(u32, u32)>,
 }
@@ -50,6 +50,10 @@ impl Assembler {
     }
 
     /// Makes the next label. Labels are numbered from 0.
+    ///
+    /// # Errors
+    ///
+    /// `AllocError` if there isn't enough memory. Nothing has changed then.
     pub fn label(&mut self) -> Result<u32, AllocError>
         requires few { length self.old.bound < 2 ^ 32 - 1 }
         ensures number { IfOk result (λ label. label ≡ length self.old.bound) }
@@ -75,6 +79,10 @@ impl Assembler {
     }
 
     /// Adds the word of an instruction.
+    ///
+    /// # Errors
+    ///
+    /// `AllocError` if there isn't enough memory. Nothing has changed then.
     pub fn emit(&mut self, i: Instruction) -> Result<(), AllocError>
         requires room { length self.old.lines < 2 ^ 30 - 1 }
         requires fits { Fits i }
@@ -87,8 +95,11 @@ impl Assembler {
         Ok(())
     }
 
-    /// Adds a jump to a label: a branch or `jal`, whose immediate `finish` replaces
-    /// by the distance.
+    /// Adds a jump to a label: a branch or `jal`. `finish` replaces its immediate by the distance.
+    ///
+    /// # Errors
+    ///
+    /// `AllocError` if there isn't enough memory. Nothing has changed then.
     pub fn jump(&mut self, i: Instruction, label: u32) -> Result<(), AllocError>
         requires room { length self.old.lines < 2 ^ 30 - 1 }
         requires fits { Fits i }
@@ -103,8 +114,12 @@ impl Assembler {
         Ok(())
     }
 
-    /// Says that the next word commits so many operations, with an event: 0 none, 1 split,
-    /// 2 shrink, 3 end, 4 resume, 5 meet, 6 agree.
+    /// Adds a commit entry: the next word commits `count` operations, with an event: 0 none, 1
+    /// split, 2 shrink, 3 end, 4 resume, 5 meet, 6 agree.
+    ///
+    /// # Errors
+    ///
+    /// `AllocError` if there isn't enough memory. Nothing has changed then.
     pub fn commit(&mut self, count: u32, event: u32) -> Result<(), AllocError>
         requires least { 1 ≤ count }
         requires most { count ≤ 255 }
@@ -120,10 +135,12 @@ impl Assembler {
         Ok(())
     }
 
-    /// The code of the lines.
+    /// Makes the code of the lines.
     ///
     /// # Errors
-    /// `TooFar` at the first jump whose format can't hold the distance to its label; `Memory`.
+    ///
+    /// `TooFar` at the first jump whose format can't hold the distance to its label; `Memory` if
+    /// there isn't enough memory.
     pub fn finish(self) -> Result<Code, AsmFault>
         requires bound { All (IsBound self.bound) self.lines }
         requires followed { AreFollowed self }
@@ -153,7 +170,7 @@ impl Assembler {
     }
 }
 
-// The index of the first line whose format can't hold its distance, and the distance.
+// The index of the first line whose format can't hold its distance, and that distance.
 fn first_too_far(lines: &[Line], bound: &[Option<u32>]) -> Option<(u32, i64)>
     requires { length lines.now < 2 ^ 30 }
     ensures near { IfNone result (AreNearBelow bound.now lines.now (length lines.now)) }

@@ -3,19 +3,20 @@
 use crate::assembler::Assembler;
 use std::alloc::AllocError;
 
-/// The blocks of a kind of operations: the lines that do each of them.
+/// The blocks of a kind of operations: the lines that do each operation.
 pub trait Blocks<O> {
     ghost use Rattle.std.specs.Prelude.{◌≡◌, ◌+◌, ◌^◌, ◌<◌, List, All, OnOk, OnErr, length};
     ghost use Rattle.fk_asm.specs.Assembly.{AreFollowed};
     ghost use Rattle.fk_asm.specs.Block.{MarkedLine, GoesToMade, HasBegun, with_block};
 
-    /// Which operations it has a block for.
+    /// The operations that have a block.
     ghost has_block: { O → Type 0 };
 
     /// The block of an operation.
     ghost block: { O → List MarkedLine };
 
-    /// Adds the block of an operation. After an error only its first lines were added, or none.
+    /// Adds the block of an operation. Fails if there isn't enough memory; then only the first
+    /// lines of the block were added, or none.
     fn emit_op(&self, op: &O, into: &mut Assembler) -> Result<(), AllocError>
         requires known { has_block op.now }
         requires labels { All (GoesToMade into.old.bound) (block op.now) }

@@ -1,4 +1,4 @@
-//! Code, and why lines have none.
+//! Code, and the reasons why lines have none.
 
 use std::alloc::AllocError;
 use thiserror::Error;
@@ -11,7 +11,7 @@ pub struct Code {
     pub commits: Vec<(u32, u32)>,
 }
 
-/// Why lines have no code.
+/// The reason why lines have no code.
 #[derive(Clone, Copy, PartialEq, Eq, Debug, Error)]
 pub enum AsmFault {
     /// The index of the first jump whose format can't hold its distance, and the distance in bytes.

@@ -13,7 +13,7 @@ pub fn distance(from: u32, to: u32) -> i64
     4 * (i64::from(to) - i64::from(from))
 }
 
-/// Whether the format of a jump holds a distance.
+/// Whether the format of a jump can hold a distance.
 pub fn reaches(jump: Instruction, distance: i64) -> bool
     ensures { IsTrue result ↔ Reaches jump distance }
 {
@@ -23,7 +23,7 @@ pub fn reaches(jump: Instruction, distance: i64) -> bool
     }
 }
 
-/// The jump that goes a distance.
+/// The jump that goes this distance.
 pub fn with_distance(jump: Instruction, distance: i64) -> Instruction
     requires { Reaches jump distance }
     ensures { result ≡ with_distance jump distance }

@@ -36,7 +36,7 @@ impl Line {
         }
     }
 
-    // How far the line of a word goes, if it goes to a label.
+    // The distance that the line of a word goes, if it goes to a label.
     fn distance(&self, bound: &[Option<u32>], own: u32) -> Option<i64>
         ensures { result ≡ distance_of bound.now own self.now }
     {
@@ -44,7 +44,7 @@ impl Line {
         Some(distance(own, to?))
     }
 
-    /// How far the line of a word goes, where its format can't hold it.
+    /// The distance that the line of a word goes, if its format can't hold it.
     pub(crate) fn too_far(&self, bound: &[Option<u32>], own: u32) -> Option<i64>
         ensures near { IfNone result (IsNear bound.now own self.now) }
         ensures far { IfSome result (IsTooFar bound.now own self.now) }
@@ -64,7 +64,7 @@ impl Line {
         }
     }
 
-    /// The word of the line, which is near.
+    /// The word of a line that is near.
     pub(crate) fn word(&self, bound: &[Option<u32>], own: u32) -> u32
         requires fits { Fits self.now.instruction }
         requires near { IsNear bound.now own self.now }

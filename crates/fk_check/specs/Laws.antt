@@ -22,7 +22,7 @@ pub record AreSame (one other : Facts) : Type 0 where
   pub notes : one.notes.items ≡ other.notes.items
   pub kinds : one.kinds.items ≡ other.kinds.items
 
--- all facts of a program are the same
+-- a program has at most one list of facts
 abbrev pub HasOneFacts : Type 0
 HasOneFacts = (program : ProgramTree) (one other : Facts) → AreAllFacts program one
     → AreAllFacts program other → AreSame one other

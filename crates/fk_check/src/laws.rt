@@ -2,7 +2,7 @@
 
 ghost use Rattle.fk_check.specs.Laws.{BreaksOneFirst, HasOneFacts, KeepsOrBreaks};
 
-/// A program that keeps all rules breaks none first.
+/// A program that keeps all rules doesn't break any rule first.
 pub fn keeps_or_breaks()
     ensures { KeepsOrBreaks }
 {}
@@ -12,7 +12,7 @@ pub fn breaks_one_first()
     ensures { BreaksOneFirst }
 {}
 
-/// All facts of a program are the same.
+/// A program has at most one list of facts.
 pub fn one_facts()
     ensures { HasOneFacts }
 {}

@@ -1,5 +1,5 @@
-//! The forty rules of Fork95: what is known of a program that keeps them, or the
-//! first that it breaks.
+//! The forty rules of Fork95: the facts of a program that keeps them, or the first rule that it
+//! breaks.
 #![tactic(auto)]
 
 mod check;

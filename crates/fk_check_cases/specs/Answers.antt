@@ -1,4 +1,4 @@
--- What is said of a text.
+-- The answers about a text.
 use Rattle.std.specs.Prelude.{◌≡◌, ◌≢◌, ◌⊎◌, ◌<◌, ℕ, List, length, map}
 use Rattle.fk_syntax.specs.declared.facts.Facts.{Facts}
 use Rattle.fk_syntax.specs.Program.{ProgramTree}
@@ -21,29 +21,29 @@ use Rattle.fk_check_cases.specs.declared.row.Question.TheVariants as question
 use Rattle.fk_check_cases.specs.declared.rules.Answer.{Answer}
 use Rattle.fk_check_cases.specs.declared.rules.Answer.TheVariants as answer
 
--- this is known of a program that keeps all rules
+-- a program keeps all rules and has these facts
 pub record HasFacts (tree : ProgramTree) (facts : Facts) : Type 0 where
   pub kept : Keeps tree
   pub known : AreAllFacts tree facts
 
--- it is laid out so, by its facts
+-- a program has this layout, by its facts
 pub record HasLayout (tree : ProgramTree) (layout : Layout) : Type 0 where
   pub facts : Facts
   pub has : HasFacts tree facts
   pub laid : IsLayout tree facts layout
 
--- it has no layout for this fault, which is not want of memory
+-- a program has no layout because of this fault, which isn't `Memory`
 pub record HasNoLayout (tree : ProgramTree) (why : LayoutFault) : Type 0 where
   pub facts : Facts
   pub has : HasFacts tree facts
   pub refused : IsRefusal (tables_by tree facts) tree.items why
   pub told : why ≢ fault.Memory
 
--- something of the layout is asked
+-- the question needs a layout
 abbrev pub AsksLayout : Question → Type 0
 AsksLayout asked = (asked ≡ question.Sites) ⊎ (asked ≡ question.Layout)
 
--- what is said of a program of these tokens
+-- the answer about a program with these tokens
 abbrev pub IsAnswerOf : Question → List Spelled → ProgramTree → Answer → Type 0
 IsAnswerOf asked tokens tree answer.NoProgram = ⊥
 IsAnswerOf asked tokens tree (answer.Broken place rule) = BreaksFirst tree place rule
@@ -56,14 +56,14 @@ IsAnswerOf asked tokens tree (answer.Tables layout) = (asked ≡ question.Layout
     × HasLayout tree layout
 IsAnswerOf asked tokens tree (answer.TooLarge why) = AsksLayout asked × HasNoLayout tree why
 
--- a text is too long, or has no tokens, or these are those of no program
+-- a text is too long, or has no tokens, or its tokens aren't a program
 pub data HasNoProgram (source : List ℕ) : Type 0 where
   too_long : 1048576 < length source → HasNoProgram source
   no_tokens : (found : LexFault) → Faults source found → HasNoProgram source
   no_tree : (tokens : List Spelled) (found : SyntaxFault) → Tokens source tokens
       → RefusesTokens tokens found → ¬ IsMemory found → HasNoProgram source
 
--- what is said of a text that has a program
+-- the answer about a text that has a program
 pub record HasAnswer (asked : Question) (source : List ℕ) (given : Answer) : Type 0 where
   pub tokens : List Spelled
   pub tree : ProgramTree
@@ -71,7 +71,7 @@ pub record HasAnswer (asked : Question) (source : List ℕ) (given : Answer) : T
   pub derived : SpellsProgram tokens tree
   pub is : IsAnswerOf asked tokens tree given
 
--- what is said of a text
+-- the answer about a text
 abbrev pub IsAnswer : Question → List ℕ → Answer → Type 0
 IsAnswer asked source answer.NoProgram = HasNoProgram source
 IsAnswer asked source given = HasAnswer asked source given

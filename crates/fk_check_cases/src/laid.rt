@@ -1,4 +1,4 @@
-//! What is written of a layout.
+//! The written form of a layout.
 
 use crate::told::word_if;
 use fk_layout::{Layout, Site};
@@ -7,15 +7,16 @@ use fk_meaning_forms::{FrameSize, Home, Region, Slot};
 use fk_syntax::Place;
 use std::fmt;
 
-// Where an operation stands that can't fault.
+// The place of an operation that can't fault.
 const NOWHERE: Place = Place { line: 0, column: 0 };
 
 /// The operations of a text, and the frames of its functions.
 #[derive(Clone, Copy)]
 pub(crate) struct SitesAndFrames<'l, 'a>(pub(crate) &'l Layout<'a>);
 
-/// The other tables of a text: a line for each shared variable of file scope, two for what those
-/// and the private ones begin as, and one for each place and each group frame.
+/// The other tables of a text: a line for each shared variable of file scope, two lines for the
+/// initial values of the shared and the private ones, and a line for each slot and each group
+/// frame.
 #[derive(Clone, Copy)]
 pub(crate) struct Tables<'l, 'a>(pub(crate) &'l Layout<'a>);
 
@@ -30,25 +31,25 @@ struct PlacedSite(Site);
 #[derive(Clone, Copy)]
 struct Frames<'l>(&'l [FrameSize]);
 
-// Shared variables of file scope, each in a line.
+// Shared variables of file scope, one in each line.
 #[derive(Clone, Copy)]
 struct Rows<'l, 'a>(&'l [GlobalRow<'a>]);
 
 #[derive(Clone, Copy)]
 struct NamedRow<'l, 'a>(&'l GlobalRow<'a>);
 
-// Words side by side.
+// Words in one line.
 #[derive(Clone, Copy)]
 struct Words<'l>(&'l [u32]);
 
-// Places with their numbers, each in a line.
+// Slots with their numbers, one in each line.
 #[derive(Clone, Copy)]
 struct Slots<'l>(&'l [Slot]);
 
 #[derive(Clone, Copy)]
 struct NumberedSlot(usize, Slot);
 
-// Group frames with their numbers, each in a line.
+// Group frames with their numbers, one in each line.
 #[derive(Clone, Copy)]
 struct Regions<'l>(&'l [Region]);
 

@@ -1,11 +1,9 @@
-//! A table of texts, and what the front end says of each: the lines of the input, and those of the
-//! output.
+//! Answers questions about a table of texts. Each line of the input has a question, a tab, the
+//! place of a piece of text, a tab and the piece.
 //!
-//! A line of the input is what is asked, a tab, the place of a piece, a tab and the piece. Asked
-//! for `rules`, the program tells the first rule that the text breaks. Of a text that breaks
-//! none it tells, asked for `facts`, its kinds and the notes of its tokens; asked for `sites`,
-//! its operations and the frames of its functions; asked for `layout`, where its variables and
-//! group frames lie.
+//! For `rules` the program prints the first rule that the text breaks. For a text that breaks none
+//! it prints: for `facts` its kinds and the notes of its tokens; for `sites` its operations and the
+//! frames of its functions; for `layout` where its variables and group frames lie.
 #![tactic(auto)]
 
 mod laid;

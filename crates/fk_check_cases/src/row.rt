@@ -7,21 +7,21 @@ const FIRST_STRUCT: &str = "struct In { int x; };";
 const VARIABLES: &str =
     "sh struct S st; sh struct S so[2]; sh int x0, ar[4]; sh unsigned x1; int f0;";
 
-/// What is asked of a text.
+/// A question about a text.
 #[derive(Clone, Copy, PartialEq, Eq, Debug)]
 pub enum Question {
-    /// The rule that it breaks first.
+    /// Which rule does it break first?
     Rules,
-    /// What is known of its types and tokens.
+    /// What are the facts of its types and tokens?
     Facts,
-    /// Its operations, and the frames of its functions.
+    /// What are its operations, and the frames of its functions?
     Sites,
-    /// Where its variables and group frames lie.
+    /// Where do its variables and group frames lie?
     Layout,
 }
 
-// What stands round a piece: the structs besides the first, and what is directly before and behind
-// it.
+// The text around a piece: the structs besides the first one, and the text directly before and
+// after the piece.
 #[derive(Clone, Copy)]
 struct Around {
     structs: &'static str,
@@ -38,7 +38,7 @@ pub struct Row<'a> {
 }
 
 impl Question {
-    // That of a word.
+    // The question of a word.
     fn of(word: &str) -> Question {
         match word {
             "facts" => Question::Facts,
@@ -49,7 +49,7 @@ impl Question {
     }
 }
 
-// What stands round a piece whose rules are asked for.
+// The text around a piece in a question about rules or facts.
 fn around_checked(place: &str) -> Around {
     let (before, behind) = match place {
         "item" => ("void main(void) { start { x0 = $; } }\n", ""),
@@ -63,7 +63,7 @@ fn around_checked(place: &str) -> Around {
     }
 }
 
-// What stands round a piece whose layout is asked for.
+// The text around a piece in a question about the layout.
 fn around_laid(place: &str) -> Around {
     let (before, behind) = match place {
         "item" => ("", "void main(void) { }"),
@@ -92,9 +92,9 @@ impl<'a> Row<'a> {
         }
     }
 
-    /// The text of a row: the piece by itself; or on a line of its own among others, which declare
-    /// structs and variables, beside functions, in the body of `main`, or in the body of its
-    /// `start`. Fails only for want of memory.
+    /// The text of a row. It is the piece by itself; or the piece in a line of its own in a text
+    /// that declares structs and variables: among the functions, in the body of `main`, or in the
+    /// body of its `start`. It fails only if there isn't enough memory.
     pub fn text(&self, alloc: Global) -> Result<String, AllocError> {
         let piece = self.piece;
         if self.place == "whole" {

@@ -1,4 +1,4 @@
-//! What the front end says of a text.
+//! The answers of the front end about a text.
 
 ghost use Rattle.std.specs.Prelude.{◌≤◌, ◌^◌, ℕ, List, IfOk, map};
 ghost use Rattle.fk_lex.specs.Reading.{Spelled, Tokens};
@@ -23,33 +23,33 @@ use std::alloc::{AllocError, Global};
 
 const MOST_BYTES: usize = 1_048_576;
 
-/// What is known of a text that keeps all rules.
+/// The tokens and facts of a text that keeps all rules.
 #[derive(Drop)]
 pub struct Checked<'a> {
     pub tokens: Vec<Token<'a>>,
     pub facts: Facts,
 }
 
-/// What is said of a text.
+/// The answer about a text.
 #[derive(Drop)]
 pub enum Answer<'a> {
-    /// It has no program.
+    /// The text isn't a program.
     NoProgram,
-    /// It breaks a rule first here, by its number.
+    /// The first rule that it breaks: the place, and the number of the rule.
     Broken(Place, u8),
     /// It keeps all rules.
     Kept,
-    /// It keeps them, and this is known of it.
+    /// It keeps all rules, and these are its facts.
     Checked(Checked<'a>),
-    /// It keeps them, and these are its operations and frames.
+    /// It keeps all rules, and these are its operations and frames.
     Sites(Layout<'a>),
-    /// It keeps them, and this is where all else lies.
+    /// It keeps all rules, and these are the other tables of its layout.
     Tables(Layout<'a>),
-    /// It keeps them, and is too large to be laid out.
+    /// It keeps all rules, but is too large for a layout.
     TooLarge(LayoutFault),
 }
 
-// What is said of a text without tokens.
+// The answer about a text without tokens.
 fn without_tokens<'a>(fault: LexFault) -> Result<Answer<'a>, AllocError>
     ensures { (asked : q.Question) (source : List ℕ) → IsFault source fault
         → IfOk result (IsAnswer asked source) }
@@ -63,7 +63,7 @@ fn without_tokens<'a>(fault: LexFault) -> Result<Answer<'a>, AllocError>
     }
 }
 
-// What is said of a text whose tokens are those of no program.
+// The answer about a text whose tokens aren't a program.
 fn without_program<'a>(fault: SyntaxFault) -> Result<Answer<'a>, AllocError>
     ensures { (asked : q.Question) (source : List ℕ) (tokens : List Spelled) → Tokens source tokens
         → RefusesTokens tokens fault → IfOk result (IsAnswer asked source) }
@@ -76,7 +76,7 @@ fn without_program<'a>(fault: SyntaxFault) -> Result<Answer<'a>, AllocError>
     }
 }
 
-// What is said of a program without a layout, where that is asked.
+// The answer about a program without a layout, if the question needs one.
 fn without_layout<'a>(
     program: &Program,
     facts: &Facts,
@@ -96,7 +96,7 @@ fn without_layout<'a>(
     }
 }
 
-// What is said of a program that keeps all rules.
+// The answer about a program that keeps all rules.
 fn kept<'a>(
     alloc: Global,
     asked: Question,
@@ -122,7 +122,7 @@ fn kept<'a>(
     }
 }
 
-// What is said of a program of these tokens.
+// The answer about a program with these tokens.
 fn answer_of<'a>(
     alloc: Global,
     asked: Question,
@@ -141,7 +141,7 @@ fn answer_of<'a>(
     }
 }
 
-/// What the front end says of a text. Fails only for want of memory.
+/// The answer of the front end about a text. It fails only if there isn't enough memory.
 pub fn answer_for<'a>(
     alloc: Global,
     asked: Question,

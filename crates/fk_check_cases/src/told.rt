@@ -1,4 +1,4 @@
-//! What is written of a text.
+//! The written form of an answer.
 
 use crate::laid::{SitesAndFrames, Tables};
 use crate::rules::{Answer, Checked};
@@ -7,7 +7,7 @@ use fk_lex::token::Token;
 use fk_syntax::{Kind, Note};
 use std::fmt;
 
-// A note that says nothing.
+// A note without facts.
 const NOTHING: Note = Note {
     kind: 0,
     binding: 0,
@@ -20,7 +20,7 @@ const NOTHING: Note = Note {
 #[derive(Clone, Copy)]
 struct NumberedKind<'k>(usize, &'k Kind);
 
-// The kinds of a text, each in a line.
+// The kinds of a text, one in each line.
 #[derive(Clone, Copy)]
 struct Kinds<'k>(&'k [Kind]);
 
@@ -28,7 +28,7 @@ struct Kinds<'k>(&'k [Kind]);
 #[derive(Clone, Copy)]
 struct NotedToken<'t, 'a>(&'t Token<'a>, &'t Note);
 
-// The tokens of a text and their notes: each note that says something in a line.
+// The tokens of a text and their notes: one line for each note that has facts.
 #[derive(Clone, Copy)]
 struct NotedTokens<'t, 'a>(&'t [Token<'a>], &'t [Note]);
 
@@ -36,7 +36,7 @@ struct NotedTokens<'t, 'a>(&'t [Token<'a>], &'t [Note]);
 #[derive(Clone, Copy)]
 struct TooLarge(LayoutFault);
 
-/// A word, where it is so.
+/// A word if it applies, else no word.
 pub(crate) fn word_if(is_so: bool, word: &'static str) -> &'static str {
     if is_so { word } else { "" }
 }

@@ -5,7 +5,7 @@ use Rattle.fk_syntax.specs.Program.{ProgramTree}
 use Rattle.fk_syntax.specs.WellFormed.{IsWellFormed}
 use Rattle.fk_check.specs.Known.{AreAllFacts}
 
--- a program of at most 2^20 tokens that keeps all rules, with what is known of it
+-- a program of at most 2^20 tokens that keeps all rules, with its facts
 pub record IsCorrect (program : ProgramTree) (facts : Facts) : Type 0 where
   pub well_formed : IsWellFormed program
   pub small : program.tokens ≤ 2 ^ 20

@@ -1,4 +1,4 @@
--- Programs that keep all rules are such as flat lists ask.
+-- Programs that keep all rules satisfy what flat lists require.
 use Rattle.fk_syntax.specs.declared.facts.Facts.{Facts}
 use Rattle.fk_syntax.specs.Program.{ProgramTree}
 use Rattle.fk_layout.specs.Layout.{tables_by}
@@ -8,7 +8,7 @@ use Rattle.fk_check_laws.specs.Correct.{IsCorrect}
 use Rattle.fk_check_laws.specs.Conditions.{ConditionsBegin}
 
 -- calls have their arguments and a body, conditions of loops begin with an operation, and `break`
--- and `continue` stand in loops: so the program fits, if its tree is trim, as that of a text is
+-- and `continue` are in loops. The program thus fits, if its tree is trim, as that of every text is
 abbrev pub CorrectProgramsFit : Type 0
 CorrectProgramsFit =
     (program : ProgramTree) (facts : Facts) → IsCorrect program facts → ProgramIsTrim program

@@ -1,5 +1,5 @@
--- Programs that keep all rules, and what they compute for a `fork` gives one value each, are in
--- place, so their groups have one remaining program.
+-- Programs that keep all rules and whose `fork` expressions give one value each are in place, and
+-- so their groups have one remaining program.
 use Rattle.std.specs.Prelude.{◌≡◌, ◌≢◌, ℕ, ◌≤◌, ◌^◌, Bool, true, not, ◌&&◌, List, Option, Some}
 use Rattle.std.specs.Prelude.{None, slice_get}
 use Rattle.fk_syntax.specs.declared.facts.Facts.{Facts}
@@ -23,13 +23,14 @@ use Rattle.fk_lockstep.specs.OneSpace.{KeepOneSpace}
 use Rattle.fk_lockstep_structure.specs.Forks.{ForksAreValued}
 use Rattle.fk_lockstep_structure.specs.InPlace.{IsInPlace}
 
--- a function of a mode may be called by a group, or by processors by themselves
+-- a function with this mode may be called by a group, or by processors by themselves
 abbrev pub may_run : (in_group : Bool) → Mode → Bool
 may_run in_group Sync = in_group
 may_run in_group Async = not in_group
 may_run in_group Straight = true
 
--- what may be called: such a function, but for `main`. A name of anything else is no call
+-- the functions that may be called: those with such a mode, other than `main`. A name of anything
+-- else isn't a call
 abbrev pub callable : (in_group : Bool) → Option DeclarationTree → Bool
 callable in_group None = true
 callable in_group (Some (Variable variable)) = true
@@ -39,7 +40,7 @@ callable in_group (Some (Header function)) =
 abbrev pub may_call : ProgramTree → (in_group : Bool) → (binding : ℕ) → Bool
 may_call program in_group binding = callable in_group (slice_get (declarations program) binding)
 
--- no token of a program is a `fork`, so nothing is computed for one
+-- no token of a program is a `fork`, and so nothing is computed for one
 abbrev pub HasNoFork : ProgramTree → Type 0
 HasNoFork program = (i : ℕ) (token : Standing (List Holder))
     → slice_get (tokens program) i ≡ Some token → token.word ≢ Fork
@@ -51,8 +52,8 @@ ForkFreeProgramsAreValued =
     let fs = functions_of program.items in
     ForksAreValued tables (signature_in tables fs) fs
 
--- a program of at most 2^20 tokens that keeps all rules and whose every `fork` is so, with
--- what is known of it
+-- a program of at most 2^20 tokens that keeps all rules and whose `fork` expressions give one value
+-- each, with its facts
 pub record IsValid (program : ProgramTree) (facts : Facts) : Type 0 where
   pub well_formed : IsWellFormed program
   pub small : program.tokens ≤ 2 ^ 20
@@ -60,12 +61,12 @@ pub record IsValid (program : ProgramTree) (facts : Facts) : Type 0 where
   pub valued : ForksAreValued (tables_by program facts) (signature_in (tables_by program facts)
       (functions_of program.items)) (functions_of program.items)
 
--- such a program is in place by its names, its types and the places of its variables
+-- such a program is in place, by its names, its types and the slots of its variables
 abbrev pub ValidProgramsAreInPlace : Type 0
 ValidProgramsAreInPlace = (program : ProgramTree) (facts : Facts) → IsValid program facts
     → IsInPlace (tables_by program facts) program (may_call program)
 
--- and its groups have one remaining program
+-- the groups of such a program have one remaining program
 abbrev pub ValidProgramsHaveOneProgram : Type 0
 ValidProgramsHaveOneProgram =
     (program : ProgramTree) (facts : Facts) → IsValid program facts
@@ -77,8 +78,9 @@ ValidProgramsHaveOneProgram =
     → (run next setting schedule first).fault ≡ None
     → KeepOneProgram next processors (run next setting schedule first)
 
--- and all members of a group in lockstep have levels that differ in `$` alone, as have all who wait
--- at one node. No function, and no statement with a frame, stands at the first token of a text
+-- all members of a group in lockstep have levels that differ in `$` alone, and so have processors
+-- that wait at one node. No function, and no statement with a frame, is at the first token of a
+-- text
 abbrev pub ValidProgramsHaveOneSpace : Type 0
 ValidProgramsHaveOneSpace =
     (program : ProgramTree) (facts : Facts) → IsValid program facts

@@ -4,42 +4,45 @@ ghost use Rattle.fk_check_laws.specs.Laws.{ConditionsOfLoopsBegin, CorrectProgra
 ghost use Rattle.fk_check_laws.specs.Valid.{ForkFreeProgramsAreValued, ValidProgramsAreInPlace};
 ghost use Rattle.fk_check_laws.specs.Valid.{ValidProgramsHaveOneProgram, ValidProgramsHaveOneSpace};
 
-/// A program that keeps the forty rules calls functions alone, each with its arguments, and each
-/// has a body; its loops' conditions begin with an operation, and its `break` and `continue` stand
-/// in loops. So it fits, if its tree is trim, as that of a text is.
+/// A program that keeps the forty rules calls only functions that have a body, each with its
+/// arguments. The conditions of its loops begin with an operation, and its `break` and `continue`
+/// are in loops. The program thus fits, if its tree is trim, as that of every text is.
 pub fn correct_programs_fit()
     ensures { CorrectProgramsFit }
 {}
 
-/// The value of each condition of its loops is found by operations, the first of which stands at
-/// its beginning: such a condition is no name of a function, and no address of a private variable.
+/// In a program that keeps the forty rules, the code of each loop's condition begins with an
+/// operation. Such a condition is neither the name of a function nor the address of a private
+/// variable.
 pub fn conditions_begin()
     ensures { ConditionsOfLoopsBegin }
 {}
 
-/// Where no token of a program is a `fork`, nothing else is asked of what it computes for one.
+/// If no token of a program is a `fork`, nothing is required of the expressions of a `fork`.
 pub fn fork_free_programs_are_valued()
     ensures { ForkFreeProgramsAreValued }
 {}
 
-/// A program that keeps the forty rules is in place, where each part and rank that it tells for a
-/// `fork` gives one value, whichever way is gone in it and whatever it calls. Its parts, bodies and
-/// loops are nested, what groups run is noted as such, groups alone split, functions return values
-/// where they have results, and no name in them means a function that may not be called there.
+/// A program that keeps the forty rules is in place, if the part and the rank of each `fork` give
+/// one value, whichever branches are taken in them and whatever they call. Its parts, bodies and
+/// loops are nested, the notes tell which statements groups run, only groups split, functions
+/// return values if they have results, and no name denotes a function that may not be called there.
 pub fn valid_programs_are_in_place()
     ensures { ValidProgramsAreInPlace }
 {}
 
-/// After every lawful schedule of such a program without a stopped last round all members
-/// of a group in lockstep have the same left to do, and where a branch stands in it, the
-/// same last value.
+/// After every lawful schedule, without a stopped last round, of a program that keeps the forty
+/// rules and whose `fork` expressions give one value each, all members of a group in lockstep have
+/// the same work left. Before a branch they have the same last value.
 pub fn valid_programs_have_one_program()
     ensures { ValidProgramsHaveOneProgram }
 {}
 
-/// Members of a group in lockstep have levels that differ in `$` alone: of their group and of each
-/// group round it they have the same `@`, size and space. The same holds of those who wait at one
-/// node.
+/// After every lawful schedule, without a stopped last round, of a program that keeps the forty
+/// rules, whose `fork` expressions give one value each, and whose first token begins neither a
+/// function nor a statement with a frame, the members of a group in lockstep have levels that
+/// differ in `$` alone: they have the same `@`, size and space of their group and of each group
+/// around it. So have processors that wait at one node.
 pub fn valid_programs_have_one_space()
     ensures { ValidProgramsHaveOneSpace }
 {}

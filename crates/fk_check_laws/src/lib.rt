@@ -1,6 +1,6 @@
 //! What follows for the code of a program from the rules of the language that it keeps.
 //!
-//! The definitions stand in `specs/`, and what is proved of them in `laws`.
+//! The definitions are in `specs/`, and what is proved of them is in `laws`.
 #![tactic(auto)]
 
 pub mod laws;

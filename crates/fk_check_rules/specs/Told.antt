@@ -1,4 +1,4 @@
--- A rule that is broken at a place where something holds.
+-- A rule that is broken at one place if a fact holds.
 use Rattle.std.specs.Prelude.{◌≡◌}
 use Rattle.fk_syntax.specs.declared.place.Place.{Place}
 use Rattle.fk_check_rules.specs.declared.rule.Rule.{Rule}

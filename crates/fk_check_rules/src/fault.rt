@@ -1,4 +1,4 @@
-//! Broken rules, and which of several comes first.
+//! Faults, which are broken rules at places, and the order of faults.
 
 ghost use Rattle.std.specs.Bool.{OnTrue, OnFalse};
 ghost use Rattle.std.specs.Prelude.{IsTrue};
@@ -8,7 +8,7 @@ ghost use Rattle.fk_check_rules.specs.Told.{told};
 use crate::rule::Rule;
 use fk_syntax::Place;
 
-/// A rule that is broken, and where.
+/// A rule that is broken, and the place.
 #[derive(Clone, Copy, PartialEq, Eq)]
 pub struct Fault {
     pub place: Place,
@@ -16,7 +16,7 @@ pub struct Fault {
 }
 
 impl Fault {
-    // Whether it comes first, or neither does.
+    // Whether it comes before another fault, or at the same point.
     fn is_no_later(&self, other: &Fault) -> bool
         ensures yes { OnTrue result (IsNoLater self.now other.now) }
         ensures no { OnFalse result (IsNoLater other.now self.now) }
@@ -31,7 +31,7 @@ impl Fault {
     }
 }
 
-/// A rule that is broken at a place, where a test holds.
+/// The fault of a rule at a place, if a test holds.
 pub fn fault_if(rule: Rule, place: Place, holds: bool) -> Option<Fault>
     ensures { IsLeast (told rule place (IsTrue holds)) result }
 {

@@ -1,4 +1,4 @@
-//! The rules of Fork95 by what they forbid, and the first of several that a text breaks.
+//! The rules of Fork95, named by what they forbid, and the first of several that a text breaks.
 #![tactic(auto)]
 
 mod fault;

@@ -6,47 +6,48 @@ ghost use Rattle.fk_check_rules.specs.Rules.{number_of};
 /// A rule of the language, named by what it forbids.
 #[derive(Clone, Copy, PartialEq, Eq)]
 pub enum Rule {
-    /// A variable or function that is not declared.
+    /// A variable or function that isn't declared.
     Undeclared,
     /// Two declarations of one name in one scope.
     DeclaredTwice,
     /// Headers of one function that differ, or a function without a body or with two.
     HeadersDiffer,
-    /// A text without `main`, or with one of another form.
+    /// A text without `main`, or with one that has a wrong form.
     NoMain,
     /// A call of `main`.
     MainCalled,
-    /// A struct that is not declared, or that holds itself.
+    /// A struct that isn't declared, or that contains itself.
     NoStruct,
     /// A variable of type `void`, or a struct as a parameter or result.
     NoVariable,
-    /// An array of too many elements or none, or a type of too many words.
+    /// An array with too many elements or none, or a type with too many words.
     WrongSize,
-    /// An initial value of file scope that holds more than numbers.
+    /// An initial value at file scope that has more than numbers.
     NotConstant,
     /// Operands that a sign doesn't take.
     WrongOperands,
-    /// An assignment to what is no variable.
+    /// An assignment to something that isn't a variable.
     NoTarget,
     /// A value that doesn't convert.
     NoConversion,
-    /// A call with another number of arguments.
+    /// A call with a wrong number of arguments.
     WrongCount,
-    /// A call of what is no function, or a function that isn't called.
+    /// A call of something that isn't a function, or a function that isn't called.
     NoFunction,
-    /// A member that the struct hasn't.
+    /// A member that the struct doesn't have.
     NoMember,
-    /// A dereference of what is no pointer.
+    /// A dereference of something that isn't a pointer.
     NoPointer,
-    /// A condition that is no number and no pointer.
+    /// A condition that is neither a number nor a pointer.
     NoCondition,
-    /// A `return` with a value that the function hasn't, or without the one that it has.
+    /// A `return` with a value in a function without a result, or without one in a function with a
+    /// result.
     WrongReturn,
-    /// A struct or nothing at all, used as a value.
+    /// A struct, or a call of a `void` function, that is used as a value.
     NoValue,
     /// An assignment to an array, or an initial value of an array or a struct.
     WholeAssigned,
-    /// A `start` that is no direct statement of the outermost block of `main`.
+    /// A `start` that isn't a direct statement of the outermost block of `main`.
     StartNotInMain,
     /// `farm` outside a synchronous region.
     FarmOutside,
@@ -60,8 +61,8 @@ pub enum Rule {
     SyncCalledOutside,
     /// A call of an `async` function in a synchronous region.
     AsyncCalledInside,
-    /// A choice, a loop, a `barrier` or a call of a function that isn't straight, in a
-    /// `straight` function.
+    /// A `straight` function with a choice, a loop, a `barrier` or a call of a function that isn't
+    /// straight.
     NotStraight,
     /// A call of `shalloc` outside a synchronous region.
     ShallocOutside,

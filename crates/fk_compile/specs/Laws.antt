@@ -1,4 +1,4 @@
--- Laws of the definitions.
+-- Laws of faithful images.
 use Rattle.std.specs.Prelude.{ℕ, ◌^◌, ◌<◌, ◌≤◌, List}
 use Rattle.fk_image.specs.declared.Image.{Image}
 use Rattle.fk_machine.specs.declared.stand.Stand.{Stand}
@@ -7,12 +7,12 @@ use Rattle.fk_machine.specs.Run.{machine}
 use Rattle.fk_sim_rounds.specs.Follows.{IsInput}
 use Rattle.fk_compile.specs.Faithful.{IsFaithful}
 
--- no trap
+-- The status is no trap.
 abbrev pub IsUntrapped : Stand → Type 0
 IsUntrapped (Trapped hart pc kind) = ⊥
 IsUntrapped stand = Unit {0}
 
--- a machine that runs an image of a text has no trap after any number of cycles
+-- A machine that runs an image of a text has no trap after any number of cycles.
 abbrev pub NeverTraps : Type 0
 NeverTraps =
     (source : List ℕ) (image : Image) (input : List ℕ) (p n : ℕ) → IsFaithful source image

@@ -8,7 +8,7 @@ use Rattle.fk_lockstep_structure.specs.InPlace.{IsInPlace}
 use Rattle.fk_lockstep_one_group.specs.Led.{AreLed}
 use Rattle.fk_compile_text.specs.Plain.{ArePlain}
 
--- their code leads from place to place
+-- The code of such a program leads from place to place.
 abbrev pub ProgramsAreLed : Type 0
 ProgramsAreLed =
     (tables : Tables) (program : ProgramTree) (may_call : (in_group : Bool) → (function : ℕ) → Bool)

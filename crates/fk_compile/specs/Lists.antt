@@ -12,7 +12,7 @@ use Rattle.fk_gen_list.specs.Laws.{none_saved}
 use Rattle.fk_sim_runs.specs.Lists.{IsOfOneGroup}
 use Rattle.fk_lower_laws.specs.Laws.{CanHaveGroups}
 
--- it is flat, and the code of each function stands at its entry, that of `main` at this index
+-- The list is flat, has the code of each function at its entry, and that of `main` at this index.
 pub record HasListOf (tables : Tables) (program : ProgramTree) (core : List CoreOp)
     (main : ℕ) : Type 0 where
   pub entry : ℕ → ℕ
@@ -20,8 +20,8 @@ pub record HasListOf (tables : Tables) (program : ProgramTree) (core : List Core
   pub code : HasCodeOf tables program core entry
   pub begins : main ≡ entry (main_of tables program)
 
--- what is known of it where no group splits in the text: code with groups can be made of it, its
--- operations have blocks, and its processors are in one group at a time
+-- What is known of the list of a text in which no group splits: code with groups can be made of it,
+-- its operations have blocks, and its processors are in one group at a time.
 pub record IsGrouped (core : List CoreOp) (main firsts : ℕ) : Type 0 where
   pub can : CanHaveGroups core main firsts
   pub blocks : HasBlocks core

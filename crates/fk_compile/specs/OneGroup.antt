@@ -17,7 +17,7 @@ use Rattle.fk_compile_text.specs.Plain.{ArePlain}
 use Rattle.fk_lower_laws.specs.LoweringLaws.{IsKnownOf}
 use Rattle.fk_compile.specs.OneProgram.{IsLaidOut}
 
--- where no level stands in a frame
+-- The list of a plain program is one with one group at a time, where no frame has a saved level.
 abbrev pub PlainListsAreOfOneGroup : Type 0
 PlainListsAreOfOneGroup =
     (program : ProgramTree) (facts : Facts) (known : ProgramTables) → IsKnownOf program facts known

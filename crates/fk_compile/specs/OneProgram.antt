@@ -31,13 +31,13 @@ use Rattle.fk_lower_laws.specs.Asked.{IsCalled, Asked}
 use Rattle.fk_lower_laws.specs.Typed.{IsNothing, Known}
 use Rattle.fk_lower_laws.specs.Proper.{ProgramIsProper}
 
--- a function that is called gives a value where it has a result
+-- A called function gives a value if it has a result.
 abbrev pub GiveResults : (functions : (binding : ℕ) → Signature)
     → (place_of : (binding : ℕ) → FunctionKind) → Type 0
 GiveResults functions place_of = (binding : ℕ) → IsCalled (place_of binding)
     → w.place_gives (place_of binding) ≡ gives_value functions binding
 
--- what well typed code asks of an expression is enough for it to leave one value or none
+-- What well typed code asks of an expression suffices for it to leave one value or none.
 abbrev pub AskedEvaluates : Type 0
 AskedEvaluates =
     (tables : Tables) (functions : (binding : ℕ) → Signature)
@@ -46,7 +46,7 @@ AskedEvaluates =
     → Evaluates tables functions x
     × (gives (way tables functions x) ≡ w.gives (w.way tables place_of x))
 
--- so an expression that has a type leaves one value, or none where its type is nothing
+-- An expression that has a type leaves one value, or none if its type is nothing.
 abbrev pub TypedEvaluates : Type 0
 TypedEvaluates =
     (has_room : (address : ℕ) → DataType → Bool)
@@ -58,14 +58,14 @@ TypedEvaluates =
     → (type : ExpressionType) → type_of env (term_of x) ≡ Some type
     → Evaluates tables functions x × (gives (way tables functions x) ≡ not (IsNothing type))
 
--- a program that keeps all rules, as a text spells it, and has a layout
+-- A program that keeps all rules, is as a text spells it, and has a layout.
 pub record IsLaidOut (program : ProgramTree) (facts : Facts) : Type 0 where
   pub correct : IsCorrect program facts
   pub trim : ProgramIsTrim program
   pub proper : ProgramIsProper program
   pub fits : Fits (tables_by program facts) program.items
 
--- each part and each rank that it tells for a `fork` gives one value
+-- Each part of a `fork`, and each rank in it, gives one value.
 abbrev pub ForksGiveValues : Type 0
 ForksGiveValues =
     (program : ProgramTree) (facts : Facts) → IsLaidOut program facts
@@ -73,7 +73,7 @@ ForksGiveValues =
     let fs = functions_of program.items in
     ForksAreValued tables (signature_in tables fs) fs
 
--- and its groups have one remaining program
+-- The members of a group have one remaining program.
 abbrev pub HasOneProgram : (program : ProgramTree) (facts : Facts) → Type 0
 HasOneProgram program facts =
     (setting : Setting) (schedule : Schedule) (words firsts input : List ℕ) (processors : ℕ)
@@ -88,7 +88,7 @@ abbrev pub CorrectProgramsHaveOneProgram : Type 0
 CorrectProgramsHaveOneProgram = (program : ProgramTree) (facts : Facts) → IsLaidOut program facts
     → HasOneProgram program facts
 
--- so has the program of a text
+-- The program of a text has one remaining program for each group.
 abbrev pub TextsHaveOneProgram : Type 0
 TextsHaveOneProgram =
     (source : List ℕ) (tokens : List Spelled) (program : ProgramTree) (facts : Facts)
@@ -96,7 +96,7 @@ TextsHaveOneProgram =
     → IsCorrect program facts → Fits (tables_by program facts) program.items
     → HasOneProgram program facts
 
--- and its groups have one space
+-- The members of a group have one space.
 abbrev pub HasOneSpace : (program : ProgramTree) (facts : Facts) → Type 0
 HasOneSpace program facts =
     (setting : Setting) (schedule : Schedule) (words firsts input : List ℕ) (processors : ℕ)

@@ -1,4 +1,4 @@
--- Lists of plain operations are as code is made of them.
+-- Lists of plain operations have what code needs.
 use Rattle.std.specs.Prelude.{◌≡◌, ℕ, ◌^◌, ◌<◌, ◌≤◌, List, All, length, sum_by}
 use Rattle.fk_meaning_operation.specs.declared.operation.Operation.{Operation}
 use Rattle.fk_meaning_forms.specs.Code.{Code}
@@ -19,7 +19,7 @@ use Rattle.fk_lower_laws.specs.FreeLaws.{IsPlain}
 use Rattle.fk_lower_laws.specs.Certain.{HasEnough}
 use Rattle.fk_lower_laws.specs.Laws.{CanHaveGroups}
 
--- what goes straight on has no target
+-- An operation that goes straight on has no target.
 abbrev pub StraightHasNoTarget : Type 0
 StraightHasNoTarget =
     (bodies : (binding : ℕ) → Code ℕ) (core : List CoreOp) (entry : (binding : ℕ) → ℕ)
@@ -36,8 +36,8 @@ PlainListsHaveBlocks =
 abbrev pub StepsFindValues : Type 0
 StepsFindValues = (core : List CoreOp) → HasEnough core → StepsHaveValues core
 
--- its sites and numbers are words, as in every slice, and so are the first values of private
--- variables of file scope
+-- Code can be made of a flat list with groups. Its sites and numbers are words, as in every slice,
+-- and so are the first values of private variables of file scope.
 abbrev pub GroupedListsAreGenerable : Type 0
 GroupedListsAreGenerable =
     (core : List CoreOp) (kept : List Set) (main : ℕ) (firsts : List ℕ)
@@ -46,7 +46,7 @@ GroupedListsAreGenerable =
     → All (λ op. (op.site < 2 ^ 32) × (op.number < 2 ^ 32)) core → All (λ v. v < 2 ^ 32) firsts
     → IsGenerable core kept main firsts
 
--- the blocks of a list have few words where its text has few operations
+-- The blocks of a list have few words if its text has few operations.
 abbrev pub ListsAreSmall : Type 0
 ListsAreSmall = (known : ProgramTables) (core : List CoreOp) → HasSites known core
     → length (sites_of_text known) ≤ 16000 → sum_by most_words core ≤ 256000

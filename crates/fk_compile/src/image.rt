@@ -6,7 +6,7 @@ ghost use Rattle.fk_compile.specs.Faithful.{in_table};
 use fk_layout::Site;
 use std::alloc::{AllocError, Global};
 
-/// The table of these sites, as an image has it.
+/// The table of these sites, in the form that an image has. Fails if there isn't enough memory.
 pub(crate) fn site_table(alloc: Global, sites: &[Site]) -> Result<Vec<(u32, u32, u32)>, AllocError>
     ensures { IfOk result (λ table. table.items ≡ map in_table sites.now) }
 {

@@ -1,4 +1,4 @@
--- A visitor that sees whether each operation is built.
+-- A visitor that finds whether all operations are built.
 use Rattle.std.specs.Prelude.{◌&&◌, Option, Some, None}
 use Rattle.fk_syntax.specs.declared.place.Place.{Place}
 use Rattle.fk_meaning_operation.specs.declared.operation.Operation.{Operation}

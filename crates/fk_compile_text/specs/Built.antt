@@ -7,7 +7,7 @@ use Rattle.fk_meaning_forms.specs.Code.{quit, break, continue, call, ends}
 use Rattle.fk_meaning_forms.specs.Tables.{Tables}
 use Rattle.fk_meaning_forms.specs.Program.{functions_of, code_of}
 
--- all operations that stand in code, in the order of the text
+-- All operations of code, in the order of the text.
 abbrev pub operations : {A : Type 0} → Code A → List Operation
 operations done = []
 operations (perform t op rest) = op ∷ operations rest
@@ -25,7 +25,7 @@ operations (continue rest) = operations rest
 operations (call t op f opening rest) = op ∷ operations opening ++ operations rest
 operations (ends t op rest) = op ∷ operations rest
 
--- those of functions, of all that there are; and those of a text
+-- The operations of some functions among all functions, and those of a text.
 abbrev pub operations_in : Tables → (all fs : List FunctionTree) → List Operation
 operations_in tables all [] = []
 operations_in tables all (f ∷ fs) = operations (code_of tables all f) ++ operations_in tables all fs

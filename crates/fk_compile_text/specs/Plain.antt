@@ -1,4 +1,4 @@
--- Texts with one group, in which no group splits.
+-- Texts with one group at a time, in which no group splits.
 use Rattle.std.specs.Prelude.{◌≡◌, Bool, true, false, All}
 use Rattle.fk_syntax.specs.Program.{ProgramTree}
 use Rattle.fk_meaning_operation.specs.declared.operation.OwnValue.TheVariants.{FrameAddress}
@@ -9,8 +9,8 @@ use Rattle.fk_meaning_operation.specs.declared.operation.Operation.TheVariants.{
 use Rattle.fk_meaning_forms.specs.Tables.{Tables}
 use Rattle.fk_compile_text.specs.Built.{operations_of}
 
--- what is built: all but splits and tests of split loops, what uses a group frame or takes a block
--- of the group's space, and `shmalloc`
+-- The operations that are built: all except splits and tests of split loops, those that use a group
+-- frame or take a block of the group's space, and `shmalloc`.
 abbrev pub is_plain : Operation → Bool
 is_plain (Get (FrameAddress nesting word)) = false
 is_plain (Leave gives true) = false

@@ -20,10 +20,10 @@ use Rattle.fk_compile_text.specs.declared.refusal.Refusal.TheVariants.{GlobalsTo
 use Rattle.fk_compile_text.specs.declared.refusal.Refusal.TheVariants.{SourceTooLong, NotBuilt}
 use Rattle.fk_compile_text.specs.declared.refusal.Refusal.TheVariants.{Memory}
 
--- the length is that of a text that is too long; one that isn't has a lexical fault at the least
--- place, or it has tokens: they have no tree, for a fault at a token or at the end; or they have
--- one, and it breaks this rule first; or it keeps all rules, and there is too much of something for
--- a layout; or it has one, and an operation that isn't built
+-- The first refusal of a text that applies. The text is too long. If it isn't, it has a lexical
+-- fault at the least place. If it has tokens, they have no tree, because of a fault at a token or
+-- at the end. If they have one, it breaks this rule first. If it keeps all rules, there is too much
+-- of something for a layout. If it has a layout, it has an operation that isn't built.
 abbrev pub IsRefusedText : List ℕ → Refusal → Type 0
 IsRefusedText source (SourceTooLong bytes) = (bytes ≡ length source) × (1048576 < bytes)
 IsRefusedText source (BadByte place) = (length source ≤ 1048576)
@@ -51,15 +51,16 @@ IsRefusedText source (GlobalsTooLarge words) = (length source ≤ 1048576)
 IsRefusedText source NotBuilt = (length source ≤ 1048576) × IsNotBuilt source
 IsRefusedText source (Memory e) = Unit {0}
 
--- ---- a fault of the layout, told as a refusal
+-- ---- a fault of the layout, as a refusal
 
--- where a frame is too large, its function is one of these items
+-- If a frame is too large, its function is one of these items.
 abbrev pub IsOfFunction : List ItemTree → LayoutFault → Type 0
 IsOfFunction items (layout.FrameTooLarge place words) = (name : List ℕ)
     × HasFunctionAt items place name
 IsOfFunction items fault = Unit {0}
 
--- the name of a function at a place, and its words; or there is no memory for the name
+-- The refusal has the name of a function at a place, and its words; or there isn't enough memory
+-- for the name.
 abbrev pub TellsFrame : List ItemTree → Place → ℕ → Refusal → Type 0
 TellsFrame items place words (FrameTooLarge name told) = HasFunctionAt items place name.items
     × (told ≡ words)

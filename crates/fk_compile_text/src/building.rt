@@ -11,7 +11,7 @@ use fk_layout_walk::{Event, Mark, ProgramTables, Visitor};
 use fk_layout_walk_statements::text;
 use fk_meaning_operation::{Operation, OwnValue as Pushed};
 
-/// Whether an operation is built: none that splits a group or tests a split loop, uses a group
+/// Whether an operation is built. It isn't if it splits a group or tests a split loop, uses a group
 /// frame, takes a block of the group's space, or is `shmalloc`.
 pub fn is_plain(operation: Operation) -> bool
     ensures { result ≡ is_plain operation }
@@ -28,10 +28,10 @@ pub fn is_plain(operation: Operation) -> bool
     )
 }
 
-/// A visitor that sees whether each operation is built.
+/// A visitor that finds whether all operations are built.
 #[derive(Drop)]
 pub(crate) struct Building {
-    /// Whether all were so far.
+    /// Whether all operations met so far are built.
     pub(crate) whole: bool,
 }
 

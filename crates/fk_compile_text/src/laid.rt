@@ -1,4 +1,4 @@
-//! The layout of a text, and why it has none.
+//! The layout of a text, and the reasons why it has none.
 
 ghost use Rattle.std.specs.Prelude.{◌≤◌, ℕ, List, IfErr, IfOk, IfSome, IsNone, OnOk, length, map};
 ghost use Rattle.fk_syntax.specs.ProgramView.{item_of, program_of};
@@ -14,7 +14,7 @@ use fk_layout::{Layout, LayoutFault, lay_out};
 use fk_syntax::{Item, Place};
 use std::alloc::{AllocError, Global};
 
-/// Where all lies that a text has which keeps all rules; or what is too much of it for that.
+/// The layout of a text that keeps all rules, or what there is too much of.
 pub(crate) fn layout_of<'a>(alloc: Global, text: &Checked<'a>) -> Result<Layout<'a>, Refusal>
     ensures laid { IfOk result (IsLayout (program_of text.now.tree) text.now.facts) }
     ensures fits { OnOk result (Fits (tables_by (program_of text.now.tree) text.now.facts)
@@ -29,7 +29,7 @@ pub(crate) fn layout_of<'a>(alloc: Global, text: &Checked<'a>) -> Result<Layout<
     }
 }
 
-// The refusal of these items by why they have no layout.
+// The refusal for the fault of a layout.
 fn refusal_by(alloc: Global, items: &[Item], fault: LayoutFault) -> Refusal
     requires { IsOfFunction (map item_of items.now) fault }
     ensures { TellsFault (map item_of items.now) fault result }
@@ -42,7 +42,7 @@ fn refusal_by(alloc: Global, items: &[Item], fault: LayoutFault) -> Refusal
     }
 }
 
-// The refusal by the private frame of the function at a place, which has so many words.
+// The refusal for the private frame of the function at a place, which has this many words.
 fn frame_too_large(alloc: Global, items: &[Item], place: Place, words: u32) -> Refusal
     requires { (name : List ℕ) × HasFunctionAt (map item_of items.now) place name }
     ensures { TellsFrame (map item_of items.now) place words result }
@@ -70,7 +70,7 @@ fn name_at<'a>(items: &[Item<'a>], place: Place) -> Option<&'a [u8]>
     None
 }
 
-// The name of an item that is a function at a place.
+// The name of an item, if it is a function at this place.
 fn name_of<'a>(item: &Item<'a>, place: Place) -> Option<&'a [u8]>
     ensures some { IfSome result (λ name. IsFunctionAt place name.now (item_of item.now)) }
     ensures none { IsNone result → (name : List ℕ) → ¬ IsFunctionAt place name (item_of item.now) }

@@ -1,10 +1,10 @@
-//! Why a text is refused.
+//! The reasons why a text is refused.
 
 use fk_syntax::Place;
 use std::alloc::AllocError;
 use thiserror::Error;
 
-/// Why a text is refused.
+/// The reason why a text is refused.
 #[derive(Debug, Drop, Error)]
 pub enum Refusal {
     /// A byte that begins no token.
@@ -19,7 +19,7 @@ pub enum Refusal {
     /// A number above 2^32 - 1.
     #[error("a wide number")]
     WideNumber(Place),
-    /// A token with which no text of the Fork95 grammar goes on, however deep that may nest.
+    /// A token with which no text of the Fork95 grammar goes on, however deep a text may nest.
     #[error("an unexpected token")]
     Unexpected(Place),
     /// The tokens begin a text of the Fork95 grammar, but it isn't complete.
@@ -28,29 +28,29 @@ pub enum Refusal {
     /// A token that opens level 129 of nesting.
     #[error("too deep a nesting")]
     Nesting(Place),
-    /// It breaks this rule of the language, by its number, here first.
+    /// The text breaks the rule of the language with this number, first at this place.
     #[error("rule {1} is broken")]
     Rule(Place, u8),
-    /// It has so many operations, which are more than 16,000. Above 2^64 - 1 it is that number.
+    /// The text has this many operations, more than 16,000. Above 2^64 - 1 it is that number.
     #[error("{0} operations are too many")]
     TooManySites(u64),
     /// A function has a private frame of more than 64 words: the name of the first one, and its
     /// words. Above 2^32 - 1 it is that number.
     #[error("a private frame of {1} words is too large")]
     FrameTooLarge(Vec<u8>, u32),
-    /// The shared variables of file scope have so many words, which are more than 524,288. Above
-    /// 2^64 - 1 it is that number.
+    /// The shared variables of file scope have this many words, more than 524,288. Above 2^64 - 1
+    /// it is that number.
     #[error("shared variables of {0} words are too large")]
     GlobalsTooLarge(u64),
-    /// It has more than 1,048,576 bytes: how many.
+    /// The text has this many bytes, more than 1,048,576.
     #[error("a text of {0} bytes is too long")]
     SourceTooLong(u64),
-    /// It is a text of the language, but it has an operation that isn't built: one by which a group
-    /// splits (`fork`, a private condition in a synchronous region), a group's frame (`sh`
-    /// variables and parameters of functions and bodies), `shalloc`, or `shmalloc`.
+    /// The text is one of the language, but has an operation that isn't built: one that splits a
+    /// group (`fork`, a private condition in a synchronous region), a group's frame (`sh` variables
+    /// and parameters of functions and bodies), `shalloc`, or `shmalloc`.
     #[error("not built")]
     NotBuilt,
-    /// There is no memory for the image.
+    /// There isn't enough memory for the image.
     #[error(transparent)]
     Memory(#[from(alloc)] AllocError),
 }

@@ -1,4 +1,4 @@
-//! The tree of a text, and what is known of one that keeps the rules.
+//! The tree of a text, and the facts of one that keeps the rules.
 
 ghost use Rattle.std.specs.Prelude.{◌≡◌, ◌↔◌, ◌≤◌, ◌<◌, ◌^◌, ℕ, List, IfOk, IfErr, OnOk, length};
 ghost use Rattle.std.specs.Prelude.{vec_len};
@@ -17,10 +17,10 @@ use fk_parse::{SyntaxFault, parse};
 use fk_syntax::{CheckFault, Facts, Program as Tree};
 use std::alloc::{AllocError, Global};
 
-/// How many bytes a text may have.
+/// The most bytes of a text.
 const MOST_BYTES: usize = 1_048_576;
 
-// That a text isn't too long.
+// Tests that a text isn't too long.
 fn test_length(source: &[u8]) -> Result<(), Refusal>
     ensures short { OnOk result (length source.now ≤ 1048576) }
     ensures long { IfErr result (λ refusal. (1048576 < length source.now)
@@ -33,11 +33,11 @@ fn test_length(source: &[u8]) -> Result<(), Refusal>
     }
 }
 
-/// The tree of a text, or why it has none.
+/// The tree of a text, or the reason why it has none.
 pub(crate) fn tree_of<'a>(alloc: Global, source: &'a [u8]) -> Result<Tree<'a>, Refusal>
     ensures tree { IfOk result (λ tree. HasTree source.now (program_of tree)) }
     ensures well_formed { IfOk result (λ tree. IsWellFormed (program_of tree)) }
-    // A token takes a byte at least, and an item two tokens.
+    // A token has at least one byte, and an item at least two tokens.
     ensures small { IfOk result (λ tree. tree.tokens ≤ 2 ^ 20) }
     ensures few { IfOk result (λ tree. vec_len tree.items ≤ 524288) }
     ensures short { OnOk result (length source.now ≤ 1048576) }
@@ -49,19 +49,20 @@ pub(crate) fn tree_of<'a>(alloc: Global, source: &'a [u8]) -> Result<Tree<'a>, R
     Ok(tree)
 }
 
-/// The tree of a text that keeps all rules, and what is known of it.
+/// The tree of a text that keeps all rules, and its facts.
 #[derive(Drop)]
 pub(crate) struct Checked<'a> {
     pub(crate) tree: Tree<'a>,
     pub(crate) facts: Facts,
 }
 
-/// The tree of a text that keeps all rules, with its facts; or why it has none or breaks one.
+/// The tree of a text that keeps all rules, with its facts; or the reason why it has no tree, or
+/// the rule that it breaks.
 pub(crate) fn checked_text<'a>(alloc: Global, source: &'a [u8]) -> Result<Checked<'a>, Refusal>
     ensures checked { IfOk result (λ text. IsChecked source.now (program_of text.tree) text.facts) }
     ensures well_formed { IfOk result (λ text. IsWellFormed (program_of text.tree)) }
     ensures small { IfOk result (λ text. text.tree.tokens ≤ 2 ^ 20) }
-    // An item takes two tokens at least.
+    // An item has at least two tokens.
     ensures few { IfOk result (λ text. vec_len text.tree.items ≤ 524288) }
     ensures short { OnOk result (length source.now ≤ 1048576) }
     ensures refused { IfErr result (IsRefusedText source.now) }
@@ -71,7 +72,7 @@ pub(crate) fn checked_text<'a>(alloc: Global, source: &'a [u8]) -> Result<Checke
     Ok(Checked { tree, facts })
 }
 
-// The refusal of a text by its lexical fault.
+// The refusal for a lexical fault.
 fn lexical(fault: LexFault) -> Refusal
     ensures memory { (e : AllocError) → (result ≡ Refusal.Memory e) ↔ (fault ≡ LexFault.Memory e) }
     ensures refused { (source : List ℕ) → length source ≤ 1048576 → IsFault source fault
@@ -86,7 +87,7 @@ fn lexical(fault: LexFault) -> Refusal
     }
 }
 
-// The refusal of a text by the fault of its tokens.
+// The refusal for a fault of the tokens.
 fn syntactic(fault: SyntaxFault) -> Refusal
     ensures memory { (e : AllocError)
         → (result ≡ Refusal.Memory e) ↔ (fault ≡ SyntaxFault.Memory e) }
@@ -101,7 +102,7 @@ fn syntactic(fault: SyntaxFault) -> Refusal
     }
 }
 
-// The refusal of a text by the rule that it breaks.
+// The refusal for a broken rule.
 fn broken(fault: CheckFault) -> Refusal
     ensures memory { (e : AllocError) → (result ≡ Refusal.Memory e) ↔ (fault ≡ CheckFault.Memory) }
     ensures refused { (source : List ℕ) → length source ≤ 1048576

@@ -1,4 +1,4 @@
--- A program and a list that has its code in it.
+-- A program, and a list that has its code.
 use Rattle.std.specs.Prelude.{ℕ, List, length, None}
 use Rattle.fk_syntax.specs.Program.{ProgramTree}
 use Rattle.fk_meaning.specs.Processor.{Setting}
@@ -12,15 +12,16 @@ use Rattle.fk_core.specs.Next.{next, list_opening}
 use Rattle.fk_core.specs.Stands.{Stands}
 use Rattle.fk_core.specs.WellFormed.{LeadsOn}
 
--- the code of each function stands in the list, from the function's entry on. What has no body has
--- its entry at the end
+-- The list has the code of each function, from the function's entry on. A function without a body
+-- has its entry at the end.
 pub record HasCodeOf (tables : Tables) (program : ProgramTree) (core : List CoreOp)
     (entry : ℕ → ℕ) : Type 0 where
   pub leads_on : LeadsOn core
   pub stands : (binding : ℕ)
       → Stands core entry (bodies_of tables program binding) None (entry binding) (length core)
 
--- a schedule is lawful for both or for neither, and under it the stores and the stands are equal
+-- A schedule is lawful for both or for neither, and under it both have equal stores and equal
+-- statuses.
 abbrev pub FlatListsKeepRuns : Type 0
 FlatListsKeepRuns =
     (tables : Tables) (program : ProgramTree) (core : List CoreOp) (entry : ℕ → ℕ)

@@ -1,4 +1,4 @@
--- Which operation a kind and a number stand for: the table of numbers.
+-- The table of numbers: the operation for which a kind and a number stand.
 use Rattle.std.specs.Prelude.{ℕ, ◌/◌, ◌%◌, ◌^◌, ◌<◌, ◌≤◌, ◌==◌, Bool, true, false, Option, Some}
 use Rattle.std.specs.Prelude.{None, option_map, if◌then◌else◌}
 use Rattle.fk_num.specs.declared.operator.Op.{Op}
@@ -17,19 +17,19 @@ use Rattle.fk_meaning_operation.specs.declared.operation.Variable.{Variable}
 use Rattle.fk_meaning_operation.specs.declared.operation.Variable.TheVariants as v
 use Rattle.fk_meaning_operation.specs.Kinds.{class_of_kind, multiprefix_of}
 
--- odd numbers say yes
+-- Odd numbers stand for true.
 abbrev pub is_odd : ℕ → Bool
 is_odd n = n % 2 == 1
 
--- how many nestings there are: that of a function, 0, and 1 to 128
+-- The number of nestings: 0 is that of a function, and 1 to 128 are deeper.
 abbrev pub nestings : ℕ
 nestings = 129
 
--- a private word: odd numbers are those of file scope
+-- A private word. Odd numbers are those of file scope.
 abbrev pub variable_of : ℕ → Variable
 variable_of n = if is_odd n then v.OfFile (n / 2) else v.Private (n / 2)
 
--- what a processor knows by itself, each with a number of its own
+-- The values that a processor knows by itself, each with a number of its own.
 abbrev pub known_of : (which : ℕ) → ℕ → OwnValue
 known_of which n =
     if which == 0 then k.Value (variable_of n)
@@ -130,11 +130,11 @@ operation_by Local kind n = local_of kind n
 operation_by Request kind n = request_of kind n
 operation_by Tree kind n = tree_step_of kind n
 
--- kind 0 and those above 34 stand for none
+-- Kind 0 and those above 34 stand for no operation.
 abbrev pub operation_of : (kind : ℕ) → ℕ → Option Operation
 operation_of kind n = operation_by (class_of_kind kind) kind n
 
--- which operations have a number: all whose places, words and nestings are in range
+-- The operations that have a number: all whose places, words and nestings are in range.
 abbrev pub IsNear : Variable → Type 0
 IsNear (v.Private i) = i < 2 ^ 26
 IsNear (v.OfFile i) = i < 2 ^ 26

@@ -1,4 +1,4 @@
--- Where code stands in a flat list.
+-- Where the code of functions is in a flat list.
 use Rattle.std.specs.Prelude.{◌≡◌, ℕ, Bool, true, false, List, ◌∷◌, slice_get, Option, Some, None}
 use Rattle.fk_meaning_operation.specs.declared.operation.Operation.{Operation}
 use Rattle.fk_meaning_forms.specs.Code.{Code, done, perform, choose, while, until, turn, again}
@@ -7,16 +7,16 @@ use Rattle.fk_core.specs.declared.op.CoreOp.{CoreOp}
 use Rattle.fk_core.specs.Numbers.{operation_of}
 use Rattle.fk_core.specs.Next.{position, is_jump, follows, returned}
 
--- a loop round a place: the index behind it, and the one where a `continue` goes on
+-- A loop around a place: the index after the loop, and the one where a `continue` goes on.
 pub record Loop : Type 0 where
   pub behind : ℕ
   pub onward : ℕ
 
--- the innermost loop round a place, if there is one
+-- The innermost loop around a place, if there is one.
 abbrev pub Around : Type 0
 Around = Option Loop
 
--- code that begins with an operation; and code that does, or is empty
+-- Code that begins with an operation; and code that begins with one or is empty.
 abbrev pub is_first : Code ℕ → Bool
 is_first (perform n op rest) = true
 is_first (choose n op a b rest) = true
@@ -34,15 +34,15 @@ is_start (call n op f opening rest) = true
 is_start (ends n op rest) = true
 is_start code = false
 
--- the list, and the index where the function of a binding begins
+-- For a list, and the index where the function of each binding begins.
 module _ (core : List CoreOp) (entry : (binding : ℕ) → ℕ) where
-  -- jumps lead from one index to another, or there are none
+  -- Jumps lead from one index to another, or the indices are equal.
   pub data Leads : ℕ → ℕ → Type 0 where
     Stay : {i : ℕ} → Leads i i
     Go : {i : ℕ} (op : CoreOp) {k : ℕ} → slice_get core i ≡ Some op → is_jump op ≡ true
         → Leads op.target k → Leads i k
 
-  -- an operation with a site stands where jumps from an index lead to
+  -- An operation with a site is where jumps from an index lead.
   pub record OpFrom (i site : ℕ) (operation : Operation) : Type 0 where
     pub at : ℕ
     pub op : CoreOp
@@ -51,8 +51,8 @@ module _ (core : List CoreOp) (entry : (binding : ℕ) → ℕ) where
     pub is_read : operation_of op.kind op.number ≡ Some operation
     pub has_site : op.site ≡ site
 
-  -- on one of its ways it goes on at an index; it enters a function, to return to an index; it
-  -- ends the function
+  -- An operation goes on at an index on one of its branches; it enters a function, and will return
+  -- to an index; or it ends the function.
   abbrev pub GoesOn : {i site : ℕ} {operation : Operation} → OpFrom i site operation
       → Bool → ℕ → Type 0
   GoesOn {operation = operation} o onward a =
@@ -70,8 +70,8 @@ module _ (core : List CoreOp) (entry : (binding : ℕ) → ℕ) where
       (callers : List ℕ) (onward : Bool)
       → follows core operation o.at o.op.target callers onward ≡ returned core callers
 
-  -- code stands from one index to another. What follows a `break`, a `continue` or the end of a
-  -- function stands anywhere. A loop under way stands in no list
+  -- The list has code from one index to another. The code after a `break`, a `continue` or the end
+  -- of a function may be anywhere. A loop under way is in no list.
   abbrev pub Stands : Code ℕ → Around → (i k : ℕ) → Type 0
   Stands done c i k = Leads i k
   Stands (perform n op rest) c i k =

@@ -8,19 +8,19 @@ use Rattle.fk_core.specs.declared.op.CoreOp.{CoreOp}
 use Rattle.fk_core.specs.Numbers.{operation_of}
 use Rattle.fk_core.specs.Next.{Position, landing, next, list_opening}
 
--- an operation stands at an index
+-- The list has an operation at an index.
 pub record IsOperation (core : List CoreOp) (i : ℕ) : Type 0 where
   pub op : CoreOp
   pub operation : Operation
   pub stands : slice_get core i ≡ Some op
   pub is_read : operation_of op.kind op.number ≡ Some operation
 
--- each index has a next operation
+-- Each index has a next operation.
 abbrev pub LeadsOn : List CoreOp → Type 0
 LeadsOn core = (i : ℕ) → i < length core → IsOperation core (landing core i)
 
--- in every run, whenever a processor is about to do an operation, its value list has the
--- operation's depth
+-- In every lawful run without a fault, a processor that is about to do an operation has as many
+-- values as the operation's depth.
 abbrev pub HasDepths : List CoreOp → (main : ℕ) → Type 0
 HasDepths core main =
     (words firsts input : List ℕ) (p : ℕ) (schedule : Schedule)

@@ -1,9 +1,9 @@
-//! Laws of the definitions.
+//! Laws of flat lists.
 
 ghost use Rattle.fk_core.specs.KeepsRuns.{FlatListsKeepRuns};
 
-/// A program, and a list in which the code of its functions stands, have the same lawful
-/// schedules, and under each of them the same store and stand.
+/// A program, and a list that has the code of its functions, have the same lawful schedules, and
+/// under each of them the same store and status.
 pub fn flat_lists_keep_runs()
     ensures { FlatListsKeepRuns }
 {}

@@ -1,6 +1,6 @@
-//! Flat lists of operations, and what their runs are.
+//! Flat lists of operations, and their runs.
 //!
-//! A program comes to one list: the code of its functions, with jumps and targets in place of
+//! A program becomes one list: the code of its functions, with jumps and targets in place of
 //! choices, loops and calls. What a processor has left to do is an index into the list.
 #![tactic(auto)]
 

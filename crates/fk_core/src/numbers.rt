@@ -1,4 +1,5 @@
-//! The table of numbers: which operation a kind and a number stand for, and back.
+//! The table of numbers: the operation for which a kind and a number stand, and the number of an
+//! operation.
 
 ghost use Rattle.std.specs.Prelude.{◌≡◌, ◌+◌, ◌*◌, ◌/◌, ◌%◌, ◌^◌, ◌<◌, ◌≤◌, Some};
 ghost use Rattle.fk_meaning_operation.specs.Kinds.{kind_of};
@@ -163,7 +164,7 @@ fn operator(number: u32) -> Op
     }
 }
 
-/// The number with which the kind of an operation stands for it.
+/// The number that stands for an operation, together with its kind.
 pub fn number_of(operation: Operation) -> u32
     requires in_range { HasNumber operation }
     ensures { operation_of (kind_of operation) result ≡ Some operation }

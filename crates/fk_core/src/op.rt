@@ -1,4 +1,4 @@
-//! What stands in a list.
+//! The entries of a list.
 
 ghost use Rattle.std.specs.Prelude.{◌≡◌, Some};
 ghost use Rattle.fk_meaning_operation.specs.Kinds.{kind_of};
@@ -13,19 +13,19 @@ use fk_meaning_operation::Operation;
 pub struct CoreOp {
     /// The kind of the operation, 1 to 34, or 0 for a jump.
     pub kind: u8,
-    /// The number of its site. A jump has none.
+    /// The number of its site. A jump has site 0.
     pub site: u32,
     /// The constants of the operation, by the table of `operation_of`.
     pub number: u32,
-    /// The index where a jump goes to, an operation on its second way, and an end always. An
-    /// enter has the entry of its function. All others may have any.
+    /// The index to which a jump goes, an operation on its second branch, and an end always. An
+    /// enter has the entry of its function. Other operations may have any.
     pub target: u32,
-    /// How many values the running call has before it.
+    /// The number of values that the running call has before it.
     pub depth: u32,
 }
 
 impl CoreOp {
-    /// An operation in range: places below 2^26, words below 2^21, nestings up to 128.
+    /// The entry of an operation in range: places below 2^26, words below 2^21, nestings up to 128.
     pub fn of(operation: Operation, site: u32, target: u32, depth: u32) -> CoreOp
         requires in_range { HasNumber operation }
         ensures kind { result.kind ≡ kind_of operation }
@@ -43,7 +43,7 @@ impl CoreOp {
         }
     }
 
-    /// A jump.
+    /// The entry of a jump.
     pub fn jump(target: u32) -> CoreOp
         ensures { result ≡ record { kind = 0; site = 0; number = 0; target = target; depth = 0 } }
     {
@@ -62,7 +62,7 @@ impl CoreOp {
         self.kind == 0
     }
 
-    /// The operation, if it is one.
+    /// The operation, if the entry is one.
     pub fn operation(&self) -> Option<Operation>
         ensures { result ≡ operation_of self.now.kind self.now.number }
     {

@@ -16,7 +16,7 @@ pub struct CoreProgram {
 }
 
 impl CoreProgram {
-    /// One without operations and functions.
+    /// A program without operations and functions.
     pub fn new(alloc: Global) -> CoreProgram
         ensures ops { result.ops.items ≡ [] }
         ensures entries { result.entries.items ≡ [] }
@@ -29,7 +29,8 @@ impl CoreProgram {
         }
     }
 
-    /// Adds an operation at the end, and answers its index.
+    /// Adds an operation at the end, and gives its index. Fails if there isn't enough memory.
+    /// Nothing has changed then.
     pub fn push(&mut self, op: CoreOp) -> Result<u32, AllocError>
         requires room { vec_len self.old.ops < 2 ^ 32 - 1 }
         ensures index { IfOk result (λ index. index ≡ vec_len self.old.ops) }

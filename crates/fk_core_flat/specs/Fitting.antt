@@ -1,6 +1,5 @@
--- What is asked of a program so that its code has the shape of flat lists: calls have their
--- arguments and a body, a loop's condition begins with an operation, and `break` and
--- `continue` stand in loops.
+-- What a program needs for its code to have the shape of flat lists: calls have their arguments and
+-- a body, a loop's condition begins with an operation, and `break` and `continue` are in loops.
 use Rattle.std.specs.Prelude.{◌≡◌, ℕ, Bool, true, false, ◌==◌, ◌||◌, List, [], ◌∷◌, Option, Some}
 use Rattle.std.specs.Prelude.{None}
 use Rattle.fk_syntax.specs.Tree.{Named, Tree, Trees}
@@ -16,14 +15,14 @@ use Rattle.fk_core.specs.Stands.{is_first}
 use Rattle.fk_core_flat.specs.Shape.{is_closed}
 use Rattle.fk_core_flat.specs.Laws.{AreShaped}
 
--- a binding means a function with a body
+-- The binding is that of a function with a body.
 abbrev pub is_defined : Tables → List FunctionTree → (binding : ℕ) → Bool
 is_defined tables [] b = false
 is_defined tables (f ∷ fs) b = (binding_of tables f == b) || is_defined tables fs b
 
 module _ (tables : Tables) (functions : (binding : ℕ) → Signature)
     (has_body : (binding : ℕ) → Bool) where
-  -- what is called is a predeclared function with the arguments that it takes, or one with a body
+  -- A called function is a predeclared one with the arguments that it takes, or one with a body.
   abbrev pub NameFits : (predeclared : Bool) → Named → Trees → Type 0
   NameFits true name arguments = TakesEnough name arguments
   NameFits false name arguments = has_body (note tables name.at).binding ≡ true
@@ -40,8 +39,8 @@ module _ (tables : Tables) (functions : (binding : ℕ) → Signature)
   abbrev pub VariablesFit : List DeclaredTree → Type 0
   VariablesFit variables = c.VariablesFit tables functions Takes variables
 
-  -- a condition whose value is found by an operation, and isn't nothing at all, as that of a name
-  -- of a function would be
+  -- A condition whose value is found by an operation. That of the name of a function alone would
+  -- not be.
   abbrev pub ConditionFits : Tree → Type 0
   ConditionFits e = Fits e × ((rest : Coded) (first : ℕ)
       → is_first (numbered first (value tables functions e rest)) ≡ true)
@@ -93,12 +92,12 @@ ProgramFits tables program =
     let fs = functions_of program.items in
     FunctionsFit tables (signature_in tables fs) (is_defined tables fs) fs
 
--- such programs come to code of this shape
+-- The code of a program that fits has the shape of flat lists.
 abbrev pub FormsAreShaped : Type 0
 FormsAreShaped = (tables : Tables) (program : ProgramTree) → ProgramFits tables program
     → AreShaped (bodies_of tables program)
 
--- and the code of each function with a body ends where that does
+-- The code of each function with a body ends at an operation that ends the function.
 abbrev pub FunctionsAreClosed : Type 0
 FunctionsAreClosed =
     (tables : Tables) (program : ProgramTree) → ProgramFits tables program

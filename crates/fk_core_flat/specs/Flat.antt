@@ -1,4 +1,4 @@
--- Code as a flat list: its operations in the order of the text. A jump stands only behind an
+-- Code as a flat list: its operations, in the order of the text. There is a jump only after an
 -- operation that would go on at the next index where the code goes on elsewhere, and in a call,
 -- where it leads to the function.
 use Rattle.std.specs.Prelude.{ℕ, suc, ◌+◌, ◌==◌, ◌&&◌, ◌||◌, Bool, true, false, List, [], ◌∷◌, ◌++◌}
@@ -8,9 +8,9 @@ use Rattle.fk_meaning_forms.specs.Code.{continue, call, ends}
 use Rattle.fk_core.specs.Stands.{Loop, Around}
 use Rattle.fk_core_flat.specs.Items.{Item, jump, act, way_of, goes_away, aim}
 
--- Code is written at an index, and goes on at another one. It is `near` where that is the index
--- behind what is written. Code begins here where its first operation is written, unless it goes
--- elsewhere at once
+-- Code is written at an index, and goes on at another one. It is `near` if that is the index after
+-- what is written. Code begins here if it begins where its first operation is written, and doesn't
+-- go elsewhere at once.
 abbrev pub begins_here : (near : Bool) → Code ℕ → Bool
 begins_here near done = near
 begins_here near (until body test rest) = begins_here true body
@@ -18,7 +18,7 @@ begins_here near (break rest) = false
 begins_here near (continue rest) = false
 begins_here near code = true
 
--- a jump, unless what it would lead to is here
+-- A jump to the target, unless what is there comes next.
 abbrev pub skip : (here : Bool) → (target : ℕ) → List Item
 skip true target = []
 skip false target = jump target ∷ []
@@ -27,7 +27,7 @@ abbrev pub gap : (here : Bool) → ℕ
 gap true = 0
 gap false = 1
 
--- how many stand in the list of code
+-- The number of entries in the list of code.
 abbrev pub extent : (near : Bool) → Code ℕ → ℕ
 extent near done = 0
 extent near (perform n op rest) =
@@ -56,7 +56,7 @@ abbrev pub onward : Around → ℕ
 onward None = 0
 onward (Some loop) = loop.onward
 
--- the index where code begins that is written at an index i and goes on at an index k
+-- The index where code begins that is written at index i and goes on at index k.
 abbrev pub label : Around → (i k : ℕ) → Code ℕ → ℕ
 label c i k done = k
 label c i k (until body test rest) =
@@ -66,7 +66,7 @@ label c i k (break rest) = behind c
 label c i k (continue rest) = onward c
 label c i k code = i
 
--- the list of such code, where functions begin at given indices
+-- The flat list of code, where functions begin at given indices.
 module _ (entry : (binding : ℕ) → ℕ) where
   abbrev pub flat : (near : Bool) → Around → (i k : ℕ) → Code ℕ → List Item
   flat near c i k done = []

@@ -1,4 +1,4 @@
--- What stands in a flat list.
+-- The entries of a flat list.
 use Rattle.std.specs.Prelude.{◌≡◌, ℕ, suc, ◌+◌, Bool, true, false, List, [], ◌∷◌, slice_get, Some}
 use Rattle.fk_meaning_operation.specs.declared.operation.Operation.{Operation}
 use Rattle.fk_meaning_operation.specs.declared.operation.Operation.TheVariants as o
@@ -7,25 +7,25 @@ use Rattle.fk_core.specs.declared.op.CoreOp.{CoreOp}
 use Rattle.fk_core.specs.Numbers.{operation_of}
 use Rattle.fk_core.specs.Next.{is_jump}
 
--- a jump to an index, or an operation with its site, and with a target
+-- A jump to an index, or an operation with its site and a target.
 pub data Item : Type 0 where
   jump : (target : ℕ) → Item
   act : (site : ℕ) (operation : Operation) (target : ℕ) → Item
 
--- an operation of a list is this one, with any depth
+-- An entry of a list is this item, with any depth.
 abbrev pub IsItem : Item → CoreOp → Type 0
 IsItem (jump target) op = (is_jump op ≡ true) × (op.target ≡ target)
 IsItem (act site operation target) op =
     (operation_of op.kind op.number ≡ Some operation) × (op.site ≡ site) × (op.target ≡ target)
 
--- they stand in a list one behind the other, from an index on
+-- The list has these items, one after another, from an index on.
 abbrev pub Has : (core : List CoreOp) → (i : ℕ) → List Item → Type 0
 Has core i [] = Unit {0}
 Has core i (item ∷ items) = ((op : CoreOp) × (slice_get core i ≡ Some op) × IsItem item op)
     × Has core (suc i) items
 
--- where an operation goes on: at the next index; there, or at its target; at its target; into a
--- function; or out of it
+-- Where an operation goes on: at the next index; there or at its target; at its target; into a
+-- function; or out of it.
 pub data Way : Type 0 where
   straight : Way
   either : Way
@@ -46,8 +46,8 @@ way_of (o.Leave gives framed) = out
 way_of o.Halt = out
 way_of operation = straight
 
--- one that goes onto its target never goes on at the next index, and so no jump stands behind it.
--- One that goes straight on or out has the target 0, which nobody reads
+-- An operation that goes onto its target never goes on at the next index, so no jump follows it.
+-- One that goes straight on or out has target 0, which nothing reads.
 abbrev pub goes_away : Way → Bool
 goes_away onto = true
 goes_away way = false
@@ -56,13 +56,13 @@ abbrev pub aim : Way → (target : ℕ) → ℕ
 aim onto target = target
 aim way target = 0
 
--- the operations among items, each by its kind and its site
+-- The operations among items, each with its kind and its site.
 abbrev pub acts : List Item → List (ℕ × ℕ)
 acts [] = []
 acts (jump target ∷ items) = acts items
 acts (act site operation target ∷ items) = (kind_of operation, site) ∷ acts items
 
--- how many jumps there are, and how many calls
+-- The number of jumps, and the number of calls.
 abbrev pub jumps : List Item → ℕ
 jumps [] = 0
 jumps (jump target ∷ items) = suc (jumps items)

@@ -1,4 +1,4 @@
--- What is so of flat lists.
+-- Laws of flat lists.
 use Rattle.std.specs.Prelude.{◌≡◌, ℕ, ◌+◌, ◌<◌, ◌≤◌, ◌⊎◌, Bool, true, false, List, length}
 use Rattle.std.specs.Prelude.{slice_get, Some, None}
 use Rattle.fk_syntax.specs.Program.{ProgramTree}
@@ -15,16 +15,17 @@ use Rattle.fk_core_flat.specs.Items.{Has, acts, jumps, calls}
 use Rattle.fk_core_flat.specs.Flat.{extent, label, flat}
 use Rattle.fk_core_flat.specs.Shape.{is_done, is_closed, IsShaped}
 
--- the code of all functions: a function has no code, or it has a body, at the end of which it ends
+-- The code of all functions. A function has no code, or its code ends at an operation that ends the
+-- function.
 abbrev pub AreShaped : (bodies : (binding : ℕ) → Code ℕ) → Type 0
 AreShaped bodies =
     (binding : ℕ)
     → IsShaped (λ function. is_closed (bodies function)) false (bodies binding)
     × ((is_done (bodies binding) ≡ true) ⊎ (is_closed (bodies binding) ≡ true))
 
--- A list that has the code of each function at a place of its own, and nothing else. The
--- entry of a function is the index where its code begins; that of a function without code is
--- the end of the list
+-- A list that has the code of each function at a place of its own, and nothing else. The entry of a
+-- function is the index where its code begins. That of a function without code is the end of the
+-- list.
 pub record IsFlat (bodies : (binding : ℕ) → Code ℕ) (core : List CoreOp)
     (entry : ℕ → ℕ) : Type 0 where
   pub place : (binding : ℕ) → ℕ
@@ -36,7 +37,7 @@ pub record IsFlat (bodies : (binding : ℕ) → Code ℕ) (core : List CoreOp)
       (i : ℕ) → i < length core
       → (binding : ℕ) × (place binding ≤ i) × (i < place binding + extent false (bodies binding))
 
--- the code of a program stands in such a list
+-- A flat list of a program's functions has the code of the program.
 abbrev pub FlatCodeStands : Type 0
 FlatCodeStands =
     (tables : Tables) (program : ProgramTree) (core : List CoreOp) (entry : ℕ → ℕ)
@@ -44,7 +45,7 @@ FlatCodeStands =
     → IsFlat (bodies_of tables program) core entry
     → HasCodeOf tables program core entry
 
--- no jump leads to a jump
+-- No jump leads to a jump.
 abbrev pub JumpsLeadToOperations : Type 0
 JumpsLeadToOperations =
     (bodies : (binding : ℕ) → Code ℕ) (core : List CoreOp) (entry : ℕ → ℕ)
@@ -53,7 +54,7 @@ JumpsLeadToOperations =
     → IsOperation core op.target
 
 -- The sites of the operations in the list of numbered code are their ranks: 0, 1, 2 and so on from
--- the first number on, once each and in this order. They are the operations of the code
+-- the first number on, each once and in this order. They are the operations of the code.
 abbrev pub SitesGoUp : (A : Type 0) → Type 0
 SitesGoUp A =
     (code : Code A) (first : ℕ) (has_body : ℕ → Bool) (in_loop : Bool)
@@ -61,7 +62,7 @@ SitesGoUp A =
     → (entry : ℕ → ℕ) (near : Bool) (around : Around) (i k : ℕ)
     → acts (flat entry near around i k (numbered first code)) ≡ ranked first (sites code)
 
--- each operation falls into one jump at most, and a call has one more, to its function
+-- Each operation has one jump at most after it, and a call has one more, to its function.
 abbrev pub JumpsAreFew : Type 0
 JumpsAreFew =
     (code : Code ℕ) (has_body : ℕ → Bool) (in_loop : Bool) → IsShaped has_body in_loop code

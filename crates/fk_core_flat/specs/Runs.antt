@@ -12,7 +12,8 @@ use Rattle.fk_core.specs.Next.{next, list_opening}
 use Rattle.fk_core_flat.specs.Laws.{IsFlat}
 use Rattle.fk_core_flat.specs.Fitting.{ProgramFits}
 
--- a schedule is lawful for both or for neither, and under it the stores and the stands are equal
+-- A schedule is lawful for both or for neither, and under it both have equal stores and equal
+-- statuses.
 abbrev pub FlatProgramsKeepRuns : Type 0
 FlatProgramsKeepRuns =
     (tables : Tables) (program : ProgramTree) (core : List CoreOp) (entry : ℕ → ℕ)

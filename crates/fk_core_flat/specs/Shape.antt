@@ -1,4 +1,4 @@
--- The shape of the code that forms make.
+-- The shape of the code of forms.
 use Rattle.std.specs.Prelude.{◌≡◌, ℕ, ◌||◌, ◌⊎◌, Bool, true, false}
 use Rattle.fk_meaning_forms.specs.Code.{Code, done, perform, choose, while, until, turn, again}
 use Rattle.fk_meaning_forms.specs.Code.{quit, break, continue, call, ends}
@@ -9,7 +9,7 @@ abbrev pub is_done : Code ℕ → Bool
 is_done done = true
 is_done code = false
 
--- code that never goes on behind its end: an operation that ends the function stands last
+-- Code that never goes on after its end: its last operation ends the function.
 abbrev pub is_closed : Code ℕ → Bool
 is_closed done = false
 is_closed (perform n op rest) = is_closed rest
@@ -24,17 +24,17 @@ is_closed (continue rest) = is_closed rest
 is_closed (call n op f opening rest) = is_closed rest
 is_closed (ends n op rest) = is_done rest || is_closed rest
 
--- the beginning of a call: operations that go straight on
+-- The beginning of a call: operations that go straight on.
 abbrev pub IsOpening : Code ℕ → Type 0
 IsOpening done = Unit {0}
 IsOpening (perform n op rest) = (way_of op ≡ straight) × IsOpening rest
 IsOpening code = ⊥
 
--- the functions that have a body
+-- For the functions that have a body.
 module _ (has_body : (binding : ℕ) → Bool) where
-  -- Each operation goes on as its place wants it. Behind one that goes onto its target no code
-  -- follows, a loop's test begins with an operation, what leaves a loop stands in one, and who is
-  -- called has a body
+  -- Each operation goes on as its place requires. No code follows an operation that goes onto its
+  -- target, a loop's test begins with an operation, an operation that leaves a loop is in one, and
+  -- a called function has a body.
   abbrev pub IsShaped : (in_loop : Bool) → Code ℕ → Type 0
   IsShaped l done = Unit {0}
   IsShaped l (perform n op rest) =

@@ -1,4 +1,4 @@
--- The words of sets in frames.
+-- The private words that frames keep, given by sets.
 use Rattle.std.specs.Prelude.{ℕ, Bool, true, false, Option, Some, None}
 use Rattle.fk_core_liveness.specs.declared.places.FunctionKind.{FunctionKind}
 use Rattle.fk_core_liveness.specs.declared.places.FunctionKind.TheVariants.{Main, Called}
@@ -9,7 +9,7 @@ abbrev pub is_main_place : FunctionKind → Bool
 is_main_place Main = true
 is_main_place (Called gives) = false
 
--- nothing is kept behind the end
+-- Whether a set, if there is one, has a word. After the end nothing is kept.
 abbrev pub kept_in : Option Set → (word : ℕ) → Bool
 kept_in None word = false
 kept_in (Some set) word = is_in set.mask word

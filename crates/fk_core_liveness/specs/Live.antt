@@ -13,19 +13,19 @@ use Rattle.fk_sim_block.specs.Suits.{writes}
 use Rattle.fk_core_liveness.specs.declared.set.Set.{Set}
 use Rattle.fk_core_liveness.specs.Frames.{kept_in}
 
--- which private word an operation reads. A frame has room for none from 64 on
+-- The private word that an operation reads. A frame has no room for words from 64 on.
 abbrev pub reads : Operation → (word : ℕ) → Bool
 reads (Get (Value (Private i))) word = (word == i) && nat_lt word 64
 reads operation word = false
 
--- whether a word is to be kept before an operation, by whether it is kept behind it: where the
--- operation doesn't write it; and it is where the operation reads it
+-- A word is to be kept before an operation if the operation reads it, or if it is kept after the
+-- operation, which doesn't write it.
 abbrev pub needed : Operation → (behind : Bool) → (word : ℕ) → Bool
 needed operation behind word = (behind && not (writes operation word)) || reads operation word
 
 module _ (core : List CoreOp) (keeps : (index word : ℕ) → Bool) where
-  -- what is kept where the running call goes on, on one way or the other. Behind the jump
-  -- of a call it does
+  -- What is kept where the running call goes on, on either branch. After a call it goes on after
+  -- the jump to the function.
   abbrev pub kept_behind : Operation → (i target word : ℕ) → Bool
   kept_behind (Enter arguments) i target word = keeps (suc (suc i)) word
   kept_behind (Leave gives framed) i target word = false
@@ -34,7 +34,7 @@ module _ (core : List CoreOp) (keeps : (index word : ℕ) → Bool) where
       keeps (follows core operation i target [] true).at word
       || keeps (follows core operation i target [] false).at word
 
-  -- what is to be kept at an index. At a jump it is what is kept where that leads
+  -- What is to be kept at an index. At a jump it is what is kept where the jump leads.
   abbrev pub asked_by : Option Operation → (i target word : ℕ) → Bool
   asked_by None i target word = false
   asked_by (Some operation) i target word =
@@ -48,20 +48,20 @@ module _ (core : List CoreOp) (keeps : (index word : ℕ) → Bool) where
   abbrev pub asked : (i word : ℕ) → Bool
   asked i = asked_of (slice_get core i) i
 
--- what is to be kept is kept
+-- What is to be kept is kept.
 abbrev pub IsLive : List CoreOp → (keeps : (index word : ℕ) → Bool) → Type 0
 IsLive core keeps = (i word : ℕ) → asked core keeps i word ≡ true → keeps i word ≡ true
 
--- and nothing that could be left out
+-- Nothing is kept that could be left out.
 abbrev pub IsLeast : List CoreOp → (keeps : (index word : ℕ) → Bool) → Type 0
 IsLeast core keeps =
     (others : (index word : ℕ) → Bool) → IsLive core others → (i word : ℕ) → keeps i word ≡ true
     → others i word ≡ true
 
--- the words that are kept by sets, one at each index
+-- The words that are kept by sets, one set for each index.
 abbrev pub words_in : List Set → (index word : ℕ) → Bool
 words_in sets index = kept_in (slice_get sets index)
 
--- a number that falls with each word that is found
+-- A number that falls with each word that is found.
 abbrev pub left_over : List Set → ℕ
 left_over sets = sum_by (λ (set : Set). 2 ^ 64 - set.mask) sets

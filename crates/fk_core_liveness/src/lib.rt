@@ -1,4 +1,4 @@
-//! Which private words a call keeps at each index of a flat list: the fewest that do.
+//! The private words that a call keeps at each index of a flat list: the fewest that suffice.
 #![tactic(auto)]
 
 mod list;

@@ -1,4 +1,4 @@
-//! The operations of a list, and where they go on.
+//! The operations of a list, and where each goes on.
 
 ghost use Rattle.std.specs.Prelude.{◌≡◌, ◌<◌, [], length, slice_get};
 ghost use Rattle.fk_core.specs.Next as n;
@@ -16,7 +16,7 @@ pub(crate) fn op_at(ops: &[CoreOp], index: usize) -> Option<CoreOp>
     }
 }
 
-/// Where an operation goes on, of a call that no other waits for.
+/// The index where an operation goes on, in a call for which no other waits.
 pub(crate) fn follows(
     ops: &[CoreOp],
     operation: Operation,

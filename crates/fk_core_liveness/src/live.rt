@@ -1,4 +1,4 @@
-//! Which private words are read before they are written.
+//! The private words that may be read before they are written.
 
 ghost use Rattle.std.specs.Prelude.{◌≡◌, ◌<◌, ℕ, true, false, IfOk, IsTrue, length, slice_get};
 ghost use Rattle.fk_core_liveness.specs.Frames.{kept_in};
@@ -37,7 +37,7 @@ fn behind(ops: &[CoreOp], live: &[Set], operation: Operation, index: usize, targ
     }
 }
 
-// The words that are to be kept before an operation, by those that are kept behind it.
+// The words that are to be kept before an operation, given those that are kept after it.
 fn before(operation: Operation, behind: Set) -> Set
     ensures { (word : ℕ) → is_in result.mask word
         ≡ v.needed operation (is_in behind.mask word) word }
@@ -49,7 +49,7 @@ fn before(operation: Operation, behind: Set) -> Set
     }
 }
 
-// The words that are to be kept at an index, by those that are kept elsewhere.
+// The words that are to be kept at an index, given those that are kept elsewhere.
 fn asked(ops: &[CoreOp], live: &[Set], index: usize) -> Set
     ensures { (word : ℕ) → is_in result.mask word
         ≡ v.asked ops.now (v.words_in live.now) index word }
@@ -66,7 +66,7 @@ fn asked(ops: &[CoreOp], live: &[Set], index: usize) -> Set
     }
 }
 
-// Keeps at an index what is to be kept there. Answers whether that is a word more.
+// Keeps at an index what is to be kept there. Gives whether that is more than before.
 fn grow(ops: &[CoreOp], live: &mut [Set], index: usize) -> bool
     requires { index < length live.old }
     ensures least { v.IsLeast ops.now (v.words_in live.old)
@@ -86,7 +86,7 @@ fn grow(ops: &[CoreOp], live: &mut [Set], index: usize) -> bool
     true
 }
 
-// Goes through the list once, from its end. Answers whether it found another word.
+// Goes through the list once, from its end. Gives whether it found another word.
 fn pass(ops: &[CoreOp], live: &mut [Set]) -> bool
     requires long { length live.old ≡ length ops.now }
     requires least { v.IsLeast ops.now (v.words_in live.old) }
@@ -117,8 +117,8 @@ fn settle(ops: &[CoreOp], live: &mut [Set])
 
 /// The private words of the running call that may be read before they are written, at each index of
 /// a list: the fewest that include what each operation reads, and what is kept where it goes on and
-/// it doesn't write. A pass takes time linear in the list and no memory, and there is one more than
-/// loops are nested. Fails only for want of memory.
+/// it doesn't write. A pass takes time linear in the list and no memory. The number of passes is
+/// one more than the depth of nested loops. Fails only if there isn't enough memory.
 pub fn live_words(alloc: Global, ops: &[CoreOp]) -> Result<Vec<Set>, AllocError>
     ensures live { IfOk result (λ sets. v.IsLive ops.now (v.words_in sets.items)) }
     ensures least { IfOk result (λ sets. v.IsLeast ops.now (v.words_in sets.items)) }

@@ -1,9 +1,9 @@
-//! In which function the operations of a list lie.
+//! The functions in which the operations of a list are.
 
-/// The function in which an index lies.
+/// The function in which an index is.
 #[derive(Clone, Copy, PartialEq, Eq, Debug)]
 pub enum FunctionKind {
     Main,
-    /// One that is called, and whether it gives a value.
+    /// A function that is called, and whether it gives a value.
     Called(bool),
 }

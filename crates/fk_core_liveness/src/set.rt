@@ -29,7 +29,7 @@ impl Set {
         self.mask == 0
     }
 
-    /// The set with a number more, if that is below 64.
+    /// The set with one more number, if that is below 64.
     pub fn with(&self, number: u32) -> Set
         ensures { (n : ℕ) → is_in result.mask n
             ≡ (is_in self.now.mask n || ((n == number) && nat_lt n 64)) }

@@ -1,4 +1,4 @@
--- What is known of values behind an operation. The last value has the number 0.
+-- What is known of values after an operation. The last value has the number 0.
 use Rattle.std.specs.Prelude.{ℕ, zero, suc, ◌+◌, Bool, true, false, not, ◌||◌, Option, Some, None}
 use Rattle.std.specs.Prelude.{if◌then◌else◌}
 use Rattle.fk_num.specs.Word.{word}
@@ -23,7 +23,8 @@ use Rattle.fk_meaning.specs.Group.{taken_by}
 use Rattle.fk_core_typing.specs.declared.change.Change.{Change}
 use Rattle.fk_core_typing.specs.declared.constants.Constants.{Constants}
 
--- values are dropped, and one is pushed that may be an address or not, or none
+-- Some values are dropped, and one is pushed that is an address or may be any value, or none is
+-- pushed.
 abbrev pub by : (drops : ℕ) → (pushes : Option Bool) → Change
 by drops pushes = record { drops = drops; pushes = pushes }
 
@@ -35,18 +36,18 @@ pushed None known value = known value
 pushed (Some address) known zero = address
 pushed (Some address) known (suc value) = known value
 
--- which values are known behind a change to be addresses
+-- The values that are known to be addresses after a change.
 abbrev pub after : Change → (known : ℕ → Bool) → (value : ℕ) → Bool
 after change known value = pushed change.pushes (λ v. known (change.drops + v)) value
 
--- the constants that the two last values are, where they are known
+-- The constants that the last two values are, if they are known.
 abbrev pub constants : (last second : Option ℕ) → Constants
 constants last second = record { last = last; second = second }
 
 abbrev pub no_constants : Constants
 no_constants = constants None None
 
--- an operator on two constants gives one
+-- An operator on two constants gives a constant.
 abbrev pub joined_constant : Op → (turned : Bool) → (second last : Option ℕ) → Option ℕ
 joined_constant sign turned (Some a) (Some b) = Some (in_order turned (applied sign) a b)
 joined_constant sign turned second last = None
@@ -61,15 +62,15 @@ abbrev pub is_address : (shared_alone : Bool) → (constant : Option ℕ) → Bo
 is_address shared_alone None = false
 is_address shared_alone (Some n) = may_use shared_alone n
 
--- those who wait at `&&` and `||` have the value of the whole
+-- Members that wait at `&&` and `||` get the value of the whole.
 abbrev pub pushed_by : SplitKind → (onward : Bool) → Option Bool
 pushed_by AndThen false = unknown
 pushed_by OrElse false = unknown
 pushed_by split onward = None
 
--- the change by an operation that goes on in its function, on the way on which it does. A
--- constant may be an address, a check passes only addresses, and what a group agrees on may be
--- another member's value
+-- The change by an operation that goes on in its function, on the branch that it takes. A constant
+-- may be an address, a check passes only addresses, and what a group agrees on may be another
+-- member's value.
 abbrev pub change : (shared_alone : Bool) → Operation → (onward last : Bool) → Constants → Change
 change shared_alone (Push n) onward last known = by 0 (Some (may_use shared_alone (word n)))
 change shared_alone (Get variable) onward last known = by 0 unknown
@@ -96,7 +97,7 @@ change shared_alone (Check checked) onward last known =
 change shared_alone (Split split) onward last known = by (taken_by split) (pushed_by split onward)
 change shared_alone operation onward last known = by 0 None
 
--- the change by a whole call
+-- The change by a whole call.
 abbrev pub called : (arguments : ℕ) → (gives : Bool) → Change
 called arguments gives = by arguments (if gives then unknown else None)
 

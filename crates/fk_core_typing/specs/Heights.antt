@@ -1,4 +1,4 @@
--- How many values a call has before each operation of code, counted along the text.
+-- The number of values that a call has before each operation of code, counted along the text.
 use Rattle.std.specs.Prelude.{◌≡◌, ℕ, ◌+◌, ◌-◌, Bool, true, false}
 use Rattle.fk_meaning_operation.specs.declared.operation.Operation.{Operation}
 use Rattle.fk_layout_sizes.specs.Operations.{takes}
@@ -16,7 +16,7 @@ results_of Main = 0
 results_of (Called gives) = results gives
 
 module _ (place_of : (binding : ℕ) → FunctionKind) where
-  -- so many there are behind code: behind a choice as many as at the end of its first way
+  -- The number of values after code. After a choice it is that at the end of its first branch.
   abbrev pub height : (values : ℕ) → Code ℕ → ℕ
   height h done = h
   height h (perform n op rest) = height (raised h op true) rest
@@ -31,8 +31,8 @@ module _ (place_of : (binding : ℕ) → FunctionKind) where
   height h (call n op f opening rest) = height (h - takes op + results_of (place_of f)) rest
   height h (ends n op rest) = height (raised h op true) rest
 
-  -- the depth at the site of each operation is that number. What stands in the opening of a call is
-  -- done by the function that is called, which begins without values
+  -- The depth at the site of each operation is that number. The operations in the opening of a call
+  -- are done by the called function, which begins without values.
   module _ (depth : (site : ℕ) → ℕ) where
     abbrev pub HasHeights : (values : ℕ) → Code ℕ → Type 0
     HasHeights h done = Unit {0}

@@ -1,4 +1,4 @@
--- What is so of the flat lists of well typed code.
+-- Laws of the flat lists of well typed code.
 use Rattle.std.specs.Prelude.{◌≡◌, ℕ, ◌+◌, ◌<◌, ◌≤◌, List, [], slice_get, Bool, true, false, Some}
 use Rattle.fk_meaning_operation.specs.declared.operation.Operation.{Operation}
 use Rattle.fk_meaning_forms.specs.Code.{Code}
@@ -18,19 +18,19 @@ use Rattle.fk_core_typing.specs.Heights.{HasHeights}
 
 module _ (bodies : (binding : ℕ) → Code ℕ) (core : List CoreOp) (entry : ℕ → ℕ)
     (place_of : (binding : ℕ) → FunctionKind) where
-  -- an index lies in the code of a function
+  -- An index is in the code of a function.
   abbrev pub LiesIn : (place : ℕ → ℕ) → (index binding : ℕ) → Type 0
   LiesIn place i f = (place f ≤ i) × (i < place f + extent false (bodies f))
 
-  -- A flat list of well typed functions, where no index lies in the code of two. They are in
-  -- `main`, or are called
+  -- A flat list of well typed functions, in which no index is in the code of two. Each function is
+  -- `main`, or one that is called.
   pub record IsTypedList : Type 0 where
     pub shaped : AreShaped bodies
     pub flat : IsFlat bodies core entry
     pub apart : (i f g : ℕ) → LiesIn flat.place i f → LiesIn flat.place i g → f ≡ g
     pub typed : AreTyped place_of bodies
 
--- jumps lead to operations, and no operation but an end goes on outside the list
+-- Jumps lead to operations, and every operation that isn't an end goes on inside the list.
 pub record LeadsWithin (core : List CoreOp) : Type 0 where
   pub jumps : (i : ℕ) (op : CoreOp) → slice_get core i ≡ Some op → is_jump op ≡ true
       → IsOperation core op.target
@@ -38,8 +38,8 @@ pub record LeadsWithin (core : List CoreOp) : Type 0 where
       → operation_of op.kind op.number ≡ Some operation → is_end operation ≡ false
       → (onward : Bool) → StaysInList core (follows core operation i op.target [] onward)
 
--- the depth of each operation of a list is told by its site, and is as high as the code
--- before it makes it
+-- The depth of each operation of a list is given by its site, and is the number of values that the
+-- code before it leaves.
 pub record HasHeightsOf (bodies : (binding : ℕ) → Code ℕ) (core : List CoreOp)
     (place_of : (binding : ℕ) → FunctionKind) : Type 0 where
   pub depth : (site : ℕ) → ℕ

@@ -1,4 +1,4 @@
--- Knowledge of addresses, told by each operation and those that follow it.
+-- Knowledge of addresses, given by each operation and those that follow it.
 use Rattle.std.specs.Prelude.{◌≡◌, ℕ, suc, Bool, true, false, List, [], length, Option, slice_get}
 use Rattle.std.specs.Prelude.{Some}
 use Rattle.fk_meaning_operation.specs.declared.operation.Operation.{Operation}
@@ -16,7 +16,7 @@ use Rattle.fk_core_typing.specs.declared.constants.Constants.{Constants}
 use Rattle.fk_core_typing.specs.AddressValues.{after, change, called, unchanged, no_constants}
 use Rattle.fk_core_typing.specs.AddressValues.{constants_behind}
 
--- a constant that is known is so elsewhere
+-- A constant that is known here is also known elsewhere.
 abbrev pub IsSameIn : (here elsewhere : Option ℕ) → Type 0
 IsSameIn here elsewhere = (n : ℕ) → here ≡ Some n → elsewhere ≡ Some n
 
@@ -24,12 +24,12 @@ pub record AreSameIn (here elsewhere : Constants) : Type 0 where
   pub last : IsSameIn here.last elsewhere.last
   pub second : IsSameIn here.second elsewhere.second
 
--- the function in which each index lies, which values of its call are addresses that may be used,
--- or by a multiprefix too, and which constants the last ones are
+-- For each index: the function in which it is; the values of its call that are addresses which may
+-- be used, or also by a multiprefix; and the constants that the last values are.
 module _ (core : List CoreOp) (within : (index : ℕ) → FunctionKind)
     (known : (shared_alone : Bool) (index value : ℕ) → Bool)
     (constants : (index : ℕ) → Constants) where
-  -- from an index the call goes on at another: what is known there is so behind the change
+  -- The call goes on from index i at index j. What is known at j holds after the change.
   pub record Leads (changes : (shared_alone : Bool) → Change) (behind : Constants)
       (i j : ℕ) : Type 0 where
     pub inside : within j ≡ within i
@@ -41,7 +41,7 @@ module _ (core : List CoreOp) (within : (index : ℕ) → FunctionKind)
     pub addresses : (shared_alone : Bool) (value : ℕ) → known shared_alone i value ≡ false
     pub same : AreSameIn (constants i) no_constants
 
-  -- a call, which begins at the next index and goes on behind the jump to its function
+  -- A call begins at the next index, and goes on after the jump to its function.
   pub record Calls (arguments i : ℕ) : Type 0 where
     pub gives : Bool
     pub inside : within (suc i) ≡ Called gives
@@ -59,7 +59,7 @@ module _ (core : List CoreOp) (within : (index : ℕ) → FunctionKind)
       (λ shared_alone. change shared_alone operation onward (known shared_alone i 0) (constants i))
       (constants_behind operation (constants i)) i (follows core operation i target [] onward).at
 
-  -- the values that an operation uses as addresses
+  -- The values that an operation uses as addresses are known to be addresses.
   abbrev pub Asks : Operation → (i : ℕ) → Type 0
   Asks Read i = known false i 0 ≡ true
   Asks Write i = known false i 1 ≡ true
@@ -70,12 +70,12 @@ module _ (core : List CoreOp) (within : (index : ℕ) → FunctionKind)
     pub asks : Asks operation i
     pub goes_on : GoesOn operation i target
 
-  -- an index in `main` with nothing known
+  -- An index in `main` at which nothing is known.
   pub record IsBare (i : ℕ) : Type 0 where
     pub inside : within i ≡ Main
     pub nothing : KnowsNothing i
 
--- knowledge of a list, which has none where `main` begins and at its end
+-- Knowledge of addresses for a list. Nothing is known where `main` begins, and at the list's end.
 pub record HasKnowledge (core : List CoreOp) (main : ℕ) : Type 0 where
   pub within : (index : ℕ) → FunctionKind
   pub known : (shared_alone : Bool) (index value : ℕ) → Bool
@@ -88,6 +88,6 @@ pub record HasKnowledge (core : List CoreOp) (main : ℕ) : Type 0 where
       → operation_of op.kind op.number ≡ Some operation
       → Fits core within known constants i op.target operation
 
--- it is enough for each address that is used
+-- The knowledge of a list suffices for each address that is used.
 abbrev pub KnowledgeIsEnough : Type 0
 KnowledgeIsEnough = (core : List CoreOp) (main : ℕ) → HasKnowledge core main → AlwaysMay core main

@@ -1,9 +1,9 @@
--- Well typed code, told from its beginning on.
+-- Well typed code, from its beginning on.
 --
--- A loop begins, goes on and ends with the values that it began with, whatever it does in between.
--- Both ways of a choice come together with the same values. A call takes its arguments, and gives a
--- result or none. The code behind a `break`, a `continue` or an end of the function is never
--- reached. It is typed as if what stands before it fell into it.
+-- A loop begins, goes on and ends with the values with which it began, whatever it does in between.
+-- Both branches of a choice come together with the same values. A call takes its arguments, and
+-- gives a result or none. The code after a `break`, a `continue` or an end of the function is never
+-- reached. It is typed as if the code before it went on into it.
 use Rattle.std.specs.Prelude.{◌≡◌, ℕ, Bool, true, false, Option, Some, None}
 use Rattle.fk_meaning_operation.specs.declared.operation.Operation.{Operation}
 use Rattle.fk_meaning_operation.specs.declared.operation.Operation.TheVariants.{Leave, Halt}
@@ -14,20 +14,21 @@ use Rattle.fk_core_liveness.specs.declared.places.FunctionKind.{FunctionKind}
 use Rattle.fk_core_liveness.specs.declared.places.FunctionKind.TheVariants.{Main, Called}
 use Rattle.fk_core_typing.specs.Values.{State, bare, behind, behind_call, May, Grants}
 
--- the loop round a place: the state in which it begins, goes on and ends; or there is none
+-- The loop around a place grants its state: that in which it begins, goes on and ends. Without a
+-- loop nothing does.
 abbrev pub GrantsLoop : (loop : Option State) → State → Type 0
 GrantsLoop None s = ⊥
 GrantsLoop (Some turn) s = Grants s turn
 
--- `main` halts, and a function that is called leaves with its result or without
+-- `main` halts, and a called function leaves, with its result or without.
 abbrev pub EndsIn : Operation → FunctionKind → Type 0
 EndsIn (Leave gives framed) place = place ≡ Called gives
 EndsIn Halt place = place ≡ Main
 EndsIn operation place = ⊥
 
--- whether the function of a binding is `main`, and whether it gives a value
+-- For each binding: whether its function is `main`, and whether it gives a value.
 module _ (place_of : (binding : ℕ) → FunctionKind) where
-  -- code that begins in a state, and behind which another one is asked
+  -- Code begins in state s, and state `asked` is required after it.
   abbrev pub Typed : (loop : Option State) → State → Code ℕ → (asked : State) → Type 0
   Typed l s done e = Grants s e
   Typed l s (perform n op rest) e = May op s × Typed l (behind op true s) rest e
@@ -54,7 +55,7 @@ module _ (place_of : (binding : ℕ) → FunctionKind) where
   Typed l s (ends n op rest) e = May op s × EndsIn op s.place × Typed l (behind op true s) rest e
   Typed l s code e = ⊥
 
-  -- the code of a function begins with no values
+  -- The code of a function begins without values.
   abbrev pub IsTyped : (binding : ℕ) → Code ℕ → Type 0
   IsTyped binding code = (end : State) × Typed None (bare (place_of binding)) code end
 

@@ -1,4 +1,4 @@
--- What is known of the values of a call at a place in code, and what an operation makes of it.
+-- What is known of the values of a call at a place in code, and after an operation.
 use Rattle.std.specs.Prelude.{◌≡◌, ℕ, ◌≤◌, Bool, true, false, not, List, [], ◌∷◌, ◌++◌, length}
 use Rattle.std.specs.Prelude.{drop, replicate, Option, Some, None, if◌then◌else◌}
 use Rattle.fk_num.specs.Word.{word}
@@ -16,21 +16,21 @@ use Rattle.fk_core_typing.specs.declared.constants.Constants.{Constants}
 use Rattle.fk_core_typing.specs.AddressValues.{no_constants, joined_constant, constants_behind}
 use Rattle.fk_core_typing.specs.LocalAddresses.{AreSameIn}
 
--- of a value nothing is known; or that it is an address that reads and writes may use; or one that
--- a multiprefix may use too
+-- What is known of a value: nothing; that it is an address that reads and writes may use; or that
+-- it is one that a multiprefix may use too.
 pub data Value : Type 0 where
   Unknown : Value
   Usable : Value
   Shared : Value
 
--- whether it is known to be an address that may be used, with `shared_alone` by a multiprefix
+-- Whether a value is known to be an address that may be used, with `shared_alone` by a multiprefix.
 abbrev pub is_known : (shared_alone : Bool) → Value → Bool
 is_known shared_alone Unknown = false
 is_known shared_alone Usable = not shared_alone
 is_known shared_alone Shared = true
 
--- what is known of a number, of a constant that may be known, and of a value that a
--- check has passed
+-- What is known of a number, of a constant that may be known, and of a value that a check has
+-- passed.
 abbrev pub of_number : ℕ → Value
 of_number n = if may_use true n then Shared else if may_use false n then Usable else Unknown
 
@@ -43,23 +43,23 @@ checked true v = Shared
 checked false Shared = Shared
 checked false v = Usable
 
--- a place in code: in `main`, or in a function that is called; the values of the running call, the
--- last one first; and the constants that the two last ones are, where they are known
+-- A place in code: the function is `main`, or one that is called; the values of the running call,
+-- the last one first; and the constants that the last two are, if they are known.
 pub record State : Type 0 where
   pub place : FunctionKind
   pub values : List Value
   pub constants : Constants
 
--- where a function begins: there are no values
+-- The beginning of a function: there are no values.
 abbrev pub bare : FunctionKind → State
 bare place = record { place = place; values = []; constants = no_constants }
 
--- so many values are taken, and so many pushed of which nothing is known
+-- The values after `takes` are taken, and `leaves` of which nothing is known are pushed.
 abbrev pub changed : (takes leaves : ℕ) → List Value → List Value
 changed takes leaves vs = replicate leaves Unknown ++ drop takes vs
 
--- the values behind an operation, on the way on which it goes on. What a group agrees on may be
--- another member's value
+-- The values after an operation, on the branch that it takes. What a group agrees on may be another
+-- member's value.
 abbrev pub values_behind : Operation → (onward : Bool) → Constants → List Value → List Value
 values_behind (Push n) onward known vs = of_number (word n) ∷ vs
 values_behind CopyLast onward known (v ∷ vs) = v ∷ v ∷ vs
@@ -76,7 +76,7 @@ behind operation onward s = record {
   constants = constants_behind operation s.constants;
 }
 
--- and those behind a call, which has a result or none in place of its arguments
+-- The values after a call, which has a result or none in place of its arguments.
 abbrev pub behind_call : (arguments : ℕ) → (gives : Bool) → State → State
 behind_call arguments gives s = record {
   place = s.place;
@@ -84,20 +84,21 @@ behind_call arguments gives s = record {
   constants = no_constants;
 }
 
--- what an operation uses as an address is known to be one
+-- What an operation uses as an address is known to be one.
 abbrev pub Asks : Operation → List Value → Type 0
 Asks Read (a ∷ vs) = is_known false a ≡ true
 Asks Write (v ∷ a ∷ vs) = is_known false a ≡ true
 Asks (Combine by) (v ∷ a ∷ vs) = is_known true a ≡ true
 Asks operation vs = Unit {0}
 
--- it finds the values that it takes, and those that it looks at
+-- An operation finds the values that it takes, and those that it looks at.
 pub record May (operation : Operation) (s : State) : Type 0 where
   pub values : needs operation ≤ length s.values
   pub looks : looks_at operation ≤ length s.values
   pub asks : Asks operation s.values
 
--- at least as much is known of one value as of another, and so of lists of values
+-- At least as much is known of one value as of another. The second definition says this of lists of
+-- values.
 abbrev pub IsAsGood : Value → Value → Type 0
 IsAsGood v w = (shared_alone : Bool) → is_known shared_alone w ≡ true
     → is_known shared_alone v ≡ true
@@ -107,7 +108,7 @@ AreAsGood [] [] = Unit {0}
 AreAsGood (v ∷ vs) (w ∷ ws) = IsAsGood v w × AreAsGood vs ws
 AreAsGood vs ws = ⊥
 
--- what is asked in a state is so in another, which may know more
+-- What is required of a state holds of another one, which may know more.
 pub record Grants (s asked : State) : Type 0 where
   pub place : s.place ≡ asked.place
   pub values : AreAsGood s.values asked.values

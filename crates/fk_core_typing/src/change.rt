@@ -1,6 +1,6 @@
-//! What operations do to the values of a call.
+//! The effects of operations on the values of a call.
 
-/// A change of a value list: so many values are dropped, and then one is pushed or none.
+/// A change of a call's values: this many are dropped, and then one is pushed or none.
 #[derive(Clone, Copy, PartialEq, Eq, Debug)]
 pub struct Change {
     pub drops: u32,

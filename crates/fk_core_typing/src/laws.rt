@@ -1,6 +1,4 @@
-//! Laws of depths.
-//! Laws of what is known.
-//! Laws of the flat lists of well typed code.
+//! Laws of depths, of knowledge of addresses, and of the flat lists of well typed code.
 
 ghost use Rattle.fk_core_typing.specs.LocalDepths.{LocalDepthsAreDepths};
 ghost use Rattle.fk_core_typing.specs.LocalAddresses.{KnowledgeIsEnough};
@@ -20,8 +18,8 @@ pub fn knowledge_is_enough()
     ensures { KnowledgeIsEnough }
 {}
 
-/// A flat list of well typed functions goes on within itself: its jumps lead to operations, and no
-/// operation but an end goes on outside it.
+/// A flat list of well typed functions leads on within itself: its jumps lead to operations, and
+/// every operation that isn't an end goes on inside it.
 pub fn typed_lists_lead_within()
     ensures { TypedListsLeadWithin }
 {}
@@ -32,8 +30,8 @@ pub fn typed_lists_know()
     ensures { TypedListsKnow }
 {}
 
-/// Where the depths of a flat list of well typed functions are those that are counted along their
-/// code, they go with the operations, and `main` begins without values.
+/// Where the depths of a flat list of well typed functions are those counted along the code, they
+/// go with the operations, and `main` begins without values.
 pub fn typed_lists_have_depths()
     ensures { TypedListsHaveDepths }
 {}

@@ -1,7 +1,7 @@
 //! What is known of the values of a call at each index of a flat list: how many there are, and
-//! which are addresses that may be used; and that lists of well typed code have such knowledge.
+//! which are addresses that may be used. Lists of well typed code have such knowledge.
 //!
-//! The definitions stand in `specs/`, and what is proved of them in `laws`.
+//! The definitions are in `specs/`, and the laws proved of them in `laws`.
 #![tactic(auto)]
 
 mod change;

@@ -1,4 +1,4 @@
--- Readers of parts of expressions, with as many repetitions as there may be tokens.
+-- Readers of parts of expressions, which repeat as often as there may be tokens.
 use Rattle.std.specs.Prelude.{◌≡◌, ℕ, ◌<◌, List, Option, false}
 use Rattle.fk_parse_combinators.specs.Languages.{Placed}
 use Rattle.fk_parse_combinators.specs.Readers.{Reader, giving, ◌and◌, repeated, tells, expect_told}
@@ -8,7 +8,7 @@ use Rattle.fk_expr.specs.Reading.{read_prefix, read_joined}
 use Rattle.fk_expr.specs.Grammar.{operator_at, linked}
 use Rattle.fk_syntax.specs.Tree.{LinkTree}
 
--- the readers where so many levels are left
+-- the readers for `left` levels left
 abbrev pub readers : ℕ → Readers
 readers left = record {
   comma = read_comma (inner left);
@@ -17,17 +17,17 @@ readers left = record {
   prefix = read_prefix (inner left);
 }
 
--- an operator that binds so loosely, and the operand on its right, which binds tighter
+-- an operator with this looseness, and its right operand, which binds tighter
 abbrev pub read_link : Option Readers → ℕ → ℕ → Reader LinkTree
 read_link inner looseness tighter =
     giving linked (expect_told (operator_at looseness) and read_joined inner tighter)
 
--- as many of them as come
+-- all links of this kind at the cursor
 abbrev pub read_links : Option Readers → ℕ → ℕ → Reader (List LinkTree)
 read_links inner looseness tighter =
     repeated (tells (operator_at looseness)) (read_link inner looseness tighter)
 
--- no operator comes next that binds looser than one level and tighter than another
+-- the next token isn't an operator looser than `tighter` and tighter than `looser`
 abbrev pub NoOperator : ℕ → ℕ → List Placed → Type 0
 NoOperator tighter looser ts = (level : ℕ) → tighter < level → level < looser
     → next_is (tells (operator_at level)) ts ≡ false

@@ -1,5 +1,4 @@
--- The grammar of expressions. A stretch is given with the levels that are open at
--- each of its tokens.
+-- The grammar of expressions. Each token of a stretch has the number of levels that are open at it.
 use Rattle.std.specs.Prelude.{ℕ, zero, suc, ◌+◌, ◌==◌, if◌then◌else◌, List, [], ◌∷◌, Option, Some}
 use Rattle.std.specs.Prelude.{None, length}
 use Rattle.fk_syntax.specs.declared.sign.Sign.{Sign}
@@ -30,16 +29,16 @@ abbrev pub type_name : ℕ → Language TypeTree
 type_name l = making (λ (words, stars). record { base = words; stars = length stars })
     (base l then many (token l kind.Star))
 
--- ---- expressions, where those that stand one level deeper are given
+-- ---- expressions, given the languages of expressions one level deeper
 
--- what stands one level deeper, by its level
+-- the languages of expressions one level deeper, by that level
 pub record Deeper : Type 1 where
   pub comma : ℕ → Language Tree
   pub assignment : ℕ → Language Tree
   pub choice : ℕ → Language Tree
   pub prefix : ℕ → Language Tree
 
--- "(" comma ")", which leaves no trace
+-- "(" comma ")", which isn't kept in the tree
 abbrev pub parenthesized : Deeper → ℕ → Language Tree
 parenthesized D l =
     making (λ (opening, (tree, closing)). tree) (token (l + 1) kind.OpenParenthesis
@@ -121,7 +120,7 @@ abbrev pub only : ℕ → Option (ℕ × Sign) → Option Sign
 only looseness None = None
 only looseness (Some x) = if x.0 == looseness then Some x.1 else None
 
--- an operator that binds so loosely, 1 for * / % to 10 for ||
+-- an operator with this looseness, from 1 for * / % to 10 for ||
 abbrev pub operator_at : ℕ → TokenKind → Option Sign
 operator_at looseness kind = only looseness (operator_told kind)
 
@@ -132,7 +131,8 @@ abbrev pub chained : Tree → List LinkTree → Tree
 chained first [] = first
 chained first (link ∷ links) = Chain first (links_of (link ∷ links))
 
--- operands joined by operators that bind so loosely or tighter, each level grouping to the left
+-- operands joined by operators with at most this looseness; each level of looseness groups to the
+-- left
 abbrev pub joined : Deeper → ℕ → ℕ → Language Tree
 joined D l zero = prefix D l
 joined D l (suc looseness) =
@@ -171,7 +171,7 @@ comma D l =
     making (λ (first, links). chained first links)
     (assignment D l then many (making comma_linked (token l kind.Comma then assignment D l)))
 
--- ---- so many levels deeper
+-- ---- the languages for a number of levels that may be opened
 
 abbrev pub deeper : ℕ → Deeper
 deeper zero = record {
@@ -188,8 +188,8 @@ deeper (suc n) =
       prefix = prefix (deeper n);
     }
 
--- the productions `comma` and `assign` where so many levels are open, for each bound on
--- those that they open
+-- the productions `comma` and `assignment` inside `level` open levels, for each bound on the levels
+-- that they open
 abbrev pub Comma : ℕ → Family Tree
 Comma level bound = comma (deeper bound) level
 

@@ -1,4 +1,4 @@
--- What the kind of a token says to the grammar of expressions.
+-- What the grammar of expressions needs to know about a kind of token.
 use Rattle.std.specs.Prelude.{ℕ, Option, Some, None, Bool}
 use Rattle.fk_syntax.specs.declared.sign.Sign.{Sign}
 use Rattle.fk_syntax.specs.declared.sign.Sign.TheVariants as sign
@@ -36,7 +36,7 @@ assignment_told kind.ShiftLeftAssign = Some sign.ShiftLeftAssign
 assignment_told kind.ShiftRightAssign = Some sign.ShiftRightAssign
 assignment_told k = None
 
--- the operators that join operands: how loosely they bind, from 1, and their signs
+-- the binary operators: their looseness, from 1, and their signs
 abbrev pub operator_told : TokenKind → Option (ℕ × Sign)
 operator_told kind.Star = Some (1, sign.Star)
 operator_told kind.Slash = Some (1, sign.Slash)

@@ -1,13 +1,13 @@
--- What holds of the definitions alone.
+-- Laws of the definitions.
 use Rattle.std.specs.Prelude.{ℕ, ◌≤◌}
 use Rattle.fk_parse_combinators.specs.Reads.{HasOneAnswer}
 use Rattle.fk_parse_combinators.specs.declared.limits.TheConstants.{LEVELS}
 use Rattle.fk_expr.specs.Grammar.{Comma, Assignment}
 
--- inside so many open levels tokens have one answer as an expression with commas
+-- inside any number of open levels, tokens have exactly one answer as a comma expression
 abbrev pub OneExpression : Type 0
 OneExpression = (level : ℕ) → level ≤ LEVELS → HasOneAnswer (Comma level)
 
--- and one as an assignment
+-- inside any number of open levels, tokens have exactly one answer as an assignment
 abbrev pub OneAssignment : Type 0
 OneAssignment = (level : ℕ) → level ≤ LEVELS → HasOneAnswer (Assignment level)

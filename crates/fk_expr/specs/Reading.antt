@@ -1,5 +1,5 @@
--- How expressions are read, token by token. What is read so is what the grammar says: that is
--- proved, and the contracts of the public functions speak of the grammar alone.
+-- How expressions are read, token by token. It is proved that the result is what the grammar says,
+-- and the contracts of the public functions refer only to the grammar.
 use Rattle.std.specs.Prelude.{ℕ, zero, suc, List, [], ◌∷◌, Option, Some, None, Bool, false, length}
 use Rattle.std.specs.Prelude.{◌||◌, ◌&&◌}
 use Rattle.fk_syntax.specs.declared.sign.Sign.{Sign}
@@ -35,7 +35,7 @@ read_type_name = giving (λ (words, stars). record { base = words; stars = lengt
 abbrev pub begins_type : TokenKind → Bool
 begins_type k = just kind.Int k || just kind.Unsigned k || just kind.Void k || just kind.Struct k
 
--- ---- expressions, where those that stand one level deeper are given, if there may be one
+-- ---- expressions, given the readers of expressions one level deeper, if these may be read
 
 pub record Readers : Type 0 where
   pub comma : Reader Tree
@@ -78,7 +78,7 @@ begins_primary k =
 abbrev pub begins_expression : TokenKind → Bool
 begins_expression k = tells prefix_told k || just kind.Sizeof k || begins_primary k
 
--- an argument behind a comma
+-- a comma, and an argument
 abbrev pub read_next_argument : Readers → Reader Tree
 read_next_argument R = giving (λ (comma, next). next) (expect kind.Comma and R.assignment)
 
@@ -148,7 +148,7 @@ read_sizeof inner =
     giving (λ (word, (opening, (type, closing))). Sizeof (spot word) type)
     (expect kind.Sizeof and read_enclosed_type inner)
 
--- a parenthesis comes next, and a type after it
+-- the next two tokens are a parenthesis and one that begins a type
 abbrev pub cast_is_next : List Placed → Bool
 cast_is_next [] = false
 cast_is_next (t ∷ ts) = just kind.OpenParenthesis t.kind && next_is begins_type ts
@@ -194,7 +194,7 @@ read_assignment inner =
     giving (λ (target, value). assigned target value)
     (read_choice inner and optional (tells assignment_told) (read_assigned inner))
 
--- a comma, and the operand on its right
+-- a comma, and its right operand
 abbrev pub read_comma_link : Option Readers → Reader LinkTree
 read_comma_link inner = giving comma_linked (expect kind.Comma and read_assignment inner)
 
@@ -206,7 +206,7 @@ read_comma inner =
     giving (λ (first, links). chained first links)
     (read_assignment inner and read_comma_links inner)
 
--- ---- so many levels left
+-- ---- the readers for a number of levels left
 
 abbrev pub inner : ℕ → Option Readers
 inner zero = None

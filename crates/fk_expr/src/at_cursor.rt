@@ -1,8 +1,8 @@
-//! What other grammars read at a cursor: expressions, and the first words of a type.
+//! Productions that other grammars read at a cursor: expressions, and the base of a type.
 //!
-//! Each contract says what is read twice: by the grammar, as those of [`crate::expression`] do, and
-//! by the function on lists of tokens that it computes, of which the functions of the grammar above
-//! are put together.
+//! Each contract gives the result twice: by the grammar, as the contracts of [`crate::expression`]
+//! do, and in terms of a reader on lists of tokens. The readers of the crates above are built from
+//! these.
 
 ghost use Rattle.std.specs.Prelude.{◌≤◌, ◌-◌, Ok, Err, IfOk, IfErr};
 ghost use Rattle.fk_syntax.specs.View.{base_of, tree_of};
@@ -20,8 +20,7 @@ use fk_parse_combinators::limits::LEVELS;
 use fk_syntax::expression::{Base, Expr};
 use std::alloc::Global;
 
-/// Reads the comma expression that comes next, where so many levels are left, and the others
-/// are open.
+/// Reads the comma expression at the cursor, where `left` of the [`LEVELS`] levels are left.
 ///
 /// # Errors
 ///
@@ -42,7 +41,7 @@ pub fn comma<'a>(
     production::comma(alloc, cursor, left)
 }
 
-/// Reads an assignment expression, in which no comma joins, at the cursor.
+/// Reads the assignment expression at the cursor: an expression that isn't joined by a comma.
 ///
 /// # Errors
 ///
@@ -63,12 +62,12 @@ pub fn assignment<'a>(
     production::assignment(alloc, cursor, left)
 }
 
-/// Reads the first words of the type that comes next: `int`, `unsigned`, `unsigned int`, `void` or
-/// a `struct` with its name.
+/// Reads the base of the type at the cursor: `int`, `unsigned`, `unsigned int`, `void` or a
+/// `struct` with its name.
 ///
 /// # Errors
 ///
-/// Unexpected at the first token that doesn't go on with a type, EndOfText where the tokens end.
+/// `Unexpected` at the first token that doesn't go on with a type; `EndOfText` if the tokens end.
 pub fn base<'a>(cursor: &mut Cursor<'_, 'a>) -> Result<Base<'a>, SyntaxFault>
     ensures grammar { IfOk result
         (λ b. Reads (λ bound. base 0) cursor.old (Ok (base_of b, cursor.new))) }

@@ -14,15 +14,16 @@ use fk_parse_combinators::limits::LEVELS;
 use fk_syntax::expression::Expr;
 use std::alloc::Global;
 
-/// The comma expression that begins at this token, inside so many open levels, and the index of
-/// the token after it. It is the longest run of tokens that begins an expression, with no bound
-/// on its nesting.
+/// Reads the comma expression that begins at token `at`, inside `level` open levels. Returns it
+/// with the index of the token after it. It is the longest run of tokens that begins an expression,
+/// with no bound on its nesting.
 ///
 /// # Errors
 ///
-/// Where the longest run is no expression, EndOfText if it reaches the end of the tokens, and else
-/// Unexpected at the token after it. Nesting comes before the answer and before both, at the first
-/// token of the run that opens a level too many. Memory may be wanting for any tokens.
+/// If the longest run isn't an expression: `EndOfText` if it reaches the end of the tokens, else
+/// `Unexpected` at the token after it. `Nesting` takes precedence over both and over a result, at
+/// the first token of the run that opens a level too many. `Memory` may come for any tokens, if
+/// there isn't enough memory.
 pub fn expression<'a>(
     alloc: Global,
     tokens: &[Token<'a>],
@@ -43,7 +44,8 @@ pub fn expression<'a>(
     Ok((value, tokens.len() - cursor.len()))
 }
 
-/// Reads an assignment expression, in which no comma joins, from the token at an index on.
+/// Reads the assignment expression that begins at token `at`: an expression that isn't joined by a
+/// comma.
 ///
 /// # Errors
 ///

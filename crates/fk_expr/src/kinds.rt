@@ -1,4 +1,4 @@
-//! What a kind of token tells, and the kinds that begin a production.
+//! The numbers and signs by kinds of tokens, and the kinds that begin a production.
 
 ghost use Rattle.std.specs.Prelude.{◌≡◌};
 ghost use Rattle.fk_parse_combinators.specs.Kinds.{just};
@@ -14,7 +14,7 @@ ghost use Rattle.fk_expr.specs.Reading.{
 use fk_lex::token::TokenKind;
 use fk_syntax::sign::Sign;
 
-/// The value of a number, and whether its type is `unsigned`.
+/// The value of a number, and whether its type is `unsigned`; `None` if the token isn't a number.
 pub fn number(kind: TokenKind) -> Option<(u32, bool)>
     ensures { result ≡ number_told kind }
 {
@@ -24,7 +24,7 @@ pub fn number(kind: TokenKind) -> Option<(u32, bool)>
     }
 }
 
-/// The sign before an operand.
+/// The sign, if it may come before an operand.
 pub fn prefix_sign(kind: TokenKind) -> Option<Sign>
     ensures { result ≡ prefix_told kind }
 {
@@ -41,7 +41,7 @@ pub fn prefix_sign(kind: TokenKind) -> Option<Sign>
     }
 }
 
-/// The sign of an assignment.
+/// The sign, if it is that of an assignment.
 pub fn assignment_sign(kind: TokenKind) -> Option<Sign>
     ensures { result ≡ assignment_told kind }
 {
@@ -61,8 +61,8 @@ pub fn assignment_sign(kind: TokenKind) -> Option<Sign>
     }
 }
 
-/// An operator that joins operands: how loosely it binds, from 1 for `*` to 10 for `||`, and its
-/// sign.
+/// The looseness and the sign, if the token is a binary operator. The looseness is from 1 for `*`
+/// to 10 for `||`.
 pub fn operator(kind: TokenKind) -> Option<(u32, Sign)>
     ensures { result ≡ operator_told kind }
 {
@@ -89,7 +89,7 @@ pub fn operator(kind: TokenKind) -> Option<(u32, Sign)>
     }
 }
 
-/// The sign of an operator that binds so loosely.
+/// The sign, if it is a binary operator with this looseness.
 pub fn operator_sign(kind: TokenKind, looseness: u32) -> Option<Sign>
     ensures { result ≡ operator_at looseness kind }
 {
@@ -110,7 +110,7 @@ pub fn begins_type(kind: TokenKind) -> bool
     )
 }
 
-/// Whether a primary expression does.
+/// Whether a primary expression begins with a token of this kind.
 #[tactic(auto, unfolding(fk_parse_combinators::specs::Kinds::just))]
 pub fn begins_primary(kind: TokenKind) -> bool
     ensures { result ≡ begins_primary kind }
@@ -126,14 +126,14 @@ pub fn begins_primary(kind: TokenKind) -> bool
     )
 }
 
-/// Whether an expression does.
+/// Whether an expression begins with a token of this kind.
 pub fn begins_expression(kind: TokenKind) -> bool
     ensures { result ≡ begins_expression kind }
 {
     prefix_sign(kind).is_some() || is_sizeof(kind) || begins_primary(kind)
 }
 
-/// Whether a suffix does.
+/// Whether a suffix begins with a token of this kind.
 #[tactic(auto, unfolding(fk_parse_combinators::specs::Kinds::just))]
 pub fn begins_suffix(kind: TokenKind) -> bool
     ensures { result ≡ begins_suffix kind }
@@ -149,7 +149,7 @@ pub fn begins_suffix(kind: TokenKind) -> bool
     )
 }
 
-/// Whether it is the word `sizeof`.
+/// Whether a token of this kind is the keyword `sizeof`.
 #[tactic(auto, unfolding(fk_parse_combinators::specs::Kinds::just))]
 fn is_sizeof(kind: TokenKind) -> bool
     ensures { result ≡ just TokenKind.Sizeof kind }

@@ -2,12 +2,12 @@
 
 ghost use Rattle.fk_expr.specs.Laws.{OneAssignment, OneExpression};
 
-/// Any tokens have one answer as an expression, and no other: its tree, or why there is none.
+/// Any tokens have exactly one answer as an expression: its tree, or the reason why there is none.
 pub fn one_expression()
     ensures { OneExpression }
 {}
 
-/// Any tokens have one answer as an assignment, and no other.
+/// Any tokens have exactly one answer as an assignment.
 pub fn one_assignment()
     ensures { OneAssignment }
 {}

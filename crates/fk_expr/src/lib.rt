@@ -1,7 +1,7 @@
 //! Expressions of Fork95: the tree of an expression's tokens, and the place of each fault.
 //!
 //! `expression` and `assignment` read one among the tokens of a text. `at_cursor` has the same
-//! productions for the grammar of statements, which reads them where they stand.
+//! productions for the grammar of statements, which reads them at a cursor.
 #![tactic(auto)]
 
 pub mod at_cursor;

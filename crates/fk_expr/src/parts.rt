@@ -1,4 +1,4 @@
-//! Parts of expressions that no expression stands in.
+//! Parts of expressions without inner expressions.
 
 ghost use Rattle.std.specs.Prelude.{IfOk};
 ghost use Rattle.fk_syntax.specs.Tree.{TypeTree};

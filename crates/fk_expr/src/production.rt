@@ -1,8 +1,8 @@
 //! The productions of expressions.
 //!
-//! The next token, or the next two, say which alternative comes. So no token is read twice, and
-//! calls stand in calls as levels of nesting and the ten kinds of operators do: that is seen in the
-//! code, and no clause says it.
+//! The next token, or the next two, tell which alternative comes. No token is therefore read twice,
+//! and the calls nest as the levels and the ten kinds of operators do. The code shows this; no
+//! clause states it.
 
 ghost use Rattle.std.specs.Prelude.{◌≤◌, ◌<◌, ◌-◌, ◌^◌, length, map, IfOk};
 ghost use Rattle.fk_syntax.specs.View.{tree_of, link_of, suffix_of};
@@ -49,7 +49,7 @@ use fk_syntax::expression::{Expr, Link, Suffix};
 use fk_syntax::sign::Sign;
 use std::alloc::Global;
 
-/// How loosely the loosest operators bind that join operands.
+/// The looseness of the loosest binary operators.
 const LOOSEST: u32 = 10;
 
 /// comma = assign { "," assign }
@@ -186,8 +186,9 @@ fn otherwise<'a>(
     Ok((colon, choice(alloc, cursor, left)?))
 }
 
-/// Operands joined by operators that bind so loosely or tighter, each level grouping to the left.
-/// Levels are joined from the tightest on, and one whose operators don't come next is passed over.
+/// Operands joined by operators with at most this looseness. Each level of looseness groups to the
+/// left. The levels are read from the tightest on, and those without an operator at the cursor are
+/// skipped.
 #[cycle(expression)]
 #[tactic(auto, using(crate::proofs::Halting::halting))]
 fn joined<'a>(
@@ -210,7 +211,8 @@ fn joined<'a>(
     Ok(whole)
 }
 
-/// An operand that was read, and those that operators join to it that bind just so loosely.
+/// An operand that has been read, and the operands joined to it by operators with exactly this
+/// looseness.
 #[cycle(expression)]
 #[tactic(auto, using(crate::proofs::Halting::halting))]
 fn level<'a>(
@@ -229,7 +231,7 @@ fn level<'a>(
     with_links(alloc, first, links)
 }
 
-/// Operators that bind just so loosely, each with the operand on its right.
+/// Operators with exactly this looseness, each with its right operand.
 #[cycle(expression)]
 #[tactic(auto, using(crate::proofs::Halting::halting))]
 fn links<'a>(
@@ -251,7 +253,7 @@ fn links<'a>(
     Ok(links)
 }
 
-/// One of them.
+/// An operator with this looseness, with its right operand.
 #[cycle(expression)]
 #[tactic(auto, using(crate::proofs::Halting::halting))]
 fn link<'a>(

@@ -23,7 +23,7 @@ pub fn type_name<'a>(cursor: &mut Cursor<'_, 'a>) -> Result<TypeName<'a>, Syntax
     Ok(TypeName { base, stars })
 }
 
-/// How many `*` come.
+/// Reads `*` tokens, as many as there are. Returns their number.
 pub fn stars(cursor: &mut Cursor) -> Result<u32, SyntaxFault>
     ensures read { Makes length (λ n. n) result cursor.new
         (repeated (just TokenKind.Star) (expect TokenKind.Star) cursor.old) }

@@ -1,6 +1,6 @@
-//! Wholes of a first part and of what comes behind it, where that was read too.
+//! Expressions made of a first part and the part after it, if that was read too.
 //!
-//! What is left over by a fault is let go by `drop`, so no proof goes through the kinds of
+//! After a fault the first part is released by `drop`, so that no proof goes through the cases of
 //! expressions for it.
 
 ghost use Rattle.std.specs.Prelude.{◌≡◌, map, List, Some, IfOk, IsOk};

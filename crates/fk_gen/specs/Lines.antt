@@ -1,4 +1,4 @@
--- The lines of blocks, and what stands in them.
+-- The lines of blocks, and what they are made of.
 use Rattle.std.specs.Prelude.{ℕ, ◌+◌, ◌-◌, ◌*◌, ◌/◌, ◌%◌, ◌^◌, ◌==◌, List, [], ◌∷◌, Bool, true}
 use Rattle.std.specs.Prelude.{false, Option, Some, None, IfSome}
 use Rattle.fk_isa.specs.declared.instruction.Instruction.{Instruction}
@@ -11,19 +11,19 @@ use Rattle.fk_asm.specs.Block.{MarkedLine, plain, committing}
 use Rattle.fk_gen.specs.declared.block_line.BlockLine.{BlockLine}
 use Rattle.fk_gen.specs.Registers.{zero_register, t0}
 
--- the line of an instruction that does no operation
+-- The line of an instruction that does no operation.
 abbrev pub quiet : Instruction → MarkedLine
 quiet i = plain (straight i)
 
--- of one that does: its commit counts 1, and is no event
+-- The line of an instruction that does an operation: its commit counts 1, and is no event.
 abbrev pub commits : Instruction → MarkedLine
 commits i = committing (straight i) 1
 
--- of a jump to a label, which does no operation
+-- The line of a jump to a label, which does no operation.
 abbrev pub goes_to : Instruction → (label : ℕ) → MarkedLine
 goes_to i label = plain (jump_to i label)
 
--- the commit of a line
+-- The commit of a line, by whether the line does an operation.
 abbrev pub commit_of : Bool → Option ℕ
 commit_of true = Some 1
 commit_of false = None
@@ -31,7 +31,7 @@ commit_of false = None
 abbrev pub marked : BlockLine → MarkedLine
 marked b = record { line = b.line; commit = commit_of b.commits }
 
--- the fields of a line are in range, and it goes to a label only where its instruction is a jump
+-- The fields of a line are in range, and it goes to a label only where its instruction is a jump.
 abbrev pub FitLine : MarkedLine → Type 0
 FitLine m = Fits m.line.instruction × IfSome m.line.label (λ _. IsJump m.line.instruction)
 
@@ -41,25 +41,26 @@ FitLines (m ∷ ms) = FitLine m × FitLines ms
 
 -- ---- offsets, as words
 
--- that of the k-th value of a call, from 1 on, from the word behind its frame: 4 * k bytes back
+-- The offset of the k-th value of a call, counted from 1, from the word after its frame: 4 * k
+-- bytes back.
 abbrev pub at_value : (k : ℕ) → ℕ
 at_value k = (2 ^ 32 - 4 * k) % 2 ^ 32
 
--- that of a private word from the start of its frame, and of a private variable of file scope
--- from local memory
+-- The offset of a private word from the start of its frame, and of a private variable of file scope
+-- from local memory.
 abbrev pub at_private : (i : ℕ) → ℕ
 at_private i = 4 * (7 + i)
 
 -- ---- numbers
 
--- a number is its upper 20 bits, shifted, and a signed rest
+-- A number is its upper 20 bits, shifted, plus a signed rest.
 abbrev pub high_part : ℕ → ℕ
 high_part n = (n + 2048) / 4096 % 1048576
 
 abbrev pub low_part : ℕ → ℕ
 low_part n = extended 12 (n % 4096)
 
--- a number comes to t0: by one instruction where its upper part is 0
+-- Loads a number into t0, by one instruction where its upper part is 0.
 abbrev pub load_by : (short : Bool) (n : ℕ) → List Instruction
 load_by true n = Addi t0 zero_register (low_part n) ∷ []
 load_by false n = Lui t0 (high_part n) ∷ Addi t0 t0 (low_part n) ∷ []
@@ -69,15 +70,15 @@ load_number n = load_by (high_part n == 0) n
 
 -- ---- labels
 
--- where the code that all calls share is entered to copy so many arguments, 0 to 56
+-- The label at which the code that all calls share copies this many arguments, 0 to 56.
 abbrev pub copy_label : (arguments : ℕ) → ℕ
 copy_label arguments = arguments
 
--- where the code that all calls share is entered to clear so many of the last private words of
--- a frame, 0 to 56
+-- The label at which the code that all calls share clears this many of the last private words of a
+-- frame, 0 to 56.
 abbrev pub clear_label : (words : ℕ) → ℕ
 clear_label words = 64 + words
 
--- the block of an index of the list
+-- The label of the block of an index of the list.
 abbrev pub label_of : (index : ℕ) → ℕ
 label_of index = 128 + index

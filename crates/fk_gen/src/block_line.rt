@@ -63,7 +63,8 @@ impl BlockLine {
     }
 }
 
-/// Adds lines. After an error only the first of them were added, or none.
+/// Adds lines. Fails where there isn't enough memory; then only the first of the lines were added,
+/// or none.
 pub fn emit_lines(into: &mut Assembler, lines: &[BlockLine]) -> Result<(), AllocError>
     requires fit { FitLines (map marked lines.now) }
     requires labels { All (GoesToMade into.old.bound) (map marked lines.now) }
@@ -96,7 +97,8 @@ fn emit_line(into: &mut Assembler, line: BlockLine) -> Result<(), AllocError>
     }
 }
 
-/// Adds the lines by which a number comes to `t0`. None of them commits.
+/// Adds the lines that load a number into `t0`. None of them commits. Fails where there isn't
+/// enough memory; then only the first of the lines were added, or none.
 pub fn emit_number(into: &mut Assembler, number: u32) -> Result<(), AllocError>
     requires room { length into.old.lines + 2 < 2 ^ 30 }
     requires free { AreFollowed into.old }

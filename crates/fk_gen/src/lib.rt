@@ -1,5 +1,5 @@
-//! What the blocks of operations share: the lines that they are made of, how these stand in an
-//! image, and how a hart runs them.
+//! What the blocks of operations share: the lines that they are made of, their places in an image,
+//! and how a hart runs them.
 #![tactic(auto)]
 
 pub mod block_line;

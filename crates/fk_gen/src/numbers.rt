@@ -4,7 +4,7 @@ ghost use Rattle.std.specs.Prelude.{◌≡◌, ◌<◌, ◌≤◌, ◌^◌};
 ghost use Rattle.fk_isa.specs.Fits.{IsShort};
 ghost use Rattle.fk_gen.specs.Lines.{at_value, at_private, high_part, low_part};
 
-/// The offset of the k-th value of a call, from 1 on, from the word behind its frame.
+/// The offset of the k-th value of a call, counted from 1, from the word after its frame, in bytes.
 pub fn at_value(k: u32) -> u32
     requires in_frame { k ≤ 64 }
     ensures exact { result ≡ at_value k }
@@ -14,7 +14,7 @@ pub fn at_value(k: u32) -> u32
 }
 
 /// The offset of a private word from the start of its frame, or of a private variable of file scope
-/// from local memory.
+/// from local memory, in bytes.
 pub fn at_private(i: u32) -> u32
     requires in_frame { i < 64 }
     ensures exact { result ≡ at_private i }
@@ -23,8 +23,8 @@ pub fn at_private(i: u32) -> u32
     4 * (7 + i)
 }
 
-/// The upper 20 bits of a number that `lui` takes, where `addi` adds the lower 12 as
-/// a signed number.
+/// The upper 20 bits of a number, as `lui` takes them where `addi` adds the lower 12 as a signed
+/// number.
 pub fn high_part(number: u32) -> u32
     ensures exact { result ≡ high_part number }
     ensures fits { result < 2 ^ 20 }
@@ -32,7 +32,7 @@ pub fn high_part(number: u32) -> u32
     ((u64::from(number) + 0x800) / 0x1000 % 0x10_0000) as u32
 }
 
-/// The lower 12 bits of a number that `addi` adds, as a word.
+/// The lower 12 bits of a number, as a word that `addi` adds.
 pub fn low_part(number: u32) -> u32
     ensures exact { result ≡ low_part number }
     ensures short { IsShort 12 result }

@@ -1,4 +1,4 @@
-//! What blocks are made for.
+//! An operation with what its block depends on.
 
 use fk_core::CoreOp;
 
@@ -6,8 +6,8 @@ use fk_core::CoreOp;
 #[derive(Clone, Copy)]
 pub struct Placed {
     pub op: CoreOp,
-    /// How many words of globals the image has.
+    /// The number of words of globals in the image.
     pub globals: u32,
-    /// Whether the call that it begins has private words behind its arguments that have to be 0.
+    /// Whether the call that it begins has private words after its arguments that have to be 0.
     pub clears: bool,
 }

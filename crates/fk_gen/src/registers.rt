@@ -14,7 +14,7 @@ pub const T2: u8 = 7;
 pub const T3: u8 = 28;
 /// The address of the running call's frame.
 pub const FRAME: u8 = 8;
-/// The address of the word behind the running call's frame.
+/// The address of the word after the running call's frame.
 pub const END: u8 = 9;
 /// `@`.
 pub const NUMBER: u8 = 18;
@@ -22,7 +22,7 @@ pub const NUMBER: u8 = 18;
 pub const RANK: u8 = 19;
 /// The size of the group.
 pub const SIZE: u8 = 20;
-/// How many words of the private heap are taken.
+/// The number of words of the private heap that are taken.
 pub const TOP: u8 = 21;
 /// The address of local memory. It never changes.
 pub const LOCAL: u8 = 22;

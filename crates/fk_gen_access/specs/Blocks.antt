@@ -22,7 +22,7 @@ use Rattle.fk_gen.specs.declared.placed.Placed.{Placed}
 use Rattle.fk_gen.specs.Registers.{zero_register, t0, t1, t2, t3}
 use Rattle.fk_gen.specs.Lines.{quiet, commits, at_value, load_number}
 
--- a block runs straight: what precedes its commit, the commit, and what follows it
+-- A block without branches: the instructions before its commit, the commit, and those after it.
 pub record Straight : Type 0 where
   pub before : List Instruction
   pub commit : Instruction
@@ -31,8 +31,8 @@ pub record Straight : Type 0 where
 abbrev pub lines : Straight → List MarkedLine
 lines b = map quiet b.before ++ (commits b.commit ∷ map quiet b.behind)
 
--- how far from the first device on those stand that print a number, that print a byte, and that
--- end a run at a site
+-- The offsets, from the first device, of those that print a number, print a byte, and end a run at
+-- a site.
 abbrev pub number_device : ℕ
 number_device = 0
 
@@ -42,7 +42,8 @@ byte_device = 4
 abbrev pub fault_device : ℕ
 fault_device = 8
 
--- the last value, or the one before it, of so many, into a register; and out of one
+-- Load the last of `depth` values, or the one before it, into a register; and store a register in
+-- their places.
 abbrev pub load_last : (register depth : ℕ) → Instruction
 load_last r d = Lw r end_register (at_value d)
 
@@ -55,7 +56,7 @@ store_last r d = Sw end_register r (at_value d)
 abbrev pub store_earlier : (register depth : ℕ) → Instruction
 store_earlier r d = Sw end_register r (at_value (d - 1))
 
--- prints the last value as a number, or its lowest byte
+-- Prints the last value as a number, or its lowest byte.
 abbrev pub print_block : (device depth : ℕ) → Straight
 print_block device d = record {
   before = load_last t0 d ∷ [];
@@ -63,7 +64,7 @@ print_block device d = record {
   behind = [];
 }
 
--- the word at an address in place of it
+-- Puts the word at an address in place of the address.
 abbrev pub read_block : (depth : ℕ) → Straight
 read_block d = record {
   before = load_last t0 d ∷ [];
@@ -71,7 +72,7 @@ read_block d = record {
   behind = store_last t0 d ∷ [];
 }
 
--- a value to the word at the address before it; the value stays
+-- Writes a value to the word at the address before it. The value stays.
 abbrev pub write_block : (depth : ℕ) → Straight
 write_block d = record {
   before = load_earlier t0 d ∷ load_last t1 d ∷ [];
@@ -79,7 +80,7 @@ write_block d = record {
   behind = store_earlier t1 d ∷ [];
 }
 
--- a value is combined with the word at the address before it, whose former word stays
+-- Combines a value with the word at the address before it. The former word stays in place of both.
 abbrev pub combining : Multiprefix → Instruction
 combining MpAdd = AmoAddW t0 t0 t1 false false
 combining MpMax = AmoMaxW t0 t0 t1 false false
@@ -93,9 +94,10 @@ combine_block by d = record {
   behind = store_earlier t0 d ∷ [];
 }
 
--- An address is told by its mask: that of shared data, or of the private heap. One that may be used
--- leads past the store to the device that ends the run at the site, to an instruction that does
--- nothing. Either of the two commits, and as many instructions precede it on each way
+-- Checks an address by masks: that of shared data, and that of the private heap. An address that
+-- may be used leads past the store to the device that ends the run at the site, to an instruction
+-- that does nothing. Either of the two is the commit, and equally many instructions precede it on
+-- both ways.
 abbrev pub idle : Instruction
 idle = Addi zero_register zero_register 0
 
@@ -122,15 +124,15 @@ test_lines false d = any_test d
 abbrev pub check_block : (shared_alone : Bool) → (depth site : ℕ) → List MarkedLine
 check_block alone d site = map quiet (load_number site) ++ test_lines alone d
 
--- how many words the private heap has, and its address, each by its upper 20 bits
+-- The number of words of the private heap, and its address, each by its upper 20 bits.
 abbrev pub heap_words : ℕ
 heap_words = 4
 
 abbrev pub private_heap : ℕ
 private_heap = 0x20010
 
--- `malloc`: the words of a size are taken where they are as many as are left, at most, and more
--- than 0. A mask of all ones or zeros makes the answer and how many are taken 0 where they aren't
+-- `malloc`. The words of a size are taken if there are more than 0 of them, and no more than are
+-- left. Else a mask makes the result and the number of words taken 0.
 abbrev pub take_block : (depth : ℕ) → Straight
 take_block d = record {
   before = [];
@@ -142,7 +144,7 @@ take_block d = record {
       ∷ And t0 t0 t2 ∷ Add top_register top_register t0 ∷ [];
 }
 
--- which operations are accesses
+-- The operations that are accesses.
 abbrev pub is_access : Option Operation → Bool
 is_access (Some Take) = true
 is_access (Some (Check shared_alone)) = true
@@ -153,7 +155,7 @@ is_access (Some PrintNumber) = true
 is_access (Some PrintByte) = true
 is_access operation = false
 
--- the block of an access that finds so many values, at a site
+-- The block of an access that finds `depth` values, at a site.
 abbrev pub block_of : Option Operation → (depth site : ℕ) → List MarkedLine
 block_of (Some Take) d site = lines (take_block d)
 block_of (Some (Check shared_alone)) d site = check_block shared_alone d site
@@ -164,7 +166,7 @@ block_of (Some PrintNumber) d site = lines (print_block number_device d)
 block_of (Some PrintByte) d site = lines (print_block byte_device d)
 block_of operation d site = []
 
--- how many instructions precede the commit of its block, and follow it
+-- The number of instructions before the commit of the block of an access, and after it.
 abbrev pub test_steps : (shared_alone : Bool) → ℕ
 test_steps true = 3
 test_steps false = 5
@@ -185,7 +187,7 @@ behind_commit Write = 1
 behind_commit (Combine by) = 1
 behind_commit operation = 0
 
--- a block is made for an access that finds so many values at most
+-- A block is made for an access that finds at most 56 values.
 pub record HasAccess (placed : Placed) : Type 0 where
   pub access : is_access (operation_of placed.op.kind placed.op.number) ≡ true
   pub depth : placed.op.depth ≤ 56

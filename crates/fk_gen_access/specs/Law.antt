@@ -11,7 +11,7 @@ use Rattle.fk_gen.specs.InPlace.{HasBlock}
 use Rattle.fk_gen.specs.Keeps.{BlockDoesBy}
 use Rattle.fk_gen_access.specs.Blocks.{is_access, block_of, before_commit, behind_commit}
 
--- the block of an access in its place, in a list whose values have room, does the access
+-- The block of an access, in place, does the access, in a list whose values have room.
 abbrev pub AccessBlocksDo : Type 0
 AccessBlocksDo =
     (core : List CoreOp) (image : Image) (bound : ℕ → ℕ) (places : Places) (i : ℕ) (op : CoreOp)
@@ -21,7 +21,7 @@ AccessBlocksDo =
     → Fits core places.frames i op operation
     → BlockDoes core image places i op operation
 
--- it takes so many cycles, and keeps what such a block keeps
+-- The block of an access takes this many cycles, and keeps what such a block keeps.
 abbrev pub AccessBlocksKeep : Type 0
 AccessBlocksKeep =
     (core : List CoreOp) (image : Image) (bound : ℕ → ℕ) (places : Places) (i : ℕ) (op : CoreOp)

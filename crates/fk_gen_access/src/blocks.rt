@@ -1,4 +1,4 @@
-//! The lines of the blocks.
+//! The blocks of accesses.
 
 ghost use Rattle.std.specs.Prelude.{◌≡◌, ◌+◌, ◌^◌, ◌<◌, ◌≤◌, true, false, OnOk, OnErr, length};
 ghost use Rattle.fk_isa.specs.Fits.{Fits};
@@ -19,13 +19,13 @@ use fk_isa::Instruction;
 use fk_meaning_operation::{Multiprefix, Operation};
 use std::alloc::AllocError;
 
-/// How far from the first device on the one stands that prints a number.
+/// The offset of the device that prints a number, from the first device, in bytes.
 const NUMBER_DEVICE: u32 = 0;
-/// The one that prints a byte.
+/// The offset of the device that prints a byte.
 const BYTE_DEVICE: u32 = 4;
-/// The one that ends a run at a site.
+/// The offset of the device that ends a run at a site.
 const FAULT_DEVICE: u32 = 8;
-/// The upper 20 bits of how many words the private heap has.
+/// The upper 20 bits of the number of words of the private heap.
 const HEAP_WORDS: u32 = 4;
 /// The upper 20 bits of the address of the private heap.
 const PRIVATE_HEAP: u32 = 0x20010;
@@ -116,7 +116,7 @@ fn test(into: &mut Assembler, shared_alone: bool, depth: u32) -> Result<(), Allo
     }
 }
 
-// That of an address of shared data alone.
+// Ends the run at the site in `t0`, unless the last value is an address of shared data.
 fn test_shared(into: &mut Assembler, depth: u32) -> Result<(), AllocError>
     requires depth { depth ≤ 56 }
     requires room { length into.old.lines + 5 < 2 ^ 30 }
@@ -136,7 +136,8 @@ fn test_shared(into: &mut Assembler, depth: u32) -> Result<(), AllocError>
     )
 }
 
-// That of an address of shared data or of the private heap.
+// Ends the run at the site in `t0`, unless the last value is an address of shared data or of the
+// private heap.
 fn test_any(into: &mut Assembler, depth: u32) -> Result<(), AllocError>
     requires depth { depth ≤ 56 }
     requires room { length into.old.lines + 8 < 2 ^ 30 }
@@ -243,7 +244,7 @@ fn combining(by: Multiprefix) -> Instruction
     }
 }
 
-// The last value of so many into a register.
+// Loads the last of `depth` values into a register.
 fn load_last(register: u8, depth: u32) -> Instruction
     requires register { register < 32 }
     requires depth { depth ≤ 56 }
@@ -253,7 +254,7 @@ fn load_last(register: u8, depth: u32) -> Instruction
     Instruction::Lw(register, END, at_value(depth))
 }
 
-// The value before it.
+// Loads the value before the last of `depth` values into a register.
 fn load_earlier(register: u8, depth: u32) -> Instruction
     requires register { register < 32 }
     requires depth { depth ≤ 56 }
@@ -263,7 +264,7 @@ fn load_earlier(register: u8, depth: u32) -> Instruction
     Instruction::Lw(register, END, at_value(depth.saturating_sub(1)))
 }
 
-// A register in place of the last value.
+// Stores a register in place of the last of `depth` values.
 fn store_last(register: u8, depth: u32) -> Instruction
     requires register { register < 32 }
     requires depth { depth ≤ 56 }
@@ -273,7 +274,7 @@ fn store_last(register: u8, depth: u32) -> Instruction
     Instruction::Sw(END, register, at_value(depth))
 }
 
-// A register in place of the value before it.
+// Stores a register in place of the value before the last of `depth` values.
 fn store_earlier(register: u8, depth: u32) -> Instruction
     requires register { register < 32 }
     requires depth { depth ≤ 56 }

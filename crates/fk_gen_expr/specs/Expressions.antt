@@ -1,6 +1,6 @@
 -- The blocks of expressions.
 --
--- The first instruction commits: a processor does a local operation at once, and its hart
+-- The first instruction is the commit: a processor does a local operation at once, and its hart
 -- catches up with it.
 use Rattle.std.specs.Prelude.{ℕ, ◌+◌, ◌-◌, ◌^◌, ◌<◌, ◌≤◌, ◌==◌, List, [], ◌∷◌, ◌++◌, map, Bool}
 use Rattle.std.specs.Prelude.{true, false, IsSomeAnd}
@@ -38,14 +38,16 @@ use Rattle.fk_gen_expr.specs.Operators.{operator_code, sign_instruction}
 
 -- ---- instructions
 
--- the k-th value of the call, from 1 on, comes to a register, and a register becomes it
+-- Load the k-th value of the call, counted from 1, into a register; and store a register in its
+-- place.
 abbrev pub load_value : (register k : ℕ) → Instruction
 load_value register k = Lw register end_register (at_value k)
 
 abbrev pub store_value : (register k : ℕ) → Instruction
 store_value register k = Sw end_register register (at_value k)
 
--- the register from whose address on a variable stands, and its place from there
+-- The register that has the address of a variable's frame or of local memory, and the variable's
+-- place from there.
 abbrev pub base_of : Variable → ℕ
 base_of (Private i) = frame_register
 base_of (OfFile i) = local_register
@@ -60,9 +62,9 @@ load_variable variable = Lw t0 (base_of variable) (at_private (place_of variable
 abbrev pub store_variable : Variable → Instruction
 store_variable variable = Sw (base_of variable) t0 (at_private (place_of variable))
 
--- ---- the code of each operation, where the call has so many values
+-- ---- the code of each operation, where the call has `depth` values
 
--- the word of a device, by its offset from the first
+-- Pushes the word of a device, given its offset from the first device.
 abbrev pub push_device : (depth offset : ℕ) → List Instruction
 push_device d offset = Lw t0 device_register offset ∷ store_value t0 (d + 1) ∷ []
 
@@ -80,13 +82,14 @@ get_code globals d InputLength = push_device d 28
 get_code globals d InputAddress = push_number d (address_of globals)
 get_code globals d (FrameAddress nesting word) = []
 
--- an operator on the two last values, which come to these registers
+-- An operator on the last two values, which come to these registers.
 abbrev pub join_code : (depth : ℕ) → Op → (first second : ℕ) → List Instruction
 join_code d sign first second =
     load_value first (d - 1) ∷ load_value second d
     ∷ (operator_code sign ++ store_value t0 (d - 1) ∷ [])
 
--- an index times the size of an element, added to an address. That of a word is a shift
+-- Adds an index times the size of an element to an address. For elements of one word the product is
+-- a shift.
 abbrev pub times_size : (is_word : Bool) (size : ℕ) → List Instruction
 times_size true size = Slli t1 t1 2 ∷ []
 times_size false size = Lui t2 (high_part size) ∷ Addi t2 t2 (low_part size) ∷ Mul t1 t1 t2 ∷ []
@@ -118,7 +121,7 @@ first_commits (i ∷ is) = commits i ∷ map quiet is
 abbrev pub expression_block : (globals depth : ℕ) → Operation → List MarkedLine
 expression_block globals d operation = first_commits (expression_code globals d operation)
 
--- variables that instructions reach: words of a frame
+-- Variables that instructions reach: they are words of a frame.
 abbrev pub IsReached : Variable → Type 0
 IsReached variable = place_of variable < 64
 
@@ -128,7 +131,7 @@ IsKnown (FrameAddress nesting word) globals = ⊥
 IsKnown InputAddress globals = globals ≤ 2 ^ 20
 IsKnown known globals = Unit {0}
 
--- the operations of expressions, with the values that they take
+-- The operations of expressions, with the values that they take.
 abbrev pub IsExpression : (globals depth : ℕ) → Operation → Type 0
 IsExpression globals d (Push n) = d < 64
 IsExpression globals d (Get known) = (d < 64) × IsKnown known globals
@@ -140,7 +143,7 @@ IsExpression globals d (Binary sign turned) = (2 ≤ d) × (d ≤ 64)
 IsExpression globals d (Index size) = (2 ≤ d) × (d ≤ 64) × (size < 2 ^ 32)
 IsExpression globals d operation = ⊥
 
--- what a list has at an index of an image
+-- The operation at an index of an image is one of expressions.
 abbrev pub HasExpression : Placed → Type 0
 HasExpression placed =
     IsSomeAnd (operation_of placed.op.kind placed.op.number)

@@ -11,8 +11,8 @@ use Rattle.fk_gen.specs.InPlace.{HasBlock}
 use Rattle.fk_gen.specs.Keeps.{BlockDoesBy, past_first}
 use Rattle.fk_gen_expr.specs.Expressions.{IsExpression, expression_block}
 
--- where the block of an operation of expressions is in its place, and frames suit the operation, it
--- does the operation
+-- The block of an operation of expressions, in place, does the operation, where frames suit the
+-- operation.
 abbrev pub ExpressionsDo : Type 0
 ExpressionsDo =
     (core : List CoreOp) (image : Image) (places : Places) (bound : ℕ → ℕ) (i : ℕ) (op : CoreOp)
@@ -25,8 +25,8 @@ ExpressionsDo =
     → Fits core places.frames i op operation
     → BlockDoes core image places i op operation
 
--- it commits with its first instruction, has so many behind as lines follow that one, and keeps
--- what such a block keeps
+-- The block of an operation of expressions commits with its first instruction, has as many cycles
+-- after it as lines, and keeps what such a block keeps.
 abbrev pub ExpressionsKeep : Type 0
 ExpressionsKeep =
     (core : List CoreOp) (image : Image) (places : Places) (bound : ℕ → ℕ) (i : ℕ) (op : CoreOp)

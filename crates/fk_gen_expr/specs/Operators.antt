@@ -11,15 +11,15 @@ use Rattle.fk_isa.specs.declared.instruction.Instruction.TheVariants.{And, Mul, 
 use Rattle.fk_isa.specs.declared.instruction.Instruction.TheVariants.{Div, Divu, Rem, Remu}
 use Rattle.fk_gen.specs.Registers.{zero_register, t0, t1, t2}
 
--- a sign on the word in t0
+-- The instruction of a sign, on the word in t0.
 abbrev pub sign_instruction : Unary → Instruction
 sign_instruction Negate = Sub t0 zero_register t0
 sign_instruction Complement = Xori t0 t0 0xffffffff
 sign_instruction Not = Sltiu t0 t0 1
 
--- The first instruction of an operator, and of most the only one. An order that isn't strict is
--- first a strict one, with its operands turned round; what compares for equality is first a
--- difference; a least or greatest word is first a test, in t2
+-- The first instruction of an operator, and the only one of most operators. For an order that isn't
+-- strict it is a strict one with swapped operands, for a comparison for equality a difference, and
+-- for a least or greatest word a test, in t2.
 abbrev pub first_instruction : Op → Instruction
 first_instruction op.Add = Add t0 t0 t1
 first_instruction op.Sub = Sub t0 t0 t1
@@ -48,11 +48,12 @@ first_instruction op.MaxS = Slt t2 t1 t0
 first_instruction op.MinU = Sltu t2 t1 t0
 first_instruction op.MaxU = Sltu t2 t1 t0
 
--- a test in t2, 1 or 0, becomes a mask of ones or of zeros
+-- Makes a mask of ones or zeros of a test in t2, which is 1 or 0.
 abbrev pub mask : Instruction
 mask = Sub t2 zero_register t2
 
--- where the mask is ones t0 stays, else t1 takes its place; and the other way round
+-- `keep_first` keeps t0 where the mask is ones, and else puts t1 in its place. `take_second` does
+-- the opposite.
 abbrev pub keep_first : List Instruction
 keep_first = mask ∷ Sub t0 t0 t1 ∷ And t0 t0 t2 ∷ Add t0 t0 t1 ∷ []
 

@@ -1,4 +1,4 @@
-//! The lines of the blocks.
+//! The blocks of expressions.
 
 ghost use Rattle.std.specs.Prelude.{◌≡◌, ◌+◌, ◌^◌, ◌<◌, ◌≤◌, [], ◌∷◌, OnOk, OnErr, length};
 ghost use Rattle.fk_isa.specs.Fits.{Fits, IsRegister};
@@ -16,10 +16,10 @@ use fk_meaning_operation::{Operation, OwnValue, Unary, Variable};
 use fk_num::Op;
 use std::alloc::AllocError;
 
-/// How many bytes a word has.
+/// The number of bytes of a word.
 const WORD: u32 = 4;
-/// How far from the first device on those stand that tell a hart its number, how many harts there
-/// are, and how many input numbers.
+/// The offsets, from the first device, of those that give a hart its number, the number of harts,
+/// and the number of input numbers.
 const HART_NUMBER: u32 = 20;
 
 const HARTS: u32 = 24;
@@ -45,7 +45,7 @@ impl Blocks<Placed> for ExpressionBlocks {
     }
 }
 
-// The block of an operation of expressions, where the call has so many values.
+// The block of an operation of expressions, where the call has `depth` values.
 fn emit_expression(
     into: &mut Assembler,
     globals: u32,
@@ -132,7 +132,7 @@ fn get(into: &mut Assembler, globals: u32, depth: u32, known: OwnValue) -> Resul
     }
 }
 
-// The block of one instruction.
+// A block of one instruction.
 fn alone(into: &mut Assembler, instruction: Instruction) -> Result<(), AllocError>
     requires fits { Fits instruction }
     requires room { length into.old.lines + 1 < 2 ^ 30 }
@@ -145,7 +145,7 @@ fn alone(into: &mut Assembler, instruction: Instruction) -> Result<(), AllocErro
     emit_lines(into, &[BlockLine::commits(instruction)])
 }
 
-// The block of a load and a store.
+// A block of a load and a store.
 fn move_word(into: &mut Assembler, load: Instruction, store: Instruction) -> Result<(), AllocError>
     requires load { Fits load }
     requires store { Fits store }
@@ -234,7 +234,7 @@ fn apply(into: &mut Assembler, depth: u32, sign: Unary) -> Result<(), AllocError
     )
 }
 
-// A sign on the word in t0.
+// The instruction of a sign, on the word in t0.
 fn sign_instruction(sign: Unary) -> Instruction
     ensures exact { result ≡ operators.sign_instruction sign }
     ensures fits { Fits result }
@@ -246,7 +246,7 @@ fn sign_instruction(sign: Unary) -> Instruction
     }
 }
 
-// An operator on the two last values, which come to these registers.
+// An operator on the last two values, which come to these registers.
 fn join(into: &mut Assembler, depth: u32, sign: Op, first: u8, second: u8) -> Result<(), AllocError>
     requires two { 2 ≤ depth }
     requires depth { depth ≤ 64 }
@@ -294,7 +294,7 @@ fn join(into: &mut Assembler, depth: u32, sign: Op, first: u8, second: u8) -> Re
     }
 }
 
-// The first instruction of an operator on the words in t0 and t1.
+// The first instruction of an operator, on the words in t0 and t1.
 fn first_instruction(sign: Op) -> Instruction
     ensures exact { result ≡ operators.first_instruction sign }
     ensures fits { Fits result }
@@ -325,7 +325,7 @@ fn first_instruction(sign: Op) -> Instruction
     }
 }
 
-// The k-th value of the call into a register.
+// Loads the k-th value of the call into a register.
 fn load_value(register: u8, k: u32) -> Instruction
     requires register { IsRegister register }
     requires k { k ≤ 64 }

@@ -1,7 +1,7 @@
 //! The blocks of expressions: of constants, variables, signs, operators and indices.
 //!
 //! All are local operations, which a processor does by itself: the first instruction of a block
-//! commits, and behind the last one the hart stands for its processor again.
+//! commits, and after the last one the hart stands for its processor again.
 #![tactic(auto)]
 
 mod blocks;

@@ -1,4 +1,4 @@
--- Which operations have a block of control flow, and which block.
+-- The blocks of control flow.
 use Rattle.std.specs.Prelude.{◌≡◌, ℕ, ◌^◌, ◌<◌, ◌≤◌, List, [], Bool, true, false, not, Option, Some}
 use Rattle.std.specs.Prelude.{None, if◌then◌else◌, ◌⊎◌}
 use Rattle.fk_meaning_operation.specs.declared.operation.Operation.{Operation}
@@ -12,7 +12,7 @@ use Rattle.fk_gen.specs.declared.placed.Placed.{Placed}
 use Rattle.fk_gen_flow.specs.Flow.{jump_block, branch_block, leave_block, halt_block}
 use Rattle.fk_gen_flow.specs.Calls.{enter_block}
 
--- the operations of control flow, but ends of calls that took a group frame
+-- The operations of control flow, except ends of calls that took a group frame.
 abbrev pub is_flow : Operation → Bool
 is_flow (Branch onward) = true
 is_flow (Leave gives framed) = not framed
@@ -27,13 +27,13 @@ block_by clears op (Some (Enter arguments)) = enter_block clears arguments op.de
 block_by clears op (Some Halt) = halt_block
 block_by clears op operation = []
 
--- the block of a jump or an operation. Where it is a call, it clears the private words behind its
--- arguments or it doesn't
+-- The block of a jump or of an operation. A call clears the private words after its arguments if
+-- `clears` is true.
 abbrev pub flow_block : (clears : Bool) → CoreOp → List MarkedLine
 flow_block clears op = if is_jump op then jump_block op.target
     else block_by clears op (operation_of op.kind op.number)
 
--- the target of a branch has a label, and a call has its arguments
+-- The target of a branch has a label, and a call has its arguments.
 abbrev pub HasOperands : (depth target : ℕ) → Option Operation → Type 0
 HasOperands depth target (Some (Branch onward)) = target < 2 ^ 31
 HasOperands depth target (Some (Enter arguments)) = arguments ≤ depth
@@ -43,7 +43,8 @@ abbrev pub is_some_flow : Option Operation → Bool
 is_some_flow (Some operation) = is_flow operation
 is_some_flow None = false
 
--- a jump whose target has a label, or such an operation, whose values have room in a frame
+-- A jump whose target has a label, or an operation of control flow whose values have room in a
+-- frame.
 pub record HasFlow (placed : Placed) : Type 0 where
   pub kind : (is_jump placed.op ≡ true)
       ⊎ (is_some_flow (operation_of placed.op.kind placed.op.number) ≡ true)

@@ -1,4 +1,4 @@
--- The block of a call, and the code that calls share.
+-- The block of a call, and the code that all calls share.
 use Rattle.std.specs.Prelude.{◌≡◌, ℕ, zero, suc, ◌+◌, ◌-◌, ◌<◌, nat_le, Bool, true, false, List, []}
 use Rattle.std.specs.Prelude.{◌∷◌, ◌++◌}
 use Rattle.fk_image.specs.declared.Image.{Image}
@@ -11,9 +11,10 @@ use Rattle.fk_gen.specs.Lines.{quiet, commits, goes_to, at_value, at_private, hi
 use Rattle.fk_gen.specs.Lines.{copy_label, clear_label}
 use Rattle.fk_gen.specs.InPlace.{LinesAt}
 
--- Where 255 calls wait already, the word behind the frame is the first of the private heap: the
--- site goes to the device that faults. Else that is passed by, and t2 is the address of the first
--- argument, where the call takes its result. As many instructions precede the commit on both ways
+-- The lines up to the commit of a call. Where 255 calls wait already, the word after the frame is
+-- the first of the private heap, and the site goes to the device that faults. Else the lines of
+-- that fault are skipped, and t2 is the address of the first argument, where the call takes its
+-- result. Both ways have equally many instructions before the commit.
 abbrev pub depth_lines : (arguments depth site : ℕ) → List MarkedLine
 depth_lines arguments depth site =
     quiet (Bne end_register heap_register 16) ∷ quiet (Lui t0 (high_part site)) ∷
@@ -22,16 +23,17 @@ depth_lines arguments depth site =
     quiet (Addi t2 end_register (at_value (depth - arguments + 1)))
     ∷ commits (Sw end_register t2 8) ∷ []
 
--- one argument: the word k words before the first one becomes private word k of the new frame
+-- Copies one argument: the word k words before the first argument becomes private word k of the new
+-- frame.
 abbrev pub copy_lines : (k : ℕ) → List MarkedLine
 copy_lines k = quiet (Lw t0 t2 (at_value k)) ∷ quiet (Sw end_register t0 (at_private k)) ∷ []
 
--- so many arguments, the last one first
+-- Copies this many arguments, the last one first.
 abbrev pub own_copies : (arguments : ℕ) → List MarkedLine
 own_copies zero = []
 own_copies (suc k) = copy_lines k ++ own_copies k
 
--- one is copied in the block of the call, and more by the code that all calls share
+-- Up to one argument is copied in the block of the call, and more by the code that all calls share.
 abbrev pub copies_by : (few : Bool) (arguments : ℕ) → List MarkedLine
 copies_by true arguments = own_copies arguments
 copies_by false arguments = goes_to (Jal t1 0) (copy_label arguments) ∷ []
@@ -39,17 +41,17 @@ copies_by false arguments = goes_to (Jal t1 0) (copy_label arguments) ∷ []
 abbrev pub argument_lines : (arguments : ℕ) → List MarkedLine
 argument_lines arguments = copies_by (nat_le arguments 1) arguments
 
--- the new frame. Its call goes on behind the jump that follows
+-- Sets up the new frame. Its caller goes on after the jump that follows.
 abbrev pub frame_lines : List MarkedLine
 frame_lines =
     quiet (Jal ra 4) ∷ quiet (Sw end_register ra 0) ∷ quiet (Addi frame_register end_register 0) ∷
     quiet (Addi end_register end_register 256) ∷ []
 
--- how many private words a frame has, and so how many arguments a call has, at most
+-- The number of private words that a frame has room for, and so the most arguments of a call.
 abbrev pub most_privates : ℕ
 most_privates = 56
 
--- where a call clears, all private words of the new frame behind its arguments become 0
+-- If `clears` is true, all private words of the new frame after its arguments become 0.
 abbrev pub clears_by : (clears : Bool) (arguments : ℕ) → List MarkedLine
 clears_by true arguments = goes_to (Jal t1 0) (clear_label (most_privates - arguments)) ∷ []
 clears_by false arguments = []
@@ -61,9 +63,10 @@ abbrev pub enter_block : (clears : Bool) (arguments depth site : ℕ) → List M
 enter_block clears arguments depth site =
     depth_lines arguments depth site ++ (word_lines clears arguments ++ frame_lines)
 
--- the code that all calls share is two chains: each has parts, the last one first, with a label
--- before each of them and one before its end, which goes back to the call. In one, each part copies
--- an argument; in the other, each clears a word of the new frame, the last one in part 0
+-- The code that all calls share is two chains of parts, the last part first. There is a label
+-- before each part, and one before the chain's end, which goes back to the call. In one chain each
+-- part copies an argument. In the other each clears a word of the new frame, the last word in part
+-- 0.
 abbrev pub back_lines : List MarkedLine
 back_lines = quiet (Jalr zero_register t1 0) ∷ []
 
@@ -74,14 +77,14 @@ chain_lines part (suc k) = part k ++ chain_lines part k
 abbrev pub clear_lines : (k : ℕ) → List MarkedLine
 clear_lines k = quiet (Sw end_register zero_register (at_private (most_privates - 1 - k))) ∷ []
 
--- a chain stands in an image, each part of so many words, and each at its label
+-- The image has a chain, each of whose parts has this many words, and is at its label.
 pub record HasChain (image : Image) (bound label : ℕ → ℕ) (part : ℕ → List MarkedLine)
     (width : ℕ) : Type 0 where
   pub parts : (k : ℕ) → k < most_privates → LinesAt image bound (bound (label (suc k))) (part k)
   pub next : (k : ℕ) → k < most_privates → bound (label k) ≡ bound (label (suc k)) + width
   pub back : LinesAt image bound (bound (label 0)) back_lines
 
--- the code that all calls share stands in an image
+-- The image has the code that all calls share.
 pub record HasShared (image : Image) (bound : ℕ → ℕ) : Type 0 where
   pub copying : HasChain image bound copy_label copy_lines 2
   pub clearing : HasChain image bound clear_label clear_lines 1

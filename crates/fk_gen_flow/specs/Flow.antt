@@ -14,8 +14,8 @@ jump_line target = goes_to (Jal zero_register 0) (label_of target)
 abbrev pub jump_block : (target : ℕ) → List MarkedLine
 jump_block target = jump_line target ∷ []
 
--- a value with which a branch goes on, one that is not 0 or one that is, leads past
--- the jump behind it
+-- The instruction that skips the next jump, where the value makes the branch go on: a value that is
+-- not 0, or 0.
 abbrev pub passes : (onward : Bool) → Instruction
 passes true = Bne t0 zero_register 8
 passes false = Beq t0 zero_register 8
@@ -24,8 +24,9 @@ abbrev pub branch_block : (onward : Bool) (depth target : ℕ) → List MarkedLi
 branch_block onward depth target =
     commits (Lw t0 end_register (at_value depth)) ∷ quiet (passes onward) ∷ jump_line target ∷ []
 
--- the frame of the call that waits is that of the running call again, and its hart goes on four
--- words behind the address in t1: the rest of the block of the call and the jump behind it
+-- The end of the block that ends a call. The frame of the waiting call is that of the running call
+-- again. The hart goes on four words after the address in t1: past the rest of the block of the
+-- call, and past the jump after it.
 abbrev pub returning : List MarkedLine
 returning =
     quiet (Addi end_register frame_register 0) ∷ quiet (Lw frame_register frame_register 4) ∷

@@ -1,4 +1,4 @@
--- What the blocks do where they stand.
+-- What the blocks of control flow do in place.
 use Rattle.std.specs.Prelude.{◌≡◌, ℕ, suc, ◌^◌, ◌<◌, ◌≤◌, List, Bool, true, Some, slice_get}
 use Rattle.std.specs.Prelude.{slice_index}
 use Rattle.fk_meaning_operation.specs.declared.operation.Operation.{Operation}
@@ -20,7 +20,7 @@ use Rattle.fk_gen_flow.specs.Opening.{AreFirsts, HasOpening}
 use Rattle.fk_gen_flow.specs.Blocks.{is_flow, flow_block}
 use Rattle.fk_gen_flow.specs.Keeps.{BlockKeeps, before_commit, behind_commit}
 
--- the block of a jump leads to that of its target
+-- The block of a jump leads to the block of its target.
 abbrev pub JumpsGo : Type 0
 JumpsGo =
     (core : List CoreOp) (image : Image) (places : Places) (bound : ℕ → ℕ) (i : ℕ) (op : CoreOp)
@@ -28,20 +28,20 @@ JumpsGo =
     → HasBlock image bound places i (jump_block op.target)
     → Flows core places.frames nothing i op.target → BlockJumps core image places i op
 
--- the jumps of a list have their blocks
+-- The jumps of a list have their blocks.
 abbrev pub JumpsStand : List CoreOp → Image → (bound : ℕ → ℕ) → Places → Type 0
 JumpsStand core image bound places =
     (i : ℕ) (op : CoreOp) → slice_get core i ≡ Some op → is_jump op ≡ true
     → HasBlock image bound places i (jump_block op.target)
 
--- a call clears where a word behind its arguments is kept as it begins
+-- A call clears if a word after its arguments is kept as it begins.
 abbrev pub ClearsEnough : Frames → (i : ℕ) (clears : Bool) → Operation → Type 0
 ClearsEnough frames i clears (Enter arguments) = (word : ℕ) → frames.keeps (suc i) word ≡ true
     → arguments ≤ word → clears ≡ true
 ClearsEnough frames i clears operation = Unit {0}
 
--- those of branches, calls and ends of calls do their operations, where the code that calls share
--- and the jumps stand too
+-- The blocks of branches, calls and ends of calls do their operations, where the image also has the
+-- code that calls share and the jumps.
 abbrev pub FlowBlocksDo : Type 0
 FlowBlocksDo =
     (core : List CoreOp) (image : Image) (places : Places) (bound : ℕ → ℕ) (i : ℕ) (op : CoreOp)
@@ -54,7 +54,8 @@ FlowBlocksDo =
     → ClearsEnough places.frames i clears operation
     → BlockDoes core image places i op operation
 
--- they take so many cycles, and keep what is to be kept
+-- The blocks of branches, calls and ends of calls take this many cycles, and keep what must be
+-- kept.
 abbrev pub FlowBlocksKeep : Type 0
 FlowBlocksKeep =
     (core : List CoreOp) (image : Image) (places : Places) (bound : ℕ → ℕ) (i : ℕ) (op : CoreOp)
@@ -68,15 +69,15 @@ FlowBlocksKeep =
     → BlockKeeps core image places (before_commit operation)
     (behind_commit clears operation) i op operation
 
--- that of a halt ends its hart
+-- The block of a halt ends its hart.
 abbrev pub HaltsEnd : Type 0
 HaltsEnd =
     (core : List CoreOp) (image : Image) (places : Places) (bound : ℕ → ℕ) (i : ℕ) (op : CoreOp)
     (clears : Bool) → StandsOp core i op Halt
     → HasBlock image bound places i (flow_block clears op) → BlockHalts core image places i op
 
--- from the opening each hart comes to the block where `main` begins, with the first values of
--- private variables
+-- From its start each hart comes to the block where `main` begins, with the first values of private
+-- variables.
 abbrev pub HartsBegin : Type 0
 HartsBegin =
     (core : List CoreOp) (image : Image) (places : Places) (bound : ℕ → ℕ)

@@ -1,4 +1,4 @@
--- The opening: where each hart begins.
+-- The opening of an image, where each hart begins.
 use Rattle.std.specs.Prelude.{ℕ, suc, ◌*◌, ◌≤◌, ◌<◌, ◌^◌, List, [], ◌∷◌, ◌++◌, length, All}
 use Rattle.fk_image.specs.declared.Image.{Image}
 use Rattle.fk_isa.specs.declared.instruction.Instruction.TheVariants.{Lui, Addi, Lw, Sw}
@@ -11,9 +11,9 @@ use Rattle.fk_gen.specs.Lines.{quiet, at_private, high_part, low_part}
 use Rattle.fk_gen.specs.InPlace.{HasLabels, LinesAt}
 use Rattle.fk_gen_flow.specs.Flow.{jump_block}
 
--- The registers that are not 0 at the beginning, for so many private variables of file scope.
--- Devices tell the number of the hart and how many there are. Each hart begins in the root of the
--- tree of groups, whose control words are at 0x18400000, and whose body all run
+-- Sets the registers that are not 0 at the beginning, for `of_file` private variables of file
+-- scope. Devices give the number of the hart and the number of harts. Each hart begins in the root
+-- of the tree of groups, whose control words are at 0x18400000, and whose body all run.
 abbrev pub register_lines : (of_file : ℕ) → List MarkedLine
 register_lines of_file =
     quiet (Lui local_register 0x20000) ∷ quiet (Addi frame_register local_register (4 * of_file)) ∷
@@ -26,7 +26,7 @@ register_lines of_file =
     quiet (Lw size_register device_register 24) ∷
     quiet (Lui a0 0x18400) ∷ quiet (Addi a1 size_register 0) ∷ []
 
--- the first value of a private variable of file scope; and those from one on
+-- Sets the first value of a private variable of file scope, and of those from index i on.
 abbrev pub first_line : (i first : ℕ) → List MarkedLine
 first_line i v =
     quiet (Lui t0 (high_part v)) ∷ quiet (Addi t0 t0 (low_part v))
@@ -40,13 +40,13 @@ abbrev pub opening_lines : (of_file : ℕ) (firsts : List ℕ) (main : ℕ) → 
 opening_lines of_file firsts main =
     register_lines of_file ++ first_lines 0 firsts ++ jump_block main
 
--- first values of words, for variables that there are
+-- First values are words, and there are no more of them than variables.
 pub record AreFirsts (of_file : ℕ) (firsts : List ℕ) : Type 0 where
   pub few : of_file ≤ 56
   pub within : length firsts ≤ of_file
   pub words : All (λ v. v < 2 ^ 32) firsts
 
--- the opening stands at the beginning of an image
+-- The image begins with the opening.
 pub record HasOpening (image : Image) (bound : ℕ → ℕ) (places : Places) (firsts : List ℕ)
     (main : ℕ) : Type 0 where
   pub labels : HasLabels bound places

@@ -17,9 +17,9 @@ use std::alloc::AllocError;
 
 /// The label of the block of the first operation.
 pub const FIRST_LABEL: u32 = 128;
-/// How far from the first device on the one stands that ends its hart.
+/// The offset of the device that ends its hart, from the first device, in bytes.
 const HALT_DEVICE: u32 = 12;
-/// How far behind the address that a call stores it goes on.
+/// The offset of the place where a caller goes on, from the address that its call stores, in bytes.
 const CALL_REST: u32 = 16;
 
 /// The blocks of jumps, branches, calls, ends of calls and halts.
@@ -65,7 +65,7 @@ pub(crate) fn emit_jump(into: &mut Assembler, target: u32) -> Result<(), AllocEr
     )
 }
 
-// The instruction that passes by the jump behind it.
+// The instruction that skips the next jump.
 fn passes(onward: bool) -> Instruction
     ensures exact { result ≡ passes onward }
     ensures fits { Fits result }

@@ -1,4 +1,4 @@
-//! The block of a call, and the code that calls share.
+//! The block of a call, and the code that all calls share.
 
 ghost use Rattle.std.specs.Prelude.{◌≡◌, ◌+◌, ◌^◌, ◌<◌, ◌≤◌, All, OnOk, OnErr, length};
 ghost use Rattle.fk_asm.specs.Assembly.{AreFollowed};
@@ -14,12 +14,12 @@ use fk_gen::{BlockLine, emit_lines};
 use fk_isa::Instruction;
 use std::alloc::AllocError;
 
-/// How far from the first device on the one stands that ends a run at a site.
+/// The offset of the device that ends a run at a site, from the first device, in bytes.
 const FAULT_DEVICE: u32 = 8;
-/// How many private words a frame has.
+/// The number of private words that a frame has room for.
 const MOST_PRIVATES: u32 = 56;
-/// The label where the shared code clears no word of a frame; behind it come those
-/// where it clears more.
+/// The label at which the shared code clears no word of a frame. The labels at which it clears more
+/// words come after it.
 const CLEAR_LABEL: u32 = 64;
 
 pub(crate) fn emit_enter(
@@ -45,7 +45,7 @@ pub(crate) fn emit_enter(
     emit_frame(into)
 }
 
-// The site faults where no more calls may wait.
+// The lines up to the commit. Where no more calls may wait, the site faults.
 fn emit_depth(into: &mut Assembler, arguments: u32, depth: u32, site: u32) -> Result<(), AllocError>
     requires depth { depth ≤ 56 }
     requires arguments { arguments ≤ depth }
@@ -69,7 +69,7 @@ fn emit_depth(into: &mut Assembler, arguments: u32, depth: u32, site: u32) -> Re
     )
 }
 
-// The private words of the new frame: the arguments, and 0 behind them where the call clears.
+// The private words of the new frame: the arguments, and 0 after them where the call clears.
 fn emit_words(into: &mut Assembler, clears: bool, arguments: u32) -> Result<(), AllocError>
     requires arguments { arguments ≤ 56 }
     requires labels { All (GoesToMade into.old.bound) (word_lines clears arguments) }
@@ -98,7 +98,7 @@ fn emit_clears(into: &mut Assembler, clears: bool, arguments: u32) -> Result<(),
     }
 }
 
-// The arguments come into the new frame.
+// Copies the arguments into the new frame.
 fn emit_arguments(into: &mut Assembler, arguments: u32) -> Result<(), AllocError>
     requires arguments { arguments ≤ 56 }
     requires labels { All (GoesToMade into.old.bound) (argument_lines arguments) }
@@ -117,7 +117,7 @@ fn emit_arguments(into: &mut Assembler, arguments: u32) -> Result<(), AllocError
     }
 }
 
-// The new frame is that of the running call.
+// Makes the new frame that of the running call.
 fn emit_frame(into: &mut Assembler) -> Result<(), AllocError>
     requires room { length into.old.lines + 4 < 2 ^ 30 }
     requires free { AreFollowed into.old }
@@ -135,8 +135,8 @@ fn emit_frame(into: &mut Assembler) -> Result<(), AllocError>
     )
 }
 
-/// Adds the lines that copy an argument, from 0 on, into the new frame. In the code that calls
-/// share they stand at the label of one argument more.
+/// Adds the lines that copy argument `argument`, counted from 0, into the new frame. In the code
+/// that calls share, the label of one argument more is bound to them.
 pub fn emit_copy(into: &mut Assembler, argument: u32) -> Result<(), AllocError>
     requires argument { argument < 56 }
     requires room { length into.old.lines + 2 < 2 ^ 30 }
@@ -153,8 +153,8 @@ pub fn emit_copy(into: &mut Assembler, argument: u32) -> Result<(), AllocError>
     )
 }
 
-/// Adds the line that clears a private word of the new frame, the one behind which so many others
-/// come. In the code that calls share it stands at the label of one word more.
+/// Adds the line that clears the private word of the new frame after which `behind` others come. In
+/// the code that calls share, the label of one word more is bound to it.
 pub fn emit_clear(into: &mut Assembler, behind: u32) -> Result<(), AllocError>
     requires behind { behind < 56 }
     requires room { length into.old.lines + 1 < 2 ^ 30 }
@@ -169,8 +169,8 @@ pub fn emit_clear(into: &mut Assembler, behind: u32) -> Result<(), AllocError>
     )
 }
 
-/// Adds the line that goes back to the call. It stands at the label of no argument, and at
-/// that of no word.
+/// Adds the line that goes back to the call. In the code that calls share, the labels of no
+/// argument and of no word are bound to it.
 pub fn emit_back(into: &mut Assembler) -> Result<(), AllocError>
     requires room { length into.old.lines + 1 < 2 ^ 30 }
     requires free { AreFollowed into.old }

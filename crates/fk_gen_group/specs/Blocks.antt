@@ -1,4 +1,4 @@
--- Which steps of groups have a block, and which block.
+-- The blocks of the steps of groups.
 use Rattle.std.specs.Prelude.{◌≡◌, ℕ, ◌*◌, ◌^◌, ◌<◌, ◌≤◌, List, [], ◌∷◌, ◌++◌, length, Bool, true}
 use Rattle.std.specs.Prelude.{false, Option, Some}
 use Rattle.fk_meaning_operation.specs.declared.operation.Operation.{Operation}
@@ -21,36 +21,37 @@ use Rattle.fk_sim_block.specs.Node.{node_register, body_register, barrier_word, 
 use Rattle.fk_sim_block.specs.Node.{agreed_word, control_address}
 use Rattle.fk_gen_group.specs.Meeting.{Meeting, meeting_lines}
 
--- a meeting that is an operation, with the number of members in a register
+-- A meeting whose leaving is the operation, with the number of members in a register.
 abbrev pub meeting_of : (size : ℕ) → Meeting
 meeting_of size = record { arrivals = t2; size = size; commits = true }
 
--- at a control word of the node
+-- A meeting at a control word of the node.
 abbrev pub meet_block : (word size : ℕ) → List MarkedLine
 meet_block word size = quiet (Addi t2 node_register (4 * word)) ∷ meeting_lines (meeting_of size)
 
--- those who run a body meet at a `barrier`; all members of a node at the end of a body, and where
--- they wait for a part to end
+-- Those who run a body meet at a `barrier`. All members of a node meet at the end of a body, and
+-- where they wait for a part to end.
 abbrev pub barrier_block : List MarkedLine
 barrier_block = meet_block barrier_word body_register
 
 abbrev pub closing_block : List MarkedLine
 closing_block = meet_block closing_word size_register
 
--- all store their last values in one cycle, so that the highest member's stays, and
--- load it in the next
+-- All members store their last values in one cycle, so that the highest member's stays, and load it
+-- in the next.
 abbrev pub agree_block : (depth : ℕ) → List MarkedLine
 agree_block depth =
     quiet (Lw t0 end_register (at_value depth)) ∷ quiet (Sw node_register t0 (4 * agreed_word)) ∷
     commits (Lw t0 node_register (4 * agreed_word))
     ∷ quiet (Sw end_register t0 (at_value depth)) ∷ []
 
--- all members run the body, each by itself
+-- All members run the body of a `farm`, each by itself.
 abbrev pub farm_block : List MarkedLine
 farm_block = commits (Addi body_register size_register 0) ∷ []
 
--- All store 0 to the node's word in one cycle, and add 1 to it in the next. The lowest finds 0: it
--- passes by the jump behind, and runs the body alone. The others jump to where it ends
+-- The block of `seq`. All members store 0 to the node's word in one cycle, and add 1 to it in the
+-- next. The lowest finds 0: it skips the next jump and runs the body alone. The others jump to the
+-- end of the body.
 abbrev pub seq_block : (target : ℕ) → List MarkedLine
 seq_block target =
     quiet (Addi t2 node_register (4 * agreed_word)) ∷ quiet (Addi t1 zero_register 1) ∷
@@ -59,8 +60,9 @@ seq_block target =
     goes_to (Jal zero_register 0) (label_of target)
     ∷ quiet (Addi body_register zero_register 1) ∷ []
 
--- The end of the group of `start`: `@` is 0 again, `$` the number of the hart and the size that of
--- the root, which devices tell. The root's control words are at 0x18400000, and all run its body
+-- The end of the group of `start`. `@` is 0 again, `$` is the number of the hart, and the size is
+-- that of the root. Devices give both. The root's control words are at 0x18400000, and all run the
+-- root's body.
 abbrev pub end_block : (target : ℕ) → List MarkedLine
 end_block target =
     commits (Addi number_register zero_register 0) ∷ quiet (Lui t0 0x30000) ∷
@@ -71,41 +73,42 @@ end_block target =
 
 -- ---- the beginning of `start`
 
--- the label of the code that all beginnings of `start` share
+-- The label of the code that all beginnings of `start` share.
 abbrev pub start_label : ℕ
 start_label = 57
 
--- A processor goes there with its last value in t3. It comes back where it waits, or a word behind,
--- where the group goes on
+-- A processor goes to that code with its last value in t3. It comes back where it waits, or one
+-- word after that, where the group goes on.
 abbrev pub begin_block : (depth target : ℕ) → List MarkedLine
 begin_block depth target =
     quiet (Lw t3 end_register (at_value depth)) ∷ goes_to (Jal ra 0) start_label
     ∷ goes_to (Jal zero_register 0) (label_of target) ∷ []
 
--- All meet in the root, where leaving is no operation
+-- All processors meet in the root, where leaving is no operation.
 abbrev pub gathering : Meeting
 gathering = record { arrivals = t2; size = size_register; commits = false }
 
--- then all store their values in one cycle, so that the highest member's stays, and
--- load it in the next
+-- All processors store their values in one cycle, so that the highest one's stays, and load it in
+-- the next.
 abbrev pub telling_lines : List MarkedLine
 telling_lines = quiet (Sw node_register t3 (4 * agreed_word))
     ∷ commits (Lw t3 node_register (4 * agreed_word)) ∷ []
 
--- it becomes the size of the group: 0 for a negative value, and at most the number of processors
+-- The value becomes the size of the group: 0 for a negative value, and at most the number of
+-- processors.
 abbrev pub size_lines : List MarkedLine
 size_lines =
     quiet (Srli t1 t3 31) ∷ quiet (Sltiu t1 t1 1) ∷ quiet (Mul t3 t3 t1) ∷
     quiet (Sltu t1 t3 size_register) ∷ quiet (Mul t3 t3 t1) ∷
     quiet (Sltiu t1 t1 1) ∷ quiet (Mul t1 size_register t1) ∷ quiet (Add t3 t3 t1) ∷ []
 
--- the address of the first control word of the group: that at the index behind the globals and the
--- input numbers, whose number a device tells
+-- The address of the control word whose index is the number of globals. The group's first control
+-- word lies as many words after it as there are input numbers, which a device gives.
 abbrev pub group_words : (globals : ℕ) → ℕ
 group_words globals = control_address globals
 
--- who is not below the size goes back to wait. The others have the size of their group, and
--- its control words
+-- A processor whose number is not below the size goes back to wait. The others get the size of
+-- their group, and its control words.
 abbrev pub parting_lines : (globals : ℕ) → List MarkedLine
 parting_lines globals =
     quiet (Bltu rank_register t3 8) ∷ quiet (Jalr zero_register ra 0) ∷
@@ -121,7 +124,7 @@ meet_lines = quiet (Addi t2 node_register (4 * closing_word)) ∷ meeting_lines 
 abbrev pub start_lines : (globals : ℕ) → List MarkedLine
 start_lines globals = meet_lines ++ (telling_lines ++ (size_lines ++ parting_lines globals))
 
--- the code that all beginnings share stands in an image, at its label
+-- The image has the code that all beginnings of `start` share, at its label.
 pub record HasStart (image : Image) (bound : ℕ → ℕ) : Type 0 where
   pub few : length image.globals.items ≤ 2 ^ 19
   pub lines : LinesAt image bound (bound start_label) (start_lines (length image.globals.items))
@@ -147,7 +150,7 @@ is_group_step (Some Resume) = true
 is_group_step (Some (Meet closing)) = true
 is_group_step operation = false
 
--- such an operation, whose values have room in a frame, and whose target has a label
+-- An operation of a group whose values have room in a frame, and whose target has a label.
 pub record HasGroupStep (placed : Placed) : Type 0 where
   pub kind : is_group_step (operation_of placed.op.kind placed.op.number) ≡ true
   pub depth : placed.op.depth ≤ 56

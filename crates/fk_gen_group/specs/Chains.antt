@@ -1,4 +1,4 @@
--- A node some of whose members meet while others go on by themselves.
+-- A node some of whose members meet, while others go on by themselves.
 use Rattle.std.specs.Prelude.{◌≡◌, ℕ, List, [], ◌∷◌, Bool, true, ◌⊎◌}
 use Rattle.fk_num.specs.Word.{Memory}
 use Rattle.fk_image.specs.declared.Image.{Image}
@@ -13,8 +13,8 @@ use Rattle.fk_gen_group.specs.Together.{Comer, Stands, GoesOn, phases}
 
 module _ {S P D : Type 0} (source : Source S P D) (g : Meeting) (image : Image) (bound : ℕ → ℕ)
     (mine : Words) (w n : ℕ) (test : Member → P → Hart → D → Bool) where
-  -- who is not in the lines has the turn of its processor, or faults. It leaves the
-  -- arrival word as it is
+  -- A member that is not in the lines of the meeting has the turn of its processor, or faults. It
+  -- leaves the arrival word as it is.
   abbrev pub TurnsElsewhere : Setting → Member → P → Type 0
   TurnsElsewhere t m p =
       (own : Memory) (earlier : List ℕ) (sh : Shared) (s : S) → Shows source earlier sh s
@@ -22,7 +22,7 @@ module _ {S P D : Type 0} (source : Source S P D) (g : Meeting) (image : Image) 
       → Passing source image mine t m p earlier sh s
       (λ h d own'. (own' w ≡ own w) × (test m p h d ≡ true)) ⊎ Faulting source image mine t m p sh s
 
-  -- who is in them takes part with the count of its phase, which makes no request
+  -- A member in these lines takes part with the count of its phase, and makes no request.
   pub record TurnsInside (t : Setting) (c : Comer) (m : Member) (p : P) (d : D) : Type 0 where
     pub stands : Stands g image bound w n t c m
     pub takes : (s : S) → source.part (count_for g c.phase) s p ≡ Passes s d
@@ -37,7 +37,7 @@ module _ {S P D : Type 0} (source : Source S P D) (g : Meeting) (image : Image) 
   AllTurn t (c ∷ cs) (m ∷ ms) (p ∷ ps) (d ∷ ds) = Turns t c.phase c m p d × AllTurn t cs ms ps ds
   AllTurn t cs ms ps ds = ⊥
 
-  -- what has become of each
+  -- What becomes of a member.
   abbrev pub Became : Setting → Phase → Comer → Member → P → D → Phase → Hart → D → Type 0
   Became t Outside c m p d f' h d' = (f' ≡ Outside) × (test m p h d' ≡ true)
   Became t Away c m p d f' h d' = (f' ≡ Away) × (test m p h d' ≡ true)
@@ -51,7 +51,7 @@ module _ {S P D : Type 0} (source : Source S P D) (g : Meeting) (image : Image) 
       × AllBecame t cs ms ps ds fs' ms' ds'
   AllBecame t cs ms ps ds fs' ms' ds' = ⊥
 
-  -- and their turns are moves of those who meet
+  -- The turns of all members are moves of those who meet.
   pub record HaveTurned (t : Setting) (cs : List Comer) (ms : List Member)
       (ps : List P) (ds : List D) (before : Memory) (ms' : List Member) (ds' : List D)
       (own : Memory) : Type 0 where
@@ -59,7 +59,7 @@ module _ {S P D : Type 0} (source : Source S P D) (g : Meeting) (image : Image) 
     pub moves : AllMove t.finished n lead (phases cs) (before w) phases' (own w)
     pub became : AllBecame t cs ms ps ds phases' ms' ds'
 
--- The members of a node have a chain, whatever all other nodes do
+-- The members of a node have a chain, whatever all other nodes do.
 abbrev pub MeetersHaveChains : (S P D : Type 0) → Type 0
 MeetersHaveChains S P D =
     (source : Source S P D) (g : Meeting) (image : Image) (bound : ℕ → ℕ) (mine : Words) (w n : ℕ)

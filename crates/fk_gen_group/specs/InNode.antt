@@ -19,8 +19,8 @@ use Rattle.fk_sim_block.specs.Node.{Nestings, HasLevelRoom}
 use Rattle.fk_sim_block.specs.Lockstep.{LevelsStay}
 use Rattle.fk_sim_block.specs.Law.{Cycles, BlockDoesInNode, BlockJumpsInNode}
 
--- the levels of the running call have room beside the values of an operation and the private words
--- that it writes, and the call goes on with them
+-- The levels of the running call have room beside the values of an operation and the private words
+-- that it writes, and the call goes on with these levels.
 pub record HasLevels (core : List CoreOp) (places : Places) (nestings : Nestings) (i : ℕ)
     (op : CoreOp) (operation : Operation) : Type 0 where
   pub few : places.frames.of_file ≤ 56
@@ -30,8 +30,8 @@ pub record HasLevels (core : List CoreOp) (places : Places) (nestings : Nestings
   pub stay : (onward : Bool)
       → LevelsStay nestings i (follows core operation i op.target [] onward).at
 
--- a call goes on behind the jump that follows it, with the same levels, which have room beside the
--- values that are left and a result. None stand in the new frame
+-- A call goes on after the jump that follows it, with the same levels, which have room beside the
+-- values that are left and a result. The new frame has no levels.
 pub record GivesLevels (core : List CoreOp) (places : Places) (nestings : Nestings)
     (i depth arguments : ℕ) : Type 0 where
   pub few : places.frames.of_file ≤ 56
@@ -41,12 +41,12 @@ pub record GivesLevels (core : List CoreOp) (places : Places) (nestings : Nestin
   pub none : nestings.levels (suc i) ≡ 0
   pub entry : HasLevelRoom places.frames nestings (suc i) 0
 
--- none stand in the frame of a call that ends
+-- The frame of a call that ends has no levels.
 pub record HasNoLevels (places : Places) (nestings : Nestings) (i : ℕ) : Type 0 where
   pub few : places.frames.of_file ≤ 56
   pub none : nestings.levels i ≡ 0
 
--- what is asked of the levels of the running call, by an operation
+-- What an operation needs of the levels of the running call.
 abbrev pub LevelsFit : (core : List CoreOp) → Places → Nestings → (i : ℕ) → CoreOp
     → Operation → Type 0
 LevelsFit core places nestings i op (Enter arguments) =
@@ -54,8 +54,8 @@ LevelsFit core places nestings i op (Enter arguments) =
 LevelsFit core places nestings i op (Leave gives framed) = HasNoLevels places nestings i
 LevelsFit core places nestings i op operation = HasLevels core places nestings i op operation
 
--- a block of an operation that processors do alone, and that keeps what is to be kept, keeps its
--- hart in its node, in as many cycles
+-- A block of an operation that processors do alone, and that keeps what must be kept, keeps its
+-- hart in its node, in as many cycles.
 abbrev pub LoneBlocksStayInNode : Type 0
 LoneBlocksStayInNode =
     (core : List CoreOp) (image : Image) (places : Places) (nestings : Nestings) (cycles : Cycles)
@@ -65,7 +65,7 @@ LoneBlocksStayInNode =
     → BlockKeeps core image places (cycles.before i) (cycles.behind i) i op operation
     → BlockDoesInNode core image places nestings cycles i op operation
 
--- and so does a jump, where the call goes on with the same levels
+-- The block of a jump keeps its hart in its node, where the call goes on with the same levels.
 abbrev pub JumpsStayInNode : Type 0
 JumpsStayInNode =
     (core : List CoreOp) (image : Image) (bound : ℕ → ℕ) (places : Places) (nestings : Nestings)

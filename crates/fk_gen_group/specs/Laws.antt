@@ -1,4 +1,4 @@
--- What the blocks of groups do where they stand.
+-- What the blocks of groups do in place.
 use Rattle.std.specs.Prelude.{◌≡◌, ℕ, ◌≤◌, suc, List, length, Some, None, true, if◌then◌else◌}
 use Rattle.fk_meaning_operation.specs.declared.operation.Operation.{Operation}
 use Rattle.fk_meaning_operation.specs.declared.operation.Operation.TheVariants.{Begin, Agree, Farm}
@@ -17,7 +17,7 @@ use Rattle.fk_gen_group.specs.Start.{gathered_at, who_comes}
 use Rattle.fk_sim_block.specs.Joint.{is_meeting, BlockMeets}
 use Rattle.fk_sim_block.specs.Start.{BlockStarts}
 
--- the block of a step stands at its index, in a list whose values and levels have room
+-- The block of a step is at its index, in a list whose values and levels have room.
 pub record IsInPlace (core : List CoreOp) (image : Image) (bound : ℕ → ℕ) (places : Places)
     (nestings : Nestings) (i : ℕ) (op : CoreOp) (operation : Operation) : Type 0 where
   pub stands : StandsOp core i op operation
@@ -28,8 +28,8 @@ pub record IsInPlace (core : List CoreOp) (image : Image) (bound : ℕ → ℕ) 
   pub levels : HasLevelRoom places.frames nestings i op.depth
   pub stay : LevelsStay nestings i (suc i)
 
--- members in lockstep come in two cycles to the one in which all agree on the last value of the
--- highest, and one more brings them to the next block
+-- Members in lockstep commit two cycles after they come to the block: all agree on the last value
+-- of the highest member. One cycle more brings them to the next block.
 abbrev pub GroupsAgree : Type 0
 GroupsAgree =
     (core : List CoreOp) (image : Image) (bound : ℕ → ℕ) (places : Places) (nestings : Nestings)
@@ -37,8 +37,8 @@ GroupsAgree =
     → IsInPlace core image bound places nestings i op Agree → StepTogether core image places
     nestings i op Agree (λ ps. Unit {0}) 2 1 None (λ p. None) lowest size
 
--- the block of a `barrier`, of the end of a body and of the end of a part leads its hart to a
--- meeting, where it arrives after at most 7 cycles
+-- The block of a `barrier`, of the end of a body or of the end of a part leads its hart to a
+-- meeting, where it arrives after at most 7 cycles.
 abbrev pub BlocksMeet : Type 0
 BlocksMeet =
     (core : List CoreOp) (image : Image) (bound : ℕ → ℕ) (places : Places) (nestings : Nestings)
@@ -46,7 +46,7 @@ BlocksMeet =
     → is_meeting operation ≡ true → IsInPlace core image bound places nestings i op operation
     → BlockMeets core image places nestings i op operation 7
 
--- in one cycle all members of a group begin to run its body, each by itself
+-- In one cycle all members of a group begin to run a `farm`'s body, each by itself.
 abbrev pub GroupsSetFree : Type 0
 GroupsSetFree =
     (core : List CoreOp) (image : Image) (bound : ℕ → ℕ) (places : Places) (nestings : Nestings)
@@ -55,8 +55,8 @@ GroupsSetFree =
     → PartTogether core image places nestings i op Farm (λ ps. AreOfSize size ps) 0 0 None
     (λ p. Some size) lowest size
 
--- the lowest member alone comes to the body, which it runs by itself; the others come
--- to where it ends
+-- The lowest member alone comes to the body of a `seq`, which it runs by itself. The others come to
+-- the end of that body.
 abbrev pub GroupsSendOne : Type 0
 GroupsSendOne =
     (core : List CoreOp) (image : Image) (bound : ℕ → ℕ) (places : Places) (nestings : Nestings)
@@ -65,7 +65,7 @@ GroupsSendOne =
     → PartTogether core image places nestings i op Seq
     (λ ps. (length ps ≤ 1024) × IsLowest lowest ps) 3 2 None (one_runs lowest) lowest size
 
--- the members of the group of `start` go back to the root
+-- The members of the group of `start` go back to the root.
 abbrev pub GroupsEnd : Type 0
 GroupsEnd =
     (core : List CoreOp) (image : Image) (bound : ℕ → ℕ) (places : Places) (nestings : Nestings)
@@ -73,10 +73,10 @@ GroupsEnd =
     → IsInPlace core image bound places nestings i op End → LevelsStay nestings i op.target
     → EndTogether core image places nestings i op 6 lowest size
 
--- at the beginning of `start` all processors meet in the root, after at most 9 cycles. Two
--- cycles behind the one in which they leave they commit, and know the last value of the highest.
--- Those below it come 16 cycles later to the body, in the group; and the others 11 cycles later
--- to where they wait
+-- At the beginning of `start` all processors meet in the root, after at most 9 cycles. Two cycles
+-- after the one in which they leave they commit, and know the last value of the highest. Those with
+-- numbers below it come 16 cycles later to the body, in the group. The others come 11 cycles later
+-- to where they wait.
 abbrev pub GroupsStart : Type 0
 GroupsStart =
     (core : List CoreOp) (image : Image) (bound : ℕ → ℕ) (places : Places) (nestings : Nestings)

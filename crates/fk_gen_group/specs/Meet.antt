@@ -1,5 +1,4 @@
--- A hart at the block of an operation that several do together by meeting, on its way in
--- lines of a meeting.
+-- A hart at the block of a joint operation, on its way in the lines of a meeting.
 use Rattle.std.specs.Prelude.{◌≡◌, ℕ, suc, ◌+◌, ◌≤◌, List, false, Option}
 use Rattle.fk_meaning_operation.specs.declared.operation.Operation.{Operation}
 use Rattle.fk_meaning_operation.specs.declared.operation.Operation.TheVariants.{Meet}
@@ -19,16 +18,16 @@ use Rattle.fk_sim_block.specs.Lockstep.{IsMember}
 use Rattle.fk_sim_block.specs.Joint.{word_of, AreSoMany}
 use Rattle.fk_gen_group.specs.Blocks.{meeting_of}
 
--- at a `barrier` those who run the body meet, else all members of the node. Which register
--- has their number
+-- The register with the number of those who meet: at a `barrier` those who run the body, else all
+-- members of the node.
 abbrev pub counted_by : Operation → ℕ
 counted_by (Meet false) = body_register
 counted_by operation = size_register
 
 module _ (core : List CoreOp) (image : Image) (bound : ℕ → ℕ) (places : Places)
     (nestings : Nestings) (i : ℕ) (op : CoreOp) (operation : Operation) where
-  -- a hart is on its way to an arrival word, which it reaches in so many cycles. When it has left
-  -- it stands for its processor behind the operation
+  -- A hart is on its way to an arrival word, which it reaches in `steps` cycles. Once it has left
+  -- it stands for its processor after the operation.
   pub record ComesToMeet (g : Meeting) (word : ℕ) (setting : Setting) (t : MachineSetting)
       (runs : Option ℕ) (n : ℕ) (m : Member) (p : Owner) : Type 0 where
     pub comer : Comer

@@ -1,4 +1,4 @@
--- The lines by which harts meet, and where a hart stands in them.
+-- The lines of a meeting, and where a hart is in them.
 use Rattle.std.specs.Prelude.{◌≡◌, ◌≢◌, ℕ, zero, suc, ◌+◌, ◌-◌, ◌*◌, ◌%◌, ◌^◌, ◌<◌, ◌≤◌, List, []}
 use Rattle.std.specs.Prelude.{◌∷◌, Bool, true, false, ◌⊎◌}
 use Rattle.fk_num.specs.Word.{Memory}
@@ -17,8 +17,8 @@ use Rattle.fk_gen.specs.Lines.{quiet, commits}
 use Rattle.fk_gen.specs.InPlace.{LinesAt}
 use Rattle.fk_sim_block.specs.Node.{control_address, root_words}
 
--- where harts meet: a register with the address of the arrival word, one with the number of
--- members, and whether leaving is the operation
+-- Where harts meet: a register with the address of the arrival word, one with the number of
+-- members, and whether leaving is the operation.
 pub record Meeting : Type 0 where
   pub arrivals : ℕ
   pub size : ℕ
@@ -32,9 +32,9 @@ abbrev pub count_of_leaving : Bool → ℕ
 count_of_leaving true = 1
 count_of_leaving false = 0
 
--- The device at 0x30000010 tells how many cycles are finished. The first six lines take 5 cycles or
--- 6, so that the addition comes in an even cycle; the load then comes in odd ones, and so does the
--- store of 0, with which all leave
+-- The device at 0x30000010 gives the number of cycles finished. The first six lines take 5 or 6
+-- cycles, so that the addition comes in an even cycle. The load then comes in odd cycles, and so
+-- does the store of 0, with which all leave.
 abbrev pub meeting_lines : Meeting → List MarkedLine
 meeting_lines g =
     quiet (Lui t0 0x30000) ∷ quiet (Lw t0 t0 16) ∷ quiet (Andi t0 t0 1) ∷
@@ -43,19 +43,19 @@ meeting_lines g =
     quiet (AmoAddW zero_register g.arrivals t1 false false) ∷ quiet (Lw t0 g.arrivals 0) ∷
     quiet (Bne t0 g.size (2 ^ 32 - 4)) ∷ leaving_line g.commits (Sw g.arrivals zero_register 0) ∷ []
 
--- its two registers are none that the lines write
+-- The lines don't write the two registers of the meeting.
 pub record IsMeeting (g : Meeting) : Type 0 where
   pub arrivals_t0 : g.arrivals ≢ t0
   pub arrivals_t1 : g.arrivals ≢ t1
   pub size_t0 : g.size ≢ t0
   pub size_t1 : g.size ≢ t1
 
--- how many steps lie between the poll that finds all and the store
+-- The number of steps between the poll that finds all members and the store.
 abbrev pub lead : ℕ
 lead = 1
 
 module _ (g : Meeting) where
-  -- a hart at the first line: its arrival word is control word w, and n are members
+  -- A hart at the first line: its arrival word is control word w, and n members meet there.
   pub record IsReadyToMeet (w n : ℕ) (h : Hart) : Type 0 where
     pub live : h.ended ≡ false
     pub nought : h.registers zero_register ≡ 0
@@ -63,26 +63,25 @@ module _ (g : Meeting) where
     pub arrivals : h.registers g.arrivals ≡ control_address w
     pub size : h.registers g.size ≡ n
 
-  -- one that has all of another but for t0, t1 and the place where it stands
+  -- A hart has all that another has, except t0, t1 and its place in the code.
   pub record Keeps (first h : Hart) : Type 0 where
     pub live : h.ended ≡ first.ended
     pub local : h.local ≡ first.local
     pub others : (r : ℕ) → r ≢ t0 → r ≢ t1 → h.registers r ≡ first.registers r
 
   module _ (image : Image) (k n : ℕ) (first : Hart) where
-    -- at the addition
+    -- A hart at the addition.
     pub record IsArriving (h : Hart) : Type 0 where
       pub at : h.pc ≡ 4 * (k + 6)
       pub keeps : Keeps first h
       pub one : h.registers t1 ≡ 1
 
-    -- behind the lines
+    -- A hart after the lines.
     pub record HasLeft (h : Hart) : Type 0 where
       pub at : h.pc ≡ 4 * (k + 10)
       pub keeps : Keeps first h
 
-    -- where a hart that came to the lines at word k stands at the beginning of a
-    -- cycle, by its phase
+    -- Where a hart that came to the lines at word k is at the beginning of a cycle, by its phase.
     abbrev pub StandsInPhase : Setting → (number : ℕ) → Phase → Hart → Type 0
     StandsInPhase t number Outside h = ⊥
     StandsInPhase t number Away h = ⊥
@@ -99,7 +98,7 @@ module _ (g : Meeting) where
         Keeps first h × (t.finished % 2 ≡ 0) × (h.pc ≡ 4 * (k + 8)) × (h.registers t0 ≡ n)
     StandsInPhase t number (Leaving (suc (suc d))) h = ⊥
 
-    -- after its turn it stands in its next phase, or has left
+    -- After its turn a hart is in its next phase, or has left.
     abbrev pub Continues : Setting → (number found : ℕ) → Phase → Phase → Hart → Type 0
     Continues t number v (Leaving zero) f' h = (f' ≡ Away) × HasLeft h
     Continues t number v f f' h = StandsInPhase (later t) number f' h
@@ -108,7 +107,7 @@ module _ (g : Meeting) where
   count_for (Leaving zero) = count_of_leaving g.commits
   count_for f = 0
 
-  -- the turn of a member in its phase touches the arrival word alone
+  -- The turn of a member in its phase touches the arrival word alone.
   pub record Turn (image : Image) (mine : Words) (k w n : ℕ) (first : Hart) (t : Setting)
       (f : Phase) (m : Member) (own : Memory) : Type 0 where
     pub hart : Hart
@@ -120,12 +119,12 @@ module _ (g : Meeting) where
     pub moves : Moves t.finished n lead (own w) f phase
     pub continues : Continues image k n first t m.number (own w) f phase hart
 
--- the lines stand at word k, and the arrival word is the node's own
+-- The lines are at word k, and can be those of a meeting.
 pub record HasMeeting (g : Meeting) (image : Image) (bound : ℕ → ℕ) (k : ℕ) : Type 0 where
   pub fits : IsMeeting g
   pub lines : LinesAt image bound k (meeting_lines g)
 
--- a hart that comes to the lines arrives after 5 or 6 cycles, in an even one
+-- A hart that comes to the lines arrives after 5 or 6 cycles, in an even one.
 abbrev pub HartsArrive : Type 0
 HartsArrive =
     (g : Meeting) (image : Image) (bound : ℕ → ℕ) (k w n number : ℕ) (t : Setting) (h : Hart)
@@ -133,7 +132,7 @@ HartsArrive =
     → Holds image t → IsReadyToMeet g w n h → h.pc ≡ 4 * k
     → (d : ℕ) × (5 ≤ d) × (d ≤ 6) × StandsInPhase g image k n h t number (Coming d) h
 
--- and goes through its phases
+-- A hart in the lines goes through its phases.
 abbrev pub HartsMove : Type 0
 HartsMove =
     (g : Meeting) (image : Image) (bound : ℕ → ℕ) (mine : Words) (k w n : ℕ) (t : Setting)

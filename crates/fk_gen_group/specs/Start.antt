@@ -11,12 +11,13 @@ use Rattle.fk_gen.specs.Lines.{at_value}
 use Rattle.fk_sim_block.specs.Node.{Polling, Gathering, node_register, closing_word}
 use Rattle.fk_gen_group.specs.Blocks.{start_label}
 
--- they are behind the meeting in the code that all beginnings share
+-- The harts poll after the meeting in the code that all beginnings of `start` share.
 abbrev pub gathered_at : (bound : ℕ → ℕ) → Polling
 gathered_at bound = record { at = bound start_label + 11; changes = λ r. (r == t0) || (r == t1) }
 
--- before that a hart has loaded its last value, of so many, into t3, has linked behind its jump,
--- and has the address of the root's closing word in t2
+-- What a hart is when it comes to that meeting: it has loaded its last value, of `depth` values,
+-- into t3, has linked to the word after its jump, and has the address of the root's closing word in
+-- t2.
 abbrev pub who_comes : (bound : ℕ → ℕ) → (depth : ℕ) → Hart → Hart
 who_comes bound depth h =
     let value = h.local ((word_sum (h.registers end_register) (at_value depth) - 0x20000000) / 4) in
@@ -27,7 +28,7 @@ who_comes bound depth h =
       pc = word_sum (4 * bound start_label) 4;
     }
 
--- so they meet in the code of a list
+-- Where the processors of a list meet.
 abbrev pub gathering_of : List CoreOp → (bound : ℕ → ℕ) → Gathering
 gathering_of core bound = record {
   there = λ i. gathered_at bound;

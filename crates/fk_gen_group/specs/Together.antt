@@ -1,4 +1,4 @@
--- Several who meet: a hart that came to lines of a meeting, and all harts in a cycle.
+-- Several harts that meet: one that came to the lines of a meeting, and all harts in a cycle.
 use Rattle.std.specs.Prelude.{◌≡◌, ◌≢◌, ℕ, ◌^◌, ◌<◌, ◌≤◌, List, [], ◌∷◌, length, true}
 use Rattle.fk_num.specs.Word.{Memory}
 use Rattle.fk_image.specs.declared.Image.{Image}
@@ -10,8 +10,8 @@ use Rattle.fk_sim_nodes.specs.Phase.{Phase, Outside, Away, Coming, AllMove, Each
 use Rattle.fk_gen_group.specs.Meeting.{Meeting, HasMeeting, IsReadyToMeet, StandsInPhase, Continues}
 use Rattle.fk_gen_group.specs.Meeting.{HasLeft, count_of_leaving, lead}
 
--- a hart at an arrival word: its phase there, the word of the code where the lines begin to which
--- it came, and what it was when it came. Those who meet may have come to different lines
+-- A hart at an arrival word: its phase there, the word of the code where the lines to which it came
+-- begin, and what it was when it came. Those who meet may have come to different lines.
 pub record Comer : Type 0 where
   pub phase : Phase
   pub lines : ℕ
@@ -21,29 +21,29 @@ abbrev pub phases : List Comer → List Phase
 phases [] = []
 phases (c ∷ cs) = c.phase ∷ phases cs
 
--- it is in the lines
+-- A hart is in the lines.
 abbrev pub IsInside : Phase → Type 0
 IsInside Outside = ⊥
 IsInside Away = ⊥
 IsInside f = Unit {0}
 
 module _ (g : Meeting) (image : Image) (bound : ℕ → ℕ) (w n : ℕ) where
-  -- one who is in the lines stands there by its phase
+  -- A hart in the lines is where its phase says.
   pub record Stands (t : Setting) (c : Comer) (m : Member) : Type 0 where
     pub meeting : HasMeeting g image bound c.lines
     pub ready : IsReadyToMeet g w n c.first
     pub stands : StandsInPhase g image c.lines n c.first t m.number c.phase m.hart
 
-  -- ---- whatever the others do
+  -- ---- whatever the other harts do
 
-  -- the turn of one who is in the lines is its step; that of another leaves the
-  -- arrival word as it is
+  -- The turn of a hart in the lines is its step. The turn of another leaves the arrival word as it
+  -- is.
   abbrev pub TakesTurn : Setting → Phase → Comer → Member → Shared → Hart → Shared → Type 0
   TakesTurn t Outside c m sh h sh' = sh'.control w ≡ sh.control w
   TakesTurn t Away c m sh h sh' = sh'.control w ≡ sh.control w
   TakesTurn t f c m sh h sh' = Stands t c m × (step t m.number m.hart sh ≡ Goes h sh')
 
-  -- the turns of all in a cycle, in ascending number
+  -- The turns of all harts in a cycle, in ascending number.
   abbrev pub AllTakeTurns : Setting → List Comer → List Member → Shared → List Hart
       → Shared → Type 0
   AllTakeTurns t [] [] sh [] sh' = sh' ≡ sh
@@ -51,7 +51,7 @@ module _ (g : Meeting) (image : Image) (bound : ℕ → ℕ) (w n : ℕ) where
       (sh1 : Shared) × TakesTurn t c.phase c m sh h sh1 × AllTakeTurns t cs ms sh1 hs sh'
   AllTakeTurns t cs ms sh hs sh' = ⊥
 
-  -- who is in the lines goes on in them by its next phase, or has left
+  -- A hart in the lines goes on in its next phase, or has left.
   abbrev pub GoesOn : Setting → Phase → Comer → Member → Phase → Hart → Type 0
   GoesOn t Outside c m f' h = f' ≡ Outside
   GoesOn t Away c m f' h = f' ≡ Away
@@ -75,14 +75,14 @@ module _ (g : Meeting) (image : Image) (bound : ℕ → ℕ) (w n : ℕ) where
   AllHaveLeft (c ∷ cs) (m ∷ ms) = HasLeft g image c.lines n c.first m.hart × AllHaveLeft cs ms
   AllHaveLeft cs ms = ⊥
 
-  -- all have left, their arrival word is 0, and the node's other words are as they were
+  -- All members have left, their arrival word is 0, and the node's other words are as they were.
   pub record HaveMet (cs : List Comer) (before : Memory) (ms : List Member)
       (own : Memory) : Type 0 where
     pub left : AllHaveLeft cs ms
     pub nobody : own w ≡ 0
     pub others : (j : ℕ) → j ≢ w → own j ≡ before j
 
-  -- after so many cycles in which nobody leaves they all leave in one
+  -- After d cycles in which no member leaves, all leave in one.
   abbrev pub LeaveAfter : (mine : Words) → (d : ℕ) → Setting → List Comer → List Member
       → (own : Memory) → Type 0
   LeaveAfter mine d t cs ms own =
@@ -90,9 +90,9 @@ module _ (g : Meeting) (image : Image) (bound : ℕ → ℕ) (w n : ℕ) where
       (λ ms' own'. NodeCycle image mine (in_cycles d t)
       (count_of_leaving g.commits) ms' own' (λ ms'' own''. HaveMet cs own ms'' own''))
 
--- The turns of a cycle are moves of those who meet at an arrival word, whatever others do who
--- leave it as it is. So the laws of meetings say when all leave, and that nobody does before
--- all have arrived
+-- The turns of a cycle are moves of those who meet at an arrival word, whatever others do that
+-- leave it as it is. So the laws of meetings say when all leave, and that none leaves before all
+-- have arrived.
 abbrev pub TurnsAreMoves : Type 0
 TurnsAreMoves =
     (g : Meeting) (image : Image) (bound : ℕ → ℕ) (w n : ℕ) (t : Setting) (cs : List Comer)
@@ -101,8 +101,8 @@ TurnsAreMoves =
     → (fs' : List Phase) × AllMove t.finished n lead (phases cs) (sh.control w) fs' (sh'.control w)
     × AllGoOn g image bound w n t cs ms fs' hs
 
--- The aligned barrier: members who have all entered leave in one cycle, at most k from now where
--- all have time for it in k cycles. None of them leaves before
+-- The aligned barrier: members who have all entered leave in one cycle, and none of them before.
+-- Where all have time for it in k cycles, that cycle is at most k from now.
 abbrev pub MembersLeaveTogether : Type 0
 MembersLeaveTogether =
     (g : Meeting) (image : Image) (bound : ℕ → ℕ) (mine : Words) (w n k : ℕ) (t : Setting)
@@ -111,13 +111,13 @@ MembersLeaveTogether =
     → Settled t.finished n (own w) (phases cs) → IsDue lead k t.finished (phases cs)
     → (d : ℕ) × (d ≤ k) × LeaveAfter g image bound w n mine d t cs ms own
 
--- who is on its way has come to its block at most, with the register of the arrival
--- word still to be set
+-- A member on its way is at its block, or further: at most 7 steps before it arrives.
 abbrev pub HasCome : Phase → Type 0
 HasCome (Coming d) = d ≤ 7
 HasCome f = Unit {0}
 
--- 10 cycles are enough for that, from the cycle on in which the last of them comes
+-- 10 cycles are enough for all to leave, from the cycle on in which the last of them comes to its
+-- block.
 abbrev pub MembersLeaveInTen : Type 0
 MembersLeaveInTen =
     (g : Meeting) (image : Image) (bound : ℕ → ℕ) (mine : Words) (w n : ℕ) (t : Setting)

@@ -20,23 +20,23 @@ use std::alloc::AllocError;
 const FIRST_LABEL: u32 = 128;
 /// The upper 20 bits of the addresses of devices.
 const DEVICES: u32 = 0x30000;
-/// How far from there on the device stands that tells how many cycles are finished.
+/// The offset of the device that gives the number of cycles finished.
 const CYCLE_DEVICE: u32 = 16;
-/// The one that tells the number of the hart.
+/// The offset of the device that gives the number of the hart.
 const NUMBER_DEVICE: u32 = 20;
-/// The one that tells how many harts there are.
+/// The offset of the device that gives the number of harts.
 const HARTS_DEVICE: u32 = 24;
 /// The upper 20 bits of the address of the root's control words.
 const ROOT_WORDS: u32 = 0x18400;
 /// The control word of a node that counts those at a `barrier`.
 const BARRIER_WORD: u32 = 0;
-/// The one that counts those at the end of a body or a part.
+/// The control word of a node that counts those at the end of a body or a part.
 const CLOSING_WORD: u32 = 1;
-/// How far from its first control word on that of what is agreed stands.
+/// The offset of the agreed value from the node's first control word, in bytes.
 const AGREED: u32 = 8;
 
 /// The blocks of barriers, of the ends of bodies and parts, of `farm`, `seq`, the beginning and the
-/// end of `start`, and of what a group agrees on.
+/// end of `start`, and of agreement.
 #[derive(Clone, Copy, Drop)]
 pub struct GroupBlocks;
 
@@ -64,8 +64,8 @@ impl Blocks<Placed> for GroupBlocks {
     }
 }
 
-// A meeting at a control word of the node, of as many as a register says. Arrivals come in even
-// cycles, polls in odd ones.
+// A meeting at a control word of the node. A register has the number of its members. Arrivals come
+// in even cycles, and polls in odd ones.
 fn meet(into: &mut Assembler, word: u32, size: u8) -> Result<(), AllocError>
     requires word { word < 8 }
     requires size { size < 32 }
@@ -92,7 +92,7 @@ fn meet(into: &mut Assembler, word: u32, size: u8) -> Result<(), AllocError>
     )
 }
 
-// The beginning of `start`, most of whose code all share.
+// The beginning of `start`. All beginnings share most of its code.
 fn begin(into: &mut Assembler, depth: u32, target: u32) -> Result<(), AllocError>
     requires depth { depth ≤ 56 }
     requires near { target < 2 ^ 31 }

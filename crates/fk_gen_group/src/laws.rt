@@ -1,4 +1,4 @@
-//! What the blocks do.
+//! Laws of the blocks of groups.
 
 ghost use Rattle.fk_gen_group.specs.Meeting.{HartsArrive, HartsMove};
 ghost use Rattle.fk_gen_group.specs.Together.{TurnsAreMoves, MembersLeaveTogether};
@@ -8,20 +8,21 @@ ghost use Rattle.fk_gen_group.specs.InNode.{LoneBlocksStayInNode, JumpsStayInNod
 ghost use Rattle.fk_gen_group.specs.Laws.{BlocksMeet, GroupsAgree, GroupsEnd, GroupsSendOne};
 ghost use Rattle.fk_gen_group.specs.Laws.{GroupsSetFree, GroupsStart};
 
-/// A hart that comes to the lines of a meeting, in whatever cycle, arrives after 5 cycles or
-/// 6, in an even one.
+/// A hart that comes to the lines of a meeting, in whatever cycle, arrives after 5 or 6 cycles, in
+/// an even one.
 pub fn harts_arrive()
     ensures { HartsArrive }
 {}
 
-/// From there on it goes through its phases. Each turn touches the arrival word alone, by its
-/// phase: who arrives adds 1, and who leaves stores 0. Leaving is the operation, where it is one.
+/// A hart in the lines of a meeting goes through its phases. Each turn touches the arrival word
+/// alone: one that arrives adds 1, and one that leaves stores 0. Leaving is the operation, if the
+/// meeting says so.
 pub fn harts_move()
     ensures { HartsMove }
 {}
 
-/// The turns of a cycle are moves of all who meet at an arrival word, whatever the others do who
-/// leave that word as it is. So the laws of `fk_sim_nodes` say when all leave, and that nobody
+/// The turns of a cycle are moves of all who meet at an arrival word, whatever others do that leave
+/// that word as it is. The laws of `fk_sim_nodes` therefore say when all leave, and that nobody
 /// leaves before all have arrived.
 pub fn turns_are_moves()
     ensures { TurnsAreMoves }
@@ -33,53 +34,52 @@ pub fn members_leave_together()
     ensures { MembersLeaveTogether }
 {}
 
-/// Members in lockstep that come to the block of `agree` in one cycle commit together in the third:
-/// then the last value of each is that of the highest, and one cycle later each stands at the next
-/// block. Of the node's words only that of what is agreed has changed.
+/// Members in lockstep that come to the block of an agreement in one cycle commit together in the
+/// third. Then the last value of each is that of the highest, and one cycle later each is at the
+/// next block. Of the node's words only that of the agreed value has changed.
 pub fn groups_agree()
     ensures { GroupsAgree }
 {}
 
 /// A hart that comes to the block of a `barrier`, of the end of a `farm` or `seq`, or of the end of
-/// a part arrives at its node's word for it after at most 7 cycles. When all members have, and it
-/// leaves with them, it stands for its processor at the next block.
+/// a part arrives at its node's word for it after at most 7 cycles. When all members have arrived,
+/// and it leaves with them, it stands for its processor at the next block.
 pub fn blocks_meet()
     ensures { BlocksMeet }
 {}
 
-/// Members in lockstep that come to the block of `farm` commit in that cycle, and stand at the
-/// body, in which each knows how many run it.
+/// Members in lockstep that come to the block of `farm` commit in that cycle, and are then at the
+/// body. Each knows how many run it.
 pub fn groups_set_free()
     ensures { GroupsSetFree }
 {}
 
 /// Members in lockstep that come to the block of `seq` commit together in the fourth cycle. Two
-/// cycles later the lowest stands at the body, which it runs by itself, and the others stand
-/// where the body ends.
+/// cycles later the lowest is at the body, which it runs by itself, and the others are at the end
+/// of the body.
 pub fn groups_send_one()
     ensures { GroupsSendOne }
 {}
 
-/// Members of the group of `start` that come to its end commit in that cycle, and six later
-/// they stand in the root, where those wait who were not in the group: with its `@`, `$`, size
-/// and control words.
+/// Members of the group of `start` that come to its end commit in that cycle. Six cycles later they
+/// are in the root, where those wait who were not in the group, with the root's `@`, `$`, size and
+/// control words.
 pub fn groups_end()
     ensures { GroupsEnd }
 {}
 
 /// At the beginning of `start` each processor comes to a meeting of all in the root, after at most
-/// 9 cycles. Two cycles behind the one in which they leave it they commit, and the value of the
-/// highest is known. Those below it come all in one cycle to the body, in the group of `start`,
-/// which has as many members; the others come to where they wait.
+/// 9 cycles. Two cycles after the one in which they leave it they commit, and the value of the
+/// highest is known. Those with numbers below it all come in one cycle to the body, in the group of
+/// `start`, which has that many members. The others come to where they wait.
 pub fn groups_start()
     ensures { GroupsStart }
 {}
 
-/// The block of an operation that processors do alone, and that keeps `a0`, `a1` and the words of
-/// frames but values and what it writes, keeps its hart in its node, in as many cycles, where the
-/// levels in the frame of its call have room beside these: that of a call too, where none of the
-/// levels round it stand in the new frame, and that of its end, where none stand in the frame
-/// that is given up.
+/// The block of an operation that a processor does alone keeps its hart in its node, in as many
+/// cycles. It must keep `a0`, `a1` and the words of frames, except values and what it writes, and
+/// the levels in the frame of its call must have room beside these. For a call the new frame must
+/// have no levels, and for an end the frame that is given up.
 pub fn lone_blocks_stay_in_node()
     ensures { LoneBlocksStayInNode }
 {}
@@ -89,13 +89,13 @@ pub fn jumps_stay_in_node()
     ensures { JumpsStayInNode }
 {}
 
-/// Members that meet leave at most 10 cycles after the last of them came to its block.
+/// Members that meet leave at most 10 cycles after the last of them has come to its block.
 pub fn members_leave_in_ten()
     ensures { MembersLeaveInTen }
 {}
 
 /// A node some of whose members meet, while the others go on by themselves and leave the arrival
-/// word as it is, has a chain: the turns of those who meet are moves, and each takes part with the
+/// word as it is, has a chain. The turns of those who meet are moves, and each takes part with the
 /// count of its phase.
 pub fn meeters_have_chains<S, P, D>()
     ensures { MeetersHaveChains S P D }

@@ -14,21 +14,21 @@ use fk_gen_flow::registers::NODE;
 use fk_isa::Instruction;
 use std::alloc::AllocError;
 
-/// The label where this code is entered.
+/// The label at which this code is entered.
 pub const START_LABEL: u32 = 57;
 /// The address of the first control word.
 const CONTROL: u32 = 0x1800_0000;
-/// How far from its first control word on the one stands that counts those at the end of
-/// a body or a part.
+/// The offset of the word that counts those at the end of a body or a part, from the node's first
+/// control word, in bytes.
 const CLOSING: u32 = 4;
-/// How far from its first control word on the one stands that holds what is agreed.
+/// The offset of the agreed value from the node's first control word, in bytes.
 const AGREED: u32 = 8;
-/// How far from the first device on the one stands that tells how many input numbers there are.
+/// The offset of the device that gives the number of input numbers.
 const INPUTS_DEVICE: u32 = 28;
 
-/// Adds the code that all beginnings of `start` share, for an image with so many words of
-/// globals. All processors meet, agree on the value of the highest, and go each to its part. It
-/// stands at `START_LABEL`.
+/// Adds the code that all beginnings of `start` share, for an image with `globals` words of
+/// globals. All processors meet, agree on the value of the highest, and go each to its part. The
+/// caller binds `START_LABEL` to the code's first line.
 pub fn emit_start(into: &mut Assembler, globals: u32) -> Result<(), AllocError>
     requires few { globals ≤ 2 ^ 19 }
     requires room { length into.old.lines + 30 < 2 ^ 30 }
@@ -41,7 +41,7 @@ pub fn emit_start(into: &mut Assembler, globals: u32) -> Result<(), AllocError>
     emit_parting(into, globals)
 }
 
-// All meet in the root. Leaving is no operation.
+// All processors meet in the root. Leaving is no operation.
 fn emit_meeting(into: &mut Assembler) -> Result<(), AllocError>
     requires room { length into.old.lines + 11 < 2 ^ 30 }
     requires free { AreFollowed into.old }
@@ -65,7 +65,8 @@ fn emit_meeting(into: &mut Assembler) -> Result<(), AllocError>
     )
 }
 
-// All store their values in one cycle, so that the highest member's stays, and load it in the next.
+// All processors store their values in one cycle, so that the highest one's stays, and load it in
+// the next.
 fn emit_telling(into: &mut Assembler) -> Result<(), AllocError>
     requires room { length into.old.lines + 2 < 2 ^ 30 }
     requires free { AreFollowed into.old }
@@ -80,8 +81,8 @@ fn emit_telling(into: &mut Assembler) -> Result<(), AllocError>
     )
 }
 
-// The value becomes the size of the group: 0 for a negative one, and at most the
-// number of processors.
+// The value becomes the size of the group: 0 for a negative value, and at most the number of
+// processors.
 fn emit_size(into: &mut Assembler) -> Result<(), AllocError>
     requires room { length into.old.lines + 8 < 2 ^ 30 }
     requires free { AreFollowed into.old }
@@ -102,8 +103,8 @@ fn emit_size(into: &mut Assembler) -> Result<(), AllocError>
     )
 }
 
-// Who is not below the size goes back to wait; the others have the size of their group, and
-// its control words.
+// A processor whose number is not below the size goes back to wait. The others get the size of
+// their group, and its control words.
 fn emit_parting(into: &mut Assembler, globals: u32) -> Result<(), AllocError>
     requires few { globals ≤ 2 ^ 19 }
     requires room { length into.old.lines + 9 < 2 ^ 30 }

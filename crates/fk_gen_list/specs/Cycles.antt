@@ -19,11 +19,11 @@ use Rattle.fk_gen_list.specs.Kinds.{kind_by}
 use Rattle.fk_gen_list.specs.Layout.{placed}
 use Rattle.fk_sim_block.specs.Law.{Cycles}
 
--- the kind of the block of an operation that processors do alone
+-- The kind of the block of an operation that a processor does alone.
 abbrev pub lone_kind : Operation → Kind
 lone_kind operation = kind_by (is_flow operation) (accesses.is_access (Some operation)) false
 
--- before its commit, and behind it
+-- The cycles before the commit of an operation that a processor does alone, and those after it.
 abbrev pub before_in : Kind → CoreOp → Operation → ℕ
 before_in Flow op operation = flow.before_commit operation
 before_in Access op operation = accesses.before_commit operation op.site
@@ -36,7 +36,8 @@ behind_in Group here operation onward = 0
 behind_in Expression here operation onward =
     past_first (expression_block here.globals here.op.depth operation)
 
--- and those of steps that a group does in lockstep
+-- The cycles before the commit of an operation, steps of groups in lockstep included, and those
+-- after it.
 abbrev pub before_of : CoreOp → Operation → ℕ
 before_of op Begin = 1
 before_of op Agree = 2
@@ -50,7 +51,7 @@ behind_of here Seq onward = 2
 behind_of here End onward = 6
 behind_of here operation onward = behind_in (lone_kind operation) here operation onward
 
--- at an index of a list. What is no operation takes none
+-- The cycles at an index of a list: none where there is no operation.
 abbrev pub before_at : Option CoreOp → ℕ
 before_at None = 0
 before_at (Some op) = option_map_or (before_of op) (operation_of op.kind op.number) 0
@@ -61,7 +62,7 @@ behind_at globals kept index (Some op) onward =
     option_map_or (λ operation. behind_of (placed globals kept index op) operation onward)
     (operation_of op.kind op.number) 0
 
--- in an image with so many words of globals, where calls keep these words
+-- The cycles in an image with this many words of globals, where calls keep these words.
 abbrev pub cycles_of : (core : List CoreOp) (globals : ℕ) (kept : List Set) → Cycles
 cycles_of core globals kept = record {
   before = λ i. before_at (slice_get core i);

@@ -1,4 +1,4 @@
--- Lists that code is made of, and what the code does.
+-- Lists for which code can be generated, and what the code does.
 use Rattle.std.specs.Prelude.{◌≡◌, ℕ, ◌<◌, ◌^◌, List, length, All, Bool, true, false, IsSome}
 use Rattle.std.specs.Prelude.{Option, Some, slice_get, if◌then◌else◌, ◌⊎◌}
 use Rattle.fk_meaning_operation.specs.declared.operation.Operation.{Operation}
@@ -22,23 +22,24 @@ use Rattle.fk_gen_group.specs.Blocks.{HasStart, is_group_step}
 use Rattle.fk_gen_list.specs.Kinds.{block_of}
 use Rattle.fk_gen_list.specs.Layout.{placed}
 
--- frames keep no words but those of sets
+-- Frames keep no words except those of the sets.
 abbrev pub AreKept : Frames → List Set → Type 0
 AreKept frames kept = (index word : ℕ) → frames.keeps index word ≡ true
     → kept_in (slice_get kept index) word ≡ true
 
--- what a processor does alone, a halt, or a step of one group
+-- An operation with a block of its own: one that a processor does alone, a halt, or a step of one
+-- group.
 abbrev pub HasOwnBlock : Operation → Type 0
 HasOwnBlock operation = (is_alone operation ≡ true)
     ⊎ ((operation ≡ Halt) ⊎ (is_group_step (Some operation) ≡ true))
 
--- which operations have a target in the list: a branch, and steps of groups. Those that go
--- straight on have 0
+-- The operations with a target in the list: branches and steps of groups. A step that goes straight
+-- on has target 0.
 abbrev pub has_target : Operation → Bool
 has_target (Branch onward) = true
 has_target operation = is_group_step (Some operation)
 
--- a list of jumps and of operations that have blocks, which stays inside itself
+-- A list of jumps and of operations that have blocks. Its targets are in the list.
 pub record HasBlocks (core : List CoreOp) : Type 0 where
   pub jumps : (i : ℕ) (op : CoreOp) → slice_get core i ≡ Some op → is_jump op ≡ true
       → op.target < length core
@@ -47,8 +48,9 @@ pub record HasBlocks (core : List CoreOp) : Type 0 where
   pub targets : (i : ℕ) (op : CoreOp) (operation : Operation) → StandsOp core i op operation
       → has_target operation ≡ true → op.target < length core
 
--- a list of operations of processors in one group or in none, which suits some frames with such
--- private variables of file scope, in which calls keep no words but these
+-- A list of operations of processors in one group or in none. It suits some frames with as many
+-- private variables of file scope as there are first values, in which calls keep no words except
+-- these.
 pub record IsGenerable (core : List CoreOp) (kept : List Set) (main : ℕ)
     (firsts : List ℕ) : Type 0 where
   pub blocks : HasBlocks core
@@ -59,11 +61,11 @@ pub record IsGenerable (core : List CoreOp) (kept : List Set) (main : ℕ)
   pub suits : Suits core frames main
   pub keeps : AreKept frames kept
   pub of_file : frames.of_file ≡ length firsts
-  -- they are words, as in every slice
+  -- The numbers are words, as in every slice.
   pub words : All (λ op. (op.site < 2 ^ 32) × (op.number < 2 ^ 32)) core
   pub first_words : All (λ v. v < 2 ^ 32) firsts
 
--- how many words a block has at most
+-- The most words that a block has.
 abbrev pub words_by : Option Operation → ℕ
 words_by (Some (Enter arguments)) = 14
 words_by operation = 15
@@ -71,14 +73,14 @@ words_by operation = 15
 abbrev pub most_words : CoreOp → ℕ
 most_words op = if is_jump op then 1 else words_by (operation_of op.kind op.number)
 
--- an image has this code, and so many words of globals
+-- An image has this code, and this many words of globals.
 pub record HasCode (code : Code) (globals : ℕ) (image : Image) : Type 0 where
   pub words : image.code.items ≡ code.words.items
   pub commits : image.commits.items ≡ code.commits.items
   pub globals_of : length image.globals.items ≡ globals
 
--- Each image with this code does what the law of blocks asks, in all frames that suit the list and
--- keep no words but these
+-- Each image with this code has the law of blocks of single processors, in all frames that suit the
+-- list and keep no words except these.
 abbrev pub DoesTheList : (core : List CoreOp) (kept : List Set) (main : ℕ) (firsts : List ℕ)
     (globals : ℕ) → Code → Type 0
 DoesTheList core kept main firsts globals code =
@@ -87,10 +89,10 @@ DoesTheList core kept main firsts globals code =
     → frames.of_file ≡ length firsts → (block : (index : ℕ) → ℕ)
     × BlockLaw core image (record { block = block; frames = frames }) firsts main
 
--- ---- all of it stands in an image
+-- ---- an image with all of the code
 
--- the opening, the block of each index, as it has to clear, and the code that calls and beginnings
--- of `start` share
+-- The image has the opening, the block of each index, which clears where it has to, and the code
+-- that calls and beginnings of `start` share.
 pub record HasWholeCode (core : List CoreOp) (kept : List Set) (image : Image) (bound : ℕ → ℕ)
     (places : Places) (firsts : List ℕ) (main : ℕ) : Type 0 where
   pub opening : HasOpening image bound places firsts main
@@ -99,7 +101,7 @@ pub record HasWholeCode (core : List CoreOp) (kept : List Set) (image : Image) (
   pub shared : HasShared image bound
   pub start : HasStart image bound
 
--- so it is in each image with this code, with each label bound to a word
+-- Each image with this code has all of it, with each label bound to a word.
 abbrev pub CodeStands : (core : List CoreOp) (kept : List Set) (main : ℕ) (firsts : List ℕ)
     (globals : ℕ) → Code → Type 0
 CodeStands core kept main firsts globals code =

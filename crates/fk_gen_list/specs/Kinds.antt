@@ -35,7 +35,7 @@ block_in Expression placed = expressions.block_of placed
 abbrev pub block_of : Placed → List MarkedLine
 block_of placed = block_in (kind_of placed.op) placed
 
--- an operation has a block where the blocks of its kind have one
+-- An operation has a block, as the blocks of its kind require.
 abbrev pub HasBlockIn : Kind → Placed → Type 0
 HasBlockIn Flow placed = flow.HasFlow placed
 HasBlockIn Access placed = accesses.HasAccess placed

@@ -1,4 +1,4 @@
--- What the code of a list does for processors by themselves.
+-- What the code of a list does: for processors by themselves, and for groups.
 use Rattle.std.specs.Prelude.{◌≡◌, ℕ, suc, ◌<◌, ◌≤◌, ◌^◌, List, length, Bool, true, false, Some}
 use Rattle.std.specs.Prelude.{slice_get, slice_index}
 use Rattle.fk_meaning_operation.specs.declared.operation.Operation.{Operation}
@@ -30,13 +30,13 @@ use Rattle.fk_gen_group.specs.Start.{gathering_of}
 use Rattle.fk_gen_group.specs.InNode.{LevelsFit}
 use Rattle.fk_gen_list.specs.Cycles.{lone_kind, cycles_of}
 
--- what a processor does alone, and a halt
+-- The operations that a processor does alone, and a halt.
 abbrev pub is_lone : Operation → Bool
 is_lone Halt = true
 is_lone operation = is_alone operation
 
--- the blocks of these stand at their indices, those of calls as they have to clear where such words
--- are kept; and so do jumps, and the code that calls share
+-- The blocks of these operations are at their indices. Those of calls clear where words are kept
+-- that are no arguments. The image also has the jumps and the code that calls share.
 pub record HasLoneCode (core : List CoreOp) (kept : List Set) (image : Image) (bound : ℕ → ℕ)
     (places : Places) : Type 0 where
   pub blocks : (i : ℕ) (op : CoreOp) (operation : Operation) → StandsOp core i op operation
@@ -46,13 +46,13 @@ pub record HasLoneCode (core : List CoreOp) (kept : List Set) (image : Image) (b
   pub jumps : JumpsStand core image bound places
   pub shared : HasShared image bound
 
--- the numbers of a list are words, and there are no more globals than shared words
+-- The numbers of a list are words, and there are no more globals than shared words.
 pub record AreInRange (core : List CoreOp) (image : Image) : Type 0 where
   pub words : (i : ℕ) (op : CoreOp) → slice_get core i ≡ Some op
       → (op.site < 2 ^ 32) × (op.number < 2 ^ 32)
   pub globals : length image.globals.items ≤ 2 ^ 20
 
--- the levels round a processor fit all that it does alone, and stay at jumps
+-- The levels around a processor fit everything that it does alone, and stay at jumps.
 pub record HaveLevels (core : List CoreOp) (places : Places) (nestings : Nestings) : Type 0 where
   pub operations : (i : ℕ) (op : CoreOp) (operation : Operation) → StandsOp core i op operation
       → is_alone operation ≡ true
@@ -60,7 +60,7 @@ pub record HaveLevels (core : List CoreOp) (places : Places) (nestings : Nesting
   pub jumps : (i : ℕ) (op : CoreOp) → slice_get core i ≡ Some op → is_jump op ≡ true
       → LevelsStay nestings i op.target
 
--- the parts of the law of blocks of groups in which a processor acts alone
+-- The parts of the law of blocks of groups in which a processor acts alone.
 pub record DoesAlone (core : List CoreOp) (image : Image) (places : Places) (nestings : Nestings)
     (cycles : Cycles) : Type 0 where
   pub few_before : (i : ℕ) → cycles.before i ≤ most_before
@@ -72,8 +72,8 @@ pub record DoesAlone (core : List CoreOp) (image : Image) (places : Places) (nes
       → BlockJumpsInNode core image places nestings i op
   pub halts : (i : ℕ) (op : CoreOp) → StandsOp core i op Halt → BlockHalts core image places i op
 
--- a list does so where its code stands in an image, and it suits frames in which calls
--- keep no other words
+-- An image with the code of a list does what `DoesAlone` says, if the list suits frames in which
+-- calls keep no other words.
 abbrev pub ListsDoAlone : Type 0
 ListsDoAlone =
     (core : List CoreOp) (kept : List Set) (image : Image) (bound : ℕ → ℕ) (places : Places)
@@ -85,14 +85,15 @@ ListsDoAlone =
 
 -- ---- with steps of groups
 
--- steps behind which some go on at the target
+-- Steps after which some processors go on at the target.
 abbrev pub leads_away : Operation → Bool
 leads_away Begin = true
 leads_away Seq = true
 leads_away End = true
 leads_away operation = false
 
--- the block of each step stands at its index, and so does the code that beginnings of `start` share
+-- The block of each step is at its index, and the image has the code that beginnings of `start`
+-- share.
 pub record HasGroupCode (core : List CoreOp) (image : Image) (bound : ℕ → ℕ)
     (places : Places) : Type 0 where
   pub blocks : (i : ℕ) (op : CoreOp) (operation : Operation) → StandsOp core i op operation
@@ -100,13 +101,13 @@ pub record HasGroupCode (core : List CoreOp) (image : Image) (bound : ℕ → �
       → HasBlock image bound places i (block_of_step (Some operation) op.depth op.target)
   pub start : HasStart image bound
 
--- a step finds the value that it looks at
+-- A step finds the value that it looks at.
 abbrev pub StepsHaveValues : List CoreOp → Type 0
 StepsHaveValues core =
     (i : ℕ) (op : CoreOp) (operation : Operation) → StandsOp core i op operation
     → is_group_step (Some operation) ≡ true → values_of_step operation ≤ op.depth
 
--- the levels round a processor have room where it comes to one, and stay where it goes on
+-- The levels around a processor have room where it comes to a step, and stay where it goes on.
 pub record HaveStepLevels (core : List CoreOp) (places : Places)
     (nestings : Nestings) : Type 0 where
   pub room : (i : ℕ) (op : CoreOp) (operation : Operation) → StandsOp core i op operation
@@ -118,7 +119,7 @@ pub record HaveStepLevels (core : List CoreOp) (places : Places)
   pub leads : (i : ℕ) (op : CoreOp) (operation : Operation) → StandsOp core i op operation
       → leads_away operation ≡ true → LevelsStay nestings i op.target
 
--- each hart comes from the opening to the block where `main` begins, in the root
+-- From its start each hart comes to the block where `main` begins, in the root.
 abbrev pub HartsBeginInNode : (core : List CoreOp) → Image → Places → Nestings → (firsts : List ℕ)
     → (main : ℕ) → Type 0
 HartsBeginInNode core image places nestings firsts main =
@@ -127,7 +128,7 @@ HartsBeginInNode core image places nestings firsts main =
     → BeginsInNode core image places nestings setting t
     (beginner setting (slice_index firsts) main number)
 
--- with these, and with an opening that leads there, the whole law holds
+-- The whole law holds with these, and with an opening that leads to `main`.
 abbrev pub ListsHaveTheLaw : Type 0
 ListsHaveTheLaw =
     (core : List CoreOp) (kept : List Set) (image : Image) (bound : ℕ → ℕ) (places : Places)
@@ -143,11 +144,11 @@ ListsHaveTheLaw =
 
 -- ---- without levels
 
--- no level stands in a frame
+-- No frame has a saved level.
 abbrev pub none_saved : (start : Gathering) → Nestings
 none_saved start = record { levels = λ index. 0; behind = λ index. 0; start = start }
 
--- these fit each list that suits frames
+-- A list that suits frames needs no room for levels, if no frame has one.
 abbrev pub LevelsNeedNoRoom : Type 0
 LevelsNeedNoRoom =
     (core : List CoreOp) (places : Places) (start : Gathering) (main : ℕ)

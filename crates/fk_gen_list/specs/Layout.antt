@@ -1,4 +1,4 @@
--- Blocks that stand one behind the other, each with its label.
+-- Blocks one after another, each with its label.
 use Rattle.std.specs.Prelude.{◌≡◌, ℕ, suc, ◌+◌, ◌-◌, ◌*◌, ◌/◌, ◌^◌, ◌==◌, ◌<◌, ◌≤◌, nat_lt, List}
 use Rattle.std.specs.Prelude.{[], ◌∷◌, ◌++◌, length, take, flat_map, Bool, not, false, ◌&&◌, Option}
 use Rattle.std.specs.Prelude.{Some, None, slice_get, slice_index_or, slice_set}
@@ -14,13 +14,13 @@ use Rattle.fk_gen.specs.Lines.{copy_label, clear_label, label_of}
 use Rattle.fk_gen_flow.specs.Calls.{chain_lines, copy_lines, clear_lines, most_privates}
 use Rattle.fk_gen_group.specs.Blocks.{start_label, start_lines}
 
--- a call clears where its set has a word that is no argument
+-- A call clears where its set has a word that is no argument.
 abbrev pub clears_by : Option Operation → Option Set → Bool
 clears_by (Some (Enter arguments)) (Some set) =
     nat_lt arguments 64 && not (set.mask / 2 ^ arguments == 0)
 clears_by operation set = false
 
--- the operation at an index. The words that are kept as a call begins are those at the next index
+-- The operation at an index. The words that are kept as a call begins are those at the next index.
 abbrev pub placed : (globals : ℕ) → List Set → (index : ℕ) → CoreOp → Placed
 placed globals kept index op =
     record {
@@ -34,16 +34,16 @@ placed_from globals kept index [] = []
 placed_from globals kept index (op ∷ ops) =
     placed globals kept index op ∷ placed_from globals kept (suc index) ops
 
--- all operations of a list
+-- All operations of a list.
 abbrev pub all_placed : (globals : ℕ) → List Set → List CoreOp → List Placed
 all_placed globals kept ops = placed_from globals kept 0 ops
 
--- the word where the block of an index begins, where the first one begins at a word; behind the
--- list, where the last one ends
+-- The word where the block of an index begins, given the word where the first one begins. The index
+-- after the list gives the word where the last block ends.
 abbrev pub place : (Placed → List MarkedLine) → (first : ℕ) → List Placed → (index : ℕ) → ℕ
 place block first ops index = first + length (flat_map block (take index ops))
 
--- an assembler to which the blocks of a list were added, each behind its label
+-- An assembler to which the blocks of a list were added, each after its label.
 pub record AddsBlocks (block : Placed → List MarkedLine) (ops : List Placed)
     (old new : Assembly) : Type 0 where
   pub made : new ≡ record (with_block old (flat_map block ops)) { bound = new.bound }
@@ -53,8 +53,8 @@ pub record AddsBlocks (block : Placed → List MarkedLine) (ops : List Placed)
   pub others : (label : ℕ) → label < label_of 0
       → slice_index_or new.bound label None ≡ slice_index_or old.bound label None
 
--- an assembler to which a chain was added. The label before so many parts is bound so many words
--- behind its beginning
+-- An assembler to which a chain was added. The label of n parts is bound `offset n` words after the
+-- chain's beginning.
 pub record AddsChain (label offset : ℕ → ℕ) (part : ℕ → List MarkedLine)
     (old new : Assembly) : Type 0 where
   pub made : new ≡ record (with_block old (chain_lines part most_privates)) { bound = new.bound }
@@ -64,8 +64,8 @@ pub record AddsChain (label offset : ℕ → ℕ) (part : ℕ → List MarkedLin
   pub others : (other : ℕ) → ((n : ℕ) → n ≤ most_privates → other ≡ label n → ⊥)
       → slice_index_or new.bound other None ≡ slice_index_or old.bound other None
 
--- the chains of the code that all calls share: one copies arguments, two words for each, and one
--- clears private words
+-- The two chains of the code that all calls share: one copies arguments, two words for each, and
+-- one clears private words, one word for each.
 abbrev pub copy_offset : (arguments : ℕ) → ℕ
 copy_offset arguments = 2 * (most_privates - arguments)
 
@@ -84,15 +84,15 @@ copying_lines = chain_lines copy_lines most_privates
 abbrev pub clearing_lines : List MarkedLine
 clearing_lines = chain_lines clear_lines most_privates
 
--- an assembler to which the code was added that all beginnings of `start` share, in an image with
--- so many words of globals. Its label is bound where it begins
+-- An assembler to which the code was added that all beginnings of `start` share, for an image with
+-- this many words of globals. Its label is bound where it begins.
 abbrev pub AddsStart : (globals : ℕ) → (old new : Assembly) → Type 0
 AddsStart globals old new =
     new
     ≡ with_block (record old { bound = slice_set old.bound start_label (Some (length old.lines)) })
     (start_lines globals)
 
--- what stands before that code, what stands before the blocks, and all lines of a code
+-- The lines before that code, the lines before the blocks, and all lines of the code.
 abbrev pub calls_front : (opening : List MarkedLine) → List MarkedLine
 calls_front opening = (opening ++ copying_lines) ++ clearing_lines
 
@@ -103,14 +103,14 @@ abbrev pub all_lines : (Placed → List MarkedLine) → (opening : List MarkedLi
     → List Placed → List MarkedLine
 all_lines block opening globals ops = front opening globals ++ flat_map block ops
 
--- a label of none of these
+-- A label below those of blocks, which no shared code has.
 pub record IsSpare (label : ℕ) : Type 0 where
   pub low : label < label_of 0
   pub no_copy : (n : ℕ) → n ≤ most_privates → label ≡ copy_label n → ⊥
   pub no_start : label ≡ start_label → ⊥
   pub no_clear : (n : ℕ) → n ≤ most_privates → label ≡ clear_label n → ⊥
 
--- an assembler with all of a code
+-- An assembler with all of the code.
 pub record IsLaid (block : Placed → List MarkedLine) (opening : List MarkedLine) (globals : ℕ)
     (ops : List Placed) (a : Assembly) : Type 0 where
   pub made : a ≡ record (with_block empty (all_lines block opening globals ops)) { bound = a.bound }

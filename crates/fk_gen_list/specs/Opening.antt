@@ -7,8 +7,8 @@ use Rattle.fk_gen_flow.specs.Opening.{AreFirsts, HasOpening}
 use Rattle.fk_sim_block.specs.Node.{Nestings, HasLevelRoom}
 use Rattle.fk_gen_list.specs.Laws.{HartsBeginInNode}
 
--- from the opening each hart comes to the block where `main` begins, in the root, where no level
--- stands in its frame
+-- From its start each hart comes to the block where `main` begins, in the root, with no level in
+-- its frame.
 abbrev pub GroupsBegin : Type 0
 GroupsBegin =
     (core : List CoreOp) (image : Image) (bound : ℕ → ℕ) (places : Places) (nestings : Nestings)

@@ -1,4 +1,4 @@
--- The whole law, of a list in which no group splits: no level stands in a frame.
+-- The whole law, for a list in which no group splits: no frame has a saved level.
 use Rattle.std.specs.Prelude.{◌≡◌, ℕ, List, length}
 use Rattle.fk_core.specs.declared.op.CoreOp.{CoreOp}
 use Rattle.fk_image.specs.declared.Image.{Image}
@@ -15,14 +15,14 @@ use Rattle.fk_gen_list.specs.Cycles.{cycles_of}
 use Rattle.fk_gen_list.specs.Laws.{AreInRange, HasLoneCode, HasGroupCode, StepsHaveValues}
 use Rattle.fk_gen_list.specs.Laws.{none_saved}
 
--- all its code stands in an image
+-- The image has all the code of a list.
 pub record HasAllCode (core : List CoreOp) (kept : List Set) (image : Image) (bound : ℕ → ℕ)
     (places : Places) (firsts : List ℕ) (main : ℕ) : Type 0 where
   pub opening : HasOpening image bound places firsts main
   pub alone : HasLoneCode core kept image bound places
   pub steps : HasGroupCode core image bound places
 
--- so it is where the code that is made of a list stands
+-- An image with the code that is generated for a list has all the code of that list.
 abbrev pub GeneratedCodeStands : Type 0
 GeneratedCodeStands =
     (core : List CoreOp) (kept : List Set) (image : Image) (bound : ℕ → ℕ) (places : Places)
@@ -30,7 +30,8 @@ GeneratedCodeStands =
     → HasWholeCode core kept image bound places firsts main
     → HasAllCode core kept image bound places firsts main
 
--- then it has the law, where the list suits frames in which calls keep no other words
+-- An image with all the code of a list has the law of blocks, if the list suits frames in which
+-- calls keep no other words.
 abbrev pub CodeHasTheLaw : Type 0
 CodeHasTheLaw =
     (core : List CoreOp) (kept : List Set) (image : Image) (bound : ℕ → ℕ) (places : Places)
@@ -42,7 +43,7 @@ CodeHasTheLaw =
     (cycles_of core (length image.globals.items) kept) firsts main
 
 -- Each image with this code has the law of blocks of groups, in all frames that suit the list and
--- keep no words but these, where each step finds the value that it looks at
+-- keep no words except these, where each step finds the value that it looks at.
 abbrev pub GivesGroupLaw : (core : List CoreOp) (kept : List Set) (main : ℕ) (firsts : List ℕ)
     (globals : ℕ) → Code → Type 0
 GivesGroupLaw core kept main firsts globals code =

@@ -1,4 +1,4 @@
-//! Blocks that stand one behind the other, each with its label.
+//! Blocks one after another, each with its label.
 
 ghost use Rattle.std.specs.Prelude.{◌≡◌, ◌+◌, ◌^◌, ◌<◌, ◌≤◌, ℕ, ℤ, All, IfOk, None, OnOk, Some};
 ghost use Rattle.std.specs.Prelude.{flat_map, length, map, replicate, slice_index_or, vec_len};
@@ -30,8 +30,8 @@ pub(crate) fn make_labels(into: &mut Assembler, count: u32) -> Result<(), AllocE
     Ok(())
 }
 
-/// Adds the blocks of a list in which calls keep these words, and binds the label of each
-/// where it begins.
+/// Adds the blocks of a list in which calls keep these words, and binds the label of each block
+/// where it begins. Fails where there isn't enough memory.
 pub(crate) fn emit_blocks<B: Blocks<Placed>>(
     blocks: &B,
     ops: &[CoreOp],
@@ -60,7 +60,7 @@ pub(crate) fn emit_blocks<B: Blocks<Placed>>(
     Ok(())
 }
 
-/// The code of lines that all reach their labels.
+/// The code of lines that all reach their labels. Fails where there isn't enough memory.
 pub(crate) fn finish(laid: Assembler) -> Result<Code, AllocError>
     requires bound { All (IsBound laid.bound) laid.lines }
     requires followed { AreFollowed laid }
@@ -74,7 +74,7 @@ pub(crate) fn finish(laid: Assembler) -> Result<Code, AllocError>
     match laid.finish() {
         Ok(code) => Ok(code),
         Err(AsmFault::Memory(error)) => Err(error),
-        // each line is near
+        // Each line reaches its label.
         Err(AsmFault::TooFar(_, _)) => unreachable!(),
     }
 }

@@ -18,12 +18,13 @@ use fk_core_liveness::Set;
 use fk_gen_flow::emit_opening;
 use std::alloc::{AllocError, Global};
 
-/// The code of a list of operations that processors do in one group or in none, with the private
-/// words that calls keep at each index and the first values of private variables of file scope, in
-/// an image with so many words of globals. `main` is the index where the program begins.
+/// The code of a list of operations that processors do in one group or in none. `kept` has the
+/// private words that calls keep at each index, `main` is the index where the program begins,
+/// `firsts` are the first values of private variables of file scope, and the image has `globals`
+/// words of globals.
 ///
-/// At word 0 stands the opening, then the code that all calls share, that which all beginnings of
-/// `start` share, and then the block of each operation in their order.
+/// The opening is at word 0. After it comes the code that all calls share, that which all
+/// beginnings of `start` share, and then the block of each operation, in their order.
 pub(crate) fn assemble_list(
     alloc: Global,
     ops: &[CoreOp],
@@ -45,7 +46,7 @@ pub(crate) fn assemble_list(
     finish(laid)
 }
 
-// All lines, each label bound.
+// All lines of the code, each label bound.
 fn lay(
     alloc: Global,
     ops: &[CoreOp],

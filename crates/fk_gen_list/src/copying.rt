@@ -1,4 +1,4 @@
-//! The code that calls share.
+//! The code that all calls share.
 
 ghost use Rattle.std.specs.Prelude.{◌≡◌, ◌+◌, ◌^◌, ◌<◌, ◌≤◌, ℕ, None, OnOk, length, slice_index_or};
 ghost use Rattle.fk_asm.specs.Assembly.{AreFollowed};
@@ -10,14 +10,14 @@ use fk_asm::Assembler;
 use fk_gen_flow::{emit_back, emit_clear, emit_copy};
 use std::alloc::AllocError;
 
-/// How many private words a frame has, and so how many arguments a call has, at most.
+/// The number of private words that a frame has room for, and so the most arguments of a call.
 const MOST_PRIVATES: u32 = 56;
-/// The label where no word is cleared.
+/// The label at which no word is cleared.
 const CLEAR_LABEL: u32 = 64;
 
-/// Adds the code that copies arguments. A call of more than one argument enters it at the label of
-/// as many: from there on each is copied into the new frame, the last one first, and then it goes
-/// back to the call.
+/// Adds the code that copies arguments. A call of n > 1 arguments enters it at label n. From there
+/// on each argument is copied into the new frame, the last one first, and then the code goes back
+/// to the call.
 pub(crate) fn emit_copying(into: &mut Assembler) -> Result<(), AllocError>
     requires room { length into.old.lines < 2 ^ 20 }
     requires followed { AreFollowed into.old }
@@ -36,9 +36,8 @@ pub(crate) fn emit_copying(into: &mut Assembler) -> Result<(), AllocError>
     emit_back(into)
 }
 
-/// Adds the code that clears private words. A call enters it before the first word behind
-/// its arguments: from there on each word of the new frame becomes 0, and then it goes
-/// back to the call.
+/// Adds the code that clears private words. A call enters it at the first word after its arguments.
+/// From there on each word of the new frame becomes 0, and then the code goes back to the call.
 pub(crate) fn emit_clearing(into: &mut Assembler) -> Result<(), AllocError>
     requires room { length into.old.lines < 2 ^ 20 }
     requires followed { AreFollowed into.old }

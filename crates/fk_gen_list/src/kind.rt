@@ -3,7 +3,7 @@
 use fk_core::CoreOp;
 use fk_meaning_operation::Operation;
 
-/// What an operation's block is made by.
+/// The kind of an operation's block.
 #[derive(Clone, Copy, PartialEq, Eq, Debug)]
 pub enum Kind {
     /// A jump, a branch, a call, the end of a call or a halt.

@@ -2,7 +2,7 @@
 //! beginnings of `start` share, and the block of each operation; and that it has the law of blocks
 //! of groups.
 //!
-//! The definitions stand in `specs/`, and what is proved of them in `laws`.
+//! The definitions are in `specs/`, and the laws proved of them in `laws`.
 #![tactic(auto)]
 
 mod all_blocks;

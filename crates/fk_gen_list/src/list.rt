@@ -11,8 +11,12 @@ use fk_core::CoreOp;
 use fk_core_liveness::Set;
 use std::alloc::{AllocError, Global};
 
-/// The code of a list of operations that processors do in one group or in none, each image with it
+/// The code of a list of operations that processors do in one group or in none. Each image with it
 /// has the law of blocks of groups.
+///
+/// `kept` has the private words that calls keep at each index, `main` is the index where the
+/// program begins, `firsts` are the first values of private variables of file scope, and the image
+/// has `globals` words of globals. Fails where there isn't enough memory.
 pub fn generate(
     alloc: Global,
     ops: &[CoreOp],

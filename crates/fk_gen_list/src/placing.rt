@@ -1,4 +1,4 @@
-//! What the block of an index is made for.
+//! An operation with what its block depends on.
 
 ghost use Rattle.std.specs.Prelude.{◌≡◌, ◌<◌, ◌^◌, suc, slice_get};
 ghost use Rattle.fk_core.specs.Numbers.{operation_of};
@@ -24,7 +24,7 @@ fn clears(op: CoreOp, kept: &[Set], index: usize) -> bool
     }
 }
 
-/// The operation at an index of a list in which calls keep these words, in an image with so many
+/// The operation at an index of a list in which calls keep these words, in an image with `globals`
 /// words of globals.
 pub(crate) fn placed(op: CoreOp, kept: &[Set], index: usize, globals: u32) -> Placed
     requires small { index < 2 ^ 32 }

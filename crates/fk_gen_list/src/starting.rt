@@ -1,4 +1,4 @@
-//! The code that beginnings of `start` share.
+//! The code that all beginnings of `start` share.
 
 ghost use Rattle.std.specs.Prelude.{◌≡◌, ◌^◌, ◌<◌, ◌≤◌, None, OnOk, length, slice_index_or};
 ghost use Rattle.fk_asm.specs.Assembly.{AreFollowed};
@@ -10,8 +10,8 @@ use fk_asm::Assembler;
 use fk_gen_group::{START_LABEL, emit_start};
 use std::alloc::AllocError;
 
-/// Adds the code that all beginnings of `start` share, in an image with so many words of
-/// globals, with its label.
+/// Adds the code that all beginnings of `start` share, with its label, for an image with `globals`
+/// words of globals.
 pub(crate) fn emit_starting(into: &mut Assembler, globals: u32) -> Result<(), AllocError>
     requires few { globals ≤ 2 ^ 19 }
     requires room { length into.old.lines < 2 ^ 20 }

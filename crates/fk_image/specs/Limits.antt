@@ -2,25 +2,26 @@
 use Rattle.std.specs.Prelude.{◌≡◌, ℕ, ◌*◌, ◌/◌, ◌%◌, ◌<◌, ◌≤◌, List, [], ◌∷◌, All, vec_len}
 use Rattle.fk_image.specs.declared.Image.{Image}
 
--- the count and the event of a commit's second word
+-- The count and the event in a commit's second word.
 abbrev pub count_of_word : ℕ → ℕ
 count_of_word w = w % 256
 
 abbrev pub event_of_word : ℕ → ℕ
 event_of_word w = w / 256
 
--- a site has one of the 34 kinds of operations
+-- A site has one of the 34 kinds of operations.
 abbrev pub IsSite : ℕ × ℕ × ℕ → Type 0
 IsSite site = (1 ≤ site.0) × (site.0 ≤ 34)
 
--- a commit within so many words of code: its address, its count from 1 to 255, its event up to 6
+-- A commit in code of `code_words` words: its address is in the code, its count is 1 to 255, and
+-- its event at most 6.
 pub record IsCommit (code_words : ℕ) (commit : ℕ × ℕ) : Type 0 where
   pub aligned : commit.0 % 4 ≡ 0
   pub within : commit.0 < 4 * code_words
   pub counted : 1 ≤ count_of_word commit.1
   pub event : event_of_word commit.1 ≤ 6
 
--- the addresses of commits rise strictly
+-- The addresses of commits rise strictly.
 abbrev pub Rise : List (ℕ × ℕ) → Type 0
 Rise [] = Unit {0}
 Rise (c ∷ []) = Unit {0}

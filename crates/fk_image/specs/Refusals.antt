@@ -7,83 +7,84 @@ use Rattle.fk_image.specs.declared.fault.ImageFault.TheVariants.{Magic, Version,
 use Rattle.fk_image.specs.declared.fault.ImageFault.TheVariants.{BadTable, BadWord, Memory}
 use Rattle.fk_image.specs.Limits.{IsSite, IsCommit}
 
--- the word at a place, counted in words
+-- The word at a place, counted in words.
 unfoldable pub word_at : List ℕ → ℕ → ℕ
 word_at bytes place = from_le_bytes w32 (take 4 (drop (4 * place) bytes))
 
--- the site at a place
+-- The site at a place, counted in words.
 abbrev pub site_at : List ℕ → ℕ → ℕ × ℕ × ℕ
 site_at bytes place = (word_at bytes place, word_at bytes (place + 1), word_at bytes (place + 2))
 
--- the commit at a place
+-- The commit at a place, counted in words.
 abbrev pub commit_at : List ℕ → ℕ → ℕ × ℕ
 commit_at bytes place = (word_at bytes place, word_at bytes (place + 1))
 
--- word 2: how many words of code there are
+-- Word 2: the number of words of code.
 abbrev pub code_words : List ℕ → ℕ
 code_words bytes = word_at bytes 2
 
--- word 3: how many words of globals
+-- Word 3: the number of words of globals.
 abbrev pub global_words : List ℕ → ℕ
 global_words bytes = word_at bytes 3
 
--- word 4: how many sites
+-- Word 4: the number of sites.
 abbrev pub site_count : List ℕ → ℕ
 site_count bytes = word_at bytes 4
 
--- word 5: how many commits
+-- Word 5: the number of commits.
 abbrev pub commit_count : List ℕ → ℕ
 commit_count bytes = word_at bytes 5
 
--- how many bytes they ask for
+-- The number of bytes for which the header asks.
 abbrev pub needed : List ℕ → ℕ
 needed bytes = 24 + 4 * code_words bytes + 4 * global_words bytes + 12 * site_count bytes
     + 8 * commit_count bytes
 
--- the least value of each of these words
+-- The least value of a word of the header.
 abbrev pub least : ℕ → ℕ
 least index = if index == 2 then 1 else 0
 
--- the greatest value, of word 5 as many as there are words of code
+-- The greatest value of a word of the header. For word 5 it is the number of words of code.
 abbrev pub greatest : List ℕ → ℕ → ℕ
 greatest bytes index =
     if index == 2 then 262144
     else (if index == 3 then 524288
     else (if index == 4 then 16000 else code_words bytes))
 
--- the word is within its limits
+-- A word of the header is within its limits.
 abbrev pub IsHeaderWord : List ℕ → ℕ → Type 0
 IsHeaderWord bytes index = (least index ≤ word_at bytes index)
     × (word_at bytes index ≤ greatest bytes index)
 
--- n is the first, counted from this one, that isn't good
+-- n is the first number from `from` on that isn't good.
 pub record IsFirstBad (from : ℕ) (IsGood : ℕ → Type 0) (n : ℕ) : Type 0 where
   pub behind : from ≤ n
   pub bad : IsGood n → ⊥
   pub good_before : (k : ℕ) → from ≤ k → k < n → IsGood k
 
--- the sites begin behind the code and the globals
+-- The place where the sites begin, after the code and the globals.
 abbrev pub sites_place : List ℕ → ℕ
 sites_place bytes = 6 + code_words bytes + global_words bytes
 
--- the commits begin behind the sites
+-- The place where the commits begin, after the sites.
 abbrev pub commits_place : List ℕ → ℕ
 commits_place bytes = sites_place bytes + 3 * site_count bytes
 
--- site k of the bytes
+-- Site k of the bytes.
 abbrev pub site_of : List ℕ → ℕ → ℕ × ℕ × ℕ
 site_of bytes k = site_at bytes (sites_place bytes + 3 * k)
 
--- commit k of the bytes
+-- Commit k of the bytes.
 abbrev pub commit_of : List ℕ → ℕ → ℕ × ℕ
 commit_of bytes k = commit_at bytes (commits_place bytes + 2 * k)
 
--- commit k is one within so many words of code, above the address of the commit before it
+-- Commit k is one in code of this many words, above the address of the commit before it.
 pub record IsNextCommit (words : ℕ) (commits : ℕ → ℕ × ℕ) (k : ℕ) : Type 0 where
   pub limits : IsCommit words (commits k)
   pub rises : (before : ℕ) → before + 1 ≡ k → (commits before).0 < (commits k).0
 
--- entries of tables are counted from 0, the sites first and the commits after them
+-- An entry of the tables is within its limits. Entries are counted from 0, the sites first and the
+-- commits after them.
 pub record IsEntry (bytes : List ℕ) (entry : ℕ) : Type 0 where
   pub site : entry < site_count bytes → IsSite (site_of bytes entry)
   pub commit : (k : ℕ) → entry ≡ site_count bytes + k
@@ -91,52 +92,52 @@ pub record IsEntry (bytes : List ℕ) (entry : ℕ) : Type 0 where
 
 -- ---- each refusal
 
--- there are so many bytes, fewer than are wanted
+-- There are `size` bytes, fewer than wanted.
 abbrev pub IsShort : List ℕ → ℕ → ℕ → Type 0
 IsShort bytes size wanted = (size ≡ length bytes) × (size < wanted)
 
--- the first word is another
+-- The first word isn't `FK95`.
 abbrev pub IsOtherMagic : List ℕ → Type 0
 IsOtherMagic bytes = take 4 bytes ≢ codes "FK95"
 
--- the version is this one, and not 1
+-- The version is this one, and not 1.
 abbrev pub IsOtherVersion : List ℕ → ℕ → Type 0
 IsOtherVersion bytes version = (version ≡ word_at bytes 1) × (version ≢ 1)
 
--- this word of the header is the first past its limits
+-- This word of the header is the first past its limits.
 abbrev pub IsBadWord : List ℕ → ℕ → Type 0
 IsBadWord bytes index = (index ≤ 5) × IsFirstBad 2 (IsHeaderWord bytes) index
 
--- there are more bytes than the header asks for
+-- There are more bytes than the header asks for.
 abbrev pub IsLongTail : List ℕ → ℕ → Type 0
 IsLongTail bytes wanted = (wanted ≡ needed bytes) × (wanted < length bytes)
 
--- this entry of the tables is the first past its limits
+-- This entry of the tables is the first past its limits.
 abbrev pub IsBadTable : List ℕ → ℕ → Type 0
 IsBadTable bytes entry = (entry < site_count bytes + commit_count bytes)
     × IsFirstBad 0 (IsEntry bytes) entry
 
--- ---- how far none applies
+-- ---- how far no refusal applies
 
--- there are as many bytes as a header has, and the first word is `FK95`
+-- There are as many bytes as a header has, and the first word is `FK95`.
 abbrev pub HasMagic : List ℕ → Type 0
 HasMagic bytes = (24 ≤ length bytes) × (take 4 bytes ≡ codes "FK95")
 
--- and the version is 1
+-- The bytes also have version 1.
 abbrev pub HasVersion : List ℕ → Type 0
 HasVersion bytes = HasMagic bytes × (word_at bytes 1 ≡ 1)
 
--- and each word of the header is within its limits
+-- Each word of the header is also within its limits.
 abbrev pub HasHeader : List ℕ → Type 0
 HasHeader bytes = HasVersion bytes
     × ((index : ℕ) → 2 ≤ index → index ≤ 5 → IsHeaderWord bytes index)
 
--- and there are as many bytes as the header asks for
+-- There are also as many bytes as the header asks for.
 abbrev pub HasLength : List ℕ → Type 0
 HasLength bytes = HasHeader bytes × (length bytes ≡ needed bytes)
 
--- the bytes are refused: this refusal applies, and none before it. Want of memory is no
--- refusal of the bytes
+-- The bytes are refused: this refusal applies, and none before it. `Memory` is no refusal of the
+-- bytes.
 abbrev pub IsRefusedImage : List ℕ → ImageFault → Type 0
 IsRefusedImage bytes (Short size wanted) =
     IsShort bytes size wanted × ((wanted ≡ 24) ⊎ (HasHeader bytes × (wanted ≡ needed bytes)))
@@ -147,7 +148,7 @@ IsRefusedImage bytes (LongTail wanted) = HasHeader bytes × IsLongTail bytes wan
 IsRefusedImage bytes (BadTable entry) = HasLength bytes × IsBadTable bytes entry
 IsRefusedImage bytes (Memory e) = ⊥
 
--- the bytes are refused so, if it isn't want of memory
+-- The bytes are refused by this fault, unless it is `Memory`.
 abbrev pub IsFault : List ℕ → ImageFault → Type 0
 IsFault bytes (Memory e) = Unit {0}
 IsFault bytes fault = IsRefusedImage bytes fault

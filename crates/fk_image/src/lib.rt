@@ -1,8 +1,8 @@
-//! Images: what a machine runs, and how it stands in a file.
+//! Images: what a machine runs, and their form in a file.
 //!
 //! All words of the file are little-endian. It begins with a header of six words: the bytes `FK95`,
-//! the version 1, and how many words of code, words of globals, sites and commits follow: 1 to
-//! 262,144, at most 524,288, at most 16,000, and at most as many as words of code. Then come the
+//! the version 1, and the numbers of words of code, of words of globals, of sites and of commits: 1
+//! to 262,144, at most 524,288, at most 16,000, and at most as many as words of code. Then come the
 //! code, the globals, the sites of three words each, and the commits of two, and nothing else.
 #![tactic(auto)]
 
@@ -22,10 +22,9 @@ pub struct Image {
     pub code: Vec<u32>,
     /// The first words of shared data: the initial values of the globals.
     pub globals: Vec<u32>,
-    /// For each site the kind of its operation, and its line and column, 0 and 0 where
-    /// it has no place.
+    /// The kind, line and column of each site. Line and column are 0 if the site has no place.
     pub sites: Vec<(u32, u32, u32)>,
-    /// The instructions that do an operation: the address, and the count plus 256 times the event.
+    /// The instructions that do an operation: the address, and the count + 256 * the event.
     /// Addresses rise.
     pub commits: Vec<(u32, u32)>,
 }

@@ -8,7 +8,8 @@ use crate::Image;
 use byteorder::{ByteOrder, LittleEndian};
 use std::alloc::{AllocError, Global};
 
-/// The bytes of an image, which `read_image` reads back. It takes time linear in the image.
+/// The bytes of an image, which `read_image` reads back. It takes time linear in the image, and
+/// fails only if there isn't enough memory.
 pub fn write_image(alloc: Global, image: &Image) -> Result<Vec<u8>, AllocError>
     requires { IsWithinLimits image.now }
     ensures { IfOk result (λ bytes. IsImageOf bytes.items image.now) }

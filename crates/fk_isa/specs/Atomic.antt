@@ -3,13 +3,13 @@ use Rattle.std.specs.Prelude.{ℕ, ◌==◌, if◌then◌else◌, Option, Some, 
 use Rattle.fk_num.specs.Op.{applied}
 use Rattle.fk_num.specs.declared.operator.Op.TheVariants as op
 
--- a reservation, unless it is that of a word
+-- A reservation, unless it is of this word.
 abbrev pub unless : ℕ → Option ℕ → Option ℕ
 unless word None = None
 unless word (Some r) = if r == word then None else Some r
 
--- the word that an atomic instruction, by the bits 31 to 27 of its word, stores, of the one that it
--- found and its value
+-- The word that an atomic instruction stores, by the bits 31 to 27 of the instruction, the word
+-- that it found, and its value.
 unfoldable pub combined : ℕ → ℕ → ℕ → ℕ
 combined what old v =
     if what == 0b00001 then v

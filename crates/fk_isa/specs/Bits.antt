@@ -1,15 +1,15 @@
 -- The fields of a word of code, by ranges of its bits.
 use Rattle.std.specs.Prelude.{ℕ, ◌+◌, ◌-◌, ◌*◌, ◌/◌, ◌%◌, ◌^◌, ◌==◌, nat_lt, Bool, if◌then◌else◌}
 
--- the bits of a word from one on, so many
+-- `count` bits of a word, from bit `low` on.
 abbrev pub bits : ℕ → ℕ → ℕ → ℕ
 bits w low count = w / 2 ^ low % 2 ^ count
 
--- whether a bit of a word is set
+-- Whether a bit of a word is set.
 abbrev pub is_set : ℕ → ℕ → Bool
 is_set w low = bits w low 1 == 1
 
--- a signed number of so many bits, as a word
+-- A signed number of `count` bits, as a word.
 abbrev pub extended : ℕ → ℕ → ℕ
 extended count n = if nat_lt n (2 ^ (count - 1)) then n else n + (2 ^ 32 - 2 ^ count)
 
@@ -34,7 +34,7 @@ rs1 w = bits w 15 5
 abbrev pub rs2 : ℕ → ℕ
 rs2 w = bits w 20 5
 
--- the immediates of the formats I, S, B, U and J
+-- The immediates of the formats I, S, B, U and J.
 abbrev pub i_immediate : ℕ → ℕ
 i_immediate w = extended 12 (bits w 20 12)
 

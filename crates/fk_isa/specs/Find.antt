@@ -17,7 +17,7 @@ use Rattle.fk_isa.specs.declared.instruction.Instruction.TheVariants.{AmoMaxuW}
 use Rattle.fk_isa.specs.Bits.{bits, is_set, opcode, funct3, funct5, funct7, rd, rs1, rs2}
 use Rattle.fk_isa.specs.Bits.{i_immediate, s_immediate, b_immediate, u_immediate, j_immediate}
 
--- opcode 0x63
+-- The row of a word with opcode 0x63.
 unfoldable pub branch_row : ℕ → Option Instruction
 branch_row w =
     if funct3 w == 0 then Some (Beq (rs1 w) (rs2 w) (b_immediate w))
@@ -28,7 +28,7 @@ branch_row w =
     else if funct3 w == 7 then Some (Bgeu (rs1 w) (rs2 w) (b_immediate w))
     else None
 
--- opcode 0x03
+-- The row of a word with opcode 0x03.
 unfoldable pub load_row : ℕ → Option Instruction
 load_row w =
     if funct3 w == 0 then Some (Lb (rd w) (rs1 w) (i_immediate w))
@@ -38,7 +38,7 @@ load_row w =
     else if funct3 w == 5 then Some (Lhu (rd w) (rs1 w) (i_immediate w))
     else None
 
--- opcode 0x23
+-- The row of a word with opcode 0x23.
 unfoldable pub store_row : ℕ → Option Instruction
 store_row w =
     if funct3 w == 0 then Some (Sb (rs1 w) (rs2 w) (s_immediate w))
@@ -46,20 +46,20 @@ store_row w =
     else if funct3 w == 2 then Some (Sw (rs1 w) (rs2 w) (s_immediate w))
     else None
 
--- opcode 0x13 and funct3 5
+-- The row of a word with opcode 0x13 and funct3 5.
 unfoldable pub right_shift_row : ℕ → Option Instruction
 right_shift_row w =
     if funct7 w == 0 then Some (Srli (rd w) (rs1 w) (rs2 w))
     else if funct7 w == 0x20 then Some (Srai (rd w) (rs1 w) (rs2 w))
     else None
 
--- opcode 0x13 and funct3 1
+-- The row of a word with opcode 0x13 and funct3 1.
 unfoldable pub left_shift_row : ℕ → Option Instruction
 left_shift_row w =
     if funct7 w == 0 then Some (Slli (rd w) (rs1 w) (rs2 w))
     else None
 
--- opcode 0x13
+-- The row of a word with opcode 0x13.
 unfoldable pub immediate_row : ℕ → Option Instruction
 immediate_row w =
     if funct3 w == 0 then Some (Addi (rd w) (rs1 w) (i_immediate w))
@@ -72,7 +72,7 @@ immediate_row w =
     else if funct3 w == 7 then Some (Andi (rd w) (rs1 w) (i_immediate w))
     else None
 
--- opcode 0x33 and funct7 0
+-- The row of a word with opcode 0x33 and funct7 0.
 unfoldable pub base_row : ℕ → Option Instruction
 base_row w =
     if funct3 w == 0 then Some (Add (rd w) (rs1 w) (rs2 w))
@@ -85,14 +85,14 @@ base_row w =
     else if funct3 w == 7 then Some (And (rd w) (rs1 w) (rs2 w))
     else None
 
--- opcode 0x33 and funct7 0x20
+-- The row of a word with opcode 0x33 and funct7 0x20.
 unfoldable pub other_row : ℕ → Option Instruction
 other_row w =
     if funct3 w == 0 then Some (Sub (rd w) (rs1 w) (rs2 w))
     else if funct3 w == 5 then Some (Sra (rd w) (rs1 w) (rs2 w))
     else None
 
--- opcode 0x33 and funct7 1
+-- The row of a word with opcode 0x33 and funct7 1.
 unfoldable pub product_row : ℕ → Option Instruction
 product_row w =
     if funct3 w == 0 then Some (Mul (rd w) (rs1 w) (rs2 w))
@@ -105,7 +105,7 @@ product_row w =
     else if funct3 w == 7 then Some (Remu (rd w) (rs1 w) (rs2 w))
     else None
 
--- opcode 0x33
+-- The row of a word with opcode 0x33.
 unfoldable pub operation_row : ℕ → Option Instruction
 operation_row w =
     if funct7 w == 0 then base_row w
@@ -113,26 +113,26 @@ operation_row w =
     else if funct7 w == 1 then product_row w
     else None
 
--- opcode 0x0f
+-- The row of a word with opcode 0x0f.
 unfoldable pub fence_row : ℕ → Option Instruction
 fence_row w =
     if funct3 w == 0 then Some (Fence (bits w 15 17) (bits w 7 5))
     else None
 
--- opcode 0x73
+-- The row of a word with opcode 0x73.
 unfoldable pub system_row : ℕ → Option Instruction
 system_row w =
     if w == 0x00000073 then Some Ecall
     else if w == 0x00100073 then Some Ebreak
     else None
 
--- opcode 0x2f, funct3 2 and funct5 2: rs2 is 0
+-- The row of a word with opcode 0x2f, funct3 2 and funct5 2, whose rs2 is 0.
 unfoldable pub reserved_row : ℕ → Option Instruction
 reserved_row w =
     if rs2 w == 0 then Some (LrW (rd w) (rs1 w) (is_set w 26) (is_set w 25))
     else None
 
--- opcode 0x2f and funct3 2
+-- The row of a word with opcode 0x2f and funct3 2.
 unfoldable pub word_row : ℕ → Option Instruction
 word_row w =
     if funct5 w == 0b00010 then reserved_row w
@@ -157,19 +157,19 @@ word_row w =
     then Some (AmoMaxuW (rd w) (rs1 w) (rs2 w) (is_set w 26) (is_set w 25))
     else None
 
--- opcode 0x2f
+-- The row of a word with opcode 0x2f.
 unfoldable pub atomic_row : ℕ → Option Instruction
 atomic_row w =
     if funct3 w == 2 then word_row w
     else None
 
--- opcode 0x67
+-- The row of a word with opcode 0x67.
 unfoldable pub jump_row : ℕ → Option Instruction
 jump_row w =
     if funct3 w == 0 then Some (Jalr (rd w) (rs1 w) (i_immediate w))
     else None
 
--- the row of a word
+-- The row of a word.
 unfoldable pub row : ℕ → Option Instruction
 row w =
     if opcode w == 0x37 then Some (Lui (rd w) (u_immediate w))

@@ -1,4 +1,4 @@
--- Which instructions have their fields in range.
+-- Instructions whose fields are in range.
 use Rattle.std.specs.Prelude.{◌≡◌, ℕ, ◌-◌, ◌%◌, ◌^◌, ◌<◌, ◌≤◌, ◌⊎◌}
 use Rattle.fk_isa.specs.declared.instruction.Instruction.{Instruction}
 use Rattle.fk_isa.specs.declared.instruction.Instruction.TheVariants.{Lui, Auipc, Jal, Jalr, Beq}
@@ -18,11 +18,11 @@ use Rattle.fk_isa.specs.declared.instruction.Instruction.TheVariants.{AmoMaxuW}
 abbrev pub IsRegister : ℕ → Type 0
 IsRegister r = r < 2 ^ 5
 
--- a word whose signed value has so many bits
+-- A word whose signed value has `count` bits.
 abbrev pub IsShort : ℕ → ℕ → Type 0
 IsShort count imm = (imm < 2 ^ (count - 1)) ⊎ ((2 ^ 32 - 2 ^ (count - 1) ≤ imm) × (imm < 2 ^ 32))
 
--- the offset of a branch or jump, whose lowest bit is 0
+-- The offset of a branch or jump: a signed number of `count` bits, whose lowest bit is 0.
 abbrev pub IsOffset : ℕ → ℕ → Type 0
 IsOffset count imm = IsShort count imm × (imm % 2 ≡ 0)
 

@@ -1,4 +1,4 @@
--- That an instruction fits has one proof at most.
+-- There is at most one proof that an instruction fits.
 use Rattle.std.specs.Prelude.{ℕ, ◌-◌, ◌%◌, ◌^◌, ◌<◌, ◌≤◌}
 use Rattle.std.specs.Coded.{×_prop, Unit-prop, le_prop}
 use Rattle.std.proofs.Common.{ap, arith, inl, inr}
@@ -19,7 +19,7 @@ use Rattle.fk_isa.specs.declared.instruction.Instruction.TheVariants.{AmoMinW, A
 use Rattle.fk_isa.specs.declared.instruction.Instruction.TheVariants.{AmoMaxuW}
 use Rattle.fk_isa.specs.Fits.{IsRegister, IsShort, IsOffset, Fits}
 
--- a word is not both small and large
+-- A word is not both small and large.
 abbrev AreApart : ℕ → ℕ → Type 0
 AreApart count imm = imm < 2 ^ (count - 1) → 2 ^ 32 - 2 ^ (count - 1) ≤ imm → ⊥
 

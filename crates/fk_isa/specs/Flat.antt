@@ -6,7 +6,7 @@ use Rattle.fk_isa.specs.declared.flat.FlatMemory.{FlatMemory}
 use Rattle.fk_isa.specs.Atomic.{combined, unless}
 use Rattle.fk_isa.specs.Tells.{Answer, Gives, Traps, GoesOn, Tells}
 
--- the byte at each address, and the number of the word that each hart has reserved
+-- The byte at each address, and the number of the word that each hart has reserved.
 pub record Flat : Type 0 where
   pub bytes : Memory
   pub reserved : List (Option ℕ)
@@ -20,7 +20,7 @@ half_at m a = m a + m (a + 1) * 2 ^ 8
 abbrev pub word_at : Memory → ℕ → ℕ
 word_at m a = half_at m a + half_at m (a + 2) * 2 ^ 16
 
--- the number of so many bytes, lowest first
+-- The number of `size` bytes, lowest first.
 abbrev pub number_at : Memory → ℕ → ℕ → ℕ
 number_at m a size = if size == 1 then m a else if size == 2 then half_at m a else word_at m a
 
@@ -34,12 +34,12 @@ abbrev pub with_number : Memory → ℕ → ℕ → ℕ → Memory
 with_number m a size v = if size == 1 then put m a (v % 2 ^ 8)
     else if size == 2 then with_half m a v else with_word m a v
 
--- the memory after a store of so many bytes, which clears the reservations of their word
+-- The memory after a store of `size` bytes, which clears the reservations of their word.
 abbrev pub after_store : Flat → ℕ → ℕ → ℕ → Flat
 after_store m a size v =
     record { bytes = with_number m.bytes a size v; reserved = map (unless (a / 4)) m.reserved }
 
--- the trap of an access: 3 Misaligned, 4 Access
+-- The trap of an access: 3 Misaligned, 4 Access.
 abbrev pub flat_trap : ℕ → ℕ → Option ℕ
 flat_trap a size = if a % size == 0 then (if nat_lt a 256 then None else Some 4) else Some 3
 
@@ -50,7 +50,8 @@ unless_trap (Some kind) answer = Traps kind
 abbrev pub reserve : Flat → ℕ → Option ℕ → Flat
 reserve m hart r = record { bytes = m.bytes; reserved = slice_set m.reserved hart r }
 
--- lr.w reserves its word; sc.w stores where the hart has reserved the word, and gives 0, else 1
+-- `lr.w` reserves its word. `sc.w` stores and gives 0 if the hart has reserved the word, and else
+-- gives 1.
 abbrev pub conditional : Flat → ℕ → ℕ → ℕ → Option ℕ → Answer Flat ℕ
 conditional m hart a v None = Gives 1 (reserve m hart None)
 conditional m hart a v (Some r) = if r == a / 4 then Gives 0 (after_store m a 4 v)

@@ -58,7 +58,7 @@ pub record JFormat (w code d imm : ℕ) : Type 0 where
   pub to : rd w ≡ d
   pub immediate : j_immediate w ≡ imm
 
--- of the atomic instructions: R with the bits aq and rl in funct7
+-- The format of the atomic instructions: R with the bits aq and rl in funct7.
 pub record AFormat (w f5 : ℕ) (aq rl : Bool) (f3 code d a b : ℕ) : Type 0 where
   pub upper : funct5 w ≡ f5
   pub acquire : is_set w 26 ≡ aq
@@ -69,7 +69,7 @@ pub record AFormat (w f5 : ℕ) (aq rl : Bool) (f3 code d a b : ℕ) : Type 0 wh
   pub from : rs1 w ≡ a
   pub and : rs2 w ≡ b
 
--- of fence, whose other bits are free
+-- The format of fence, whose other bits are free.
 pub record FenceFormat (w f3 code high low : ℕ) : Type 0 where
   pub middle : funct3 w ≡ f3
   pub lower : opcode w ≡ code

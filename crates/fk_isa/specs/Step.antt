@@ -1,4 +1,4 @@
--- What one instruction does to its hart, over what the bus tells.
+-- What one instruction does to its hart, given the answers of the bus.
 use Rattle.std.specs.Prelude.{ℕ, ◌*◌, ◌/◌, ◌%◌, ◌^◌, ◌==◌, not, nat_lt, nat_le, int_lt, int_le}
 use Rattle.std.specs.Prelude.{if◌then◌else◌, Bool, true, slice_index}
 use Rattle.fk_num.specs.Op.{applied}
@@ -25,7 +25,7 @@ use Rattle.fk_isa.specs.declared.instruction.Instruction.TheVariants.{AmoMaxuW}
 use Rattle.fk_isa.specs.Bits.{extended}
 use Rattle.fk_isa.specs.Tells.{Answer, Gives, Traps, Stored, GoesOn, Ends, FaultsAt, Tells}
 
--- a hart: the word of each register, the address of its instruction, whether it has ended
+-- A hart: the word of each register, the address of its next instruction, and whether it has ended.
 pub record HartState : Type 0 where
   pub registers : Memory
   pub pc : ℕ
@@ -34,11 +34,11 @@ pub record HartState : Type 0 where
 abbrev pub hart_of : Hart → HartState
 hart_of h = record { registers = slice_index h.registers; pc = h.pc; ended = h.ended }
 
--- what an instruction comes to, the hart and the bus after it
+-- The outcome of an instruction: its effect, and the hart and the bus after it.
 pub data Outcome (S : Type 0) : Type 0 where
   After : (effect : Effect) (hart : HartState) (bus : S) → Outcome S
 
--- register 0 stays 0
+-- Register 0 stays 0.
 abbrev pub set_register : Memory → ℕ → ℕ → Memory
 set_register registers r v = if r == 0 then registers else put registers r v
 
@@ -48,7 +48,7 @@ next h = word_sum h.pc 4
 abbrev pub moved : HartState → ℕ → HartState
 moved h pc = record { registers = h.registers; pc = pc; ended = h.ended }
 
--- the hart after an instruction that gives register rd a value
+-- The hart after an instruction that gives register rd a value.
 abbrev pub written : HartState → ℕ → ℕ → HartState
 written h rd v = record { registers = set_register h.registers rd v; pc = next h; ended = h.ended }
 
@@ -58,16 +58,16 @@ ended h = record { registers = h.registers; pc = next h; ended = true }
 abbrev pub goes : {S : Type 0} → HartState → S → Outcome S
 goes h s = After Next h s
 
--- traps: 3 Misaligned, 5 Ecall, 6 Ebreak, and those of the bus. A trapping
--- instruction changes nothing
+-- A trap: 3 Misaligned, 5 Ecall, 6 Ebreak, or one of the bus. A trapping instruction changes
+-- nothing.
 abbrev pub traps : {S : Type 0} → ℕ → HartState → S → Outcome S
 traps kind h s = After (Trap kind) h s
 
--- a jump or a taken branch to an address that is no multiple of 4 is the trap Misaligned
+-- A jump or a taken branch to an address that is no multiple of 4 is the trap Misaligned.
 abbrev pub jump_effect : ℕ → Effect
 jump_effect target = if target % 4 == 0 then Next else Trap 3
 
--- rd gets the address of the next instruction
+-- The hart after a jump. Register rd gets the address of the next instruction.
 abbrev pub jumped : HartState → ℕ → ℕ → HartState
 jumped h rd target = if target % 4 == 0 then moved (written h rd (next h)) target else h
 
@@ -77,7 +77,7 @@ jump h s rd target = After (jump_effect target) (jumped h rd target) s
 abbrev pub branch_effect : Bool → ℕ → Effect
 branch_effect holds target = if holds then jump_effect target else Next
 
--- a branch gives no register a value
+-- The hart after a branch, which gives no register a value.
 abbrev pub branched : Bool → HartState → ℕ → HartState
 branched holds h target = if holds then jumped h 0 target else moved h (next h)
 
@@ -85,12 +85,12 @@ abbrev pub branch : {S : Type 0} → Bool → HartState → S → ℕ → Outcom
 branch holds h s imm =
     After (branch_effect holds (word_sum h.pc imm)) (branched holds h (word_sum h.pc imm)) s
 
--- rd gets what the bus gives of the bytes, by a function
+-- Register rd gets what the bus gives, converted by a function.
 abbrev pub puts : {S : Type 0} → HartState → S → ℕ → (ℕ → ℕ) → Answer S ℕ → Outcome S
 puts h s rd f (Gives v after) = goes (written h rd (f v)) after
 puts h s rd f (Traps kind) = traps kind h s
 
--- a store that faults leaves its hart where it stands
+-- A store that faults leaves its hart where it is.
 abbrev pub stores_to : {S : Type 0} → HartState → S → Answer S Stored → Outcome S
 stores_to h s (Gives GoesOn after) = After Next (moved h (next h)) after
 stores_to h s (Gives Ends after) = After Ended (ended h) after

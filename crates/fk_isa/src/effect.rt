@@ -1,6 +1,6 @@
-//! What an instruction comes to.
+//! The effects of instructions.
 
-/// What an instruction comes to.
+/// The effect of an instruction.
 #[derive(Clone, Copy, PartialEq, Eq, Debug)]
 pub enum Effect {
     /// The hart goes on.

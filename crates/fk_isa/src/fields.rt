@@ -3,7 +3,7 @@
 ghost use Rattle.std.specs.Prelude.{◌≡◌, ◌<◌, ◌≤◌, ◌^◌};
 ghost use Rattle.fk_isa.specs.Bits.{bits, extended};
 
-/// The bits of a word from `low` on, so many.
+/// `count` bits of a word, from bit `low` on.
 pub fn bits(word: u32, low: u32, count: u32) -> u32
     requires low { low < 32 }
     requires count { count < 32 }
@@ -13,7 +13,7 @@ pub fn bits(word: u32, low: u32, count: u32) -> u32
     (word >> low) % (1 << count)
 }
 
-/// A signed number of so many bits, as a word.
+/// A signed number of `count` bits, as a word.
 pub fn extended(count: u32, number: u32) -> u32
     requires some { 1 ≤ count }
     requires count { count < 32 }

@@ -54,7 +54,7 @@ impl Hart {
         Effect::Next
     }
 
-    // Goes on, and ends.
+    // Goes on to the next instruction, and ends the hart.
     pub fn end(&mut self) -> Effect
         ensures effect { result ≡ Ended }
         ensures hart { hart_of self.new ≡ ended (hart_of self.old) }
@@ -64,7 +64,7 @@ impl Hart {
         Effect::Ended
     }
 
-    // Gives a register a word, but register 0 stays 0.
+    // Gives a register a word. Register 0 stays 0.
     fn set(&mut self, rd: u8, value: u32)
         requires { rd < 32 }
         ensures registers { slice_index self.new.registers
@@ -87,7 +87,7 @@ impl Hart {
         self.go_on()
     }
 
-    // Gives a register what an operator gives of another one and a word.
+    // Gives a register the result of an operator on another register and a word, and goes on.
     pub fn operate(&mut self, op: Op, rd: u8, rs1: u8, right: u32) -> Effect
         requires rd { rd < 32 }
         requires rs1 { rs1 < 32 }
@@ -99,7 +99,7 @@ impl Hart {
         self.write(rd, value)
     }
 
-    // Gives a register what an operator gives of two others.
+    // Gives a register the result of an operator on two registers, and goes on.
     #[inline(always)]
     pub fn operate_two(&mut self, op: Op, rd: u8, rs1: u8, rs2: u8) -> Effect
         requires rd { rd < 32 }
@@ -126,7 +126,7 @@ impl Hart {
         Effect::Next
     }
 
-    // Jumps as far as the offset says where a condition holds, and else goes on.
+    // Jumps by the offset if a condition holds, and else goes on.
     pub fn branch(&mut self, holds: bool, offset: u32) -> Effect
         ensures effect { result ≡ branch_effect holds (word_sum self.old.pc offset) }
         ensures hart { hart_of self.new ≡ branched holds (hart_of self.old)

@@ -1,4 +1,4 @@
-//! Laws over the definitions alone: of the table of instructions, and of a step.
+//! Laws of the definitions alone: of the table of instructions, and of a step.
 
 ghost use Rattle.std.specs.Prelude.{◌≡◌, ℕ, ◌<◌, ◌^◌};
 ghost use Rattle.fk_isa.specs.declared.instruction.Instruction.{Instruction};
@@ -9,8 +9,7 @@ ghost use Rattle.fk_isa.specs.declared.effect.Effect.TheVariants.{Trap};
 
 use crate::bus::Bus;
 
-/// What is found for a word is its row of the table, and nothing is found exactly
-/// where it has none.
+/// `row` finds the row of a word in the table, and nothing exactly if the word has none.
 pub fn finds_row()
     ensures { (word : ℕ) → FindsRow word }
 {}

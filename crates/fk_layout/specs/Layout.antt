@@ -21,7 +21,7 @@ use Rattle.fk_layout.specs.declared.layout.Sizes.{Sizes}
 abbrev pub told_by : Facts → Told
 told_by facts = record { notes = facts.notes.items; kinds = facts.kinds.items }
 
--- what the definitions of code need to know of a program
+-- the tables that the definitions of code need of a program
 abbrev pub tables_by : ProgramTree → Facts → Tables
 tables_by program facts = record {
   notes = facts.notes.items;
@@ -31,7 +31,7 @@ tables_by program facts = record {
 }
 
 module _ (program : ProgramTree) (facts : Facts) where
-  -- each table of it
+  -- each table of the layout is that of the program
   pub record IsLayout (layout : Layout) : Type 0 where
     pub rows : map row_of layout.rows.items
         ≡ g.rows (told facts.notes.items facts.kinds.items) program.items
@@ -44,7 +44,7 @@ module _ (program : ProgramTree) (facts : Facts) where
     pub frames : layout.frames.items ≡ frame_sizes (tables_by program facts) program.items
     pub sites : layout.sites.items ≡ map site (sites_of (tables_by program facts) program)
 
-  -- the parts of it, as the crates below give them
+  -- the tables that the crates below give
   pub record ArePlaces (places : Slots) : Type 0 where
     pub slots : places.slots.items ≡ slots_of (told_by facts) program.items
     pub regions : places.regions.items ≡ regions_of (told_by facts) program.items
@@ -59,7 +59,8 @@ module _ (program : ProgramTree) (facts : Facts) where
         ≡ g.firsts (told facts.notes.items facts.kinds.items) program.items
     pub few : g.total (told facts.notes.items facts.kinds.items) program.items ≤ 524288
 
--- the operations and frames of a text, which are not too many and not too large
+-- the operations and frames of a text that has neither too many operations nor a frame that is too
+-- large
 pub record AreSizes (tables : Tables) (items : List ItemTree) (sizes : Sizes) : Type 0 where
   pub sites : sizes.sites.items
       ≡ map site (sites_in tables (functions_of items) (functions_of items))

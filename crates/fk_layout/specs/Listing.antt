@@ -1,4 +1,4 @@
--- A visitor that writes down the operations that it is shown, as long as there is room.
+-- A visitor that lists the operations that it is shown, as long as there is room.
 use Rattle.std.specs.Prelude.{ℕ, ◌+◌, length, nat_lt, Option, Some, None, if◌then◌else◌}
 use Rattle.std.specs.Vec.{with_item}
 use Rattle.fk_syntax.specs.declared.place.Place.{Place}
@@ -10,7 +10,7 @@ use Rattle.fk_layout_walk.specs.Event.{operation_of}
 use Rattle.fk_layout.specs.declared.listed.Site.{Site}
 use Rattle.fk_layout.specs.declared.listed.Listing.{Listing}
 
--- a site as an image names it
+-- a site in the form that an image has
 abbrev pub site : (ℕ × Place) → Site
 site operation = record { kind = operation.0; place = operation.1 }
 

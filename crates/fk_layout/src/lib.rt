@@ -1,4 +1,4 @@
-//! How large what a text asks for is, and where it lies.
+//! The layout of a program: its sites, its frames, and where its variables lie.
 #![tactic(auto)]
 
 mod frames;

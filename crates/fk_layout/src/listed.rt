@@ -1,4 +1,4 @@
-//! The operations of a text, one by one.
+//! The list of the operations of a text.
 
 ghost use Rattle.std.specs.Prelude.{◌≡◌, ◌≤◌, IfOk, IfErr, length, map};
 ghost use Rattle.fk_layout_walk.specs.Known.{tables_of, items_in, IsSound};
@@ -12,12 +12,12 @@ use fk_layout_walk_statements::text;
 use fk_syntax::Place;
 use std::alloc::Global;
 
-/// An operation of a text, by which a fault or a commit names it.
+/// A site: an operation of a text, as faults and commits name it.
 #[derive(Clone, Copy, PartialEq, Eq, Debug)]
 pub struct Site {
     /// The number of its kind, from 1 to 34.
     pub kind: u8,
-    /// Where it stands in the text, if it can fault; else 0:0.
+    /// Its place in the text if it can fault, else 0:0.
     pub place: Place,
 }
 
@@ -26,11 +26,11 @@ const NO_SITE: Site = Site {
     place: NOWHERE,
 };
 
-/// A visitor that writes down what it is shown, as long as there is room.
+/// A visitor that lists the operations that it is shown, as long as there is room.
 #[derive(Drop)]
 pub struct Listing {
     pub sites: Vec<Site>,
-    /// How many of them are written.
+    /// The number of sites listed so far.
     pub filled: usize,
 }
 
@@ -65,7 +65,7 @@ impl Visitor for Listing {
 /// the text.
 ///
 /// # Errors
-/// `TooManySites` where there are more than 16,000, with their number; `Memory` where there is no
+/// `TooManySites` if there are more than 16,000, with their number; `Memory` if there isn't enough
 /// memory.
 pub fn all_sites(alloc: Global, known: &ProgramTables) -> Result<Vec<Site>, LayoutFault>
     requires { IsSound known.now }

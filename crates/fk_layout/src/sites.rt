@@ -1,4 +1,4 @@
-//! How many operations a text has.
+//! The number of operations of a text.
 
 ghost use Rattle.std.specs.Prelude.{◌≡◌, ◌-◌, ◌^◌, ◌<◌, ◌≤◌, IfOk, IfErr, length, min};
 ghost use Rattle.fk_layout_walk.specs.Known.{IsSound};
@@ -12,31 +12,31 @@ use std::alloc::AllocError;
 /// Why a text has no layout.
 #[derive(Clone, Copy, PartialEq, Eq, Debug)]
 pub enum LayoutFault {
-    /// It has so many operations, which are more than an image can name. Above 2^64 - 1 it is that
-    /// number.
+    /// It has this number of operations, which is more than an image can name; at most 2^64 - 1 is
+    /// reported.
     TooManySites(u64),
-    /// The private frame of a function has so many words, which are more than a frame may have. Its
-    /// name stands at this place. Above 2^32 - 1 it is that number.
+    /// The private frame of the function whose name is at this place has this number of words,
+    /// which is more than a frame may have; at most 2^32 - 1 is reported.
     FrameTooLarge(Place, u32),
-    /// Its shared variables of file scope have so many words, which are more than an image can
-    /// have. Above 2^64 - 1 it is that number.
+    /// Its shared variables of file scope have this number of words, which is more than an image
+    /// can have; at most 2^64 - 1 is reported.
     GlobalsTooLarge(u64),
-    /// There is no memory for what is told of it.
+    /// There isn't enough memory for the layout.
     Memory,
 }
 
-/// How many operations an image can name.
+/// The greatest number of operations that an image can name.
 pub const MOST_SITES: u64 = 16_000;
 
-// There is no memory.
+// The fault that there isn't enough memory.
 pub(crate) fn out_of_memory(_refused: AllocError) -> LayoutFault
     ensures { result ≡ LayoutFault.Memory }
 {
     LayoutFault::Memory
 }
 
-/// How many operations a text has. Above 2^64 - 1 it is that number. It takes no memory, and time
-/// linear in the text.
+/// The number of operations of a text; at most 2^64 - 1. It takes no memory, and time linear in the
+/// text.
 pub fn count_sites(known: &ProgramTables) -> u64
     requires { IsSound known.now }
     ensures { result ≡ min (length (sites_of_text known.now)) (2 ^ 64 - 1) }
@@ -46,7 +46,7 @@ pub fn count_sites(known: &ProgramTables) -> u64
     tally.count
 }
 
-/// How many operations a text has, where an image can name them all; else that there are too many.
+/// The number of operations of a text if an image can name them all, else the fault `TooManySites`.
 pub fn fitting_sites(known: &ProgramTables) -> Result<u32, LayoutFault>
     requires { IsSound known.now }
     ensures fits { IfOk result (λ count. count ≡ length (sites_of_text known.now)) }

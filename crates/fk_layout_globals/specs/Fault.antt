@@ -3,8 +3,8 @@ use Rattle.std.specs.Prelude.{◌≡◌, ℕ, ◌<◌, ◌^◌, ◌-◌, min, �
 use Rattle.fk_layout_globals.specs.declared.layout.GlobalsFault.{GlobalsFault}
 use Rattle.fk_layout_globals.specs.declared.layout.GlobalsFault.TheVariants.{TooLarge, Memory}
 
--- there are more words than an image can have, and they are told. Want of memory
--- says nothing of them
+-- there are more words than an image can have, and the fault reports them. If there isn't enough
+-- memory, the fault says nothing about them
 abbrev pub IsFault : (words : ℕ) → GlobalsFault → Type 0
 IsFault words (TooLarge told) = (524288 < words) × (told ≡ min words (2 ^ 64 - 1))
 IsFault words Memory = ⊤

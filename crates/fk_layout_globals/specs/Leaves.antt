@@ -1,4 +1,4 @@
--- A constant's operations leave what it is worth, with the processor that runs them by itself.
+-- The operations of a constant leave its value, when a processor runs them by itself.
 use Rattle.std.specs.Prelude.{◌≡◌, ℕ, ◌<◌, ◌^◌, false, if◌then◌else◌, ⊤}
 use Rattle.fk_syntax.specs.declared.sign.Sign.{Sign}
 use Rattle.fk_syntax.specs.declared.sign.Sign.TheVariants as g
@@ -11,8 +11,8 @@ use Rattle.fk_meaning.specs.Processor.{Processor, Setting, push}
 use Rattle.fk_meaning.specs.Local.{local, is_onward}
 use Rattle.fk_layout_globals.specs.Constants.{worth}
 
--- what operations without loops and calls make of a processor. One by itself is its own group, so
--- an agree changes nothing
+-- the processor after operations without loops and calls. A processor by itself is its own group,
+-- and so an agree changes nothing
 abbrev pub behind : Setting → Coded → Processor → Processor
 behind set (perform place op rest) p = behind set rest (local set op p)
 behind set (choose place op onward aside rest) p =
@@ -32,14 +32,14 @@ module _ (tables : Tables) where
   abbrev pub IsWhole : (at : ℕ) → Type 0
   IsWhole at = (note tables at).splits ≡ false
 
-  -- what the signs of a chain ask of their tokens
+  -- what the signs of a chain require of their tokens
   abbrev pub IsLink : Sign → (left at : ℕ) → Type 0
   IsLink g.Comma left at = is_void tables left ≡ false
   IsLink g.AndAnd left at = IsWhole at
   IsLink g.OrOr left at = IsWhole at
   IsLink sign left at = ⊤
 
-  -- numbers, `sizeof`, casts and signs
+  -- the constant expressions: numbers, `sizeof`, casts and signs
   abbrev mutual
     pub IsConstant : Tree → Type 0
     IsConstant (t.Number spot value unsigned) = value < 2 ^ 32
@@ -56,7 +56,7 @@ module _ (tables : Tables) where
     AreConstant left (t.link spot sign right others) = IsLink sign left spot.at × IsConstant right
         × AreConstant spot.at others
 
--- before any other operations too
+-- the operations of a constant push its value, whatever operations follow
 abbrev pub LeavesItsWorth : Type 0
 LeavesItsWorth = (tables : Tables) (functions : (binding : ℕ) → Signature) (set : Setting)
     (p : Processor) (constant : Tree) (rest : Coded)

@@ -1,4 +1,4 @@
--- Where the variables of file scope stand, and what they begin as.
+-- Where the variables of file scope lie, and their initial values.
 use Rattle.std.specs.Prelude.{ℕ, zero, suc, ◌+◌, ◌==◌, ◌&&◌, Bool, true, false, List, [], ◌∷◌, map}
 use Rattle.std.specs.Prelude.{flat_map, sum_by, Option, Some, None}
 use Rattle.fk_syntax.specs.Tree as t
@@ -8,15 +8,15 @@ use Rattle.fk_meaning_forms.specs.Tables.{Tables, kind_at}
 use Rattle.fk_layout_globals.specs.Variables.{variables_of}
 use Rattle.fk_layout_globals.specs.Constants.{worth}
 
--- a shared variable: its name, its first word of shared data, how many words it has, and whether
--- they are shown with a sign
+-- a shared variable: its name, the index of its first word in the shared data, the number of its
+-- words, and whether they are shown as signed numbers
 pub record Row : Type 0 where
   pub name : List ℕ
   pub first : ℕ
   pub words : ℕ
   pub signed : Bool
 
--- `unsigned`, pointers, and arrays of these are shown without one
+-- `unsigned` numbers and pointers, and arrays of these, are shown as unsigned numbers
 abbrev pub is_signed_base : BaseType → Bool
 is_signed_base t.Unsigned = false
 is_signed_base base = true
@@ -24,7 +24,7 @@ is_signed_base base = true
 abbrev pub is_signed : TypeTree → Bool
 is_signed type = (type.stars == 0) && is_signed_base type.base
 
--- a value, and zeros behind it
+-- a value followed by zeros, `words` in all
 abbrev pub begun : (words : ℕ) → (value : ℕ) → List ℕ
 begun zero v = []
 begun (suc n) v = v ∷ begun n 0
@@ -33,7 +33,7 @@ module _ (tables : Tables) where
   abbrev pub words_of : DeclaredTree → ℕ
   words_of variable = (kind_at tables variable.name.at).words
 
-  -- what a variable begins as: its initial value, or 0 without one
+  -- the initial value of a variable, which is 0 if none is written
   abbrev pub worth_or_zero : Option Tree → ℕ
   worth_or_zero None = 0
   worth_or_zero (Some value) = worth tables value
@@ -41,11 +41,11 @@ module _ (tables : Tables) where
   abbrev pub first_of : DeclaredTree → ℕ
   first_of variable = worth_or_zero variable.first
 
-  -- all its words: arrays and structs have no initial value, and are zeros
+  -- the initial values of all its words: arrays and structs begin as zeros
   abbrev pub words_at_first : DeclaredTree → List ℕ
   words_at_first variable = begun (words_of variable) (first_of variable)
 
-  -- each behind those before it
+  -- the row of a variable whose first word is `first`; each row follows those before it
   abbrev pub row_at : (first : ℕ) → DeclaredTree → Row
   row_at first variable = record {
     name = variable.name.bytes;
@@ -61,8 +61,8 @@ module _ (tables : Tables) where
   abbrev pub total_of : List DeclaredTree → ℕ
   total_of variables = sum_by words_of variables
 
-  -- those of a text: a row for each shared variable of file scope, the words of all rows,
-  -- and their number
+  -- the rows of the shared variables of file scope in a text, the words of all rows, and their
+  -- number
   abbrev pub rows : List ItemTree → List Row
   rows items = rows_from 0 (variables_of true items)
 
@@ -72,6 +72,6 @@ module _ (tables : Tables) where
   abbrev pub total : List ItemTree → ℕ
   total items = total_of (variables_of true items)
 
-  -- what its private variables of file scope begin as
+  -- the initial values of the private variables of file scope in a text
   abbrev pub firsts : List ItemTree → List ℕ
   firsts items = map first_of (variables_of false items)

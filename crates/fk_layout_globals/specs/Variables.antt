@@ -10,7 +10,7 @@ abbrev pub variables_in : ItemTree → List DeclaredTree
 variables_in (p.VariablesItem variables) = variables
 variables_in item = []
 
--- those with `sh`, or those without
+-- the variables that have `sh`, or those that don't
 abbrev pub is_kept : (shared : Bool) → DeclaredTree → Bool
 is_kept true variable = variable.shared
 is_kept false variable = not variable.shared
@@ -18,7 +18,7 @@ is_kept false variable = not variable.shared
 abbrev pub kept : (shared : Bool) → List DeclaredTree → List DeclaredTree
 kept shared variables = filter (is_kept shared) variables
 
--- the variables of file scope with `sh`, or those without, in the order of the text
+-- the variables of file scope that have `sh`, or those that don't, in the order of the text
 abbrev pub variables_of : (shared : Bool) → List ItemTree → List DeclaredTree
 variables_of shared items = flat_map (λ item. kept shared (variables_in item)) items
 

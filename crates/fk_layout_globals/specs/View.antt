@@ -1,4 +1,4 @@
--- The values of the code as those of the definitions.
+-- The values of the code in the form of the definitions.
 use Rattle.fk_meaning_forms.specs.Tables.{Tables}
 use Rattle.fk_layout_globals.specs.declared.types.Types.{Types}
 use Rattle.fk_layout_globals.specs.declared.rows.GlobalRow.{GlobalRow}

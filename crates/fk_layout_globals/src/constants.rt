@@ -14,8 +14,8 @@ use fk_meaning_operation::Operation;
 use fk_num::{Op, apply};
 use fk_syntax::{Expr, Link, Sign};
 
-/// What a constant expression is worth: what its operations leave behind it. What stands in no
-/// constant is taken as 0. It takes no memory, and time linear in the expression.
+/// The value of a constant expression, which is the value that its operations leave. Forms that
+/// don't occur in constants count as 0. It takes no memory, and time linear in the expression.
 #[cycle(expression)]
 pub fn constant(types: &Types, whole: &Expr) -> u32
     ensures { result ≡ c.worth (tables_of types.now) (tree_of whole.now) }
@@ -44,7 +44,7 @@ pub fn constant(types: &Types, whole: &Expr) -> u32
     }
 }
 
-// The links of a chain, behind a value.
+// The value after the links of a chain, whose first expression has the value `first`.
 #[cycle(expression)]
 fn chain(types: &Types, first: u32, at: u32, links: &[Link]) -> u32
     ensures { result ≡ c.worth_of_links (tables_of types.now) first at
@@ -60,7 +60,7 @@ fn chain(types: &Types, first: u32, at: u32, links: &[Link]) -> u32
     value
 }
 
-// A sign between two values.
+// The value of a sign between two values.
 fn link_by(types: &Types, sign: Sign, left: u32, right: u32, a: u32, b: u32) -> u32
     ensures { result ≡ c.linked_by (tables_of types.now) sign left right a b }
 {
@@ -72,7 +72,7 @@ fn link_by(types: &Types, sign: Sign, left: u32, right: u32, a: u32, b: u32) -> 
     }
 }
 
-// An operator between two values, of the types that their tokens tell.
+// The value of an operator between two values, chosen by the types of their tokens.
 fn operate(types: &Types, sign: Sign, left: u32, right: u32, a: u32, b: u32) -> u32
     ensures { result ≡ c.operated (tables_of types.now) sign left right a b }
 {
@@ -90,7 +90,7 @@ fn operate(types: &Types, sign: Sign, left: u32, right: u32, a: u32, b: u32) -> 
     }
 }
 
-// An operator on two words.
+// The value of an operator on two words.
 fn join(operation: Operation, a: u32, b: u32) -> u32
     ensures { result ≡ c.joined operation a b }
 {
@@ -101,7 +101,8 @@ fn join(operation: Operation, a: u32, b: u32) -> u32
     }
 }
 
-// A pointer so many steps forth or back.
+// A pointer moved forth or back by `b` steps. If the sign doesn't move a pointer, the value of its
+// operator.
 fn shift(by: Move, step: u32, operation: Operation, a: u32, b: u32) -> u32
     ensures { result ≡ c.moved by step operation a b }
 {
@@ -112,7 +113,7 @@ fn shift(by: Move, step: u32, operation: Operation, a: u32, b: u32) -> u32
     }
 }
 
-// A sign in front of a value.
+// The value of a sign in front of a value.
 fn behind_sign(sign: Sign, value: u32) -> u32
     ensures { result ≡ c.behind_sign sign value }
 {

@@ -2,7 +2,8 @@
 
 ghost use Rattle.fk_layout_globals.specs.Leaves.{LeavesItsWorth};
 
-/// What a constant is worth is what its operations leave, where one processor runs them by itself.
+/// The value of a constant is the one that its operations leave when one processor runs them by
+/// itself.
 pub fn leaves_its_worth()
     ensures { LeavesItsWorth }
 {}

@@ -1,5 +1,5 @@
-//! The variables of file scope: where the shared ones stand among the words of shared data, and
-//! what all of them begin as.
+//! The variables of file scope: where the shared ones lie among the words of shared data, and the
+//! initial values of all of them.
 #![tactic(auto)]
 
 mod constants;

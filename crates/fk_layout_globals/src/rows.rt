@@ -1,4 +1,4 @@
-//! Where the variables of file scope stand, and what they begin as.
+//! Where the variables of file scope lie, and their initial values.
 
 ghost use Rattle.std.specs.Prelude.{◌≡◌, ◌≤◌, ◌<◌, ◌^◌, ◌-◌, ◌++◌, List, map, flat_map, min, IfOk};
 ghost use Rattle.std.specs.Prelude.{IfErr, OnOk};
@@ -13,16 +13,15 @@ use crate::types::Types;
 use fk_syntax::{Base, Declared, TypeName};
 use std::alloc::{AllocError, Global};
 
-/// Where a shared variable of file scope stands among the words of shared data, and
-/// how it is shown.
+/// Where a shared variable of file scope lies among the words of shared data, and how it is shown.
 #[derive(Clone, Copy, PartialEq, Eq, Debug)]
 pub struct GlobalRow<'a> {
     pub name: &'a [u8],
     /// The index of its first word.
     pub first: u32,
-    /// How many words it has.
+    /// The number of its words.
     pub words: u32,
-    /// Whether they are shown as signed numbers; else as unsigned ones.
+    /// Whether its words are shown as signed numbers.
     pub signed: bool,
 }
 
@@ -36,14 +35,14 @@ fn is_signed(kind: &TypeName) -> bool
     }
 }
 
-// How many words a variable has.
+// The number of words of a variable.
 fn words_of(types: &Types, variable: &Declared) -> u32
     ensures { result ≡ r.words_of (tables_of types.now) (declared_of variable.now) }
 {
     types.kind_at(variable.name.at).words
 }
 
-// What a variable begins as.
+// The initial value of a variable.
 fn first_of(types: &Types, variable: &Declared) -> u32
     ensures { result ≡ r.first_of (tables_of types.now) (declared_of variable.now) }
 {
@@ -53,7 +52,7 @@ fn first_of(types: &Types, variable: &Declared) -> u32
     }
 }
 
-/// How many words variables have. Above 2^64 - 1 it is that number.
+/// The number of words of all variables; at most 2^64 - 1.
 pub(crate) fn count_words(types: &Types, variables: &Vec<&Declared>) -> u64
     ensures { result ≡ min
         (r.total_of (tables_of types.now) (declared_behind variables.now.items)) (2 ^ 64 - 1) }
@@ -65,7 +64,7 @@ pub(crate) fn count_words(types: &Types, variables: &Vec<&Declared>) -> u64
     total
 }
 
-/// The rows of variables, each behind those before it.
+/// The rows of variables, which lie one after the other.
 pub(crate) fn lay_rows<'a>(
     alloc: Global,
     types: &Types,
@@ -91,7 +90,7 @@ pub(crate) fn lay_rows<'a>(
     Ok(rows)
 }
 
-// Puts the words of a variable behind others: its value, and zeros.
+// Appends the words of a variable: its value, and zeros.
 fn put(words: &mut Vec<u32>, count: u32, value: u32) -> Result<(), AllocError>
     ensures { OnOk result (words.new.items ≡ words.old.items ++ r.begun count value) }
 {
@@ -124,7 +123,7 @@ pub(crate) fn lay_words(
     Ok(words)
 }
 
-/// What variables of one word begin as.
+/// The initial values of variables that have one word each.
 pub(crate) fn lay_firsts(
     alloc: Global,
     types: &Types,

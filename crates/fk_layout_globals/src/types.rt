@@ -1,4 +1,4 @@
-//! What the tokens of a text tell.
+//! What the notes of tokens say.
 
 ghost use Rattle.std.specs.Prelude.{◌≡◌};
 ghost use Rattle.fk_meaning_forms.specs.Tables as t;
@@ -6,7 +6,7 @@ ghost use Rattle.fk_layout_globals.specs.View.{tables_of};
 
 use fk_syntax::{Kind, Note};
 
-/// The facts of a program.
+/// The facts of a program that constants and variables need.
 #[derive(Clone, Copy)]
 pub struct Types<'n, 'k> {
     /// A note for each token.
@@ -41,7 +41,7 @@ impl<'n, 'k> Types<'n, 'k> {
         }
     }
 
-    /// The type that a token tells.
+    /// The type in the note of a token.
     pub(crate) fn kind_at(&self, at: u32) -> Kind
         ensures { result ≡ t.kind_at (tables_of self.now) at }
     {
@@ -51,8 +51,8 @@ impl<'n, 'k> Types<'n, 'k> {
         }
     }
 
-    /// Whether the numbers of a token's type have no sign. An array is the pointer to its first
-    /// element.
+    /// Whether the numbers of a token's type are unsigned. An array counts as the pointer to its
+    /// first element.
     pub(crate) fn is_unsigned(&self, at: u32) -> bool
         ensures { result ≡ t.is_unsigned (tables_of self.now) at }
     {

@@ -7,7 +7,7 @@ ghost use Rattle.fk_layout_globals.specs.Variables.{kept, variables_of, declared
 use fk_syntax::{Declared, Item};
 use std::alloc::{AllocError, Global};
 
-// Puts those of a declaration with `sh`, or those without, behind others.
+// Appends the variables of a declaration that have `sh`, or those that don't.
 fn keep<'p, 'a>(
     list: &mut Vec<&'p Declared<'a>>,
     variables: &'p [Declared<'a>],
@@ -24,7 +24,7 @@ fn keep<'p, 'a>(
     Ok(())
 }
 
-/// The variables of file scope with `sh`, or those without, in the order of the text.
+/// The variables of file scope that have `sh`, or those that don't, in the order of the text.
 pub(crate) fn file_variables<'p, 'a>(
     alloc: Global,
     items: &'p [Item<'a>],

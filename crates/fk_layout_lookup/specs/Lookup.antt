@@ -1,4 +1,4 @@
--- What a walk finds in one step.
+-- Tables with which a walk looks up functions and group frames in one step.
 use Rattle.std.specs.Prelude.{◌≡◌, ℕ, ◌==◌, ◌&&◌, Bool, not, List, Option, Some, None, slice_get}
 use Rattle.std.specs.Prelude.{if◌then◌else◌}
 use Rattle.std.specs.Option.{option_map}
@@ -12,30 +12,30 @@ use Rattle.fk_layout_walk.specs.Known.{tables_of, items_in, signature_at, called
 use Rattle.fk_layout_walk.specs.Known.{part_of}
 use Rattle.fk_layout_lookup.specs.declared.lookup.Lookup.{Lookup}
 
--- the binding of the function of an item, where that has a body
+-- the binding of the function of an item, if it has a body
 abbrev pub defined_by : Tables → ItemTree → Option ℕ
 defined_by tables (FunctionItem f) = option_map (λ (body : Statements). binding_of tables f) f.body
 defined_by tables item = None
 
--- the functions of these items by their bindings, where each stands among all items by its index
+-- `callees` gives the function of each binding among these items, by its index among all items
 abbrev pub TellsCallees : Tables → (all items : List ItemTree) → List (Option ℕ) → Type 0
 TellsCallees tables all items callees =
     (binding : ℕ) → signature_in tables (functions_of items) binding
     ≡ signature_at (called (slice_get callees binding) all)
 
--- the group frames of tokens that these regions tell
+-- `framed` gives the group frame that these regions have for each part of a token
 abbrev pub TellsFrames : Tables → List Region → List Framed → Type 0
 TellsFrames tables regions framed =
     (at : ℕ) (second : Bool)
     → frame_in tables regions at (part_of second) ≡ framed_in (slice_get framed at) second
 
--- all of a text
+-- both tables of a lookup agree with the whole text
 pub record Tells (known : ProgramTables) (lookup : Lookup) : Type 0 where
   pub callees : TellsCallees (tables_of known) (items_in known)
       (items_in known) lookup.callees.items
   pub frames : TellsFrames (tables_of known) known.regions.now lookup.framed.items
 
--- the group frame of a part, where this region is put before those that there are
+-- the group frame of a part, where this region takes precedence over the others
 abbrev pub with_frame : Region → (second : Bool) → (at : ℕ) (part : Bool)
     → (others : Option Region) → Option Region
 with_frame region second at part others =

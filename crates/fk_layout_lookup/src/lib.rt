@@ -1,4 +1,4 @@
-//! What a walk over a text finds in one step.
+//! Tables with which a walk over a text looks up functions and group frames in one step.
 #![tactic(auto)]
 
 mod lookup;

@@ -1,4 +1,4 @@
-//! What a walk finds in one step.
+//! Tables with which a walk looks up functions and group frames in one step.
 
 ghost use Rattle.std.specs.Prelude.{◌≡◌, ◌+◌, ◌<◌, ◌++◌, ◌==◌, ℕ, Bool, List, IfOk, OnOk, drop};
 ghost use Rattle.std.specs.Prelude.{length, replicate, slice_get, if◌then◌else◌};
@@ -18,7 +18,7 @@ const UNFRAMED: Framed = Framed {
     second: None,
 };
 
-/// The function that each binding means, and the group frames of each token.
+/// The function that each binding names, and the group frames of each token.
 #[derive(Drop)]
 pub struct Lookup {
     callees: Vec<Option<usize>>,
@@ -26,9 +26,9 @@ pub struct Lookup {
 }
 
 impl Lookup {
-    /// What there is to find in a text, by its items and tables alone. It takes time and memory
-    /// linear in these, in the greatest binding of a function, and in the last token that has a
-    /// group frame. Fails only for want of memory.
+    /// The lookup tables of a text, by its items and tables alone. It takes time and memory linear
+    /// in these, in the greatest binding of a function, and in the last token that has a group
+    /// frame. It fails only if there isn't enough memory.
     pub fn of(alloc: Global, known: &ProgramTables) -> Result<Lookup, AllocError>
         ensures { IfOk result (λ lookup. Tells known.now lookup) }
     {
@@ -38,7 +38,7 @@ impl Lookup {
         })
     }
 
-    /// What is known of a text, with what there is to find in it.
+    /// The tables of a text completed by these lookup tables.
     pub fn complete<'p, 't>(&'p self, known: ProgramTables<'p, 't>) -> ProgramTables<'p, 't>
         requires { Tells known self.now }
         ensures sound { IsSound result }
@@ -57,7 +57,7 @@ impl Lookup {
     }
 }
 
-// Makes a list so long that it has an index.
+// Extends a list with `fill` until it has an element at `index`.
 fn reach<T: Copy + Drop>(list: &mut Vec<T>, index: usize, fill: T) -> Result<(), AllocError>
     ensures long { OnOk result (index < length list.new.items) }
     ensures more { OnOk result
@@ -69,7 +69,7 @@ fn reach<T: Copy + Drop>(list: &mut Vec<T>, index: usize, fill: T) -> Result<(),
     Ok(())
 }
 
-// Notes that a binding means the function of an index.
+// Notes that a binding names the function of the item at `index`.
 fn mean(callees: &mut Vec<Option<usize>>, binding: usize, index: usize) -> Result<(), AllocError>
     ensures { OnOk result ((all : List ItemTree) (b : ℕ)
         → called (slice_get callees.new.items b) all
@@ -80,7 +80,7 @@ fn mean(callees: &mut Vec<Option<usize>>, binding: usize, index: usize) -> Resul
     Ok(())
 }
 
-// The binding of the function of an item, where that has a body.
+// The binding of the function of an item, if it has a body.
 fn defined(known: &ProgramTables, item: &Item) -> Option<u32>
     ensures { result ≡ defined_by (tables_of known.now) (item_of item.now) }
 {
@@ -93,7 +93,7 @@ fn defined(known: &ProgramTables, item: &Item) -> Option<u32>
     }
 }
 
-// Notes the function of an index, where it is one with a body.
+// Notes the function of the item at `index`, if it has a body.
 fn note_callee(
     known: &ProgramTables,
     callees: &mut Vec<Option<usize>>,
@@ -113,7 +113,7 @@ fn note_callee(
     }
 }
 
-// Of several functions that have one binding it means the first, which is noted last.
+// If several functions have one binding, it names the first of them, which is noted last.
 fn find_callees(alloc: Global, known: &ProgramTables) -> Result<Vec<Option<usize>>, AllocError>
     ensures { IfOk result (λ callees. TellsCallees (tables_of known.now) (items_in known.now)
         (items_in known.now) callees.items) }
@@ -127,7 +127,7 @@ fn find_callees(alloc: Global, known: &ProgramTables) -> Result<Vec<Option<usize
     Ok(callees)
 }
 
-// Notes that a part of a token has a group frame. It stands before those that are noted.
+// Notes that a part of a token has a group frame. It takes precedence over the frames noted before.
 fn note_part(framed: &mut Vec<Framed>, region: Region, second: bool) -> Result<(), AllocError>
     ensures { OnOk result ((at : ℕ) (part : Bool)
         → framed_in (slice_get framed.new.items at) part

@@ -1,4 +1,4 @@
--- A visitor that keeps how many values and how deep a nesting there are, and were at most.
+-- A visitor that keeps the number of values and the depth of nesting, and the greatest of each.
 use Rattle.std.specs.Prelude.{ℕ, ◌+◌, ◌-◌, ◌^◌, min, max, Bool, Option, Some, None}
 use Rattle.fk_syntax.specs.declared.place.Place.{Place}
 use Rattle.fk_meaning_operation.specs.declared.operation.Operation.{Operation}
@@ -9,11 +9,11 @@ use Rattle.fk_layout_walk.specs.Event.{operation_of}
 use Rattle.fk_layout_sizes.specs.Operations.{takes, pushes, nests, results}
 use Rattle.fk_layout_sizes.specs.declared.measure.Measure.{Measure}
 
--- numbers above the greatest one stay at it
+-- a sum stays at the greatest number when it gets there
 abbrev pub plus : ℕ → ℕ → ℕ
 plus a b = min (a + b) (2 ^ 64 - 1)
 
--- what there is now counts among what there was
+-- the greatest counts are raised to the current ones
 abbrev pub raised : Mark → Mark
 raised m = record {
   values = m.values;
@@ -22,7 +22,7 @@ raised m = record {
   deepest = max m.deepest m.nesting;
 }
 
--- behind an operation; and behind a call, by what was when it began
+-- the marks after an operation and after a call; `entered` is the mark at the beginning of the call
 abbrev pub performed : Mark → Operation → Mark
 performed m op =
     raised (record {

@@ -1,18 +1,18 @@
--- What operations do with the values of a call, and with the parts that it lies in.
+-- The effect of operations on the values of a call, and on the parts around it.
 use Rattle.std.specs.Prelude.{ℕ, Bool, if◌then◌else◌}
 use Rattle.fk_meaning_operation.specs.declared.operation.Operation.{Operation}
 use Rattle.fk_meaning_operation.specs.declared.operation.Operation.TheVariants as o
 use Rattle.fk_meaning_operation.specs.declared.operation.SplitKind.{SplitKind}
 use Rattle.fk_meaning_operation.specs.declared.operation.SplitKind.TheVariants.{Loop, Fork}
 
--- a loop's part has all members. A `fork` takes how many parts there are, which one and which `$`.
--- All else takes a condition
+-- the part of a loop has all members. A `fork` takes the number of parts, which part and which `$`.
+-- Every other split takes a condition
 abbrev pub split_takes : SplitKind → ℕ
 split_takes Loop = 0
 split_takes Fork = 3
 split_takes split = 1
 
--- how many values an operation takes
+-- the number of values that an operation takes
 abbrev pub takes : Operation → ℕ
 takes o.DropLast = 1
 takes (o.Apply sign) = 1
@@ -34,7 +34,7 @@ takes (o.Split split) = split_takes split
 takes o.Shrink = 1
 takes operation = 0
 
--- and how many it then pushes
+-- the number of values that an operation then pushes
 abbrev pub pushes : Operation → ℕ
 pushes (o.Push n) = 1
 pushes (o.Get known) = 1
@@ -50,7 +50,7 @@ pushes o.Heap = 1
 pushes o.Block = 1
 pushes operation = 0
 
--- in how many parts more what it leads to lies
+-- the number of parts that an operation begins around the code that follows it
 abbrev pub nests : Operation → ℕ
 nests o.Begin = 1
 nests (o.Split split) = 1
@@ -58,6 +58,6 @@ nests o.Farm = 1
 nests o.Seq = 1
 nests operation = 0
 
--- how many values a function gives
+-- the number of values that a function returns
 abbrev pub results : (void : Bool) → ℕ
 results void = if void then 0 else 1

@@ -1,4 +1,4 @@
--- How much room the frame of a function has for values and nested parts: what its code asks for.
+-- The room that the code of a function needs in its frame for values and nested parts.
 use Rattle.std.specs.Prelude.{ℕ, ◌+◌, ◌-◌, max, List, [], ◌∷◌, ◌++◌, if◌then◌else◌}
 use Rattle.fk_meaning_operation.specs.declared.operation.Operation.{Operation}
 use Rattle.fk_syntax.specs.Program.{DeclaredTree, FunctionTree}
@@ -10,8 +10,8 @@ use Rattle.fk_meaning_forms.specs.Code.{break, continue, call, ends}
 use Rattle.fk_meaning_forms.specs.Expressions.{Coded, Signature}
 use Rattle.fk_layout_sizes.specs.Operations.{takes, pushes, nests, results}
 
--- a place in code: how many values the running call has there, and in how many parts of
--- it the place lies
+-- a place in code: the number of values of the running call there, and the number of parts around
+-- it
 pub record At : Type 0 where
   pub values : ℕ
   pub nesting : ℕ
@@ -21,14 +21,14 @@ behind_operation p op =
     record { values = p.values - takes op + pushes op; nesting = p.nesting + nests op }
 
 module _ (functions : (binding : ℕ) → Signature) where
-  -- behind a call there is its result, if the function gives one
+  -- after a call its result is there, if the function returns one
   abbrev pub behind_call : At → Operation → (binding : ℕ) → At
   behind_call p op f = record (behind_operation p op)
       { values = (behind_operation p op).values + results (functions f).void }
 
-  -- the place behind code. Both ways of a choice end with as many values, and lie in what its
-  -- operation begins, which ends behind them. What stands in the opening of a call is done by the
-  -- function that is called
+  -- the place after code. Both branches of a choice end with the same number of values. They lie in
+  -- the part that the operation of the choice begins, which ends after them. The opening of a call
+  -- isn't counted, because the called function runs it
   abbrev pub behind : At → Coded → At
   behind p done = p
   behind p (perform t op rest) = behind (behind_operation p op) rest
@@ -81,16 +81,16 @@ abbrev pub deepest : List At → ℕ
 deepest [] = 0
 deepest (p ∷ ps) = max p.nesting (deepest ps)
 
--- the beginning of a function's body: no values, and no part of it
+-- the beginning of a function's body: no values, and no part around it
 abbrev pub beginning : At
 beginning = record { values = 0; nesting = 0 }
 
--- a call writes its `sh` parameters into the frame of the function with two values more
+-- a call needs two values more to write its `sh` parameters into the frame of the function
 abbrev pub filling : List DeclaredTree → ℕ
 filling [] = 0
 filling (x ∷ xs) = if x.shared then 2 else filling xs
 
--- the places of a function, and the most values that its call has
+-- the places of a function, the most values of its call, and its deepest nesting
 abbrev pub places_in : ProgramTables → FunctionTree → List At
 places_in known f = places (functions_of known) beginning (code_in known f)
 

@@ -1,4 +1,4 @@
-//! How many values and how deep a nesting a function has.
+//! The number of values and the depth of nesting of a function.
 
 ghost use Rattle.std.specs.Prelude.{◌≡◌, ◌<◌, ◌^◌, map};
 ghost use Rattle.fk_syntax.specs.ProgramView.{declared_of, function_of};
@@ -12,12 +12,12 @@ use fk_layout_walk::{Mark, ProgramTables};
 use fk_layout_walk_statements::function;
 use fk_syntax::{Declared, Function};
 
-/// How much room a call of a function has for values and nested parts.
+/// The room that a call of a function needs for values and nested parts.
 #[derive(Clone, Copy, PartialEq, Eq, Debug)]
 pub struct Extent {
-    /// How many values it has at most.
+    /// The greatest number of values.
     pub values: u64,
-    /// How deep `start`, split, `fork`, `farm` and `seq` nest in it.
+    /// The depth to which `start`, splits, `fork`, `farm` and `seq` nest in it.
     pub nesting: u64,
 }
 
@@ -28,7 +28,8 @@ const BEGINNING: Mark = Mark {
     deepest: 0,
 };
 
-// With how many values a call writes its `sh` parameters into the frame of the function.
+// The number of values that a call needs to write its `sh` parameters into the frame of the
+// function.
 fn filling(parameters: &[Declared]) -> u64
     ensures { result ≡ p.filling (map declared_of parameters.now) }
 {
@@ -40,7 +41,7 @@ fn filling(parameters: &[Declared]) -> u64
     0
 }
 
-/// How much room a call of a function has, for one of fewer than 2^31 operations. It takes no
+/// The room that a call of a function needs, if it has fewer than 2^31 operations. It takes no
 /// memory, and time linear in the function.
 pub fn extent_of(known: &ProgramTables, whole: &Function) -> Extent
     requires { IsSound known.now }

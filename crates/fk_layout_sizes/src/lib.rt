@@ -1,4 +1,4 @@
-//! How much room the frames of calls have for values and nested parts.
+//! The room that the frames of calls have for values and nested parts.
 #![tactic(auto)]
 
 mod extent;

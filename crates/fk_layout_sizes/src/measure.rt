@@ -7,14 +7,14 @@ use crate::operations::{nests, pushes, takes};
 use fk_layout_walk::{Event, Mark, Visitor};
 use fk_meaning_operation::Operation;
 
-/// How many values the running call has and how deep its parts nest, and how many and how deep at
-/// most so far.
+/// The number of values and the depth of nesting at the current place, and the greatest of each so
+/// far.
 #[derive(Drop)]
 pub struct Measure {
     pub mark: Mark,
 }
 
-// What there is now counts among what there was.
+// Raises the greatest counts to the current ones.
 fn raised(mark: Mark) -> Mark
     ensures { result ≡ m.raised mark }
 {
@@ -26,7 +26,7 @@ fn raised(mark: Mark) -> Mark
     }
 }
 
-// What is known behind an operation.
+// The mark after an operation.
 fn performed(mark: Mark, operation: Operation) -> Mark
     ensures { result ≡ m.performed mark operation }
 {
@@ -39,7 +39,7 @@ fn performed(mark: Mark, operation: Operation) -> Mark
     })
 }
 
-// What is known behind a call, of what was when it began.
+// The mark after a call, where `entered` is the mark at its beginning.
 fn returned(entered: Mark, void: bool) -> Mark
     ensures { result ≡ m.returned entered void }
 {

@@ -1,11 +1,11 @@
-//! What operations do with values and parts.
+//! The effect of operations on values and parts.
 
 ghost use Rattle.std.specs.Prelude.{◌≡◌};
 ghost use Rattle.fk_layout_sizes.specs.Operations as o;
 
 use fk_meaning_operation::{Operation, SplitKind};
 
-// How many values a group takes to split.
+// The number of values that a split takes.
 fn split_takes(split: SplitKind) -> u32
     ensures { result ≡ o.split_takes split }
 {
@@ -16,7 +16,7 @@ fn split_takes(split: SplitKind) -> u32
     }
 }
 
-/// How many values an operation takes from the end of the list.
+/// The number of values that an operation takes from the end of the list.
 pub fn takes(operation: Operation) -> u32
     ensures { result ≡ o.takes operation }
 {
@@ -41,7 +41,7 @@ pub fn takes(operation: Operation) -> u32
     }
 }
 
-/// How many values it then puts at the end of the list.
+/// The number of values that an operation then puts at the end of the list.
 pub fn pushes(operation: Operation) -> u32
     ensures { result ≡ o.pushes operation }
 {
@@ -62,7 +62,7 @@ pub fn pushes(operation: Operation) -> u32
     }
 }
 
-/// In how many parts more what it leads to lies.
+/// The number of parts that an operation begins around the code that follows it.
 pub fn nests(operation: Operation) -> u32
     ensures { result ≡ o.nests operation }
 {

@@ -1,5 +1,5 @@
--- The group frames of a text that have words, in the order of their tokens: a frame stands before
--- those within it, and the two of an `if` before those within both.
+-- The group frames of a text that have words, in the order of their tokens. A frame comes before
+-- those inside it, and the two frames of an `if` come before those inside either.
 use Rattle.std.specs.Prelude.{ℕ, ◌+◌, ◌==◌, min, List, [], ◌∷◌, ◌++◌, Option, Some, None}
 use Rattle.std.specs.Prelude.{if◌then◌else◌}
 use Rattle.fk_syntax.specs.Program as p
@@ -12,13 +12,13 @@ use Rattle.fk_layout_slots.specs.Words.{statement_words, own_words}
 abbrev pub last_word : ℕ
 last_word = 1048576
 
--- a frame of a part of a token, if it has words. All that are too many are one too many
+-- the frame of a part of a token, if it has words. If it has too many, the count is `last_word + 1`
 abbrev pub frame : (at part level words : ℕ) → List Region
 frame at part level words =
     if words == 0 then []
     else record { at = at; part = part; level = level; words = min words (last_word + 1) } ∷ []
 
--- the nesting of a body
+-- the nesting level of a body inside a level
 abbrev pub deeper : (level : ℕ) → ℕ
 deeper level = more level 1
 
@@ -27,7 +27,7 @@ module _ (told : Told) where
   abbrev pub body_frame : (at part level : ℕ) → Statement → List Region
   body_frame at part level body = frame at part level (statement_words told 0 body)
 
-  -- the frames that begin in what stands so deep in a function
+  -- the frames that begin in a statement at this nesting level of a function
   abbrev mutual
     pub frames_in : (level : ℕ) → Statement → List Region
     frames_in level (p.Block list) = all_frames_in level list
@@ -65,7 +65,7 @@ module _ (told : Told) where
     all_frames_in level (p.statement first others) =
         frames_in level first ++ all_frames_in level others
 
-  -- those of a function with this body: its own, and those within
+  -- the frames of a function with this body: its own one, and those inside it
   abbrev pub body_frames : (at : ℕ) → List DeclaredTree → Option Statements → List Region
   body_frames at parameters None = []
   body_frames at parameters (Some body) =
@@ -76,7 +76,7 @@ module _ (told : Told) where
   item_frames (p.VariablesItem variables) = []
   item_frames (p.FunctionItem f) = body_frames f.name.at f.parameters f.body
 
-  -- those of a text
+  -- the frames of a text
   abbrev pub regions_of : List ItemTree → List Region
   regions_of [] = []
   regions_of (item ∷ items) = item_frames item ++ regions_of items

@@ -1,4 +1,4 @@
--- What the code knows of a program, as the definitions have it.
+-- What the code looks up in the facts of a program, in the form of the definitions.
 use Rattle.fk_layout_slots.specs.declared.known.TypeNotes.{TypeNotes}
 use Rattle.fk_layout_slots.specs.Told.{Told}
 

@@ -1,4 +1,4 @@
--- The frames and places of bodies, as the code goes through them.
+-- The frames and slots of bodies, in the order in which the code goes through them.
 use Rattle.std.specs.Prelude.{ℕ, List, ◌++◌, if◌then◌else◌}
 use Rattle.fk_syntax.specs.Program.{Statement}
 use Rattle.fk_meaning_forms.specs.declared.tables.Slot.{Slot}
@@ -10,7 +10,7 @@ use Rattle.fk_layout_slots.specs.Places.{within, outside}
 use Rattle.fk_layout_slots.specs.Slots.{behind_body_frame, begun, begun_two, behind, slots_in}
 
 module _ (told : Told) where
-  -- a body that has a frame
+  -- a body that has a frame: its frames, its slots, and what is taken after it
   abbrev pub framed_frames : (at level : ℕ) → Statement → List Region
   framed_frames at level body =
       body_frame told at 0 (deeper level) body ++ frames_in told (deeper level) body
@@ -21,7 +21,7 @@ module _ (told : Told) where
   abbrev pub behind_framed : Taken → Statement → Taken
   behind_framed taken body = outside taken (behind told (begun told taken body) body)
 
-  -- a body that has one where the group splits
+  -- a body that has a frame of its own if the group splits
   abbrev pub split_frames : (at level : ℕ) → Statement → List Region
   split_frames at level body = if splits_at told at then framed_frames at level body
       else frames_in told level body
@@ -50,7 +50,7 @@ module _ (told : Told) where
   behind_both_framed taken first second = outside taken
       (behind told (within (behind told (begun_two told taken first second) first)) second)
 
-  -- two bodies that have them where the group splits
+  -- two bodies that have frames of their own if the group splits
   abbrev pub both_frames : (at level : ℕ) → (first second : Statement) → List Region
   both_frames at level first second =
       if splits_at told at then both_framed_frames at level first second

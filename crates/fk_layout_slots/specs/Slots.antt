@@ -1,5 +1,5 @@
--- Where the words of each declaration of a text lie, in its order; and how much
--- each function takes.
+-- Where the words of each declaration of a text lie, in its order, and how much each function
+-- takes.
 use Rattle.std.specs.Prelude.{ℕ, ◌+◌, min, List, [], ◌∷◌, ◌++◌, map, Option, Some, None}
 use Rattle.std.specs.Prelude.{if◌then◌else◌}
 use Rattle.fk_syntax.specs.Program as p
@@ -16,19 +16,19 @@ use Rattle.fk_layout_slots.specs.Places.{behind_variables, behind_parameters, no
 use Rattle.fk_layout_slots.specs.Places.{variables_slots, parameters_slots, file_slots}
 
 module _ (told : Told) where
-  -- what is taken behind the frame of a body, and where the body begins that has it
+  -- what is taken after the frame of a body, and at the beginning of a body that has a frame
   abbrev pub behind_body_frame : Taken → Statement → Taken
   behind_body_frame taken body = behind_frame taken (statement_words told 0 body)
 
   abbrev pub begun : Taken → Statement → Taken
   begun taken body = within (behind_body_frame taken body)
 
-  -- and where the first one of two bodies begins that have frames
+  -- what is taken at the beginning of the first of two bodies that have frames
   abbrev pub begun_two : Taken → (first second : Statement) → Taken
   begun_two taken first second = begun (behind_body_frame taken first) second
 
-  -- what is taken behind a statement. A body with a frame begins with none of its words, and ends
-  -- with those round it
+  -- what is taken after a statement. A body with a frame begins with no words taken in it. After it
+  -- the words of the frame around it count again
   abbrev mutual
     pub behind : Taken → Statement → Taken
     behind taken (p.Block list) = behind_all taken list
@@ -63,8 +63,8 @@ module _ (told : Told) where
     behind_all taken p.no_statements = taken
     behind_all taken (p.statement first others) = behind_all (behind taken first) others
 
-  -- the places in a statement, whose `sh` variables stand in the frame of a number. A frame has the
-  -- number of those before it
+  -- the slots in a statement, whose `sh` variables lie in the frame with number `frame`. The number
+  -- of a frame is the number of frames before it
   abbrev mutual
     pub slots_in : (frame : ℕ) → Taken → Statement → List Slot
     slots_in frame taken (p.Block list) = all_slots_in frame taken list
@@ -103,24 +103,24 @@ module _ (told : Told) where
     all_slots_in frame taken (p.statement first others) =
         slots_in frame taken first ++ all_slots_in frame (behind taken first) others
 
-  -- what a function begins with: its frame is the next one
+  -- what is taken at the beginning of a function, whose frame is the next one
   abbrev pub taken_first : (file : Taken) → List DeclaredTree → Statements → Taken
   taken_first file parameters body =
       record (behind_frame file (own_words told parameters body)) { privates = 0; words = 0 }
 
-  -- and what is taken at its end
+  -- what is taken at the end of a function
   abbrev pub at_end : (file : Taken) → List DeclaredTree → Statements → Taken
   at_end file parameters body =
       behind_all (behind_parameters told (taken_first file parameters body) parameters) body
 
-  -- what is taken behind a function: more frames
+  -- what is taken after a function: only the number of frames changes
   abbrev pub behind_body : (file : Taken) → List DeclaredTree → Option Statements → Taken
   behind_body file parameters None = file
   behind_body file parameters (Some body) =
       record file { frames = (at_end file parameters body).frames }
 
-  -- the places of a function's parameters and variables. Those of a header without a
-  -- body have no word
+  -- the slots of a function's parameters and variables. The parameters of a header without a body
+  -- have no word
   abbrev pub body_slots : (file : Taken) → List DeclaredTree → Option Statements → List Slot
   body_slots file parameters None = no_slots parameters
   body_slots file parameters (Some body) =
@@ -133,7 +133,7 @@ module _ (told : Told) where
   behind_item file (p.VariablesItem variables) = behind_variables told file variables
   behind_item file (p.FunctionItem f) = behind_body file f.parameters f.body
 
-  -- a function's name has no word either
+  -- the slots of an item; the name of a function has no word
   abbrev pub item_slots : (file : Taken) → ItemTree → List Slot
   item_slots file (p.StructItem name members) = []
   item_slots file (p.VariablesItem variables) = file_slots told file variables
@@ -144,12 +144,12 @@ module _ (told : Told) where
   items_slots file (item ∷ items) =
       item_slots file item ++ items_slots (behind_item file item) items
 
-  -- those of a text
+  -- the slots of a text
   abbrev pub slots_of : List ItemTree → List Slot
   slots_of items = items_slots none_taken items
 
   -- how much a function takes by itself: its private places, and the words of its own group frame.
-  -- All that are too many are one too many
+  -- If there are too many words, the count is `last_word + 1`
   abbrev pub own_in : List DeclaredTree → Option Statements → Own
   own_in parameters None = record { privates = 0; words = 0 }
   own_in parameters (Some body) = record {
@@ -160,6 +160,6 @@ module _ (told : Told) where
   abbrev pub own_of : FunctionTree → Own
   own_of f = own_in f.parameters f.body
 
-  -- that of each function with a body
+  -- how much each function with a body takes
   abbrev pub owns_of : List ItemTree → List Own
   owns_of items = map own_of (functions_of items)

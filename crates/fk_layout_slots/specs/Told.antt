@@ -1,4 +1,4 @@
--- What is asked of the facts of a program: how many words a name's declaration takes, and
+-- What the layout looks up in the facts of a program: the number of words of a declaration, and
 -- where groups split.
 use Rattle.std.specs.Prelude.{ℕ, ◌+◌, ◌-◌, ◌^◌, min, Bool, List}
 use Rattle.fk_syntax.specs.declared.facts.Note.{Note}
@@ -13,7 +13,7 @@ pub record Told : Type 0 where
 abbrev pub note_at : Told → (at : ℕ) → Note
 note_at told at = nth no_note told.notes at
 
--- the words of what is declared by the name at a token
+-- the number of words of the variable that the name at a token declares
 abbrev pub words_at : Told → (at : ℕ) → ℕ
 words_at told at = (nth no_kind told.kinds (note_at told at).kind).words
 
@@ -21,6 +21,6 @@ words_at told at = (nth no_kind told.kinds (note_at told at).kind).words
 abbrev pub splits_at : Told → (at : ℕ) → Bool
 splits_at told at = (note_at told at).splits
 
--- counts have 32 bits, and stay at the greatest one
+-- a count has 32 bits, and stays at the greatest number when it gets there
 abbrev pub more : (count by : ℕ) → ℕ
 more count by = min (count + by) (2 ^ 32 - 1)

@@ -1,11 +1,12 @@
--- How many words a group frame has: those of the `sh` variables that stand in it, outside
--- the frames within.
+-- The number of words of a group frame: those of the `sh` variables in it, without those in the
+-- frames inside it.
 use Rattle.std.specs.Prelude.{ℕ, List, [], ◌∷◌, if◌then◌else◌}
 use Rattle.fk_syntax.specs.Program as p
 use Rattle.fk_syntax.specs.Program.{DeclaredTree, Statement, Statements, FunctionTree}
 use Rattle.fk_layout_slots.specs.Told.{Told, words_at, splits_at, more}
 
--- each one: the words that are taken behind a part of the text, where so many are taken before it
+-- each function gives the words that are taken after a part of the text, where `taken` are taken
+-- before it
 module _ (told : Told) where
   abbrev pub declared_words : (taken : ℕ) → DeclaredTree → ℕ
   declared_words taken x = if x.shared then more taken (words_at told x.name.at) else taken
@@ -37,6 +38,6 @@ module _ (told : Told) where
     statements_words taken (p.statement first others) =
         statements_words (statement_words taken first) others
 
-  -- the words of a function's own frame: the parameters' come first
+  -- the words of a function's own frame: those of its parameters come first
   abbrev pub own_words : List DeclaredTree → Statements → ℕ
   own_words parameters body = statements_words (variables_words 0 parameters) body

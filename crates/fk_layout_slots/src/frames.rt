@@ -32,7 +32,7 @@ pub(crate) struct Frames {
 }
 
 impl Frames {
-    /// Those of a text. Fails only for want of memory.
+    /// The group frames of a text. It fails only if there isn't enough memory.
     pub(crate) fn of(
         alloc: Global,
         items: &[Item],
@@ -48,7 +48,7 @@ impl Frames {
         Ok(frames.list)
     }
 
-    // A frame, if it has words. All that are too many are one too many.
+    // Adds a frame, if it has words. If it has too many, the count is `LAST_WORD + 1`.
     fn add(&mut self, at: u32, part: u32, level: u32, words: u32) -> Result<(), AllocError>
         ensures { OnOk result (self.new.list.items ≡ self.old.list.items
             ++ frame at part level words) }
@@ -65,10 +65,10 @@ impl Frames {
         Ok(())
     }
 
-    // The frame of a body.
+    // Adds the frame of a body.
     //
-    // Here and below what is read stands before what it is added to: such calls have shorter proofs
-    // than methods.
+    // In this function and those below, the inputs come before the list that grows, because such
+    // calls have shorter proofs than methods.
     fn add_body_frame(
         body: &Stmt,
         known: &TypeNotes,
@@ -83,7 +83,7 @@ impl Frames {
         into.add(at, part, level, statement_words(body, known, 0))
     }
 
-    // The frames that begin in a statement that stands so deep in a function.
+    // Adds the frames that begin in a statement at this nesting level of a function.
     #[cycle(statement)]
     fn add_statement(
         statement: &Stmt,
@@ -119,7 +119,7 @@ impl Frames {
         }
     }
 
-    // Those of a body that has a frame where the group splits.
+    // Adds the frames of a body that has a frame of its own if the group splits.
     #[cycle(statement)]
     fn add_split(
         body: &Stmt,
@@ -138,7 +138,7 @@ impl Frames {
         }
     }
 
-    // Those of a body that has a frame: its own, and those within.
+    // Adds the frames of a body that has a frame: its own one, and those inside it.
     #[cycle(statement)]
     fn add_framed(
         body: &Stmt,
@@ -155,7 +155,7 @@ impl Frames {
         Self::add_statement(body, known, inner, into)
     }
 
-    // Those of two bodies that have frames where the group splits.
+    // Adds the frames of two bodies that have frames of their own if the group splits.
     #[cycle(statement)]
     fn add_both<'t, 'a>(
         first: &'t Stmt<'a>,
@@ -176,7 +176,8 @@ impl Frames {
         Self::add_statement(second, known, level, into)
     }
 
-    // Those of two bodies that have frames: their own, and those within both.
+    // Adds the frames of two bodies that have frames: both of their own, and then those inside
+    // them.
     #[cycle(statement)]
     fn add_both_framed<'t, 'a>(
         first: &'t Stmt<'a>,

@@ -1,4 +1,4 @@
-//! What is asked of the facts of a program.
+//! What the layout looks up in the facts of a program.
 
 ghost use Rattle.std.specs.Prelude.{◌≡◌};
 ghost use Rattle.fk_layout_slots.specs.Told.{note_at, words_at, splits_at};
@@ -6,7 +6,7 @@ ghost use Rattle.fk_layout_slots.specs.KnownView.{told_by};
 
 use fk_syntax::{Kind, Note};
 
-/// What is known of a program.
+/// The facts of a program that the layout needs.
 #[derive(Clone, Copy)]
 pub(crate) struct TypeNotes<'p> {
     /// A note for each token.
@@ -34,7 +34,7 @@ impl<'p> TypeNotes<'p> {
         }
     }
 
-    /// The words of what is declared by the name at a token.
+    /// The number of words of the variable that the name at a token declares.
     pub(crate) fn words(&self, at: u32) -> u32
         ensures { result ≡ words_at (told_by self.now) at }
     {

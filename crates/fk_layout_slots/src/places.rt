@@ -1,4 +1,4 @@
-//! The place of each declaration, in the order of the text.
+//! The slot of each declaration, in the order of the text.
 
 ghost use Rattle.std.specs.Prelude.{◌≡◌, ◌∷◌, ◌++◌, [], map, OnOk, IfOk, Some};
 ghost use Rattle.fk_syntax.specs.Program as p;
@@ -23,8 +23,8 @@ const NO_SLOT: Slot = Slot {
     index: 0,
 };
 
-// The place of a variable or parameter of a function, whose `sh` ones stand in the group frame of
-// a number.
+// The slot of a variable or parameter of a function. An `sh` one lies in the group frame with
+// number `frame`.
 #[tactic(auto, unfolding(crate::specs::Places::slot_in))]
 fn slot_in(variable: &Declared, frame: u32, taken: Taken) -> Slot
     ensures { result ≡ g.slot_in frame taken (declared_of variable.now) }
@@ -42,7 +42,7 @@ fn slot_in(variable: &Declared, frame: u32, taken: Taken) -> Slot
     }
 }
 
-// The place of a variable of file scope.
+// The slot of a variable of file scope.
 #[tactic(auto, unfolding(crate::specs::Places::file_slot))]
 fn file_slot(variable: &Declared, taken: Taken) -> Slot
     ensures { result ≡ g.file_slot taken (declared_of variable.now) }
@@ -60,7 +60,7 @@ fn file_slot(variable: &Declared, taken: Taken) -> Slot
     }
 }
 
-// What is taken behind a variable.
+// What is taken after a variable.
 #[tactic(auto, unfolding(crate::specs::Places::behind_variable, crate::specs::Places::behind_words))]
 fn behind_variable(variable: &Declared, known: &TypeNotes, taken: Taken) -> Taken
     ensures { result ≡ g.behind_variable (told_by known.now) taken (declared_of variable.now) }
@@ -72,7 +72,7 @@ fn behind_variable(variable: &Declared, known: &TypeNotes, taken: Taken) -> Take
     }
 }
 
-// What is taken behind a parameter.
+// What is taken after a parameter.
 #[tactic(auto, unfolding(crate::specs::Places::behind_parameter, crate::specs::Places::behind_words))]
 fn behind_parameter(parameter: &Declared, known: &TypeNotes, taken: Taken) -> Taken
     ensures { result ≡ g.behind_parameter (told_by known.now) taken (declared_of parameter.now) }
@@ -85,14 +85,14 @@ fn behind_parameter(parameter: &Declared, known: &TypeNotes, taken: Taken) -> Ta
     }
 }
 
-// What is taken behind the frame of a body.
+// What is taken after the frame of a body.
 fn behind_body_frame(body: &Stmt, known: &TypeNotes, taken: Taken) -> Taken
     ensures { result ≡ s.behind_body_frame (told_by known.now) taken (statement_of body.now) }
 {
     taken.behind_frame(statement_words(body, known, 0))
 }
 
-// What a function begins with.
+// What is taken at the beginning of a function, where `file` is taken before it.
 fn taken_first<'t, 'a>(
     parameters: &'t [Declared<'a>],
     body: &'t [Stmt<'a>],
@@ -110,7 +110,7 @@ fn taken_first<'t, 'a>(
     }
 }
 
-// How much a function takes by itself, where this is taken at its end.
+// How much a function takes by itself, where `last` is taken at its end.
 fn own_by<'t, 'a>(
     parameters: &'t [Declared<'a>],
     body: &'t [Stmt<'a>],
@@ -129,14 +129,15 @@ fn own_by<'t, 'a>(
     }
 }
 
-/// The places of declarations, in the order of the text.
+/// The slots of declarations, in the order of the text.
 #[derive(Drop)]
 pub(crate) struct Places {
     list: Vec<Slot>,
 }
 
 impl Places {
-    /// Those of a text, and how much each function takes by itself. Fails only for want of memory.
+    /// The slots of a text, and how much each function takes by itself. It fails only if there
+    /// isn't enough memory.
     pub(crate) fn of(
         alloc: Global,
         items: &[Item],
@@ -155,10 +156,10 @@ impl Places {
         Ok((places.list, owns))
     }
 
-    // Those of variables of a function that stand side by side. Answers what is taken behind them.
+    // Adds the slots of the variables of one declaration. Returns what is taken after them.
     //
-    // Here and below what is read stands before what it is added to: such calls have shorter proofs
-    // than methods.
+    // In this function and those below, the inputs come before the list that grows, because such
+    // calls have shorter proofs than methods.
     fn add_variables(
         variables: &[Declared],
         known: &TypeNotes,
@@ -179,7 +180,7 @@ impl Places {
         Ok(behind)
     }
 
-    // Those of the parameters of a function.
+    // Adds the slots of the parameters of a function. Returns what is taken after them.
     fn add_parameters(
         parameters: &[Declared],
         known: &TypeNotes,
@@ -201,7 +202,7 @@ impl Places {
         Ok(behind)
     }
 
-    // Those of parameters that have no word.
+    // Adds slots without a word for the parameters of a function that has no body.
     fn add_none(parameters: &[Declared], into: &mut Self) -> Result<(), AllocError>
         ensures { OnOk result (into.new.list.items ≡ into.old.list.items
             ++ g.no_slots (map declared_of parameters.now)) }
@@ -212,7 +213,7 @@ impl Places {
         Ok(())
     }
 
-    // Those of variables of file scope.
+    // Adds the slots of variables of file scope. Returns what is taken after them.
     fn add_file(
         variables: &[Declared],
         known: &TypeNotes,
@@ -232,8 +233,8 @@ impl Places {
         Ok(behind)
     }
 
-    // Those in a statement, whose `sh` variables stand in the frame of a number. Answers what is
-    // taken behind it.
+    // Adds the slots of the declarations in a statement, whose `sh` variables lie in the frame with
+    // number `frame`. Returns what is taken after it.
     #[cycle(statement)]
     fn add_statement(
         statement: &Stmt,
@@ -276,7 +277,7 @@ impl Places {
         }
     }
 
-    // Those of a body that has a frame where the group splits.
+    // Adds the slots of a body that has a frame of its own if the group splits.
     #[cycle(statement)]
     fn add_split(
         body: &Stmt,
@@ -298,7 +299,7 @@ impl Places {
         }
     }
 
-    // Those of a body that has a frame, which gets the next number.
+    // Adds the slots of a body that has a frame. The frame gets the next number.
     #[cycle(statement)]
     fn add_framed(
         body: &Stmt,
@@ -316,7 +317,7 @@ impl Places {
         Ok(behind.outside(taken))
     }
 
-    // Those of two bodies that have frames where the group splits.
+    // Adds the slots of two bodies that have frames of their own if the group splits.
     #[cycle(statement)]
     fn add_both<'t, 'a>(
         first: &'t Stmt<'a>,
@@ -341,7 +342,7 @@ impl Places {
         Self::add_statement(second, known, frame, behind, into)
     }
 
-    // Those of two bodies that have frames, which get the next numbers.
+    // Adds the slots of two bodies that have frames. The frames get the next two numbers.
     #[cycle(statement)]
     fn add_both_framed<'t, 'a>(
         first: &'t Stmt<'a>,
@@ -386,7 +387,7 @@ impl Places {
         Ok(behind)
     }
 
-    // Those of a function's parameters and variables. Answers what is taken at its end.
+    // Adds the slots of a function's parameters and variables. Returns what is taken at its end.
     #[tactic(auto, using(crate::proofs::Alike::same_privates))]
     fn add_body<'t, 'a>(
         parameters: &'t [Declared<'a>],
@@ -411,8 +412,8 @@ impl Places {
         Ok(last)
     }
 
-    // Those of a function: its name has no word. What one with a body takes by itself comes to the
-    // list of these.
+    // Adds the slots of a function, whose name has no word. If it has a body, what it takes by
+    // itself is added to `owns`.
     fn add_function(
         function: &Function,
         known: &TypeNotes,

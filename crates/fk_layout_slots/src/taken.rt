@@ -6,12 +6,12 @@ ghost use Rattle.fk_layout_slots.specs.Places.{none_taken, behind_frame, within 
 ghost use Rattle.fk_layout_slots.specs.Places.{outside as outside_of};
 ghost use Rattle.fk_layout_slots.specs.Places.{behind_private as behind_private_of};
 
-/// How much is taken before a place in the text. Counts that would be greater stay at 2^32 - 1.
+/// How much is taken before a point of the text. The counts stay at 2^32 - 1 when they get there.
 #[derive(Clone, Copy)]
 pub(crate) struct Taken {
-    /// Private places: those of the function, or of the file.
+    /// Private places of the function around the point, or of the file.
     pub(crate) privates: u32,
-    /// Words of the group frame round the place, or of the globals.
+    /// Words of the group frame around the point, or of the globals.
     pub(crate) words: u32,
     /// Group frames that have words.
     pub(crate) frames: u32,
@@ -28,7 +28,7 @@ impl Taken {
         }
     }
 
-    /// With so many words more.
+    /// What is taken after `words` more words.
     pub(crate) fn behind_words(self, words: u32) -> Taken
         ensures { result ≡ record self { words = more self.words words } }
     {
@@ -38,7 +38,7 @@ impl Taken {
         }
     }
 
-    /// With a private place more.
+    /// What is taken after one more private place.
     #[tactic(auto, unfolding(crate::specs::Places::behind_private))]
     pub(crate) fn behind_private(self) -> Taken
         ensures { result ≡ behind_private_of self }
@@ -49,7 +49,7 @@ impl Taken {
         }
     }
 
-    /// Behind a frame of so many words. One without words is none.
+    /// What is taken after a frame with this number of words. A frame without words isn't counted.
     #[tactic(auto, unfolding(crate::specs::Places::behind_frame))]
     pub(crate) fn behind_frame(self, words: u32) -> Taken
         ensures { result ≡ behind_frame self words }
@@ -63,7 +63,7 @@ impl Taken {
         }
     }
 
-    /// What is taken where a frame begins: no words yet.
+    /// What is taken at the beginning of a frame, which has no words yet.
     #[tactic(auto, unfolding(crate::specs::Places::within))]
     pub(crate) fn within(self) -> Taken
         ensures { result ≡ within_of self }
@@ -71,7 +71,7 @@ impl Taken {
         Taken { words: 0, ..self }
     }
 
-    /// What is taken after the end of a frame, where `before` was taken in front of it.
+    /// What is taken after the end of a frame, where `before` was taken before it.
     #[tactic(auto, unfolding(crate::specs::Places::outside))]
     pub(crate) fn outside(self, before: Taken) -> Taken
         ensures { result ≡ outside_of before self }

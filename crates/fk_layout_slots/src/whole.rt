@@ -1,4 +1,4 @@
-//! The places and frames of a text, and how much its functions take.
+//! The slots and frames of a text, and how much its functions take.
 
 ghost use Rattle.std.specs.Prelude.{◌≡◌, map, IfOk};
 ghost use Rattle.fk_syntax.specs.ProgramView.{item_of};
@@ -12,8 +12,8 @@ use crate::tables::Slots;
 use fk_syntax::{Item, Kind, Note};
 use std::alloc::{AllocError, Global};
 
-/// Where the words of a text lie, by a note for each of its tokens and by its types. Fails only for
-/// want of memory.
+/// The slots and group frames of a text, by the notes of its tokens and by its types. It fails only
+/// if there isn't enough memory.
 pub fn slots(
     alloc: Global,
     items: &[Item],

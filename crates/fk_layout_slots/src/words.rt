@@ -1,4 +1,4 @@
-//! How many words a group frame has.
+//! The number of words of a group frame.
 
 ghost use Rattle.std.specs.Prelude.{◌≡◌, map};
 ghost use Rattle.fk_syntax.specs.Program.{statements_of};
@@ -9,7 +9,7 @@ ghost use Rattle.fk_layout_slots.specs.Words as w;
 use crate::known::TypeNotes;
 use fk_syntax::{Declared, Stmt};
 
-// The words that are taken behind a variable or parameter.
+// The words that are taken after a variable or parameter.
 fn declared_words(variable: &Declared, known: &TypeNotes, taken: u32) -> u32
     ensures { result ≡ w.declared_words (told_by known.now) taken (declared_of variable.now) }
 {
@@ -20,7 +20,7 @@ fn declared_words(variable: &Declared, known: &TypeNotes, taken: u32) -> u32
     }
 }
 
-// The words that are taken behind variables or parameters.
+// The words that are taken after variables or parameters.
 fn variables_words(variables: &[Declared], known: &TypeNotes, taken: u32) -> u32
     ensures { result
         ≡ w.variables_words (told_by known.now) taken (map declared_of variables.now) }
@@ -32,7 +32,7 @@ fn variables_words(variables: &[Declared], known: &TypeNotes, taken: u32) -> u32
     behind
 }
 
-/// The words of the frame round a statement that are taken behind it, where so many are taken
+/// The words of the frame around a statement that are taken after it, where `taken` words are taken
 /// before it.
 #[cycle(statement)]
 pub(crate) fn statement_words(statement: &Stmt, known: &TypeNotes, taken: u32) -> u32
@@ -85,7 +85,7 @@ fn statements_words(statements: &[Stmt], known: &TypeNotes, taken: u32) -> u32
     behind
 }
 
-/// The words of the frame of a function's own.
+/// The number of words of a function's own frame.
 pub(crate) fn own_words<'t, 'a>(
     parameters: &'t [Declared<'a>],
     body: &'t [Stmt<'a>],

@@ -1,4 +1,4 @@
--- What calls of the names do that are declared before each text.
+-- What calls of predeclared names do.
 use Rattle.std.specs.Prelude.{ℕ, true, false, List, codes, bytes_eq, if◌then◌else◌}
 use Rattle.fk_meaning_operation.specs.declared.operation.Operation.TheVariants as o
 use Rattle.fk_meaning_operation.specs.declared.operation.Multiprefix.TheVariants.{MpAdd, MpMax}
@@ -20,7 +20,7 @@ printing_or bytes other =
     else if bytes_eq bytes (codes "putchar") then b.OnOne false o.PrintByte
     else other
 
--- the last of these names is `shalloc`
+-- every name but `malloc` and `shmalloc` counts as `shalloc`
 abbrev pub request : (bytes : List ℕ) → Builtin
 request bytes =
     if bytes_eq bytes (codes "malloc") then b.OnOne false o.Take
@@ -32,6 +32,6 @@ one_operation bytes =
     if bytes_eq bytes (codes "groupsize") then b.GroupSize
     else printing_or bytes (request bytes)
 
--- a name that is none of these is taken for `shalloc`
+-- a name that isn't predeclared counts as `shalloc`
 abbrev pub builtin_by : (bytes : List ℕ) → Builtin
 builtin_by bytes = multiprefix_or bytes (one_operation bytes)

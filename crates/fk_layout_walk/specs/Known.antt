@@ -1,4 +1,4 @@
--- What is known of a program, as the forms have it.
+-- The tables of a program in the form that the definitions of code use.
 use Rattle.std.specs.Prelude.{◌≡◌, ℕ, Bool, List, map, slice_get, Option, Some, None, if◌then◌else◌}
 use Rattle.fk_syntax.specs.Program as p
 use Rattle.fk_syntax.specs.Program.{FunctionTree, ItemTree}
@@ -22,12 +22,12 @@ tables_of known = record {
 abbrev pub items_in : ProgramTables → List ItemTree
 items_in known = map item_of known.items.now
 
--- the function that a binding means
+-- the signature of the function that a binding names
 abbrev pub functions_of : ProgramTables → (binding : ℕ) → Signature
 functions_of known binding =
     signature_in (tables_of known) (f.functions_of (items_in known)) binding
 
--- the function of an index, as calls see it, if there is one
+-- the signature of a function, if there is one
 abbrev pub signature_at : Option FunctionTree → Signature
 signature_at None = no_signature
 signature_at (Some f) = signature_of f
@@ -40,7 +40,7 @@ abbrev pub called : Option (Option ℕ) → List ItemTree → Option FunctionTre
 called (Some (Some i)) items = function_in (slice_get items i)
 called index items = None
 
--- the group frame that a part of a token has
+-- the group frame of a part of a token
 abbrev pub framed_in : Option Framed → (second : Bool) → Option Region
 framed_in None second = None
 framed_in (Some framed) second = if second then framed.second else framed.first
@@ -48,8 +48,8 @@ framed_in (Some framed) second = if second then framed.second else framed.first
 abbrev pub part_of : (second : Bool) → ℕ
 part_of second = if second then 1 else 0
 
--- the indices tell the same functions as the bindings do, and the tokens the same group frames
--- as the regions do
+-- `callees` names the same functions as the bindings do, and `framed` has the same group frames as
+-- the regions do
 pub record IsSound (known : ProgramTables) : Type 0 where
   pub callees : (binding : ℕ) → functions_of known binding
       ≡ signature_at (called (slice_get known.callees.now binding) (items_in known))

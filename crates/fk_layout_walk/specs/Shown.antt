@@ -1,5 +1,5 @@
--- An operation as a visitor is shown it: whole, where each of its numbers has room in a word. One
--- that has none is the greatest word.
+-- An operation as a visitor is shown it. A number that doesn't fit into a word is shown as the
+-- greatest word.
 use Rattle.std.specs.Prelude.{ℕ, ◌-◌, ◌^◌, min}
 use Rattle.fk_meaning_operation.specs.declared.operation.Operation.{Operation}
 use Rattle.fk_meaning_operation.specs.declared.operation.Operation.TheVariants as o

@@ -1,4 +1,4 @@
--- How an expression stands when its operations are done, as the forms have it.
+-- Where the result of an expression is, in the form that the definitions of code use.
 use Rattle.std.specs.Prelude.{Bool, Option, Some, None, if◌then◌else◌}
 use Rattle.fk_syntax.specs.View.{named}
 use Rattle.fk_meaning_forms.specs.Code.{done}
@@ -14,7 +14,8 @@ standing_of (s.AtAddress deep spot) = e.AtAddress deep spot
 standing_of (s.InWord variable) = e.InWord variable
 standing_of (s.ToCall name) = e.ToCall (named name)
 
--- what follows an expression. Nothing does behind a call of what is no function
+-- the code after an expression; there is none after a call of something that isn't a function, or
+-- with too few arguments for a predeclared one
 abbrev pub behind : Option Standing → (e.Standing → Coded) → Coded
 behind None k = done
 behind (Some standing) k = k (standing_of standing)
@@ -23,6 +24,6 @@ abbrev pub behind_value : Option Unit → Coded → Coded
 behind_value None rest = done
 behind_value (Some x) rest = rest
 
--- what follows in one of two ways: the end of a part of a split, or nothing
+-- the code after one of two branches: the end of a part of a split, or nothing
 abbrev pub ending : (ends : Bool) → Coded
 ending ends = if ends then plain End done else done

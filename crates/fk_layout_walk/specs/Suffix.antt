@@ -1,4 +1,4 @@
--- What stands behind an expression that stands in some way: the links of a chain, and suffixes.
+-- The code that follows an expression whose standing is known: the links of a chain, and suffixes.
 use Rattle.std.specs.Prelude.{ℕ, Option, Some, None}
 use Rattle.fk_syntax.specs.declared.sign.Sign.TheVariants.{Plus, Minus}
 use Rattle.fk_syntax.specs.Tree as t
@@ -57,7 +57,7 @@ suffix_at (t.Arrow spot member) = spot.at
 suffix_at (t.Up spot) = spot.at
 suffix_at (t.Down spot) = spot.at
 
--- the token of the last link or suffix, where there is one
+-- the token of the last link or suffix, or else the token before them
 abbrev pub or_before : Option ℕ → (before : ℕ) → ℕ
 or_before None before = before
 or_before (Some at) before = at

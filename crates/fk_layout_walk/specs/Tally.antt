@@ -7,7 +7,7 @@ use Rattle.fk_layout_walk.specs.declared.visitor.Mark.{Mark}
 use Rattle.fk_layout_walk.specs.declared.tally.Tally.{Tally}
 use Rattle.fk_layout_walk.specs.Event.{operation_of}
 
--- a number above the greatest one stays at it
+-- the count stays at the greatest number when it gets there
 abbrev pub with_operation : Tally → Option (Operation × Place) → Tally
 with_operation tally None = tally
 with_operation tally (Some operation) = record { count = min (tally.count + 1) (2 ^ 64 - 1) }

@@ -1,5 +1,5 @@
--- What code makes of a visitor that is shown it: its operations in their order, and how they stand
--- in choices, loops and calls.
+-- The state of a visitor after it has been shown code: the operations in their order, and the
+-- structure of choices, loops and calls around them.
 use Rattle.std.specs.Prelude.{◌≡◌, ℕ, Option}
 use Rattle.fk_meaning_forms.specs.Code.{done, perform, choose, while, until, turn, again, quit}
 use Rattle.fk_meaning_forms.specs.Code.{break, continue, call, ends}
@@ -14,8 +14,9 @@ use Rattle.fk_layout_walk.specs.Standing.{behind, behind_value}
 
 module _ {S : Type 0} (after : S → Event → S) (mark : S → Mark)
     (functions : (binding : ℕ) → Signature) where
-  -- both ways of a choice begin alike. The second one is shown behind the first. A loop that is
-  -- under way stands in no text: of one only its operations are shown
+  -- both branches of a choice begin with the same state, and the second one is shown after the
+  -- first. A loop that is under way doesn't occur in a text; of such a loop only the operations are
+  -- shown
   abbrev pub through : S → Coded → S
   through s done = s
   through s (perform t op rest) = through (after s (v.Perform (shown op) t)) rest
@@ -44,8 +45,8 @@ module _ {S : Type 0} (after : S → Event → S) (mark : S → Mark)
       through (after (through entered opening) (v.Returned (mark entered) (functions f).void)) rest
   through s (ends t op rest) = through (after s (v.Ends (shown op) t)) rest
 
-  -- an expression leads a visitor from one state to another, behind which what follows is known by
-  -- how it stands; or what it stands before does, behind a value
+  -- an expression leads a visitor from one state to another: for each continuation `k` of the code,
+  -- what follows the expression is what `k` gives for its standing, or nothing
   abbrev pub Leads : (from to : S) → Option Standing → Stands → Type 0
   Leads from to result e = (k : f.Standing → Coded)
       → through from (e k) ≡ through to (behind result k)

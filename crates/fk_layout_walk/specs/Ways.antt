@@ -1,4 +1,4 @@
--- A choice, of which the first way was shown.
+-- A choice whose first branch has been shown.
 use Rattle.std.specs.Prelude.{ℕ, if◌then◌else◌}
 use Rattle.fk_syntax.specs.declared.place.Spot.{Spot}
 use Rattle.fk_meaning_operation.specs.declared.operation.Operation.TheVariants.{End, Resume}
@@ -13,7 +13,7 @@ use Rattle.fk_layout_walk.specs.Through.{through}
 
 module _ {S : Type 0} (after : S → Event → S) (mark : S → Mark)
     (functions : (binding : ℕ) → Signature) where
-  -- what is still shown behind the first way: the second one, and what stands behind both
+  -- the state after what follows the first branch: the second branch, and the code after both
   abbrev pub behind_first : S → Ways → (second rest : Coded) → S
   behind_first s ways second rest =
       through after mark functions
@@ -21,11 +21,11 @@ module _ {S : Type 0} (after : S → Event → S) (mark : S → Mark)
       (Joined ways.before ways.behind))
       rest
 
--- where a group splits at a token, it goes on behind both ways
+-- where a group splits at a token, it resumes after both branches
 abbrev pub rejoined : Tables → Spot → (rest : Coded) → Coded
 rejoined tables spot rest = if (note tables spot.at).splits then plain Resume rest else rest
 
--- and then the second value of `?:` is a part, which ends
+-- where a group splits, the second value of `?:` is a part, which ends
 abbrev pub other_arm : Tables → ((binding : ℕ) → Signature) → Spot → (second : Stands) → Coded
 other_arm tables functions spot second =
     if (note tables spot.at).splits then value_of tables functions second (plain End done)

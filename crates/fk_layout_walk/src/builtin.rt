@@ -1,4 +1,4 @@
-//! What calls of the names do that are declared before each text.
+//! What calls of predeclared names do.
 
 ghost use Rattle.std.specs.Prelude.{◌≡◌};
 ghost use Rattle.fk_layout_walk.specs.Builtin.{builtin_by, multiprefix_or, one_operation};
@@ -7,18 +7,18 @@ ghost use Rattle.fk_layout_walk.specs.Builtin.{printing_or, request};
 use crate::texts::is_spelled;
 use fk_meaning_operation::{Multiprefix, Operation};
 
-/// What a call of a name that is declared before each text does.
+/// What a call of a predeclared name does.
 #[derive(Clone, Copy)]
 pub(crate) enum Builtin {
-    /// `mpadd` or one of its kin, on an address and a value.
+    /// `mpadd`, `mpmax`, `mpand` or `mpor`, on an address and a value.
     Multiprefix(Multiprefix),
     /// `groupsize`, which has no arguments.
     GroupSize,
-    /// An operation on one argument, on which the group agrees first or not.
+    /// An operation on one argument. The flag tells whether the group first agrees on the argument.
     OnOne(bool, Operation),
 }
 
-// What a call of `mpadd` or one of its kin does, and of any other name that.
+// What a call of a multiprefix name does; `other` for every other name.
 fn multiprefix_or(bytes: &[u8], other: Builtin) -> Builtin
     ensures { result ≡ multiprefix_or bytes.now other }
 {
@@ -35,7 +35,7 @@ fn multiprefix_or(bytes: &[u8], other: Builtin) -> Builtin
     }
 }
 
-// What a call of a name that prints does, and of any other name that.
+// What a call of a printing name does; `other` for every other name.
 fn printing_or(bytes: &[u8], other: Builtin) -> Builtin
     ensures { result ≡ printing_or bytes.now other }
 {
@@ -48,7 +48,8 @@ fn printing_or(bytes: &[u8], other: Builtin) -> Builtin
     }
 }
 
-// What a call of a name that asks for memory does. The last of these names is `shalloc`.
+// What a call of a name that asks for memory does. Every name but `malloc` and `shmalloc` counts as
+// `shalloc`.
 fn request(bytes: &[u8]) -> Builtin
     ensures { result ≡ request bytes.now }
 {
@@ -61,7 +62,7 @@ fn request(bytes: &[u8]) -> Builtin
     }
 }
 
-// What a call of a name does that is not of the kin of `mpadd`.
+// What a call of a predeclared name does that isn't a multiprefix.
 fn one_operation(bytes: &[u8]) -> Builtin
     ensures { result ≡ one_operation bytes.now }
 {
@@ -72,7 +73,7 @@ fn one_operation(bytes: &[u8]) -> Builtin
     }
 }
 
-/// What a call of a name does. One that is none of these names is taken for `shalloc`.
+/// What a call of a predeclared name does. A name that isn't predeclared counts as `shalloc`.
 pub(crate) fn builtin_of(bytes: &[u8]) -> Builtin
     ensures { result ≡ builtin_by bytes.now }
 {

@@ -1,4 +1,4 @@
-//! How a call is entered.
+//! The operations at the beginning of a call.
 
 ghost use Rattle.std.specs.Prelude.{◌≡◌, ◌+◌, ◌∷◌, List, map, length};
 ghost use Rattle.fk_syntax.specs.Program.{DeclaredTree};
@@ -17,7 +17,7 @@ use crate::visitor::{Event, NOWHERE, Visitor, perform, plain};
 use fk_meaning_operation::{Operation, OwnValue as Value, Variable};
 use fk_syntax::{Declared, Place};
 
-/// The group frame of a part of a token, where it has words.
+/// Shows the allocation of the group frame of a part of a token, if that frame has words.
 pub fn frame<V: Visitor>(
     known: &ProgramTables,
     visitor: &mut V,
@@ -39,8 +39,8 @@ pub fn frame<V: Visitor>(
     }
 }
 
-// A parameter with this number is put into the frame, where it is `sh`. A number above 2^32 - 1 is
-// shown as that one.
+// Puts the parameter with this number into the group frame if it is `sh`. A number above 2^32 - 1
+// is shown as 2^32 - 1.
 fn keep<V: Visitor>(known: &ProgramTables, visitor: &mut V, number: usize, parameter: &Declared)
     ensures { (others : List DeclaredTree)
         → through V.after V.counts (functions_of known.now) visitor.old
@@ -59,7 +59,7 @@ fn keep<V: Visitor>(known: &ProgramTables, visitor: &mut V, number: usize, param
     }
 }
 
-// The `sh` parameters are put into the frame.
+// Puts the `sh` parameters into the group frame.
 fn fill<V: Visitor>(known: &ProgramTables, visitor: &mut V, parameters: &[Declared])
     ensures { visitor.new ≡ through V.after V.counts (functions_of known.now) visitor.old
         (e.parameters (tables_of known.now) (functions_of known.now) 0
@@ -70,8 +70,8 @@ fn fill<V: Visitor>(known: &ProgramTables, visitor: &mut V, parameters: &[Declar
     }
 }
 
-/// A call of the function of a binding, whose name has this token, with these parameters. If it has
-/// more than 2^32 - 1 of them, so many are shown.
+/// Shows a call of the function of a binding. `at` is the token of its name. Of more than 2^32 - 1
+/// parameters the visitor is shown 2^32 - 1.
 pub(crate) fn enter<V: Visitor>(
     known: &ProgramTables,
     visitor: &mut V,

@@ -32,9 +32,10 @@ use fk_meaning_operation::{Multiprefix, Operation, OwnValue as Value, SplitKind,
 use fk_num::Op;
 use fk_syntax::{Declared, Expr, Link, Name, Sign, Spot, Suffix};
 
-/// Shows a visitor the operations of an expression, and tells how it stands behind them. It is
-/// `None` where nothing follows, behind a call of what is no function. It takes no memory, and time
-/// linear in the expression.
+/// Shows a visitor the operations of an expression, and returns where its result is. It returns
+/// `None` if nothing follows: the expression has a call of something that isn't a function, or of a
+/// predeclared function with too few arguments. It takes no memory, and time linear in the
+/// expression.
 #[cycle(expression)]
 pub fn expression<'t, V: Visitor>(
     known: &ProgramTables,
@@ -75,8 +76,8 @@ pub fn expression<'t, V: Visitor>(
     }
 }
 
-/// Shows a visitor the operations of an expression and those that make it a value, and tells
-/// whether something follows.
+/// Shows a visitor the operations of an expression and those that make it a value. `None` means
+/// that nothing follows.
 #[cycle(expression)]
 pub fn value<V: Visitor>(known: &ProgramTables, visitor: &mut V, whole: &Expr) -> Option<()>
     requires { IsSound known.now }
@@ -88,7 +89,7 @@ pub fn value<V: Visitor>(known: &ProgramTables, visitor: &mut V, whole: &Expr) -
     Some(())
 }
 
-// A sign in front.
+// An expression with a sign in front.
 #[cycle(expression)]
 fn prefix<'t, V: Visitor>(
     known: &ProgramTables,
@@ -115,7 +116,7 @@ fn prefix<'t, V: Visitor>(
     }
 }
 
-// A value that stays one.
+// A sign or a cast that adds no operation to the value of its operand.
 #[cycle(expression)]
 fn on_list<'t, V: Visitor>(
     known: &ProgramTables,
@@ -131,7 +132,7 @@ fn on_list<'t, V: Visitor>(
     Some(Standing::OnList)
 }
 
-// `*`, which makes a value an address.
+// `*`: the value becomes an address.
 #[cycle(expression)]
 fn dereference<'t, V: Visitor>(
     known: &ProgramTables,
@@ -148,7 +149,7 @@ fn dereference<'t, V: Visitor>(
     Some(Standing::AtAddress(true, spot))
 }
 
-// `&`, which makes an address a value.
+// `&`: the address becomes a value.
 #[cycle(expression)]
 fn address_of<'t, V: Visitor>(
     known: &ProgramTables,
@@ -165,7 +166,7 @@ fn address_of<'t, V: Visitor>(
     Some(Standing::OnList)
 }
 
-// One operation, which leaves a value.
+// One operation that leaves a value.
 fn single<'t, V: Visitor>(
     known: &ProgramTables,
     visitor: &mut V,
@@ -178,7 +179,7 @@ fn single<'t, V: Visitor>(
     Some(Standing::OnList)
 }
 
-// `sizeof`, by its token.
+// `sizeof`: pushes the number in the note of its token.
 fn size_of<'t, V: Visitor>(known: &ProgramTables, visitor: &mut V, at: u32) -> Option<Standing<'t>>
     ensures { Leads V.after V.counts (functions_of known.now) visitor.old visitor.new result
         (λ k. e.plain (o.Push (t.note (tables_of known.now) at).binding) (k e.OnList)) }
@@ -186,7 +187,7 @@ fn size_of<'t, V: Visitor>(known: &ProgramTables, visitor: &mut V, at: u32) -> O
     single(known, visitor, Operation::Push(known.note(at).binding))
 }
 
-// `puts`.
+// `puts`: prints the bytes of a text.
 fn puts<'t, V: Visitor>(known: &ProgramTables, visitor: &mut V, text: &[u8]) -> Option<Standing<'t>>
     ensures { Leads V.after V.counts (functions_of known.now) visitor.old visitor.new result
         (λ k. e.put_bytes (text_of text.now) (k e.OnList)) }
@@ -212,7 +213,7 @@ fn unary<'t, V: Visitor>(
     single(known, visitor, Operation::Apply(by))
 }
 
-// `++` or `--` in front, as the sum or difference with 1.
+// `++` or `--` in front: the sum or difference with 1 is assigned.
 #[cycle(expression)]
 fn increase<'t, V: Visitor>(
     known: &ProgramTables,
@@ -233,7 +234,7 @@ fn increase<'t, V: Visitor>(
     Some(Standing::OnList)
 }
 
-// The links of a chain, behind what stands before them.
+// The links of a chain, after the first expression. `at` is the token of that expression.
 #[cycle(expression)]
 fn chain<'t, V: Visitor>(
     known: &ProgramTables,
@@ -256,7 +257,7 @@ fn chain<'t, V: Visitor>(
     Some(standing)
 }
 
-// A sign between two expressions, behind the left one.
+// One link of a chain, after the operations of its left side.
 #[cycle(expression)]
 fn join<'t, V: Visitor>(
     known: &ProgramTables,
@@ -310,8 +311,8 @@ fn join<'t, V: Visitor>(
     }
 }
 
-// `&&` or `||`, behind its left side. In a synchronous region the group agrees before it
-// branches, or splits.
+// `&&` or `||`, after the operations of its left side. In a synchronous region the group agrees
+// before it branches, or it splits.
 #[cycle(expression)]
 fn logical<'t, V: Visitor>(
     known: &ProgramTables,
@@ -355,14 +356,14 @@ fn logical<'t, V: Visitor>(
     }
 }
 
-// The value of `&&` or `||` where its right side is left out.
+// The value of `&&` or `||` if the right side is skipped.
 fn other_value(onward: bool) -> u32
     ensures { result ≡ (if onward then 0 else 1) }
 {
     if onward { 0 } else { 1 }
 }
 
-// The right side of `&&` or `||`, whose value becomes 0 or 1. A part of a split ends behind it.
+// The right side of `&&` or `||`, whose value becomes 0 or 1. If `ends`, it ends a part of a split.
 #[cycle(expression)]
 fn truth<V: Visitor>(known: &ProgramTables, visitor: &mut V, right: &Expr, ends: bool)
     requires { IsSound known.now }
@@ -378,7 +379,7 @@ fn truth<V: Visitor>(known: &ProgramTables, visitor: &mut V, right: &Expr, ends:
     }
 }
 
-// One of the two values of `?:`. A part of a split ends behind it.
+// One of the two values of `?:`. If `ends`, it ends a part of a split.
 #[cycle(expression)]
 fn arm<V: Visitor>(known: &ProgramTables, visitor: &mut V, whole: &Expr, ends: bool)
     requires { IsSound known.now }
@@ -391,8 +392,8 @@ fn arm<V: Visitor>(known: &ProgramTables, visitor: &mut V, whole: &Expr, ends: b
     }
 }
 
-// The first of the two values of `?:`, behind its condition. In a synchronous region the group
-// agrees before it branches, or splits.
+// The first of the two values of `?:`, after the condition. In a synchronous region the group
+// agrees before it branches, or it splits.
 #[cycle(expression)]
 fn first_arm<V: Visitor>(known: &ProgramTables, visitor: &mut V, first: &Expr, spot: Spot) -> Ways
     requires { IsSound known.now }
@@ -431,7 +432,7 @@ fn first_arm<V: Visitor>(known: &ProgramTables, visitor: &mut V, first: &Expr, s
     }
 }
 
-// The second value of `?:`, and where both ways meet.
+// The second value of `?:`, and the point where both branches meet.
 #[cycle(expression)]
 fn second_arm<V: Visitor>(
     known: &ProgramTables,
@@ -458,7 +459,7 @@ fn second_arm<V: Visitor>(
     }
 }
 
-// An assignment, behind its target.
+// An assignment, after the operations of its target.
 #[cycle(expression)]
 #[tactic(auto, unfolding(crate::specs::Suffix::assigned_to))]
 fn assign<'t, V: Visitor>(
@@ -491,7 +492,7 @@ fn assign<'t, V: Visitor>(
     }
 }
 
-// Suffixes, behind what stands before them.
+// The suffixes of an expression, after its operations. `at` is its token.
 #[cycle(expression)]
 #[tactic(auto, using(crate::proofs::Stepwise::followed_step))]
 fn postfix<'t, V: Visitor>(
@@ -515,7 +516,7 @@ fn postfix<'t, V: Visitor>(
     Some(standing)
 }
 
-// One suffix, behind what stands before it.
+// One suffix, after the operations of what it follows.
 #[cycle(expression)]
 fn one_suffix<'t, V: Visitor>(
     known: &ProgramTables,
@@ -558,7 +559,8 @@ fn one_suffix<'t, V: Visitor>(
     }
 }
 
-// A call of what stands before it. Nothing follows where that is no function's name.
+// A call of the expression before the arguments. Nothing follows if that isn't the name of a
+// function.
 #[cycle(expression)]
 fn call<'t, V: Visitor>(
     known: &ProgramTables,
@@ -585,7 +587,7 @@ fn call<'t, V: Visitor>(
     }
 }
 
-// A call of a function of the text.
+// A call of a function that the text declares.
 #[cycle(expression)]
 fn call_declared<'t, V: Visitor>(
     known: &ProgramTables,
@@ -623,7 +625,7 @@ fn call_declared<'t, V: Visitor>(
     }
 }
 
-// The arguments of a call, agreed for `sh` parameters.
+// The arguments of a call. The group agrees on those for `sh` parameters.
 #[cycle(expression)]
 #[tactic(auto, using(crate::proofs::Arguments::no_parameters))]
 fn argue<V: Visitor>(
@@ -649,7 +651,7 @@ fn argue<V: Visitor>(
     Some(())
 }
 
-// A call of a function that is declared before each text.
+// A call of a predeclared function.
 #[cycle(expression)]
 fn call_predeclared<'t, V: Visitor>(
     known: &ProgramTables,
@@ -672,7 +674,7 @@ fn call_predeclared<'t, V: Visitor>(
     }
 }
 
-// `mpadd` and its kin. Nothing follows where it has too few arguments.
+// A multiprefix. Nothing follows if it has too few arguments.
 #[cycle(expression)]
 #[tactic(auto, using(crate::proofs::Arguments::too_few))]
 fn multiprefix<'t, V: Visitor>(
@@ -698,8 +700,8 @@ fn multiprefix<'t, V: Visitor>(
     Some(Standing::OnList)
 }
 
-// An operation on one argument, on which the group agrees or not. Nothing follows where there is
-// none.
+// An operation on one argument, on which the group agrees first if `agreed`. Nothing follows if
+// there is no argument.
 #[cycle(expression)]
 fn with_one<'t, V: Visitor>(
     known: &ProgramTables,

@@ -1,4 +1,4 @@
-//! What a walk asks of a program's names, types and places.
+//! What a walk looks up about a program: its names, types and places.
 
 ghost use Rattle.std.specs.Prelude.{◌≡◌, ◌+◌, ◌*◌, slice_get, is_some};
 ghost use Rattle.fk_meaning_forms.specs.Tables as t;
@@ -10,18 +10,18 @@ ghost use Rattle.fk_layout_walk.specs.Shown.{as_word};
 use fk_meaning_forms::{Home, Region, Slot};
 use fk_syntax::{Function, Item, Kind, Note};
 
-/// The binding of a name that is declared before each text.
+/// The binding of every predeclared name.
 pub(crate) const PREDECLARED: u32 = u32::MAX;
 
-/// The group frames of a token, where its parts have them.
+/// The group frames of the two parts of a token; `None` for a part without one.
 #[derive(Clone, Copy)]
 pub struct Framed {
     pub first: Option<Region>,
-    /// That of the part of an `else`.
+    /// The group frame of the second part, that of an `else`.
     pub second: Option<Region>,
 }
 
-/// What is known of a program.
+/// The tables of a program that a walk reads.
 #[derive(Drop)]
 pub struct ProgramTables<'p, 't> {
     /// A note for each token.
@@ -34,7 +34,7 @@ pub struct ProgramTables<'p, 't> {
     pub regions: &'p [Region],
     /// The items of the text.
     pub items: &'p [Item<'t>],
-    /// The index among these of the function that a binding means.
+    /// For each binding of a function, its index in `items`.
     pub callees: &'p [Option<usize>],
     /// The group frames of each token.
     pub framed: &'p [Framed],
@@ -78,7 +78,7 @@ impl<'p, 't> ProgramTables<'p, 't> {
         }
     }
 
-    /// The type that a token tells.
+    /// The type in the note of a token.
     pub(crate) fn kind_at(&self, at: u32) -> Kind
         ensures { result ≡ t.kind_at (tables_of self.now) at }
     {
@@ -88,21 +88,21 @@ impl<'p, 't> ProgramTables<'p, 't> {
         }
     }
 
-    /// Whether a token tells an array.
+    /// Whether the type of a token is an array.
     pub(crate) fn is_array(&self, at: u32) -> bool
         ensures { result ≡ t.is_array (tables_of self.now) at }
     {
         self.kind_at(at).array
     }
 
-    /// Whether a token tells nothing at all.
+    /// Whether the type of a token is `void`, with no words.
     pub(crate) fn is_void(&self, at: u32) -> bool
         ensures { result ≡ t.is_void (tables_of self.now) at }
     {
         self.kind_at(at).words == 0
     }
 
-    /// Whether the numbers that a token tells have no sign.
+    /// Whether the numbers of the type of a token are unsigned. Those of an array are.
     pub(crate) fn is_unsigned(&self, at: u32) -> bool
         ensures { result ≡ t.is_unsigned (tables_of self.now) at }
     {
@@ -110,14 +110,14 @@ impl<'p, 't> ProgramTables<'p, 't> {
         kind.unsigned || kind.array
     }
 
-    /// How many bytes what a token tells has, of four in a word. Above 2^32 - 1 it is that number.
+    /// The size of the type of a token in bytes, with four in a word; at most 2^32 - 1.
     pub(crate) fn bytes_at(&self, at: u32) -> u32
         ensures { result ≡ as_word (4 * (t.kind_at (tables_of self.now) at).words) }
     {
         self.kind_at(at).words.saturating_mul(4)
     }
 
-    /// How many bytes lie before a member in its struct. Above 2^32 - 1 it is that number.
+    /// The offset of a member in its struct in bytes; at most 2^32 - 1.
     pub(crate) fn bytes_before(&self, member: u32) -> u32
         ensures { result ≡ as_word (4 * (t.note (tables_of self.now) member).binding) }
     {
@@ -144,7 +144,7 @@ impl<'p, 't> ProgramTables<'p, 't> {
         }
     }
 
-    /// The group frame that a part of a token has.
+    /// The group frame of a part of a token, if that part has one.
     pub(crate) fn frame_at(&self, at: u32, second: bool) -> Option<Region>
         ensures { result ≡ framed_in (slice_get self.now.framed.now at) second }
     {
@@ -161,7 +161,7 @@ impl<'p, 't> ProgramTables<'p, 't> {
         self.frame_at(at, second).is_some()
     }
 
-    /// The function that a binding means.
+    /// The function that a binding names.
     pub(crate) fn callee(&self, binding: u32) -> Option<&'p Function<'t>>
         ensures { option_map (λ f. function_of f.now) result
             ≡ called (slice_get self.now.callees.now binding) (items_in self.now) }

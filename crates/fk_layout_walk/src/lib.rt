@@ -1,7 +1,7 @@
 //! A walk over the code of an expression, in its order.
 //!
-//! A visitor is shown each operation with its place, and how it stands in choices, loops and calls.
-//! No code is made, and no memory is taken.
+//! A visitor is shown each operation with its place, and the structure of choices, loops and calls
+//! around it. No code is made, and no memory is taken.
 #![tactic(auto)]
 
 mod builtin;

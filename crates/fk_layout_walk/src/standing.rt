@@ -1,17 +1,18 @@
-//! How an expression stands when its operations are done.
+//! Where the result of an expression is when its operations are done.
 
 use fk_meaning_operation::Variable;
 use fk_syntax::{Name, Spot};
 
-/// How an expression stands when its operations are done.
+/// Where the result of an expression is when its operations are done.
 #[derive(Clone, Copy)]
 pub enum Standing<'a> {
-    /// As the last value.
+    /// It is the last value.
     OnList,
-    /// At an address that is not checked yet, behind a dereference or an index or not.
+    /// At an address that isn't checked yet. The flag tells whether the address comes from a
+    /// dereference or an index.
     AtAddress(bool, Spot),
     /// In a private word.
     InWord(Variable),
-    /// As a function's name.
+    /// It is the name of a function.
     ToCall(Name<'a>),
 }

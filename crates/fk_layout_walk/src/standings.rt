@@ -1,4 +1,4 @@
-//! How what an expression came to is used.
+//! How the result of an expression is used.
 
 ghost use Rattle.std.specs.Prelude.{◌≡◌, ◌+◌, ◌*◌, ◌||◌, ℕ, Some, if◌then◌else◌};
 ghost use Rattle.fk_syntax.specs.View.{named};
@@ -19,7 +19,7 @@ use fk_meaning_operation::{Operation, OwnValue as Value, Unary, Variable};
 use fk_num::Op;
 use fk_syntax::{Name, Sign, Spot};
 
-// The check of an address that lies behind a dereference or an index.
+// Shows the check of an address that comes from a dereference or an index.
 pub(crate) fn check<V: Visitor>(known: &ProgramTables, visitor: &mut V, deep: bool, spot: Spot)
     ensures { Passes V.after V.counts (functions_of known.now) visitor.old visitor.new
         (e.checked (tables_of known.now) (functions_of known.now) deep spot) }
@@ -29,7 +29,7 @@ pub(crate) fn check<V: Visitor>(known: &ProgramTables, visitor: &mut V, deep: bo
     }
 }
 
-// An expression as a value.
+// Makes the result of an expression a value.
 pub(crate) fn give_value<V: Visitor>(known: &ProgramTables, visitor: &mut V, standing: Standing)
     ensures { Passes V.after V.counts (functions_of known.now) visitor.old visitor.new
         (e.valued (tables_of known.now) (functions_of known.now) (standing_of standing.entry)) }
@@ -46,7 +46,7 @@ pub(crate) fn give_value<V: Visitor>(known: &ProgramTables, visitor: &mut V, sta
     }
 }
 
-/// Makes an expression an address.
+/// Makes the result of an expression an address.
 pub fn give_address<V: Visitor>(known: &ProgramTables, visitor: &mut V, standing: Standing)
     ensures { Passes V.after V.counts (functions_of known.now) visitor.old visitor.new
         (e.addressed (tables_of known.now) (functions_of known.now) (standing_of standing.entry)) }
@@ -56,7 +56,7 @@ pub fn give_address<V: Visitor>(known: &ProgramTables, visitor: &mut V, standing
     }
 }
 
-// A value of which a compound assignment makes another one.
+// Gets the old value of the target of a compound assignment.
 pub(crate) fn fetch<V: Visitor>(known: &ProgramTables, visitor: &mut V, standing: Standing)
     ensures { Passes V.after V.counts (functions_of known.now) visitor.old visitor.new
         (e.fetched (tables_of known.now) (functions_of known.now) (standing_of standing.entry)) }
@@ -72,7 +72,7 @@ pub(crate) fn fetch<V: Visitor>(known: &ProgramTables, visitor: &mut V, standing
     }
 }
 
-/// Stores the new value of what was assigned to.
+/// Stores the new value of an assignment's target.
 pub fn put<V: Visitor>(known: &ProgramTables, visitor: &mut V, standing: Standing)
     ensures { Passes V.after V.counts (functions_of known.now) visitor.old visitor.new
         (e.assigned (tables_of known.now) (functions_of known.now) (standing_of standing.entry)) }
@@ -84,7 +84,7 @@ pub fn put<V: Visitor>(known: &ProgramTables, visitor: &mut V, standing: Standin
     }
 }
 
-/// Drops a value that nobody uses, where the token tells that there is one.
+/// Drops an unused value, unless the type of its token is `void`.
 pub fn discard<V: Visitor>(known: &ProgramTables, visitor: &mut V, at: u32)
     ensures { Passes V.after V.counts (functions_of known.now) visitor.old visitor.new
         (e.dropped (tables_of known.now) (functions_of known.now) at) }
@@ -94,7 +94,7 @@ pub fn discard<V: Visitor>(known: &ProgramTables, visitor: &mut V, at: u32)
     }
 }
 
-// The operation of a sign on the values of two tokens, by their types.
+// The operation of a sign on the values of two tokens, chosen by their types.
 fn operator(known: &ProgramTables, sign: Sign, left: u32, right: u32) -> Operation
     ensures { result ≡ operator_by sign (if is_a_shift sign
         then t.is_unsigned (tables_of known.now) left
@@ -109,7 +109,8 @@ fn operator(known: &ProgramTables, sign: Sign, left: u32, right: u32) -> Operati
     }
 }
 
-// Hands on the operation that moves a pointer with steps by an index.
+// Shows the operation that moves a pointer by an index, with steps of `step` bytes. If the sign
+// doesn't move a pointer, shows `otherwise`.
 fn advance<V: Visitor>(visitor: &mut V, by: Move, step: u32, otherwise: Operation)
     ensures { (functions : (binding : ℕ) → e.Signature)
         → Passes V.after V.counts functions visitor.old visitor.new (e.moved by step otherwise) }
@@ -124,7 +125,7 @@ fn advance<V: Visitor>(visitor: &mut V, by: Move, step: u32, otherwise: Operatio
     }
 }
 
-/// The operator of a sign between the values of two tokens.
+/// Shows the operator of a sign on the values of two tokens.
 pub(crate) fn operate<V: Visitor>(
     known: &ProgramTables,
     visitor: &mut V,
@@ -144,14 +145,14 @@ pub(crate) fn operate<V: Visitor>(
     }
 }
 
-// The address of a word of shared data. Above 2^32 - 1 it is that number.
+// The byte address of a word of shared data; at most 2^32 - 1.
 fn global_address(index: u32) -> u32
     ensures { result ≡ as_word (0x10000000 + 4 * index) }
 {
     index.saturating_mul(4).saturating_add(0x1000_0000)
 }
 
-/// Shows the operations of a variable or another name, and tells how it stands.
+/// Shows the operations of a variable or another name, and returns where its result is.
 pub fn name<'t, V: Visitor>(
     known: &ProgramTables,
     visitor: &mut V,
@@ -186,7 +187,7 @@ pub fn name<'t, V: Visitor>(
     })
 }
 
-// A name that is declared before each text.
+// Shows the operations of a predeclared name, and returns where its result is.
 pub(crate) fn predeclared<'t, V: Visitor>(
     known: &ProgramTables,
     visitor: &mut V,
@@ -212,7 +213,7 @@ pub(crate) fn predeclared<'t, V: Visitor>(
     }
 }
 
-// Where a name stands.
+// The token of a name and its place.
 pub(crate) fn spot_of(name: Name) -> Spot
     ensures { result ≡ e.spot_of (named name.entry) }
 {
@@ -222,7 +223,7 @@ pub(crate) fn spot_of(name: Name) -> Spot
     }
 }
 
-// `++` or `--`, as the sum or difference with 1.
+// `++` or `--`: the sum or difference with 1 is assigned.
 pub(crate) fn raise<V: Visitor>(
     known: &ProgramTables,
     visitor: &mut V,
@@ -242,7 +243,7 @@ pub(crate) fn raise<V: Visitor>(
     put(known, visitor, standing);
 }
 
-// By how much `++` behind a value is undone: by 1, or for a pointer by the bytes of its step.
+// The amount by which a postfix `++` or `--` is undone: 1, or for a pointer the bytes of its step.
 fn step_back(known: &ProgramTables, at: u32) -> u32
     ensures { result ≡ e.step_back (tables_of known.now) (functions_of known.now) at }
 {
@@ -252,7 +253,7 @@ fn step_back(known: &ProgramTables, at: u32) -> u32
     }
 }
 
-// `++` or `--` behind a value: as in front, and then undone by the sign that leads back.
+// A postfix `++` or `--`: the prefix form, whose value is then undone by the sign `back`.
 pub(crate) fn raise_and_undo<V: Visitor>(
     known: &ProgramTables,
     visitor: &mut V,
@@ -270,7 +271,7 @@ pub(crate) fn raise_and_undo<V: Visitor>(
     plain(visitor, operator_of(back, false));
 }
 
-/// The place of a member, behind that of its struct.
+/// Adds the offset of a member to the address of its struct.
 pub(crate) fn enter_member<V: Visitor>(known: &ProgramTables, visitor: &mut V, member: u32)
     ensures { Passes V.after V.counts (functions_of known.now) visitor.old visitor.new
         (e.member (tables_of known.now) (functions_of known.now) member) }
@@ -280,7 +281,7 @@ pub(crate) fn enter_member<V: Visitor>(known: &ProgramTables, visitor: &mut V, m
     plain(visitor, Operation::Binary(Op::Add, false));
 }
 
-/// The agreement of a group in a synchronous region.
+/// Shows the agreement of a group if `sync`.
 pub fn agree<V: Visitor>(visitor: &mut V, sync: bool)
     ensures { (functions : (binding : ℕ) → e.Signature)
         → Passes V.after V.counts functions visitor.old visitor.new (e.agreed sync) }
@@ -290,7 +291,7 @@ pub fn agree<V: Visitor>(visitor: &mut V, sync: bool)
     }
 }
 
-/// The end of a part of a split.
+/// Shows the end of a part of a split if `ends`.
 pub fn end<V: Visitor>(visitor: &mut V, ends: bool)
     ensures { (functions : (binding : ℕ) → e.Signature)
         → visitor.new ≡ through V.after V.counts functions visitor.old (ending ends) }
@@ -300,7 +301,7 @@ pub fn end<V: Visitor>(visitor: &mut V, ends: bool)
     }
 }
 
-/// Whether an expression stands at an address behind a dereference or an index.
+/// Whether an expression is at an address that comes from a dereference or an index.
 pub(crate) fn is_deep(standing: Standing) -> bool
     ensures { (tables : Tables) (functions : (binding : ℕ) → e.Signature)
         → result ≡ e.is_deep tables functions (standing_of standing.entry) }

@@ -2,7 +2,7 @@
 
 use crate::visitor::{Event, Mark, Visitor};
 
-/// How many operations it was shown. Above 2^64 - 1 it stays there.
+/// The number of operations that the visitor was shown. It stays at 2^64 - 1 when it gets there.
 #[derive(Drop)]
 pub struct Tally {
     pub count: u64,

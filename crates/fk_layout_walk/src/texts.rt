@@ -11,14 +11,14 @@ use crate::known::ProgramTables;
 use crate::visitor::{Visitor, plain};
 use fk_meaning_operation::Operation;
 
-/// Whether a name is spelled so.
+/// Whether a name has this spelling.
 pub(crate) fn is_spelled(bytes: &[u8], name: &[u8]) -> bool
     ensures { result ≡ bytes_eq bytes.now name.now }
 {
     bytes == name
 }
 
-/// `puts`: each byte of a text, which has its quotes, is pushed and printed.
+/// `puts`: pushes and prints each byte of a text. `text` has its quotes.
 #[tactic(auto, using(crate::proofs::Printed::short))]
 pub(crate) fn put_bytes<V: Visitor>(known: &ProgramTables, visitor: &mut V, text: &[u8])
     ensures { Passes V.after V.counts (functions_of known.now) visitor.old visitor.new
@@ -33,7 +33,7 @@ pub(crate) fn put_bytes<V: Visitor>(known: &ProgramTables, visitor: &mut V, text
     }
 }
 
-// The next byte of a text is pushed and printed. What is left of the text is told.
+// Pushes and prints the next byte of a text. Returns the rest of the text.
 #[tactic(auto, using(crate::proofs::Printed::next_escaped, crate::proofs::Printed::next_byte))]
 fn put_next<'s, V: Visitor>(visitor: &mut V, left: &'s [u8]) -> &'s [u8]
     requires { 1 < length left.now }
@@ -53,7 +53,7 @@ fn put_next<'s, V: Visitor>(visitor: &mut V, left: &'s [u8]) -> &'s [u8]
     }
 }
 
-// A byte is pushed and printed.
+// Pushes and prints a byte.
 fn put_byte<V: Visitor>(visitor: &mut V, byte: u8)
     ensures { (functions : (binding : ℕ) → e.Signature)
         → Passes V.after V.counts functions visitor.old visitor.new
@@ -63,7 +63,7 @@ fn put_byte<V: Visitor>(visitor: &mut V, byte: u8)
     plain(visitor, Operation::PrintByte);
 }
 
-// What a byte behind a backslash stands for.
+// The byte that an escape denotes: a backslash and this byte.
 fn escaped(byte: u8) -> u8
     ensures { result ≡ escaped_by byte }
 {

@@ -1,4 +1,4 @@
-//! The tokens by which expressions are known.
+//! The tokens that identify expressions.
 
 ghost use Rattle.std.specs.Prelude.{◌≡◌, ℕ, map};
 ghost use Rattle.fk_syntax.specs.Tree.{links_of, suffixes_of};
@@ -8,7 +8,7 @@ ghost use Rattle.fk_layout_walk.specs.Suffix.{suffix_at, or_before};
 
 use fk_syntax::{Expr, Link, Suffix};
 
-/// The token by which a suffix is known.
+/// The token that identifies a suffix.
 pub(crate) fn suffix_token(suffix: &Suffix) -> u32
     ensures { result ≡ suffix_at (suffix_of suffix.now) }
 {
@@ -44,8 +44,8 @@ fn last_suffix(suffixes: &[Suffix]) -> Option<u32>
     }
 }
 
-/// The token by which an expression is known: its sign, its name or its number; the last one of a
-/// chain or of suffixes.
+/// The token that identifies an expression: its sign, name or number. For a chain it is that of the
+/// last link, and for suffixes that of the last one.
 pub fn token_of(expression: &Expr) -> u32
     ensures { result ≡ e.token (tree_of expression.now) }
 {

@@ -1,4 +1,4 @@
-//! Types, by their words.
+//! Whether a type is `void`.
 
 ghost use Rattle.std.specs.Prelude.{◌≡◌};
 ghost use Rattle.fk_syntax.specs.View.{type_of};
@@ -6,7 +6,7 @@ ghost use Rattle.fk_meaning_forms.specs.Statements as s;
 
 use fk_syntax::{Base, TypeName};
 
-/// Whether a type is nothing at all.
+/// Whether a type is `void`.
 pub fn is_nothing(kind: &TypeName) -> bool
     ensures { result ≡ s.is_nothing (type_of kind.now) }
 {

@@ -1,4 +1,4 @@
-//! What a walk shows the code of a program to.
+//! The visitor to which a walk shows the code of a program.
 
 ghost use Rattle.std.specs.Prelude.{◌≡◌};
 ghost use Rattle.fk_layout_walk.specs.Event.{operation_of};
@@ -9,21 +9,21 @@ ghost use Rattle.fk_meaning_forms.specs.Expressions.{nowhere};
 use fk_meaning_operation::Operation;
 use fk_syntax::Place;
 
-/// What is known of a place in code, as far as a visitor counts it.
+/// The counts of a visitor at a place in the code.
 #[derive(Clone, Copy)]
 pub struct Mark {
-    /// How many values the running call has.
+    /// The number of values of the running call.
     pub values: u64,
-    /// How many it had at most so far.
+    /// The greatest number of values so far.
     pub most: u64,
-    /// In how many parts the place lies.
+    /// The number of parts around the place.
     pub nesting: u64,
-    /// In how many parts a place before it lay at most.
+    /// The greatest number of parts around a place so far.
     pub deepest: u64,
 }
 
-/// A choice behind its first way: what was known before it, where its ways begin, and behind the
-/// first one.
+/// A choice whose first branch has been shown: the marks before the choice, at the beginning of its
+/// branches, and after the first branch.
 #[derive(Clone, Copy)]
 pub struct Ways {
     pub before: Mark,
@@ -31,34 +31,33 @@ pub struct Ways {
     pub behind: Mark,
 }
 
-/// What a walk comes to. An operation has the numbers that the code has; one that has no room in a
-/// word is 2^32 - 1.
+/// What a walk shows a visitor. An operation has the numbers of the code; a number that doesn't fit
+/// into a word is shown as 2^32 - 1.
 #[derive(Clone, Copy)]
 pub enum Event {
     /// An operation, with its place. Most have none, which is 0:0.
     Perform(Operation, Place),
-    /// An operation that goes one of two ways. The first way comes next.
+    /// An operation that takes one of two branches. The first branch comes next.
     Choose(Operation, Place),
-    /// The second way of a choice, which begins as the first one began.
+    /// The beginning of the second branch of a choice, with the mark at which the first one began.
     Aside(Mark),
-    /// What stands behind a choice: how it was before the choice, and behind the first way.
+    /// The end of a choice: the marks before the choice and after the first branch.
     Joined(Mark, Mark),
     /// An operation that goes on in its loop, or leaves it.
     Quit(Operation, Place),
-    /// A call of the function of a binding. What it does at its beginning comes next.
+    /// A call of the function of a binding. The operations at its beginning come next.
     Call(Operation, Place, u32),
-    /// What stands behind a call: how it was when the call began, and whether the function gives
-    /// nothing.
+    /// The end of a call: the mark when the call began, and whether the function returns no value.
     Returned(Mark, bool),
     /// An operation that ends the function.
     Ends(Operation, Place),
-    /// A loop that begins with its test; then come its body and its step.
+    /// A loop that begins with its test. Its body and its step come next.
     While,
-    /// A loop that begins with its body; then comes its test.
+    /// A loop that begins with its body. Its test comes next.
     Until,
-    /// The next part of the innermost loop.
+    /// The beginning of the next part of the innermost loop.
     Part,
-    /// What stands behind that loop.
+    /// The end of the innermost loop.
     Behind,
     Break,
     Continue,
@@ -85,17 +84,17 @@ pub trait Visitor {
     ghost use Rattle.fk_layout_walk.specs.declared.visitor.Event.{Event};
     ghost use Rattle.fk_layout_walk.specs.declared.visitor.Mark.{Mark};
 
-    /// The visitor after an event.
+    /// The state of the visitor after an event.
     ghost after: { Self → Event → Self };
 
-    /// What it counts.
+    /// The mark of a visitor's state.
     ghost counts: { Self → Mark };
 
     /// Takes note of an event.
     fn meet(&mut self, event: Event)
         ensures { self.new ≡ after self.old event };
 
-    /// What it counts at this place.
+    /// The mark at this place.
     fn mark(&self) -> Mark
         ensures { result ≡ counts self.now };
 }
@@ -117,7 +116,7 @@ pub fn plain<V: Visitor>(visitor: &mut V, operation: Operation)
     perform(visitor, operation, NOWHERE);
 }
 
-/// Shows an operation that goes one of two ways.
+/// Shows an operation that takes one of two branches.
 pub fn choose<V: Visitor>(visitor: &mut V, operation: Operation, place: Place)
     ensures { visitor.new ≡ V.after visitor.old (v.Choose (shown operation) place) }
 {

@@ -1,4 +1,4 @@
--- The function in which statements stand, as the forms have it.
+-- The function around statements, in the form that the definitions of code use.
 use Rattle.fk_meaning_forms.specs.Statements as s
 use Rattle.fk_layout_walk_statements.specs.declared.inside.Inside.{Inside}
 

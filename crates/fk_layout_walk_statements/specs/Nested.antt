@@ -1,4 +1,4 @@
--- Statements that hold others, by what holds them.
+-- Statements that contain others, by the kind of the outer one.
 use Rattle.std.specs.Prelude.{ℕ, Option, Some, None, if◌then◌else◌}
 use Rattle.std.specs.Option.{option_map}
 use Rattle.fk_syntax.specs.declared.place.Spot.{Spot}
@@ -18,7 +18,7 @@ use Rattle.fk_layout_walk_statements.specs.declared.turns.Turns.{Turns}
 use Rattle.fk_layout_walk_statements.specs.declared.turns.Turns.TheVariants as u
 
 module _ (tables : Tables) (functions : (binding : ℕ) → Signature) where
-  -- a statement that is a part of a group: its frame, itself, and the end of the part
+  -- a statement that is a part of a group: its frame, its operations, and the end of the part
   abbrev pub part_of_group : Inside → Spot → (part : ℕ) → Statement → Coded
   part_of_group inside spot part s =
       part_frame tables functions spot part (executed tables functions inside s (plain End done))
@@ -33,12 +33,13 @@ module _ (tables : Tables) (functions : (binding : ℕ) → Signature) where
       c.while (tested tables functions spot (option_map tree_of condition.now)) body
       (used_or tables functions (option_map tree_of after.now) done)
 
-  -- what stands behind an `else`. It is a part where the group splits
+  -- the second branch of an `if`, which is a part if the group splits
   abbrev pub other_way : Inside → Spot → Statement → Coded
   other_way inside spot s = if (note tables spot.at).splits then part_of_group inside spot 1 s
       else executed tables functions inside s done
 
-  -- what is still shown of an `if` with an `else` behind its first way, if that was reached
+  -- the state after what follows the first branch of an `if` with an `else`, if something follows
+  -- it
   abbrev pub behind_if : {S : Type 0} → (S → Event → S) → (S → Mark) → S → Option Ways → Inside
       → Spot → (second : Statement) → (rest : Coded) → S
   behind_if after mark state None inside spot second rest = state

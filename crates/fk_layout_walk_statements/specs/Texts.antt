@@ -1,4 +1,4 @@
--- What a text makes of a visitor that is shown its operations function by function.
+-- The state of a visitor after it has been shown the operations of a text, function by function.
 use Rattle.std.specs.Prelude.{ℕ, List, [], ◌∷◌}
 use Rattle.fk_syntax.specs.declared.place.Place.{Place}
 use Rattle.fk_syntax.specs.Program.{FunctionTree}
@@ -11,7 +11,7 @@ use Rattle.fk_layout_walk.specs.declared.visitor.Mark.{Mark}
 use Rattle.fk_layout_walk.specs.Known.{tables_of, items_in, functions_of}
 use Rattle.fk_layout_walk.specs.Through.{through}
 
--- the functions of the text, the code of one, and its sites
+-- the functions of the text, the code of one of them, and the sites of the text
 abbrev pub functions_in : ProgramTables → List FunctionTree
 functions_in known = f.functions_of (items_in known)
 

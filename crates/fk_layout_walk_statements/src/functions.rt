@@ -19,7 +19,7 @@ use crate::simple::finish;
 use fk_layout_walk::{ProgramTables, Visitor, is_nothing};
 use fk_syntax::{Function, Item, Name, Stmt};
 
-// What the statements of a function need to know of it.
+// The facts about a function that its statements need.
 fn inside_function(known: &ProgramTables, name: Name) -> Inside
     requires { IsSound known.now }
     ensures main { result.main ≡ is_name (named name.entry) (codes "main") }
@@ -50,8 +50,8 @@ fn body<V: Visitor>(
     }
 }
 
-/// Shows a visitor the operations of a function, that of its end included. One without a body has
-/// none.
+/// Shows a visitor the operations of a function, with that of its end. A function without a body
+/// has none.
 pub fn function<V: Visitor>(known: &ProgramTables, visitor: &mut V, whole: &Function)
     requires { IsSound known.now }
     ensures { visitor.new ≡ through V.after V.counts (functions_of known.now) visitor.old
@@ -63,7 +63,7 @@ pub fn function<V: Visitor>(known: &ProgramTables, visitor: &mut V, whole: &Func
     }
 }
 
-// What stands in a text side by side.
+// Shows a visitor the operations of an item; only functions have any.
 fn item<V: Visitor>(known: &ProgramTables, visitor: &mut V, whole: &Item)
     requires { IsSound known.now }
     ensures { (others : List ItemTree)

@@ -1,10 +1,10 @@
-//! The function in which statements stand.
+//! The function around statements.
 
-/// What statements need to know of their function.
+/// The facts about a function that its statements need.
 #[derive(Clone, Copy, PartialEq, Eq, Debug)]
 pub struct Inside {
-    /// Whether it is `main`.
+    /// Whether the function is `main`.
     pub main: bool,
-    /// Whether its calls have a group frame of their own.
+    /// Whether calls of the function have a group frame of their own.
     pub framed: bool,
 }

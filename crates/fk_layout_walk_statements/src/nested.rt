@@ -31,8 +31,8 @@ use fk_layout_walk::{
 use fk_meaning_operation::{Operation, SplitKind};
 use fk_syntax::{Expr, Place, Spot, Stmt};
 
-/// Shows a visitor the operations of a statement in a function, and tells whether something follows
-/// them: nothing does behind a call of what is no function.
+/// Shows a visitor the operations of a statement in a function. `None` means that nothing follows,
+/// because of a call as at [`fk_layout_walk::expression`].
 #[cycle(statement)]
 pub fn statement<V: Visitor>(
     known: &ProgramTables,
@@ -82,8 +82,7 @@ pub fn statement<V: Visitor>(
     }
 }
 
-/// Shows a visitor the operations of statements in their order, and tells whether something follows
-/// them.
+/// Shows a visitor the operations of statements in their order. `None` means that nothing follows.
 #[cycle(statement)]
 pub fn statements<V: Visitor>(
     known: &ProgramTables,
@@ -102,7 +101,7 @@ pub fn statements<V: Visitor>(
     Some(())
 }
 
-// A `start`, whose part has a place for its frame alone.
+// A `start`. Only the allocation of its frame has a place.
 #[cycle(statement)]
 fn start<'s, 't, V: Visitor>(
     known: &ProgramTables,
@@ -122,7 +121,7 @@ fn start<'s, 't, V: Visitor>(
     group(known, visitor, inside, begin, NOWHERE, spot, body)
 }
 
-// A statement that is one way of a choice or the body of a loop, behind which the way ends.
+// A statement that is a branch of a choice or the body of a loop. If `ends`, it ends a part.
 #[cycle(statement)]
 fn way<V: Visitor>(known: &ProgramTables, visitor: &mut V, inside: Inside, body: &Stmt, ends: bool)
     requires { IsSound known.now }
@@ -154,7 +153,7 @@ fn part<V: Visitor>(
     way(known, visitor, inside, body, true);
 }
 
-// A part that an operation begins, and what the others do behind it.
+// A part that an operation begins, and the resume after it.
 #[cycle(statement)]
 fn group<V: Visitor>(
     known: &ProgramTables,
@@ -182,7 +181,7 @@ fn group<V: Visitor>(
     Some(())
 }
 
-// A statement that an operation leads to, or past it.
+// A statement that an operation either runs or skips.
 #[cycle(statement)]
 fn apart<V: Visitor>(
     known: &ProgramTables,
@@ -226,7 +225,8 @@ fn meeting<V: Visitor>(
     Some(())
 }
 
-// An `if` without `else`. In a synchronous region the group agrees before it branches, or splits.
+// An `if` without `else`. In a synchronous region the group agrees before it branches, or it
+// splits.
 #[cycle(statement)]
 fn alone<'s, 't, V: Visitor>(
     known: &ProgramTables,
@@ -253,7 +253,7 @@ fn alone<'s, 't, V: Visitor>(
     }
 }
 
-// The condition and the first way of an `if` that has an `else`.
+// The condition and the first branch of an `if` that has an `else`.
 #[cycle(statement)]
 fn first_way<'s, 't, V: Visitor>(
     known: &ProgramTables,
@@ -299,7 +299,7 @@ fn first_way<'s, 't, V: Visitor>(
     }
 }
 
-// The second way, and where both meet.
+// The second branch of an `if`, and the point where both branches meet.
 #[cycle(statement)]
 fn second_way<V: Visitor>(
     known: &ProgramTables,
@@ -329,7 +329,7 @@ fn second_way<V: Visitor>(
     }
 }
 
-// A `for`: what it does before its loop, then the loop.
+// A `for`: its first expression, and then the loop.
 #[cycle(statement)]
 fn count_up<'s, 't, V: Visitor>(
     known: &ProgramTables,
@@ -352,7 +352,7 @@ fn count_up<'s, 't, V: Visitor>(
     repeat(known, visitor, inside, spot, body, turns)
 }
 
-// A loop. Where a group splits at it, it runs in a part, of which each member leaves it by itself.
+// A loop. If a group splits at it, it runs in a part, which each member leaves by itself.
 #[cycle(statement)]
 fn repeat<'s, 't, V: Visitor>(
     known: &ProgramTables,
@@ -386,7 +386,7 @@ fn repeat<'s, 't, V: Visitor>(
     }
 }
 
-// A loop: its test, its body and its step, in the order in which a turn does them.
+// A loop: its test, its body and its step, in the order in which a turn runs them.
 #[cycle(statement)]
 fn turn<'s, 't, V: Visitor>(
     known: &ProgramTables,

@@ -1,4 +1,4 @@
-//! Statements that hold no others, and what stands in the head of those that do.
+//! Statements that contain no others, and the heads of those that do.
 
 ghost use Rattle.std.specs.Prelude.{◌≡◌, map, true, false, if◌then◌else◌};
 ghost use Rattle.std.specs.Option.{option_map};
@@ -23,7 +23,7 @@ use fk_layout_walk::{
 use fk_meaning_operation::{Operation, OwnValue as Value};
 use fk_syntax::{Declared, Expr, Spot};
 
-/// An expression that stands as a statement.
+/// An expression used as a statement.
 pub(crate) fn used<V: Visitor>(known: &ProgramTables, visitor: &mut V, whole: &Expr) -> Option<()>
     requires { IsSound known.now }
     ensures { LeadsOn V.after V.counts (functions_of known.now) visitor.old visitor.new result
@@ -34,7 +34,7 @@ pub(crate) fn used<V: Visitor>(known: &ProgramTables, visitor: &mut V, whole: &E
     Some(())
 }
 
-/// One that may be absent.
+/// An expression used as a statement, which may be absent.
 pub(crate) fn used_or<V: Visitor>(
     known: &ProgramTables,
     visitor: &mut V,
@@ -50,7 +50,7 @@ pub(crate) fn used_or<V: Visitor>(
     }
 }
 
-/// The step of a `for`, behind which its turn ends.
+/// The step of a `for`, after which its turn ends.
 pub(crate) fn step<V: Visitor>(known: &ProgramTables, visitor: &mut V, after: &Option<Expr>)
     requires { IsSound known.now }
     ensures { visitor.new ≡ through V.after V.counts (functions_of known.now) visitor.old
@@ -65,7 +65,7 @@ pub(crate) fn step<V: Visitor>(known: &ProgramTables, visitor: &mut V, after: &O
     }
 }
 
-// A value, or an operation in its place.
+// A value, or the operation `absent` if there is none.
 fn value_or<V: Visitor>(
     known: &ProgramTables,
     visitor: &mut V,
@@ -86,7 +86,7 @@ fn value_or<V: Visitor>(
     }
 }
 
-// A scalar that is declared gets its value, or 0. An array and a struct keep what their words hold.
+// A declared scalar gets its initial value, or 0. Arrays and structs keep what their words hold.
 fn declare<V: Visitor>(known: &ProgramTables, visitor: &mut V, declared: &Declared) -> Option<()>
     requires { IsSound known.now }
     ensures { LeadsOn V.after V.counts (functions_of known.now) visitor.old visitor.new result
@@ -120,7 +120,7 @@ pub(crate) fn declare_all<V: Visitor>(
     Some(())
 }
 
-// What goes on in a loop, or leaves it, by its condition.
+// The operation that goes on in a loop or leaves it, by the condition.
 fn leave_loop<V: Visitor>(known: &ProgramTables, visitor: &mut V, spot: Spot)
     ensures { visitor.new ≡ through V.after V.counts (functions_of known.now) visitor.old
         (s.leaving (tables_of known.now) (functions_of known.now)
@@ -135,7 +135,7 @@ fn leave_loop<V: Visitor>(known: &ProgramTables, visitor: &mut V, spot: Spot)
     }
 }
 
-/// The condition of a loop, and what leaves the loop by it.
+/// The condition of a loop, and the operation that leaves the loop by it.
 pub(crate) fn test<V: Visitor>(known: &ProgramTables, visitor: &mut V, spot: Spot, condition: &Expr)
     requires { IsSound known.now }
     ensures { visitor.new ≡ through V.after V.counts (functions_of known.now) visitor.old
@@ -147,7 +147,7 @@ pub(crate) fn test<V: Visitor>(known: &ProgramTables, visitor: &mut V, spot: Spo
     }
 }
 
-/// The condition of a `for`. An absent one is 1.
+/// The condition of a `for`. An absent one counts as 1.
 pub(crate) fn test_or<V: Visitor>(
     known: &ProgramTables,
     visitor: &mut V,
@@ -182,8 +182,8 @@ pub(crate) fn count_or_all<V: Visitor>(
     value_or(known, visitor, Operation::Get(Value::Processors), count)
 }
 
-/// The numbers of a `fork`: of its parts, of the part that a processor enters, and of its rank
-/// there. An absent rank is the one that it has.
+/// The numbers of a `fork`: the number of parts, the part that the processor enters, and its rank
+/// there. An absent rank is the processor's present rank.
 pub(crate) fn numbers<'s, 't, V: Visitor>(
     known: &ProgramTables,
     visitor: &mut V,
@@ -232,7 +232,7 @@ pub(crate) fn go_on<V: Visitor>(known: &ProgramTables, visitor: &mut V) -> Optio
     Some(())
 }
 
-// The operation that ends a call, with a value or without; that of `main` has none.
+// The operation that ends a call, with a value if `gives`; in `main` it is `Halt`.
 fn ending_by(inside: Inside, gives: bool) -> Operation
     ensures { result ≡ (if inside.main then o.Halt else o.Leave gives inside.framed) }
 {
@@ -244,7 +244,7 @@ fn ending_by(inside: Inside, gives: bool) -> Operation
     }
 }
 
-// The end of a call.
+// Shows the end of a call.
 fn end_call<V: Visitor>(known: &ProgramTables, visitor: &mut V, inside: Inside, gives: bool)
     ensures { Passes V.after V.counts (functions_of known.now) visitor.old visitor.new
         (λ rest. c.ends e.nowhere (if inside.main then o.Halt else o.Leave gives inside.framed)
@@ -253,7 +253,7 @@ fn end_call<V: Visitor>(known: &ProgramTables, visitor: &mut V, inside: Inside, 
     ends(visitor, ending_by(inside, gives));
 }
 
-// What a `return` does behind its value, which `main` drops.
+// The operations of a `return` after its value, which `main` drops.
 fn hand_over<V: Visitor>(known: &ProgramTables, visitor: &mut V, inside: Inside)
     ensures { Passes V.after V.counts (functions_of known.now) visitor.old visitor.new
         (λ rest. if inside.main then e.plain o.DropLast (c.ends e.nowhere o.Halt rest)
@@ -267,7 +267,7 @@ fn hand_over<V: Visitor>(known: &ProgramTables, visitor: &mut V, inside: Inside)
     }
 }
 
-/// A `return`, with its value where it has one.
+/// A `return`, with its value if it has one.
 pub(crate) fn give_back<V: Visitor>(
     known: &ProgramTables,
     visitor: &mut V,
@@ -292,7 +292,7 @@ pub(crate) fn give_back<V: Visitor>(
     }
 }
 
-/// What stands at the end of a function, where one with a result gives 0.
+/// The end of a function. A function with a result returns 0 there.
 pub(crate) fn finish<V: Visitor>(known: &ProgramTables, visitor: &mut V, inside: Inside, void: bool)
     ensures { visitor.new ≡ through V.after V.counts (functions_of known.now) visitor.old
         (s.end_of (tables_of known.now) (functions_of known.now) (inside_of inside) void) }

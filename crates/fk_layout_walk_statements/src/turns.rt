@@ -1,4 +1,4 @@
-//! What a loop does in each of its turns beside its body.
+//! The parts of a loop besides its body.
 
 use fk_syntax::Expr;
 

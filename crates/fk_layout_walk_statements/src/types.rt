@@ -1,4 +1,4 @@
-//! What is declared, by its words.
+//! What a declaration declares, by its words.
 
 ghost use Rattle.std.specs.Prelude.{◌≡◌};
 ghost use Rattle.fk_syntax.specs.View.{type_of};
@@ -7,7 +7,7 @@ ghost use Rattle.fk_meaning_forms.specs.Statements as s;
 
 use fk_syntax::{Base, Declared, TypeName};
 
-/// Whether a declaration is that of a number or a pointer.
+/// Whether a declaration declares a number or a pointer.
 pub(crate) fn is_scalar(declared: &Declared) -> bool
     ensures { result ≡ s.is_scalar (declared_of declared.now) }
 {

@@ -2,7 +2,7 @@
 use Rattle.std.specs.Prelude.{ℕ, ◌+◌, ◌-◌, ◌==◌, ◌&&◌, ◌||◌, nat_le, not, Bool, Option, Some, None}
 use Rattle.std.specs.Prelude.{if◌then◌else◌}
 
--- space, tab, carriage return and newline
+-- a space, a tab, a carriage return or a newline
 abbrev pub is_blank : ℕ → Bool
 is_blank c = (c == 32) || (c == 9) || (c == 13) || (c == 10)
 
@@ -36,7 +36,7 @@ is_x c = (c == 120) || (c == 88)
 abbrev pub is_plain : ℕ → ℕ → Bool
 is_plain quote c = nat_le 32 c && nat_le c 126 && not (c == quote) && not (c == 92)
 
--- what a backslash and one of n, t, 0, \, ' and " stand for
+-- the byte that a backslash and one of n, t, 0, \, ' and " denote
 abbrev pub escape_value : ℕ → Option ℕ
 escape_value c =
     if c == 110 then Some 10

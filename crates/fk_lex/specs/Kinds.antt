@@ -121,7 +121,7 @@ single_signs =
 abbrev pub signs : List (List ℕ × TokenKind)
 signs = triple_signs ++ (double_signs ++ single_signs)
 
--- what a table has for these bytes
+-- the kind that a table has for these bytes
 abbrev pub lookup : List (List ℕ × TokenKind) → List ℕ → Option TokenKind
 lookup [] bytes = None
 lookup (entry ∷ others) bytes = if bytes_eq entry.0 bytes then Some entry.1 else lookup others bytes
@@ -152,7 +152,7 @@ is_numeral [] = false
 is_numeral (c ∷ cs) = if c == 48 then is_hexadecimal cs || is_tail 8 cs
     else is_digit c && is_tail 10 cs
 
--- the value of digits of a base, after digits of this value
+-- the value of digits of a base that follow digits with this value
 abbrev pub value_in : ℕ → ℕ → List ℕ → ℕ
 value_in base value [] = value
 value_in base value (c ∷ cs) =
@@ -164,7 +164,7 @@ numeral_value bytes =
     then (if is_x (slice_index bytes 1) then value_in 16 0 (drop 2 bytes) else value_in 8 0 bytes)
     else value_in 10 0 bytes
 
--- a number is unsigned with the suffix, or from 2^31 on
+-- a number is unsigned if it has the suffix or is at least 2^31
 unfoldable pub is_unsigned : List ℕ → Bool
 is_unsigned bytes =
     is_suffix (slice_index bytes (length bytes - 1)) || nat_le (2 ^ 31) (numeral_value bytes)
@@ -184,7 +184,7 @@ kind_of (c ∷ cs) =
     then Some (Number (numeral_value (c ∷ cs)) (is_unsigned (c ∷ cs))) else None)
     else lookup signs (c ∷ cs))
 
--- the longest front of a text that passes a test
+-- `n` is the length of the longest prefix of a text that passes a test
 pub record LongestBy (test : List ℕ → Bool) (text : List ℕ) (n : ℕ) : Type 0 where
   pub within : n ≤ length text
   pub passes : test (take n text) ≡ true
@@ -196,12 +196,12 @@ LongestNumeral text n = LongestBy is_numeral text n
 abbrev pub LongestTail : ℕ → List ℕ → ℕ → Type 0
 LongestTail base text n = LongestBy (is_tail base) text n
 
--- the longest front of a text that spells a token
+-- `n` is the length of the longest prefix of a text that spells a token, and `kind` is its kind
 pub record Longest (text : List ℕ) (n : ℕ) (kind : TokenKind) : Type 0 where
   pub within : n ≤ length text
   pub spells : kind_of (take n text) ≡ Some kind
   pub longest : (m : ℕ) → n < m → m ≤ length text → kind_of (take m text) ≡ None
 
--- no front of a text spells a token
+-- no prefix of a text spells a token
 abbrev pub SpellsNone : List ℕ → Type 0
 SpellsNone text = (m : ℕ) → m ≤ length text → kind_of (take m text) ≡ None

@@ -1,4 +1,4 @@
--- Comments, include lines and texts, told by what they are made of.
+-- Comments, include lines and texts, defined by their parts.
 use Rattle.std.specs.Prelude.{◌≡◌, ℕ, ◌+◌, ◌⊎◌, true, List, ◌∷◌, ◌++◌, length, codes}
 use Rattle.std.specs.List.{list_all}
 use Rattle.fk_lex.specs.declared.step.FaultKind.TheVariants.{OpenComment}
@@ -9,21 +9,21 @@ use Rattle.fk_lex.specs.Positions.{in_line, EndsLine}
 use Rattle.fk_lex.specs.Steps.{is_include, Stands}
 use Rattle.fk_lex.specs.Texts.{Part, bytes_of, AreParts, AreGood}
 
--- `*/` stands somewhere in these bytes
+-- `*/` occurs somewhere in these bytes
 abbrev pub HasCommentEnd : List ℕ → Type 0
 HasCommentEnd bytes = (before behind : List ℕ) × (bytes ≡ before ++ (codes "*/" ++ behind))
 
--- a text begins with `/*`, bytes with no `*/` in them, and `*/`, so many bytes in all
+-- a text begins with `/*`, bytes with no `*/` in them, and `*/`, which are `n` bytes in all
 abbrev pub IsComment : List ℕ → ℕ → Type 0
 IsComment text n =
     (inside rest : List ℕ) × (HasCommentEnd inside → ⊥)
     × (text ≡ codes "/*" ++ (inside ++ (codes "*/" ++ rest))) × (n ≡ length inside + 4)
 
--- no newline stands in these bytes
+-- no newline occurs in these bytes
 abbrev pub AreInLine : List ℕ → Type 0
 AreInLine bytes = list_all in_line bytes ≡ true
 
--- a text begins with `//` and the bytes up to the end of the line, so many bytes in all
+-- a text begins with `//` and the bytes up to the end of the line, which are `n` bytes in all
 abbrev pub IsLineComment : List ℕ → ℕ → Type 0
 IsLineComment text n =
     (line rest : List ℕ) × AreInLine line × EndsLine rest × (text ≡ codes "//" ++ (line ++ rest))
@@ -32,15 +32,15 @@ IsLineComment text n =
 abbrev pub AreBlank : List ℕ → Type 0
 AreBlank bytes = list_all is_blank bytes ≡ true
 
--- `#include`, blanks or none, one of two names, and blanks or none
+-- a line is `#include`, any blanks, `<fork.h>` or `<io.h>`, and any blanks
 abbrev pub IsInclude : List ℕ → Type 0
 IsInclude line =
     (gap name more : List ℕ) × AreBlank gap
     × ((name ≡ codes "<fork.h>") ⊎ (name ≡ codes "<io.h>")) × AreBlank more
     × (line ≡ codes "#include" ++ (gap ++ (name ++ more)))
 
--- what follows an opening quote goes on with bytes that stand for themselves, escapes, and the
--- closing quote, so many bytes in all
+-- after an opening quote come bytes that represent themselves, escapes, and the closing quote,
+-- which are `n` bytes in all
 abbrev pub IsTextBody : List ℕ → ℕ → Type 0
 IsTextBody body n =
     (parts : List Part) × (rest : List ℕ) × AreGood parts × AreParts parts (34 ∷ rest)

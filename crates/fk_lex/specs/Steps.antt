@@ -1,4 +1,4 @@
--- What stands at a point of a text: a blank, a comment, an include line, a token or a fault.
+-- What a text has at a point: a blank, a comment, an include line, a token or a fault.
 use Rattle.std.specs.Prelude.{◌≡◌, ℕ, ◌+◌, ◌<◌, ◌≤◌, ◌^◌, ◌==◌, ◌&&◌, ◌||◌, ◌⊎◌, nat_lt, Bool}
 use Rattle.std.specs.Prelude.{false, Option, Some, None, List, length, take, drop, slice_index}
 use Rattle.std.specs.Prelude.{codes, if◌then◌else◌}
@@ -16,7 +16,7 @@ use Rattle.fk_lex.specs.Kinds.{Longest, SpellsNone}
 use Rattle.fk_lex.specs.Positions.{in_line, only_blanks}
 use Rattle.fk_lex.specs.Texts.{TextStep}
 
--- what the first two bytes say
+-- the class of what begins with these two bytes
 abbrev pub beginning_of : ℕ → ℕ → Beginning
 beginning_of c d =
     if is_blank c then begins.Blank
@@ -29,15 +29,15 @@ beginning_of c d =
 abbrev pub beginning : List ℕ → Beginning
 beginning text = beginning_of (slice_index text 0) (slice_index text 1)
 
--- how many bytes stand before the end of the line
+-- the number of bytes before the end of the first line
 abbrev pub line_length : List ℕ → ℕ
 line_length text = prefix_len in_line text
 
--- `*/`
+-- `*/` lies at index `n`
 abbrev pub EndsAt : List ℕ → ℕ → Type 0
 EndsAt text n = (slice_index text n ≡ 42) × (slice_index text (n + 1) ≡ 47)
 
--- a comment goes from `/*` to the next `*/`
+-- a comment goes from `/*` to the next `*/`, which is at index `n`
 pub record CommentTo (text : List ℕ) (n : ℕ) : Type 0 where
   pub behind : 2 ≤ n
   pub ends : EndsAt text n
@@ -48,7 +48,7 @@ CommentStep text step =
     ((n : ℕ) × CommentTo text n × (step ≡ Gap (n + 2)))
     ⊎ (((m : ℕ) → 2 ≤ m → EndsAt text m → ⊥) × (step ≡ Fault 0 OpenComment))
 
--- these bytes, and blanks or none
+-- a text is this name, and then any blanks
 abbrev pub is_named : List ℕ → List ℕ → Bool
 is_named name text =
     bytes_eq name (take (length name) text) && list_all is_blank (drop (length name) text)
@@ -56,7 +56,7 @@ is_named name text =
 abbrev pub is_header : List ℕ → Bool
 is_header text = is_named (codes "<fork.h>") text || is_named (codes "<io.h>") text
 
--- `#include`, blanks or none, `<fork.h>` or `<io.h>`, and blanks or none
+-- a line is `#include`, any blanks, `<fork.h>` or `<io.h>`, and any blanks
 abbrev pub is_include : List ℕ → Bool
 is_include line =
     bytes_eq (codes "#include") (take 8 line)
@@ -72,7 +72,7 @@ abbrev pub escaped : Option ℕ → Step
 escaped None = Fault 0 BadByte
 escaped (Some value) = Token 4 (Number value false)
 
--- a character constant is a byte between quotes, or a backslash and a byte
+-- a character constant is a plain byte or an escape between single quotes; else there is a bad byte
 abbrev pub character_of : ℕ → ℕ → ℕ → Step
 character_of c d e =
     if is_plain 39 c && (d == 39) then Token 3 (Number c false)
@@ -81,7 +81,7 @@ character_of c d e =
 unfoldable pub character_step : List ℕ → Step
 character_step text = character_of (slice_index text 1) (slice_index text 2) (slice_index text 3)
 
--- a number is below 2^32, and neither letter, digit nor `_` follows it
+-- a number is below 2^32, and no letter, digit or `_` follows it
 unfoldable pub token_or_fault : List ℕ → ℕ → TokenKind → Step
 token_or_fault text n (Number value unsigned) =
     if nat_lt value (2 ^ 32)
@@ -90,7 +90,7 @@ token_or_fault text n (Number value unsigned) =
     else Fault 0 WideNumber
 token_or_fault text n kind = Token n kind
 
--- the longest token that a text begins with, or a bad byte where it begins with none
+-- the longest token that a text begins with; a bad byte if it begins with none
 abbrev pub TokenStep : List ℕ → Step → Type 0
 TokenStep text step =
     ((n : ℕ) × (kind : TokenKind) × Longest text n kind × (step ≡ token_or_fault text n kind))
@@ -105,6 +105,6 @@ StandsBy begins.Character before text step = step ≡ character_step text
 StandsBy begins.Text before text step = TextStep text step
 StandsBy begins.Other before text step = TokenStep text step
 
--- what stands behind these bytes, where this text goes on
+-- `step` is what lies after the bytes `before`, where `text` follows
 abbrev pub Stands : List ℕ → List ℕ → Step → Type 0
 Stands before text step = StandsBy (beginning text) before text step

@@ -1,4 +1,4 @@
--- Texts in quotes, told by their parts.
+-- Texts in quotes, defined by their parts.
 use Rattle.std.specs.Prelude.{◌≡◌, ◌≢◌, ℕ, ◌+◌, ◌⊎◌, Bool, true, false, Option, Some, None, List}
 use Rattle.std.specs.Prelude.{[], ◌∷◌, ◌++◌, length}
 use Rattle.fk_lex.specs.declared.step.Step.{Step}
@@ -8,7 +8,7 @@ use Rattle.fk_lex.specs.declared.token.TokenKind.TheVariants.{Text}
 use Rattle.fk_lex.specs.Bytes.{is_plain, escape_value}
 use Rattle.fk_lex.specs.Positions.{EndsLine}
 
--- a byte that stands for itself, a backslash and a byte, or a byte that no text has there
+-- a part of a text: a byte that represents itself, an escape, or a byte that is bad at its point
 pub data Part : Type 0 where
   Plain : ℕ → Part
   Escape : ℕ → Part
@@ -27,29 +27,30 @@ abbrev pub is_some_byte : Option ℕ → Bool
 is_some_byte None = false
 is_some_byte (Some byte) = true
 
--- a byte that a backslash takes
+-- whether a backslash and this byte are an escape
 abbrev pub is_escaped : ℕ → Bool
 is_escaped c = is_some_byte (escape_value c)
 
--- bytes that begin with one that a backslash takes
+-- whether bytes begin with one that makes an escape with a backslash
 abbrev pub go_on_escaped : List ℕ → Bool
 go_on_escaped [] = false
 go_on_escaped (c ∷ cs) = is_escaped c
 
--- neither the quote nor a newline, and neither stands for itself nor begins an escape
+-- a byte is bad: it is neither the quote nor a newline, doesn't represent itself, and begins no
+-- escape
 pub record IsBad (c : ℕ) (behind : List ℕ) : Type 0 where
   pub no_quote : c ≢ 34
   pub in_line : c ≢ 10
   pub not_plain : is_plain 34 c ≡ false
   pub no_escape : c ≡ 92 → go_on_escaped behind ≡ false
 
--- a part, with these bytes behind it
+-- a part of a text that is followed by these bytes
 abbrev pub IsPart : Part → List ℕ → Type 0
 IsPart (Plain c) behind = is_plain 34 c ≡ true
 IsPart (Escape c) behind = is_escaped c ≡ true
 IsPart (Bad c) behind = IsBad c behind
 
--- parts, with these bytes behind them
+-- parts of a text that are followed by these bytes
 abbrev pub AreParts : List Part → List ℕ → Type 0
 AreParts [] behind = Unit {0}
 AreParts (part ∷ parts) behind = IsPart part (bytes_of parts ++ behind) × AreParts parts behind
@@ -61,18 +62,18 @@ AreGood (Plain c ∷ parts) = AreGood parts
 AreGood (Escape c ∷ parts) = AreGood parts
 AreGood (Bad c ∷ parts) = ⊥
 
--- good parts, and then a bad one
+-- `good` are the parts before the first bad one
 abbrev pub FirstBad : List Part → List Part → Type 0
 FirstBad parts good = (c : ℕ) × (more : List Part) × AreGood good × (parts ≡ good ++ Bad c ∷ more)
 
--- a closed text is a token of its parts and two quotes, or has a fault at its first bad part
+-- a closed text is a token of its parts and two quotes, or a fault at its first bad part
 abbrev pub ClosedStep : List Part → Step → Type 0
 ClosedStep parts step =
     (AreGood parts × (step ≡ Token (length (bytes_of parts) + 2) Text))
     ⊎ ((good : List Part) × FirstBad parts good
     × (step ≡ Fault (length (bytes_of good) + 1) BadByte))
 
--- a text goes from a quote to the next quote between its parts, in its line
+-- a text goes from a quote to the next quote between parts in its line; it is open if there is none
 abbrev pub TextStep : List ℕ → Step → Type 0
 TextStep text step =
     (parts : List Part) × (rest : List ℕ)

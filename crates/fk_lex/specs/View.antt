@@ -1,4 +1,4 @@
--- Tokens and tables of the code as those of the definitions.
+-- The tokens and tables of the code in the form of the definitions.
 use Rattle.std.specs.Prelude.{ℕ, List}
 use denote.Ref.{Bor}
 use Rattle.fk_lex.specs.declared.token.Token.{Token}
@@ -13,7 +13,7 @@ spelled token = record { kind = token.kind; bytes = token.bytes.now; place = tok
 abbrev pub entry_of : Bor (List ℕ) × TokenKind → List ℕ × TokenKind
 entry_of entry = (entry.0.now, entry.1)
 
--- a fault is the text's own, if it isn't want of memory
+-- a fault belongs to the text, unless there isn't enough memory
 abbrev pub IsFault : List ℕ → LexFault → Type 0
 IsFault text (fault.Memory e) = Unit {0}
 IsFault text found = Faults text found

@@ -4,28 +4,28 @@ ghost use Rattle.std.specs.Prelude.{◌≡◌, ◌<◌, slice_index};
 ghost use Rattle.std.specs.List.{list_all};
 ghost use Rattle.fk_lex.specs.Bytes;
 
-/// Space, tab, carriage return and newline.
+/// Whether a byte is a space, a tab, a carriage return or a newline.
 pub fn is_blank(byte: u8) -> bool
     ensures { result ≡ Bytes.is_blank byte }
 {
     matches!(byte, b' ' | b'\t' | b'\r' | b'\n')
 }
 
-/// Blanks or nothing.
+/// Whether all bytes of a text are blanks; the text may be empty.
 pub fn are_blanks(text: &[u8]) -> bool
     ensures { result ≡ list_all Bytes.is_blank text.now }
 {
     text.iter().all(|byte| is_blank(*byte))
 }
 
-/// A letter or `_`.
+/// Whether a byte is a letter or `_`.
 pub fn is_letter(byte: u8) -> bool
     ensures { result ≡ Bytes.is_letter byte }
 {
     byte.is_ascii_alphabetic() || byte == b'_'
 }
 
-/// A decimal digit.
+/// Whether a byte is a decimal digit.
 pub fn is_digit(byte: u8) -> bool
     ensures { result ≡ Bytes.is_digit byte }
 {
@@ -55,14 +55,14 @@ const WORD_BYTES: [bool; 256] = [
     false, false, false, false, false, false, false, false, false, false,
 ];
 
-/// A letter, a digit or `_`.
+/// Whether a byte is a letter, a digit or `_`.
 pub fn is_word_byte(byte: u8) -> bool
     ensures { result ≡ Bytes.is_word_byte byte }
 {
     WORD_BYTES[byte as usize]
 }
 
-/// The value of a hexadecimal digit, and 16 for every other byte.
+/// The value of a hexadecimal digit; 16 for every other byte.
 pub fn digit_value(byte: u8) -> u32
     ensures { result ≡ Bytes.digit_value byte }
 {
@@ -74,28 +74,28 @@ pub fn digit_value(byte: u8) -> u32
     }
 }
 
-/// The letter that makes a number `unsigned`.
+/// Whether a byte is the suffix `u` or `U`, which makes a number `unsigned`.
 pub fn is_suffix(byte: u8) -> bool
     ensures { result ≡ Bytes.is_suffix byte }
 {
     byte == b'u' || byte == b'U'
 }
 
-/// The letter that makes the digits behind a 0 hexadecimal.
+/// Whether a byte is `x` or `X`, which makes the digits after a 0 hexadecimal.
 pub fn is_x(byte: u8) -> bool
     ensures { result ≡ Bytes.is_x byte }
 {
     byte == b'x' || byte == b'X'
 }
 
-/// A byte between these quotes that stands for itself.
+/// Whether a byte represents itself between two quotes of this kind.
 pub fn is_plain(quote: u8, byte: u8) -> bool
     ensures { result ≡ Bytes.is_plain quote byte }
 {
     byte >= 32 && byte <= 126 && byte != quote && byte != b'\\'
 }
 
-/// The byte that a backslash and this byte stand for.
+/// The byte that an escape denotes: a backslash and this byte. `None` if there is no such escape.
 pub fn escape_value(byte: u8) -> Option<u8>
     ensures { result ≡ Bytes.escape_value byte }
 {
@@ -110,7 +110,7 @@ pub fn escape_value(byte: u8) -> Option<u8>
     }
 }
 
-/// A byte of a text, and 0 past its end.
+/// The byte of a text at an index; 0 past its end.
 pub fn byte_at(text: &[u8], at: usize) -> u8
     ensures { result ≡ slice_index text.now at }
 {

@@ -9,14 +9,14 @@ ghost use Rattle.fk_lex.specs.Steps.{CommentStep, CommentTo, EndsAt};
 use crate::bytes::{are_blanks, byte_at, is_blank};
 use crate::step::{Beginning, FaultKind, Step};
 
-/// What the first two bytes of a text begin.
+/// The class of what begins at the first two bytes of a text. A byte past the end counts as 0.
 pub fn beginning(text: &[u8]) -> Beginning
     ensures { result ≡ Steps.beginning text.now }
 {
     beginning_of(byte_at(text, 0), byte_at(text, 1))
 }
 
-/// What these two bytes begin.
+/// The class of what begins with these two bytes.
 fn beginning_of(first: u8, second: u8) -> Beginning
     ensures { result ≡ Steps.beginning_of first second }
 {
@@ -31,7 +31,7 @@ fn beginning_of(first: u8, second: u8) -> Beginning
     }
 }
 
-/// How many bytes stand before the end of the line.
+/// The number of bytes before the end of the first line.
 pub fn line_length(text: &[u8]) -> usize
     ensures within { result ≤ length text.now }
     ensures value { result ≡ Steps.line_length text.now }
@@ -39,7 +39,7 @@ pub fn line_length(text: &[u8]) -> usize
     text.iter().take_while(|byte| **byte != b'\n').count()
 }
 
-/// The comment at the `/*` that a text begins with.
+/// The step for a text that begins with `/*`: the comment, or a fault if it isn't closed.
 pub fn comment_step(text: &[u8]) -> Step
     ensures { CommentStep text.now result }
 {
@@ -49,7 +49,7 @@ pub fn comment_step(text: &[u8]) -> Step
     }
 }
 
-/// Where the first `*/` behind two bytes stands.
+/// The index of the first `*/` after the first two bytes.
 fn comment_end(text: &[u8]) -> Option<usize>
     ensures some { IfSome result (λ n. CommentTo text.now n) }
     ensures within { IfSome result (λ n. n + 1 < length text.now) }
@@ -63,7 +63,8 @@ fn comment_end(text: &[u8]) -> Option<usize>
     None
 }
 
-/// The include line that a text begins with, where only blanks stand before it in its line.
+/// The step for a text that begins with `#`: an include line, or a bad byte. An include line has
+/// only blanks before it in its line.
 pub fn directive_step(only_blanks: bool, text: &[u8]) -> Step
     ensures { result ≡ Steps.directive_step only_blanks text.now }
 {
@@ -75,7 +76,7 @@ pub fn directive_step(only_blanks: bool, text: &[u8]) -> Step
     }
 }
 
-/// `#include`, blanks or none, `<fork.h>` or `<io.h>`, and blanks or none.
+/// Whether a line is `#include`, any blanks, `<fork.h>` or `<io.h>`, and any blanks.
 fn is_include(line: &[u8]) -> bool
     ensures { result ≡ Steps.is_include line.now }
 {
@@ -86,7 +87,7 @@ fn is_include(line: &[u8]) -> bool
     }
 }
 
-/// How many blanks a text begins with.
+/// The number of blanks that a text begins with.
 fn blank_length(text: &[u8]) -> usize
     ensures within { result ≤ length text.now }
     ensures value { result ≡ prefix_len Bytes.is_blank text.now }
@@ -94,14 +95,14 @@ fn blank_length(text: &[u8]) -> usize
     text.iter().take_while(|byte| is_blank(**byte)).count()
 }
 
-/// A name in angle brackets, and blanks or none.
+/// Whether a text is `<fork.h>` or `<io.h>`, and then any blanks.
 fn is_header(text: &[u8]) -> bool
     ensures { result ≡ Steps.is_header text.now }
 {
     is_named(b"<fork.h>", text) || is_named(b"<io.h>", text)
 }
 
-/// These bytes, and blanks or none.
+/// Whether a text is this name, and then any blanks.
 fn is_named(name: &[u8], text: &[u8]) -> bool
     ensures { result ≡ Steps.is_named name.now text.now }
 {

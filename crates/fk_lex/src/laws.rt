@@ -8,9 +8,9 @@ pub fn one_reading()
     ensures { OneReading }
 {}
 
-/// A comment is `/*`, bytes with no `*/` in them, and `*/`, or `//` and the bytes up to the end of
-/// the line. An include line is `#include`, blanks or none, `<fork.h>` or `<io.h>`, and blanks or
-/// none. A text is a quote, bytes that stand for themselves and escapes, and a quote.
+/// A comment is `/*`, bytes with no `*/` in them, and `*/`, or it is `//` and the bytes up to the
+/// end of the line. An include line is `#include`, any blanks, `<fork.h>` or `<io.h>`, and any
+/// blanks. A text is a quote, bytes that represent themselves and escapes, and a quote.
 pub fn spellings()
     ensures { Spellings }
 {}

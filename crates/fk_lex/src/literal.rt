@@ -13,14 +13,14 @@ use crate::bytes::{byte_at, escape_value, is_plain};
 use crate::step::{FaultKind, Step};
 use crate::token::TokenKind;
 
-/// The character constant that a text begins with, at its opening quote.
+/// The step for a text that begins with `'`: a character constant, or a bad byte.
 pub fn character_step(text: &[u8]) -> Step
     ensures { result ≡ Steps.character_step text.now }
 {
     character_of(byte_at(text, 1), byte_at(text, 2), byte_at(text, 3))
 }
 
-/// The character constant that these bytes go on with behind the opening quote.
+/// The step for a character constant whose opening quote is followed by these three bytes.
 fn character_of(first: u8, second: u8, third: u8) -> Step
     ensures { result ≡ Steps.character_of first second third }
 {
@@ -33,7 +33,7 @@ fn character_of(first: u8, second: u8, third: u8) -> Step
     Step::Fault(0, FaultKind::BadByte)
 }
 
-/// The character constant of a backslash and this byte.
+/// The step for a character constant that is a backslash and this byte.
 fn escaped(byte: u8) -> Step
     ensures { result ≡ Steps.escaped (Bytes.escape_value byte) }
 {
@@ -43,7 +43,7 @@ fn escaped(byte: u8) -> Step
     }
 }
 
-/// The text in quotes that a source text begins with.
+/// The step for a source text that begins with `"`: a text, or a fault.
 pub fn text_step(text: &[u8]) -> Step
     requires some { 0 < length text.now }
     requires quote { slice_index text.now 0 ≡ 34 }
@@ -67,7 +67,8 @@ pub fn text_step(text: &[u8]) -> Step
     Step::Fault(0, FaultKind::OpenString)
 }
 
-/// A text with so many bytes between its quotes, of which the first bad one is here.
+/// The step for a closed text with `size` bytes between its quotes. `bad` is the index of the first
+/// bad byte among them.
 fn closed(size: usize, bad: Option<usize>) -> Step
     requires size { size + 2 < 2 ^ 64 }
     requires bad { IfSome bad (λ n. n < size) }
@@ -80,7 +81,8 @@ fn closed(size: usize, bad: Option<usize>) -> Step
     }
 }
 
-/// How many bytes the escape or the byte that stands for itself has that these two bytes begin.
+/// The size in bytes of the escape or the plain byte at the beginning of these two bytes; `None` if
+/// they begin with neither.
 fn part_size(first: u8, second: u8) -> Option<usize>
     ensures { result ≡ Moves.part_size first second }
 {

@@ -11,7 +11,7 @@ use crate::bytes::{byte_at, digit_value, is_suffix, is_word_byte, is_x};
 use crate::step::{FaultKind, Step};
 use crate::token::TokenKind;
 
-/// The number that a text begins with.
+/// The step for a text that begins with a digit: a number, or a fault.
 pub fn numeral_step(text: &[u8]) -> Step
     requires some { 0 < length text.now }
     requires digit { Bytes.is_digit (slice_index text.now 0) ≡ true }
@@ -25,7 +25,7 @@ pub fn numeral_step(text: &[u8]) -> Step
     }
 }
 
-/// How many bytes the longest number has that a text begins with.
+/// The number of bytes of the longest number at the beginning of a text.
 fn numeral_length(text: &[u8]) -> usize
     requires some { 0 < length text.now }
     requires digit { Bytes.is_digit (slice_index text.now 0) ≡ true }
@@ -40,8 +40,8 @@ fn numeral_length(text: &[u8]) -> usize
     1 + tail_length(8, text.split_at(1).1)
 }
 
-/// How many bytes stand at the beginning of a text that are digits of a base and at most one
-/// `u` or `U` behind them.
+/// The number of bytes at the beginning of a text that are digits of a base, and then at most one
+/// `u` or `U`.
 fn tail_length(base: u32, text: &[u8]) -> usize
     ensures { Kinds.LongestTail base text.now result }
 {
@@ -53,7 +53,7 @@ fn tail_length(base: u32, text: &[u8]) -> usize
     }
 }
 
-/// How many digits of a base stand at the beginning of a text.
+/// The number of digits of a base at the beginning of a text.
 fn digits_length(base: u32, text: &[u8]) -> usize
     ensures within { result ≤ length text.now }
     ensures value { result ≡ prefix_len (λ c. nat_lt (Bytes.digit_value c) base) text.now }
@@ -63,14 +63,14 @@ fn digits_length(base: u32, text: &[u8]) -> usize
         .count()
 }
 
-/// `x` or `X` and a hexadecimal digit.
+/// Whether two bytes are `x` or `X` and a hexadecimal digit.
 fn is_hexadecimal(first: u8, second: u8) -> bool
     ensures { result ≡ Kinds.is_hexadecimal (first ∷ second ∷ []) }
 {
     is_x(first) && digit_value(second) < 16
 }
 
-/// A number below 2^32, with its type.
+/// The number that a numeral spells, with its type; `None` from 2^32 on.
 fn number_of(numeral: &[u8]) -> Option<TokenKind>
     requires { 0 < length numeral.now }
     ensures { result ≡ Kinds.number_of numeral.now }
@@ -84,14 +84,14 @@ fn number_of(numeral: &[u8]) -> Option<TokenKind>
     }
 }
 
-/// Whether a number of this last byte and value is `unsigned`.
+/// Whether a number with this last byte and value is `unsigned`.
 fn is_unsigned(last: u8, value: u32) -> bool
     ensures { result ≡ (Bytes.is_suffix last || nat_le (2 ^ 31) value) }
 {
     is_suffix(last) || value >= 1 << 31
 }
 
-/// The value of a number, where it is below 2^32.
+/// The value of a numeral; `None` from 2^32 on.
 fn numeral_value(numeral: &[u8]) -> Option<u32>
     requires { 0 < length numeral.now }
     ensures { let value = Kinds.numeral_value numeral.now in SomeIff result (value < 2 ^ 32) value }
@@ -105,7 +105,7 @@ fn numeral_value(numeral: &[u8]) -> Option<u32>
     value_in(8, numeral)
 }
 
-/// The value of the digits of a base that a text begins with, where it is below 2^32.
+/// The value of the digits of a base at the beginning of a text; `None` from 2^32 on.
 fn value_in(base: u32, digits: &[u8]) -> Option<u32>
     requires { 0 < base }
     ensures { let value = Kinds.value_in base 0 digits.now in

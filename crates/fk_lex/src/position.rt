@@ -13,7 +13,7 @@ use crate::bytes::are_blanks;
 use crate::step::Step;
 use fk_syntax::Place;
 
-/// How many lines end before a position, and how many bytes stand before its line and before it.
+/// A position: how many lines end before it, and how many bytes lie before its line and before it.
 #[derive(Clone, Copy)]
 pub struct Position {
     pub lines: usize,
@@ -33,11 +33,11 @@ impl Position {
         }
     }
 
-    /// The position behind what stands here, which these bytes are.
+    /// The position after a step at this one. `passed` has the bytes of the step.
     pub fn past(self, step: Step, passed: &[u8]) -> Position
         requires lines { self.lines + length passed.now < 2 ^ 64 }
         requires offset { self.offset + length passed.now < 2 ^ 64 }
-        // A token stands in one line.
+        // A token lies in one line.
         requires in_line { (n : ℕ) (kind : TokenKind) → step ≡ Token n kind
             → list_all in_line passed.now ≡ true }
         ensures { result ≡ after self passed.now }
@@ -52,7 +52,7 @@ impl Position {
         }
     }
 
-    /// The position behind these bytes.
+    /// The position after these bytes.
     fn after(self, passed: &[u8]) -> Position
         requires lines { self.lines + length passed.now < 2 ^ 64 }
         requires offset { self.offset + length passed.now < 2 ^ 64 }
@@ -65,7 +65,7 @@ impl Position {
         at
     }
 
-    /// The position behind this byte.
+    /// The position after this byte.
     pub fn next(self, byte: u8) -> Position
         requires lines { self.lines + 1 < 2 ^ 64 }
         requires offset { self.offset + 1 < 2 ^ 64 }
@@ -87,7 +87,7 @@ impl Position {
         }
     }
 
-    /// Whether only blanks stand before this position in its line.
+    /// Whether only blanks lie before this position in its line.
     pub fn only_blanks(self, source: &[u8]) -> bool
         requires line { self.line_start ≤ self.offset }
         requires inside { self.offset ≤ length source.now }
@@ -98,7 +98,7 @@ impl Position {
         are_blanks(line)
     }
 
-    /// The line and the column, counted from 1.
+    /// The place of this position: its line and column, counted from 1.
     pub fn place(self) -> Place
         requires lines { self.lines + 1 < 2 ^ 32 }
         requires line { self.line_start ≤ self.offset }

@@ -12,7 +12,7 @@ use crate::bytes::{byte_at, is_word_byte};
 use crate::step::{FaultKind, Step};
 use crate::token::TokenKind;
 
-/// The word or keyword that a text begins with.
+/// The step for a text that begins with a letter or `_`: a word or a keyword.
 pub fn word_step(text: &[u8]) -> Step
     requires some { 0 < length text.now }
     requires letter { Bytes.is_letter (slice_index text.now 0) ≡ true }
@@ -22,7 +22,7 @@ pub fn word_step(text: &[u8]) -> Step
     Step::Token(size, word_kind(text.split_at(size).0))
 }
 
-/// How many letters, digits and `_` a text begins with.
+/// The number of letters, digits and `_` at the beginning of a text.
 fn word_length(text: &[u8]) -> usize
     ensures within { result ≤ length text.now }
     ensures value { result ≡ prefix_len Bytes.is_word_byte text.now }
@@ -30,7 +30,7 @@ fn word_length(text: &[u8]) -> usize
     text.iter().take_while(|byte| is_word_byte(**byte)).count()
 }
 
-/// The keyword that this word is, or else a word.
+/// The kind of a word: its keyword, or `Word` if it isn't a keyword.
 fn word_kind(word: &[u8]) -> TokenKind
     requires { 0 < length word.now }
     ensures { result ≡ Kinds.or_word (Kinds.lookup Kinds.keywords word.now) }
@@ -38,7 +38,7 @@ fn word_kind(word: &[u8]) -> TokenKind
     keyword_of(word[0], word).unwrap_or(TokenKind::Word)
 }
 
-/// The keyword that a word of this first letter is.
+/// The keyword that a word with this first letter spells.
 fn keyword_of(first: u8, word: &[u8]) -> Option<TokenKind>
     requires { (cs : List ℕ) × (word.now ≡ first ∷ cs) }
     ensures { result ≡ Kinds.lookup Kinds.keywords word.now }
@@ -86,7 +86,7 @@ fn keyword_of(first: u8, word: &[u8]) -> Option<TokenKind>
     }
 }
 
-/// The sign that a text begins with.
+/// The step for a text that begins with neither letter nor digit: the longest sign, or a bad byte.
 pub fn sign_step(text: &[u8]) -> Step
     requires some { 0 < length text.now }
     requires letter { Bytes.is_letter (slice_index text.now 0) ≡ false }
@@ -108,7 +108,7 @@ pub fn sign_step(text: &[u8]) -> Step
     }
 }
 
-/// The sign of three bytes.
+/// The sign that these three bytes spell.
 fn triple_sign(first: u8, second: u8, third: u8) -> Option<TokenKind>
     ensures { result ≡ Kinds.lookup Kinds.triple_signs (first ∷ second ∷ third ∷ []) }
 {
@@ -119,7 +119,7 @@ fn triple_sign(first: u8, second: u8, third: u8) -> Option<TokenKind>
     }
 }
 
-/// The sign of two bytes.
+/// The sign that these two bytes spell.
 fn double_sign(first: u8, second: u8) -> Option<TokenKind>
     ensures { result ≡ Kinds.lookup Kinds.double_signs (first ∷ second ∷ []) }
 {
@@ -147,7 +147,7 @@ fn double_sign(first: u8, second: u8) -> Option<TokenKind>
     }
 }
 
-/// The sign of one byte.
+/// The sign that this byte spells.
 fn single_sign(byte: u8) -> Option<TokenKind>
     ensures { result ≡ Kinds.lookup Kinds.single_signs (byte ∷ []) }
 {
@@ -182,7 +182,7 @@ fn single_sign(byte: u8) -> Option<TokenKind>
     }
 }
 
-/// What a table has for these bytes.
+/// The kind that a table has for these bytes.
 #[inline(always)]
 fn lookup(table: &[(&[u8], TokenKind)], bytes: &[u8]) -> Option<TokenKind>
     ensures { result ≡ Kinds.lookup (map entry_of table.now) bytes.now }

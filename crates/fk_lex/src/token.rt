@@ -4,8 +4,8 @@ use fk_syntax::Place;
 use std::alloc::AllocError;
 use thiserror::Error;
 
-/// What a token is: a word that is no keyword, a number with its value and whether its type is
-/// `unsigned`, a text, a keyword or a sign.
+/// The kind of a token: a word that isn't a keyword, a number with its value and whether its type
+/// is `unsigned`, a text, a keyword or a sign.
 #[derive(Clone, Copy, PartialEq, Eq)]
 pub enum TokenKind {
     Word,
@@ -85,7 +85,7 @@ pub enum TokenKind {
     Dollar,
 }
 
-/// A token, the bytes of the source that it is, and where they begin.
+/// A token with its bytes in the source and the place of the first one.
 #[derive(Clone, Copy)]
 pub struct Token<'a> {
     pub kind: TokenKind,
@@ -93,22 +93,22 @@ pub struct Token<'a> {
     pub place: Place,
 }
 
-/// Why a source has no tokens.
+/// Why a source can't be cut into tokens.
 #[derive(Debug, Drop, Error)]
 pub enum LexFault {
-    /// A byte that no token, blank, comment or include line takes.
+    /// A byte that doesn't belong to a token, a blank, a comment or an include line.
     #[error("BadByte")]
     BadByte(Place),
-    /// A comment that isn't closed, at its `/*`.
+    /// A comment that isn't closed. The place is its `/*`.
     #[error("OpenComment")]
     OpenComment(Place),
-    /// A text whose line or source ends before its closing quote, at its opening quote.
+    /// A text whose line or source ends before its closing quote. The place is its opening quote.
     #[error("OpenString")]
     OpenString(Place),
-    /// A number above 2^32 - 1, at its first byte.
+    /// A number above 2^32 - 1. The place is its first byte.
     #[error("WideNumber")]
     WideNumber(Place),
-    /// There is no memory for the tokens.
+    /// There isn't enough memory for the tokens.
     #[error("Memory")]
     Memory(AllocError),
 }

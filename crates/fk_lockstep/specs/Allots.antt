@@ -1,11 +1,11 @@
--- Which names that are called mean `shalloc`.
+-- Which called names denote `shalloc`.
 use Rattle.std.specs.Prelude.{◌≡◌, ◌==◌, Bool, true, false, codes, if◌then◌else◌}
 use Rattle.fk_syntax.specs.Tree.{Named}
 use Rattle.fk_meaning_forms.specs.Tables.{Tables, no_binding, note}
 use Rattle.fk_meaning_forms.specs.Expressions.{is_name}
 
--- predeclared names that are values, and those of functions but for the one that allots words
--- of a group's space
+-- the predeclared names of values, and those of functions other than the one that allots words of a
+-- group's space
 abbrev pub one_of : (a b c d : Bool) → Bool
 one_of a b c d = if a then true else if b then true else if c then true else d
 
@@ -24,7 +24,7 @@ is_other_call name =
     else one_of (is_name name (codes "putint")) (is_name name (codes "putchar"))
     (is_name name (codes "malloc")) (is_name name (codes "shmalloc"))
 
--- a name that is called and means `shalloc`
+-- a called name that denotes `shalloc`
 pub record Allots (tables : Tables) (name : Named) : Type 0 where
   pub predeclared : ((note tables name.at).binding == no_binding) ≡ true
   pub no_value : is_value_name name ≡ false

@@ -1,5 +1,5 @@
--- Members of a group, where it is kept in any form what is left to do, as at one place of a
--- list of operations.
+-- Members of a group that are at one place of a list of operations, for any form of what is left to
+-- do.
 use Rattle.std.specs.Prelude.{◌≡◌, ℕ, zero, suc, Bool, true, false, List, [], Option, Some}
 use Rattle.std.specs.Prelude.{slice_get}
 use Rattle.fk_syntax.specs.Program.{ProgramTree}
@@ -18,8 +18,8 @@ use Rattle.fk_core.specs.KeepsRuns.{HasCodeOf}
 use Rattle.fk_lockstep.specs.InStep.{leaves_step, InStep, WorkInStep}
 use Rattle.fk_lockstep.specs.Together.{SamePlace, DoesStep, ActTogether}
 
--- work of one form goes on as work of another does: so many operations on, whichever ways they go,
--- they are the same
+-- work of one form goes on as work of another form does: for any number of operations, and
+-- whichever branches are taken, the operations are the same
 module _ {V W : Type 0} (next : V → Option (Step V)) (next' : W → Option (Step W)) where
   abbrev pub GoesAlike : (operations : ℕ) → V → W → Type 0
   GoesAlike zero v w = Unit {0}
@@ -30,8 +30,8 @@ module _ {V W : Type 0} (next : V → Option (Step V)) (next' : W → Option (St
 
 module _ {W : Type 0} (next : W → Option (Step W)) (may_call : (function : ℕ) → Bool)
     (bodies : (binding : ℕ) → Code ℕ) where
-  -- two processors have the same left, which goes on as code that is in step; else as where
-  -- what is left is code
+  -- two processors have the same work left, which goes on as code that is in step; otherwise as in
+  -- `Together`
   pub record TogetherAt (agreed : Bool) (r q : Runner W) : Type 0 where
     pub left : r.left ≡ q.left
     pub place : SamePlace r.has q.has
@@ -62,8 +62,8 @@ FormsGoOn W =
     → (agreed : Bool) → TogetherAt next may_call bodies agreed r q
     → GoOnAt next may_call bodies setting round s g h
 
--- the entry of a function, in a list that has the code of a program, goes on as the
--- code of the function
+-- in a list that has the code of a program, the entry of a function goes on as the code of the
+-- function
 abbrev pub EntriesGoAsCode : Type 0
 EntriesGoAsCode =
     (tables : Tables) (program : ProgramTree) (ops : List CoreOp) (entry : ℕ → ℕ)

@@ -1,4 +1,4 @@
--- The numbers of parts that `fork` takes: its group has agreed on them.
+-- The numbers of parts that `fork` takes, on which its group has agreed.
 use Rattle.std.specs.Prelude.{◌≡◌, ℕ, zero, suc, ◌≤◌, nat_lt, Bool, true, List, [], ◌∷◌, length}
 use Rattle.std.specs.Prelude.{Option, Some, None, is_some}
 use Rattle.fk_meaning_operation.specs.Kinds.{class_of}
@@ -16,8 +16,8 @@ use Rattle.fk_meaning.specs.Round.{Step}
 use Rattle.fk_meaning.specs.Behind.{grown}
 
 -- the numbers of parts on which a processor's group has agreed and which no `fork` has taken yet,
--- the last one first: which they may be, by what it has left and what it has. How many they are is
--- told by what it has left
+-- the last one first. `are_pending` tells whether a list can be these numbers, by the work and the
+-- state of the processor. `pending` is their count, which the work alone determines
 pub record Counts (W : Type 0) : Type 0 where
   pub pending : W → ℕ
   pub are_pending : W → Processor → (numbers : List ℕ) → Bool
@@ -28,7 +28,7 @@ module _ {W : Type 0} (next : W → Option (Step W)) (outs : W → List W) (coun
   abbrev pub ArePending : W → Processor → (numbers : List ℕ) → Type 0
   ArePending work p numbers = counts.are_pending work p numbers ≡ true
 
-  -- where others are met behind a part or a body there are as many, or no more
+  -- at the point that is met first after a part or a body there are as many, or no more
   abbrev pub AsMany : ℕ → List W → Type 0
   AsMany n [] = Unit {0}
   AsMany n (met ∷ behind) = counts.pending met ≡ n
@@ -37,7 +37,7 @@ module _ {W : Type 0} (next : W → Option (Step W)) (outs : W → List W) (coun
   NoMore n [] = Unit {0}
   NoMore n (met ∷ behind) = counts.pending met ≤ n
 
-  -- an operation leaves them as they are
+  -- an operation leaves the pending numbers as they are
   abbrev pub Leaves : Class → Operation → (here : W) → (rest : Bool → W) → Type 0
   Leaves Local op here rest =
       (set : Setting) (onward : Bool) (p : Processor) (ns : List ℕ) → ArePending here p ns
@@ -54,14 +54,14 @@ module _ {W : Type 0} (next : W → Option (Step W)) (outs : W → List W) (coun
       (size : ℕ) (part : Option ℕ) (p : Processor) (ns : List ℕ) → ArePending here p ns
       → ArePending (rest (enters by part)) (divided by size p part) ns
 
-  -- the last one is the value that a `fork` splits by, and the others are left
+  -- a `fork` takes the last number, which is the value that it splits by, and leaves the others
   abbrev pub IsTaken : (p after : Processor) (behind : W) (numbers : List ℕ) → Type 0
   IsTaken p after behind ns = (others : List ℕ) × (ns ≡ last (before 2 (values p)) ∷ others)
       × ArePending behind after others
 
-  -- an agree may add the value that all members have then. A `fork` takes the last one, which is
-  -- the value that it splits by, and which was agreed on in the part that one is in. At a `start`
-  -- there are none. All else leaves them
+  -- an agree may add the value that all members then have. A `fork` takes the last number, which is
+  -- the value that it splits by, and on which the group agreed in the present part. At a `start`
+  -- there are none. Every other operation leaves the numbers as they are
   abbrev pub CountsGoOn : Operation → (here : W) → (rest : Bool → W) → Type 0
   CountsGoOn o.Agree here rest =
       (value : ℕ) (p : Processor) (ns : List ℕ) → ArePending here p ns
@@ -84,7 +84,7 @@ module _ {W : Type 0} (next : W → Option (Step W)) (outs : W → List W) (coun
   CountedNext IsCounted here (Some step) =
       CountsGoOn step.operation here step.rest × ((onward : Bool) → IsCounted (step.rest onward))
 
-  -- so many operations on, whichever ways they go
+  -- for this many operations, whichever branches are taken
   abbrev pub CountedFor : (operations : ℕ) → W → Type 0
   CountedFor zero here = Unit {0}
   CountedFor (suc n) here = CountedNext (CountedFor n) here (next here)

@@ -1,4 +1,4 @@
--- How a processor goes through groups and bodies, as what it has left alone tells it.
+-- How a processor goes through groups and bodies, as determined by its work alone.
 use Rattle.std.specs.Prelude.{◌≡◌, ℕ, zero, suc, Bool, true, false, List, [], ◌∷◌, Option, Some}
 use Rattle.std.specs.Prelude.{None}
 use Rattle.fk_meaning_operation.specs.declared.operation.Operation.{Operation}
@@ -7,28 +7,28 @@ use Rattle.fk_meaning_operation.specs.declared.operation.SplitKind.{SplitKind}
 use Rattle.fk_meaning_operation.specs.declared.operation.SplitKind.TheVariants.{IfElse}
 use Rattle.fk_meaning.specs.Round.{Step}
 
--- where a processor stands: in a group in lockstep, directly behind an agree or not; where it waits
--- for parts, within a `start` or for it; by itself, in a body or outside of each `start`
+-- where a processor is: in a group in lockstep, directly after an agree or not; waiting for parts,
+-- within a `start` or for one; or by itself, in a body or outside of each `start`
 pub data Stand : Type 0 where
   InGroup : (agreed : Bool) → Stand
   Waits : (within : Bool) → Stand
   ByItself : (within : Bool) → Stand
 
--- who waited goes on in its group, or by itself
+-- after waiting, a processor goes on in its group, or by itself
 abbrev pub after_waiting : (within : Bool) → Stand
 after_waiting true = InGroup false
 after_waiting false = ByItself false
 
--- `outs` lists what is left where those who are further out are met: behind each part and at the
--- end of each body that a processor is in, and at each `start` ahead of it
+-- `outs` lists the remaining work at each point where a processor meets those of outer nodes: after
+-- each part and at the end of each body that it is in, and at each `start` ahead of it
 module _ {W : Type 0} (next : W → Option (Step W)) (outs : W → List W) where
   module _ (Follows : Stand → W → Type 0) where
-    -- it goes on where it is
+    -- the processor goes on where it is
     abbrev pub Stays : Stand → (here : W) → (rest : Bool → W) → Type 0
     Stays stand here rest = (onward : Bool)
         → (outs (rest onward) ≡ outs here) × Follows stand (rest onward)
 
-    -- behind parts there is where the others wait
+    -- after the parts of a split comes the point where the other members wait
     abbrev pub Parts : SplitKind → (here : W) → (rest : Bool → W) → (outs_of_part : List W) → Type 0
     Parts by here rest [] = ⊥
     Parts IfElse here rest (parent ∷ behind) =
@@ -39,7 +39,7 @@ module _ {W : Type 0} (next : W → Option (Step W)) (outs : W → List W) where
         (behind ≡ outs here) × (outs parent ≡ outs here) × Follows (Waits true) parent
         × Follows (InGroup false) (rest true) × (rest false ≡ parent)
 
-    -- what an operation may be where a processor stands, and how it goes on
+    -- which operations a processor may do where it is, and how it goes on
     abbrev pub Does : Stand → Operation → (here : W) → (rest : Bool → W) → Type 0
     Does (InGroup agreed) (o.Branch onward) here rest = (agreed ≡ true)
         × Stays (InGroup false) here rest
@@ -85,7 +85,7 @@ module _ {W : Type 0} (next : W → Option (Step W)) (outs : W → List W) where
     DoesNext stand here None = Unit {0}
     DoesNext stand here (Some step) = Does stand step.operation here step.rest
 
-  -- so many operations on, whichever ways they go
+  -- for this many operations, whichever branches are taken
   abbrev pub FollowsFor : (operations : ℕ) → Stand → W → Type 0
   FollowsFor zero stand here = Unit {0}
   FollowsFor (suc n) stand here = DoesNext (FollowsFor n) stand here (next here)

@@ -1,6 +1,6 @@
--- What is asked of calls and of what a group takes of its space: a function takes its frame, and
--- leaves it, in one group, which it was called in, and parts and bodies are left in the call in
--- which they were entered.
+-- What calls must do, and what a group may take of its space. A function takes its frame and leaves
+-- it in one group, in which it was called. Parts and bodies are left in the call in which they were
+-- entered.
 use Rattle.std.specs.Prelude.{◌≡◌, ℕ, zero, suc, ◌<◌, ◌≤◌, Bool, true, false, List, [], ◌∷◌, Option}
 use Rattle.std.specs.Prelude.{Some, None}
 use Rattle.fk_meaning_operation.specs.declared.operation.Operation.{Operation}
@@ -8,7 +8,7 @@ use Rattle.fk_meaning_operation.specs.declared.operation.Operation.TheVariants a
 use Rattle.fk_meaning_operation.specs.declared.operation.SplitKind.TheVariants.{IfElse}
 use Rattle.fk_meaning.specs.Round.{Step}
 
--- what an operation does with calls
+-- the effect of an operation on calls
 pub data Calling : Type 0 where
   Enters : Calling
   Leaves : Calling
@@ -19,14 +19,14 @@ calling (o.Enter arguments) = Enters
 calling (o.Leave gives framed) = Leaves
 calling op = Remains
 
--- what takes words of a group's space, or gives them back
+-- an operation that takes words of a group's space, or gives them back
 abbrev pub takes_space : Operation → Bool
 takes_space (o.Frame nesting words) = true
 takes_space o.Block = true
 takes_space (o.Leave gives framed) = framed
 takes_space op = false
 
--- the frame of a function
+-- an operation that takes the frame of a function
 abbrev pub is_own_frame : Operation → Bool
 is_own_frame (o.Frame zero words) = true
 is_own_frame op = false
@@ -47,7 +47,7 @@ abbrev pub is_none_round : ℕ → Bool
 is_none_round zero = true
 is_none_round (suc n) = false
 
--- how many groups are round a processor's own after an operation
+-- the number of groups around a processor's own after an operation
 abbrev pub round_after : Operation → (onward : Bool) → ℕ → ℕ
 round_after o.Begin true n = suc n
 round_after o.Begin false n = n
@@ -59,7 +59,7 @@ round_after o.Shrink false n = one_less n
 round_after o.End onward n = one_less n
 round_after op onward n = n
 
--- and whether it runs by itself then
+-- whether a processor runs by itself after an operation
 abbrev pub alone_after : Operation → (round : ℕ) → (alone : Bool) → Bool
 alone_after o.Farm n alone = true
 alone_after o.Seq n alone = true
@@ -68,8 +68,8 @@ alone_after o.Begin n alone = false
 alone_after o.Resume n alone = is_none_round n
 alone_after op n alone = alone
 
--- `outs` lists what is left where those who are further out are met, and `depth` tells of what is
--- left how many calls wait
+-- `outs` lists the remaining work at each point where a processor meets those of outer nodes, and
+-- `depth` is the number of calls that wait in a piece of work
 module _ {W : Type 0} (next : W → Option (Step W)) (outs : W → List W) (depth : W → ℕ) where
   abbrev pub NoDeeper : ℕ → List W → Type 0
   NoDeeper d [] = Unit {0}
@@ -83,7 +83,7 @@ module _ {W : Type 0} (next : W → Option (Step W)) (outs : W → List W) (dept
   AsDeep d [] = Unit {0}
   AsDeep d (met ∷ behind) = depth met ≡ d
 
-  -- a call is left only in the part and body that it was entered in
+  -- a call is left only in the part and body in which it was entered
   abbrev pub Calls : Calling → (here : W) → (rest : Bool → W) → Type 0
   Calls Enters here rest = depth (rest true) ≡ suc (depth here)
   Calls Leaves here rest = (depth here ≡ suc (depth (rest true)))
@@ -91,9 +91,9 @@ module _ {W : Type 0} (next : W → Option (Step W)) (outs : W → List W) (dept
   Calls Remains here rest = (onward : Bool) → depth (rest onward) ≡ depth here
 
   module _ (Framed : (round : ℕ) → (alone : Bool) → W → Type 0) where
-    -- who runs by itself takes no words of its group's space. A function takes its frame in the
-    -- part that it was called in. A `start` stands in `main`, and others wait for a part in the
-    -- call in which it was entered
+    -- a processor by itself takes no words of its group's space. A function takes its frame in the
+    -- part in which it was called. A `start` occurs in `main`, and other processors wait for a part
+    -- in the call in which it was entered
     pub record FramesGoOn (round : ℕ) (alone : Bool) (op : Operation) (here : W)
         (rest : Bool → W) : Type 0 where
       pub calls : Calls (calling op) here rest
@@ -108,8 +108,8 @@ module _ {W : Type 0} (next : W → Option (Step W)) (outs : W → List W) (dept
     FramedNext round alone here None = Unit {0}
     FramedNext round alone here (Some step) = FramesGoOn round alone step.operation here step.rest
 
-  -- so many operations on, whichever ways they go, where so many groups are round one's own, and
-  -- one runs by itself or not
+  -- for this many operations, whichever branches are taken. `round` groups are around the
+  -- processor's own, and `alone` tells whether it runs by itself
   abbrev pub FramedFor : (operations : ℕ) → (round : ℕ) → (alone : Bool) → W → Type 0
   FramedFor zero round alone here = Unit {0}
   FramedFor (suc n) round alone here = FramedNext (FramedFor n) round alone here (next here)

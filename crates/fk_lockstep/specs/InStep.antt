@@ -1,5 +1,5 @@
--- Code that a group in lockstep runs, and what is left of it: its members go one
--- way at each branch.
+-- Code that a group runs in lockstep, and what is left of it: its members take the same branch at
+-- each branch operation.
 use Rattle.std.specs.Prelude.{◌≡◌, ℕ, Bool, true, false, List, [], ◌∷◌, Some}
 use Rattle.fk_meaning_operation.specs.declared.operation.Operation.{Operation}
 use Rattle.fk_meaning_operation.specs.declared.operation.Operation.TheVariants as o
@@ -12,15 +12,15 @@ abbrev pub is_agree : Operation → Bool
 is_agree o.Agree = true
 is_agree operation = false
 
--- a branch goes by a value on which the group has agreed, and `shalloc` takes one; both stand
--- directly behind the agree
+-- a branch uses a value on which the group has agreed, and so does `shalloc`; both come directly
+-- after the agree
 abbrev pub may_stand : (agreed : Bool) → Operation → Bool
 may_stand agreed (o.Branch onward) = agreed
 may_stand agreed o.Block = agreed
 may_stand agreed operation = true
 
--- behind these the members of a group are no longer in lockstep: a body that they run by
--- themselves, and the end of a part
+-- operations after which the members of a group are no longer in lockstep: those that begin a body
+-- which the members run by themselves, and the end of a part
 abbrev pub leaves_step : Operation → Bool
 leaves_step o.Farm = true
 leaves_step o.Seq = true
@@ -31,7 +31,7 @@ abbrev pub Unless : Bool → Type 0 → Type 0
 Unless true claim = Unit {0}
 Unless false claim = claim
 
--- a function may be called where the group stays in lockstep in it
+-- `may_call`: a function may be called if the group stays in lockstep in it
 module _ {A : Type 0} (may_call : (function : ℕ) → Bool) where
   -- code of a text. The bodies of `farm` and `seq` are left out, and no loop is under way in it
   abbrev pub InStep : (agreed : Bool) → Code A → Type 0
@@ -52,7 +52,7 @@ module _ {A : Type 0} (may_call : (function : ℕ) → Bool) where
       (may_stand agreed op ≡ true) × (may_call f ≡ true) × InStep false opening × InStep false rest
   InStep agreed (ends t op rest) = (may_stand agreed op ≡ true) × InStep false rest
 
-  -- what is left in a run, up to where the members leave lockstep
+  -- what is left in a run, up to the point where the members leave lockstep
   abbrev pub Runs : (agreed : Bool) → Code A → Type 0
   Runs agreed done = Unit {0}
   Runs agreed (perform t op rest) = (may_stand agreed op ≡ true)
@@ -74,7 +74,7 @@ module _ {A : Type 0} (may_call : (function : ℕ) → Bool) where
       (may_stand agreed op ≡ true) × (may_call f ≡ true) × InStep false opening × Runs false rest
   Runs agreed (ends t op rest) = may_stand agreed op ≡ true
 
-  -- and what is left behind each loop that is under way in it
+  -- what is left after each loop that is under way in it
   abbrev pub Loops : Code A → Type 0
   Loops done = Unit {0}
   Loops (perform t op rest) = Loops rest
@@ -92,7 +92,7 @@ module _ {A : Type 0} (may_call : (function : ℕ) → Bool) where
   Loops (ends t op rest) = Loops rest
 
 module _ (may_call : (function : ℕ) → Bool) where
-  -- what a processor has left, of the running function and of those that wait for a call
+  -- the work of a processor: that of the running function and of those that wait for a call
   pub record CodeInStep (agreed : Bool) (code : Code ℕ) : Type 0 where
     pub runs : Runs may_call agreed code
     pub loops : Loops may_call code
@@ -105,14 +105,14 @@ module _ (may_call : (function : ℕ) → Bool) where
     pub left : CodeInStep agreed work.left
     pub callers : AllInStep work.callers
 
-  -- the next operation may stand where it stands, and behind it the work is in step again,
-  -- whichever way it goes
+  -- the next operation may be where it is, and the work after it is in step again, whichever branch
+  -- is taken
   pub record StepInStep (agreed : Bool) (step : Step Work) : Type 0 where
     pub stands : may_stand agreed step.operation ≡ true
     pub goes_on : leaves_step step.operation ≡ false → (onward : Bool)
         → WorkInStep (is_agree step.operation) (step.rest onward)
 
--- what is in step stays in step, where the functions that may be called are
+-- work in step stays in step, if the functions that may be called are in step
 abbrev pub StaysInStep : Type 0
 StaysInStep =
     (may_call : (function : ℕ) → Bool) (bodies : (binding : ℕ) → Code ℕ)

@@ -1,4 +1,4 @@
--- A group whose members do nothing that changes the tree.
+-- A group whose members don't change the tree.
 use Rattle.std.specs.Prelude.{◌≡◌, ◌≢◌, ℕ, ◌<◌, Bool, true, false, Some, None, slice_get}
 use Rattle.fk_meaning_operation.specs.declared.operation.Operation.TheVariants as o
 use Rattle.fk_tree.specs.Tree as t
@@ -13,15 +13,15 @@ use Rattle.fk_lockstep.specs.Untouched.{changes_tree, StepsAt, tree_after}
 
 module _ (bodies : (binding : ℕ) → Code ℕ) (setting : Setting) (round : Round)
     (s : State Work) where
-  -- a processor is a member of no node at which the tree is changed, and there is no `start`
+  -- a processor isn't a member of a node at which the tree is changed, and there is no `start`
   abbrev pub IsApart : (h : ℕ) → Type 0
   IsApart h =
       (n : ℕ) (at : StepsAt (next bodies) setting round s n)
       → (at.step.operation ≢ o.Begin) × (n < s.tree.given)
       × (is_member h (t.members s.tree n) ≡ false)
 
-  -- two processors at one node act in a round without a fault with one count, and change
-  -- nothing in the tree
+  -- two processors at one node act in a round without a fault with the same count, and don't change
+  -- the tree
   pub record ActQuietly (g h : ℕ) (r q : Runner Work) : Type 0 where
     pub no_fault : (result (next bodies) setting round s).fault ≡ None
     pub first : slice_get s.runners g ≡ Some r
@@ -35,7 +35,7 @@ module _ (bodies : (binding : ℕ) → Code ℕ) (setting : Setting) (round : Ro
     pub first_apart : IsApart r.has.number
     pub second_apart : IsApart q.has.number
 
-  -- afterwards they are together, and at the same node
+  -- after the round they are together, and at the same node
   pub record StayTogether (may_call : (function : ℕ) → Bool) (g h : ℕ)
       (r q : Runner Work) : Type 0 where
     pub first : Runner Work

@@ -1,6 +1,6 @@
--- What is noted of a statement that a group runs in lockstep: each token that decides what is run
--- next is noted as standing in a synchronous region, and no name means a function that may not be
--- called there. The bodies of `farm` and `seq` are left out.
+-- What must be noted about a statement that a group runs in lockstep. Each token that decides what
+-- is run next is noted as being in a synchronous region, and no name denotes a function that may
+-- not be called there. The bodies of `farm` and `seq` are left out.
 use Rattle.std.specs.Prelude.{◌≡◌, ℕ, Bool, true, false, List, [], ◌∷◌, Option, Some, None}
 use Rattle.fk_syntax.specs.Tree.{Named, Tree}
 use Rattle.fk_syntax.specs.Program as p
@@ -71,8 +71,8 @@ module _ (tables : Tables) (may_call : (function : ℕ) → Bool) where
   FunctionsNoted (f ∷ fs) = (may_call (binding_of tables f) ≡ true → BodyNoted f.body)
       × FunctionsNoted fs
 
--- a statement that is so noted comes to code that a group runs in step, before code that it does,
--- and so do the functions that may be called
+-- the code of such a statement is code that a group runs in step, if the code after it is; and so
+-- is the code of the functions that may be called
 pub record FormsAreInStep : Type 0 where
   pub statement : (tables : Tables) (functions : (binding : ℕ) → Signature)
       (may_call : (function : ℕ) → Bool)

@@ -13,14 +13,14 @@ use Rattle.fk_meaning.specs.Schedule.{Schedule, opening, run, IsLawful}
 use Rattle.fk_lockstep.specs.Course.{ByItself, Follows}
 use Rattle.fk_lockstep.specs.Counts.{Counts, ArePending, IsCounted}
 
--- `@` and the size of a processor's group, and of each group round it
+-- `@` and the size of a processor's group, and of each group around it
 abbrev pub groups_of : Processor → List (ℕ × ℕ)
 groups_of p = map (λ l. (l.number, l.size)) (p.level ∷ p.outer)
 
 module _ {W : Type 0} (next : W → Option (Step W)) where
-  -- two members of a group in lockstep have the same left to do, and at a branch the same last
-  -- value. So have they `@` and the sizes of their groups, and `groupsize()` is how many
-  -- members there are
+  -- two members of a group in lockstep have the same work left, and before a branch the same last
+  -- value. They have the same `@` and sizes of their groups, and `groupsize()` is the number of
+  -- members
   pub record AreTogether (s : State W) (n : ℕ) (r q : Runner W) : Type 0 where
     pub left : r.left ≡ q.left
     pub branch : (step : Step W) (onward : Bool) → next r.left ≡ Some step
@@ -36,7 +36,7 @@ module _ {W : Type 0} (next : W → Option (Step W)) where
       → slice_get s.runners g ≡ Some r → slice_get s.runners h ≡ Some q
       → AreTogether s n r q
 
-  -- so have two who wait at one node
+  -- two processors that wait at one node have the same work left and the same groups
   abbrev pub WaitersHaveOneProgram : State W → Type 0
   WaitersHaveOneProgram s =
       (g h first parts : ℕ) (r q : Runner W) → s.tree.places g ≡ s.tree.places h
@@ -44,7 +44,7 @@ module _ {W : Type 0} (next : W → Option (Step W)) where
       → slice_get s.runners g ≡ Some r → slice_get s.runners h ≡ Some q
       → (r.left ≡ q.left) × (groups_of r.has ≡ groups_of q.has)
 
-  -- and two who are about to begin the group of a `start`
+  -- two processors that are about to begin the group of a `start` have the same work left
   abbrev pub BeginnersHaveOneProgram : State W → Type 0
   BeginnersHaveOneProgram s =
       (g h : ℕ) (r q : Runner W) (a b : Step W) → slice_get s.runners g ≡ Some r
@@ -52,14 +52,14 @@ module _ {W : Type 0} (next : W → Option (Step W)) where
       → next r.left ≡ Some a → next q.left ≡ Some b → a.operation ≡ o.Begin → b.operation ≡ o.Begin
       → r.left ≡ q.left
 
-  -- and each processor is at exactly one node
+  -- all of these hold, and each processor is at exactly one node
   pub record KeepOneProgram (processors : ℕ) (s : State W) : Type 0 where
     pub members : HaveOneProgram s
     pub waiters : WaitersHaveOneProgram s
     pub beginners : BeginnersHaveOneProgram s
     pub tree : IsSound processors s.tree
 
--- after a lawful schedule without a stopped last round, which has a fault
+-- the invariant holds after a lawful schedule whose last round isn't stopped by a fault
 abbrev pub GroupsHaveOneProgram : (W : Type 0) → Type 0
 GroupsHaveOneProgram W =
     (next : W → Option (Step W)) (outs : W → List W) (program : W)

@@ -14,16 +14,16 @@ use Rattle.fk_lockstep.specs.Course.{ByItself, Follows}
 use Rattle.fk_lockstep.specs.Counts.{Counts, ArePending, IsCounted}
 use Rattle.fk_lockstep.specs.Frames.{IsFramed}
 
--- levels of the own group, and of each group round it, that differ in `$` alone
+-- the levels of the own group, and of each group around it, differ in `$` alone
 abbrev pub HaveSameLevels : Processor → Processor → Type 0
 HaveSameLevels p q = SameLevel p.level q.level × SameLevels p.outer q.outer
 
--- the space of the own group, and that of each group round it
+-- the space of the own group, and that of each group around it
 abbrev pub spaces_of : Processor → List Space
 spaces_of p = map (λ l. l.space) (p.level ∷ p.outer)
 
 module _ {W : Type 0} where
-  -- two members of a group in lockstep have them
+  -- two members of a group in lockstep have the same levels
   abbrev pub MembersHaveOneSpace : State W → Type 0
   MembersHaveOneSpace s =
       (n g h : ℕ) (r q : Runner W) → t.kind s.tree n ≡ Some Lockstep
@@ -31,7 +31,7 @@ module _ {W : Type 0} where
       → slice_get s.runners g ≡ Some r → slice_get s.runners h ≡ Some q
       → HaveSameLevels r.has q.has
 
-  -- so have two who wait at one node
+  -- two processors that wait at one node have the same levels
   abbrev pub WaitersHaveOneSpace : State W → Type 0
   WaitersHaveOneSpace s =
       (g h first parts : ℕ) (r q : Runner W) → s.tree.places g ≡ s.tree.places h
@@ -39,7 +39,7 @@ module _ {W : Type 0} where
       → slice_get s.runners g ≡ Some r → slice_get s.runners h ≡ Some q
       → HaveSameLevels r.has q.has
 
-  -- and all who are at one node, by themselves too, have the same spaces
+  -- all processors at one node, also those by themselves, have the same spaces
   abbrev pub NodesHaveOneSpace : State W → Type 0
   NodesHaveOneSpace s =
       (g h : ℕ) (r q : Runner W) → s.tree.places g ≡ s.tree.places h
@@ -51,8 +51,9 @@ module _ {W : Type 0} where
     pub waiters : WaitersHaveOneSpace s
     pub nodes : NodesHaveOneSpace s
 
--- after a lawful schedule without a stopped last round, which has a fault. In the beginning no call
--- waits, no group is round that of all processors, and each of them runs by itself
+-- the invariant holds after a lawful schedule whose last round isn't stopped by a fault. In the
+-- beginning no call waits, no group is around that of all processors, and each processor runs by
+-- itself
 abbrev pub GroupsHaveOneSpace : (W : Type 0) → Type 0
 GroupsHaveOneSpace W =
     (next : W → Option (Step W)) (outs : W → List W) (program : W)

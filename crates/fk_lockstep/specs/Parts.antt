@@ -11,14 +11,14 @@ use Rattle.fk_meaning.specs.Behind.{outs, GoesOnFrom}
 use Rattle.fk_meaning.specs.Shape.{of_function, Shape}
 use Rattle.fk_lockstep.specs.Together.{stepping, group_of}
 
--- what a run of a program may come to
+-- work to which a run of a program can lead
 pub record IsReached (bodies : (binding : ℕ) → Code ℕ) (main : ℕ) (work : Work) : Type 0 where
   pub ways : List Bool
   pub is : work ≡ after_ways (next bodies) ways (going (bodies main) [])
 
 module _ (bodies : (binding : ℕ) → Code ℕ) (main : ℕ) (setting : Setting) (round : Round)
     (s : State Work) where
-  -- what a processor is after the step of the tree that it takes, if any
+  -- the state of a processor after its step of the tree, if it takes one
   abbrev pub stepped_by : Option (Step Work) → Runner Work → Runner Work
   stepped_by None r = r
   stepped_by (Some step) r =
@@ -32,9 +32,9 @@ module _ (bodies : (binding : ℕ) → Code ℕ) (main : ℕ) (setting : Setting
             does step.operation highest (length (t.members tree (tree.places r.has.number))) r.has;
       }
 
-  -- in a round without a fault its local operations and its request leave the parts and bodies that
-  -- it is in, and the levels round its own, as they are. Then it goes on by at most one step of the
-  -- tree, as parts and bodies are nested
+  -- in a round without a fault the local operations and the request of a processor don't change its
+  -- parts and bodies, or the levels around its own. Then it takes at most one step of the tree,
+  -- which follows the nesting of parts and bodies
   pub record GoesThrough (h : ℕ) (r : Runner Work) : Type 0 where
     pub acting : Acting Work
     pub stands : slice_get (stepping (next bodies) setting round s) h ≡ Some acting

@@ -1,4 +1,4 @@
--- Members of a group that have the same left to do, and what a round makes of them.
+-- Members of a group that have the same work left, before and after a round.
 use Rattle.std.specs.Prelude.{◌≡◌, ℕ, Bool, true, false, List, [], ◌∷◌, Option, Some, None}
 use Rattle.std.specs.Prelude.{slice_get}
 use Rattle.fk_meaning_operation.specs.declared.operation.Operation.{Operation}
@@ -23,20 +23,21 @@ SameLevels [] [] = Unit {0}
 SameLevels (l ∷ ls) (m ∷ ms) = SameLevel l m × SameLevels ls ms
 SameLevels ls ms = ⊥
 
--- as many calls, whose functions took the same group frames
+-- equally many calls, whose functions took the same group frames
 abbrev pub SameFrames : List Call → List Call → Type 0
 SameFrames [] [] = Unit {0}
 SameFrames (c ∷ cs) (d ∷ ds) = (c.frames 0 ≡ d.frames 0) × SameFrames cs ds
 SameFrames cs ds = ⊥
 
--- what two members of a group have of their groups, and of the groups round these
+-- two members of a group have the same group, the same groups around it, and the same frames
 pub record SamePlace (p q : Processor) : Type 0 where
   pub level : SameLevel p.level q.level
   pub outer : SameLevels p.outer q.outer
   pub frame : p.call.frames 0 ≡ q.call.frames 0
   pub callers : SameFrames p.callers q.callers
 
--- two members go one way at a step of the tree: at a split into one of as many parts, or both wait
+-- two members take the same branch at a step of the tree; at a split they enter the same part of
+-- equally many, or both wait
 abbrev pub OneWay : Operation → (highest lowest : ℕ) → Processor → Processor → Type 0
 OneWay (o.Split by) highest lowest p q =
     (part by (values p) ≡ part by (values q)) × (parts by (values p) ≡ parts by (values q))
@@ -45,17 +46,17 @@ OneWay operation highest lowest p q =
 
 module _ (may_call : (function : ℕ) → Bool) where
   -- two processors have the same code left, which is in step, and levels that differ in `$` alone;
-  -- and directly behind an agree the same last value
+  -- directly after an agree they have the same last value
   pub record Together (agreed : Bool) (r q : Runner Work) : Type 0 where
     pub left : r.left ≡ q.left
     pub place : SamePlace r.has q.has
     pub in_step : WorkInStep may_call agreed r.left
     pub value : agreed ≡ true → last (values r.has) ≡ last (values q.has)
 
--- of any form of what is left to do
+-- for any form of what is left to do
 module _ {W : Type 0} (next : W → Option (Step W)) (setting : Setting) (round : Round)
     (s : State W) where
-  -- those who stand before the steps of the tree, and the members of the group that a processor is
+  -- the processors before the steps of the tree, and the members of the group that a processor is
   -- in before the round
   abbrev pub stepping : List (Acting W)
   stepping = (all_requests 0 (asking next setting round s.runners) s.store).acting
@@ -66,8 +67,8 @@ module _ {W : Type 0} (next : W → Option (Step W)) (setting : Setting) (round 
   abbrev pub DoesStep : (h : ℕ) → Acting W → Step W → Type 0
   DoesStep h a step = (slice_get stepping h ≡ Some a) × (a.due ≡ Some step)
 
-  -- two processors at one node act in a round without a fault with one count, and at a step of the
-  -- tree go one way, to one node
+  -- two processors at one node act in a round without a fault with the same count, and take the
+  -- same branch at a step of the tree
   pub record ActTogether (g h : ℕ) (r q : Runner W) : Type 0 where
     pub no_fault : (result next setting round s).fault ≡ None
     pub first : slice_get s.runners g ≡ Some r
@@ -83,9 +84,9 @@ module _ {W : Type 0} (next : W → Option (Step W)) (setting : Setting) (round 
         (result next setting round s).tree.places r.has.number
         ≡ (result next setting round s).tree.places q.has.number
 
--- after a round of a program they have the same code left, and levels that differ in `$` alone;
--- and they are together again, but where they have come to the end of a part or to a body that
--- they run by themselves
+-- after a round of a program two processors have the same code left, and levels that differ in `$`
+-- alone. They are together again, unless they have come to the end of a part or to a body that they
+-- run by themselves
 pub record GoOn (may_call : (function : ℕ) → Bool) (bodies : (binding : ℕ) → Code ℕ)
     (setting : Setting) (round : Round) (s : State Work) (g h : ℕ) : Type 0 where
   pub first : Runner Work

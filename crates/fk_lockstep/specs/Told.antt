@@ -1,5 +1,5 @@
--- What is told of an expression: something of each token in it that decides what is run next, and
--- something of each name.
+-- A property of an expression: one predicate holds for each of its tokens that decide what is run
+-- next, and another one for each of its names.
 use Rattle.std.specs.Prelude.{◌≡◌, ℕ, Bool, true, false, List, [], ◌∷◌, Option, Some, None}
 use Rattle.fk_syntax.specs.declared.sign.Sign.{Sign}
 use Rattle.fk_syntax.specs.declared.sign.Sign.TheVariants as g

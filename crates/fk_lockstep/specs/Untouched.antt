@@ -1,4 +1,4 @@
--- What a round leaves of the tree of groups as it is.
+-- What a round doesn't change in the tree of groups.
 use Rattle.std.specs.Prelude.{◌≡◌, ◌≢◌, ℕ, ◌<◌, ◌≤◌, Bool, true, false, Option}
 use Rattle.fk_meaning_operation.specs.declared.operation.Operation.{Operation}
 use Rattle.fk_meaning_operation.specs.declared.operation.Operation.TheVariants as o
@@ -8,7 +8,7 @@ use Rattle.fk_meaning.specs.Processor.{Setting}
 use Rattle.fk_meaning.specs.Round.{Step, State, Round, Acting, result}
 use Rattle.fk_lockstep.specs.Together.{DoesStep}
 
--- a step that changes the tree
+-- an operation that changes the tree
 abbrev pub changes_tree : Operation → Bool
 changes_tree o.Begin = true
 changes_tree (o.Split by) = true
@@ -22,7 +22,7 @@ changes_tree op = false
 
 module _ {W : Type 0} (next : W → Option (Step W)) (setting : Setting) (round : Round)
     (s : State W) where
-  -- somebody does a step at a node that changes the tree
+  -- some processor does a step at a node that changes the tree
   pub record StepsAt (n : ℕ) : Type 0 where
     pub index : ℕ
     pub acting : Acting W
@@ -34,9 +34,10 @@ module _ {W : Type 0} (next : W → Option (Step W)) (setting : Setting) (round 
   abbrev pub tree_after : t.Tree
   tree_after = (result next setting round s).tree
 
-  -- numbers are given, and none is taken back; a node that was there gets no other members, and one
-  -- at which nobody steps is as it was, the root aside, at which a `start` makes its group; who is
-  -- a member of no node at which somebody steps stays where it is, unless there is a `start`
+  -- node numbers are given, and none is taken back. An existing node gets no new members. A node at
+  -- which no processor steps doesn't change, other than the root, at which a `start` makes its
+  -- group. A processor that isn't a member of a node at which one steps stays where it is, unless
+  -- there is a `start`
   pub record OthersStay : Type 0 where
     pub given : s.tree.given ≤ tree_after.given
     pub members : (n h : ℕ) → n < s.tree.given → is_member h (t.members tree_after n) ≡ true

@@ -1,7 +1,7 @@
-//! What is so of groups in lockstep, from round to round and over whole runs: their members have
-//! one remaining program, and levels that differ in `$` alone.
+//! The invariants of groups in lockstep, from round to round and over whole runs: their members
+//! have one remaining program, and levels that differ in `$` alone.
 //!
-//! The definitions stand in `specs/`, and what is proved of them in `laws`.
+//! The definitions are in `specs/`, and what is proved of them is in `laws`.
 #![tactic(auto)]
 
 pub mod laws;

@@ -1,24 +1,25 @@
--- Where the operations of code stand, in a program with one group at a time.
+-- Where operations occur in the code of a program with one group at a time.
 use Rattle.std.specs.Prelude.{◌≡◌, ℕ, Bool, true, false, Option, Some, None}
 use Rattle.fk_meaning_operation.specs.declared.operation.Operation.{Operation}
 use Rattle.fk_meaning_forms.specs.Code.{Code, done, perform, choose, while, until, turn, again}
 use Rattle.fk_meaning_forms.specs.Code.{quit, break, continue, call, ends}
 use Rattle.fk_lockstep_one_group.specs.Where.{Where, InGroup, goes}
 
--- what is called there is called by a group
+-- a function that is called at this place is called by a group
 abbrev pub is_in_group : Where → Bool
 is_in_group InGroup = true
 is_in_group place = false
 
--- an operation leads from one place to another, whichever way is gone
+-- an operation leads from one place to another, whichever branch is taken
 abbrev pub Comes : Where → Operation → (to : Where) → Type 0
 Comes place op to = (onward : Bool) → goes place op onward ≡ Some to
 
--- which functions may be called by a group, and which by processors by themselves
+-- `may_call` tells which functions a group may call, and which ones processors by themselves may
+-- call
 module _ {A : Type 0} (may_call : (in_group : Bool) → (function : ℕ) → Bool) where
-  -- Code leads from a place to its end, and there to another place. A `return` stands where the
-  -- function began, and what leads out of the innermost loop or to its next turn where that loop
-  -- did; a loop leads to where it began
+  -- code leads from a place to its end, and there to another place. A `return` is at the place
+  -- where the function began. What leaves the innermost loop, or goes to its next turn, is at the
+  -- place where the loop began. A loop leads to the place where it began
   abbrev pub Leads : (function : Where) → (loop : Option Where) → (place : Where) → Code A
       → (end : Where) → Type 0
   Leads f l p done e = p ≡ e

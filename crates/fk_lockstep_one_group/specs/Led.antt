@@ -7,8 +7,8 @@ use Rattle.fk_core_flat.specs.Laws.{AreShaped}
 use Rattle.fk_lockstep_one_group.specs.Where.{InRoot, InGroup, InBody, Goes}
 use Rattle.fk_lockstep_one_group.specs.Leads.{Leads}
 
--- the functions of a program, and its `main`. One with a body that may be called leads from
--- wherever it is called back there. It ends before it comes to the end of its code
+-- the functions of a program, and its `main`. A function with a body that may be called leads back
+-- to the place where it is called. It ends before it comes to the end of its code
 pub record AreLed (may_call : (in_group : Bool) → (function : ℕ) → Bool)
     (bodies : (binding : ℕ) → Code ℕ) (main : ℕ) : Type 0 where
   pub shaped : AreShaped bodies

@@ -1,5 +1,4 @@
--- The runs of a list in which the code of a program stands, where the program has one
--- group at a time.
+-- The runs of a list that has the code of a program with one group at a time.
 use Rattle.std.specs.Prelude.{◌≡◌, ℕ, false, List, [], length, slice_get, Some, None}
 use Rattle.fk_meaning_operation.specs.declared.operation.Operation.{Operation}
 use Rattle.fk_meaning_forms.specs.Code.{Code}

@@ -13,7 +13,7 @@ use Rattle.fk_meaning.specs.Schedule.{first_level, opening}
 use Rattle.fk_lockstep_one_group.specs.Where.{Where, InRoot, Waits, InGroup, InBody, BehindBody}
 use Rattle.fk_lockstep_one_group.specs.Where.{Goes}
 
--- where the members of a node stand who are at it. The root is node 0; some may run its body
+-- the place of the members at a node; `runs` tells whether they run its body. The root is node 0
 abbrev pub where_in : (g : ℕ) → Option Kind → (runs : Bool) → Option Where
 where_in zero (Some (Asynchronous alone)) runs = Some InRoot
 where_in zero (Some (Waiting first parts)) runs = Some Waits
@@ -26,12 +26,12 @@ abbrev pub where_at : Tree → (h : ℕ) → Option Where
 where_at tree h = let g = tree.places h in
     where_in g (t.kind tree g) (is_member h (body_of (t.kind tree g) (t.members tree g)))
 
--- the root alone
+-- the tree has only the root
 pub record HasNoGroup (tree : Tree) : Type 0 where
   pub root : t.kind tree 0 ≡ Some (Asynchronous false)
   pub none : (n : ℕ) → n ≢ 0 → tree.nodes n ≡ None
 
--- the root waits for one group, with this number, which is in lockstep or has a body, or has ended
+-- the root waits for one group, with this number, which is in lockstep, has a body, or has ended
 pub record HasGroup (tree : Tree) (group : ℕ) : Type 0 where
   pub root : t.kind tree 0 ≡ Some (Waiting group 1)
   pub others : (n : ℕ) → n ≢ 0 → n ≢ group → tree.nodes n ≡ None
@@ -40,8 +40,7 @@ pub record HasGroup (tree : Tree) (group : ℕ) : Type 0 where
 abbrev pub IsOfOneGroup : Tree → Type 0
 IsOfOneGroup tree = HasNoGroup tree ⊎ ((group : ℕ) × HasGroup tree group)
 
--- the level in the root is that of the beginning, and the group of `start` has all
--- of the group space
+-- the level in the root is the first one, and the group of a `start` has the whole group space
 abbrev pub HasLevels : Setting → Where → Processor → Type 0
 HasLevels set InRoot p = (p.outer ≡ []) × (p.level ≡ first_level set p.number)
 HasLevels set Waits p = (p.outer ≡ []) × (p.level ≡ first_level set p.number)
@@ -49,8 +48,7 @@ HasLevels set place p = (p.outer ≡ first_level set p.number ∷ [])
     × (p.level.space ≡ group_space set)
 
 module _ {W : Type 0} (next : W → Option (Step W)) where
-  -- a processor stands somewhere as the tree tells, as what it has left tells, and
-  -- as its levels tell
+  -- a processor is at one place by the tree, by the work that it has left, and by its levels
   pub record IsPlaced (set : Setting) (tree : Tree) (h : ℕ) (r : Runner W) : Type 0 where
     pub number_is : r.has.number ≡ h
     pub place : Where
@@ -58,7 +56,7 @@ module _ {W : Type 0} (next : W → Option (Step W)) where
     pub goes : Goes next place r.left
     pub levels : HasLevels set place r.has
 
-  -- so do all
+  -- every processor is at a place
   pub record HasOneGroup (set : Setting) (s : State W) : Type 0 where
     pub many : length s.runners ≡ set.processors
     pub tree : IsOfOneGroup s.tree
@@ -71,7 +69,7 @@ OpeningsHaveNoGroup W =
     → HasOneGroup next (setting_of processors globals input)
     (opening processors globals input firsts program)
 
--- who waits for the group of a `start` is about to go on behind it
+-- the next operation of a processor that waits for the group of a `start` is a resume
 abbrev pub WaitersResume : (W : Type 0) → Type 0
 WaitersResume W =
     (next : W → Option (Step W)) (set : Setting) (s : State W) (h first parts : ℕ) (r : Runner W)

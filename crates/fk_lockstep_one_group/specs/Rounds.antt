@@ -11,13 +11,13 @@ use Rattle.fk_lockstep.specs.OneProgram.{HaveOneProgram}
 use Rattle.fk_lockstep_one_group.specs.Placed.{HasOneGroup}
 use Rattle.fk_lockstep_one_group.specs.Steps.{AreKnown}
 
--- each processor does one operation at most, as in a cycle of a machine
+-- each processor does at most one operation, as in a cycle of a machine
 abbrev pub IsSingle : Round → Type 0
 IsSingle round = (h : ℕ) → slice_index round h ≤ 1
 
 module _ {W : Type 0} (next : W → Option (Step W)) (set : Setting) (round : Round)
     (s : State W) where
-  -- those who stand before the steps of the tree
+  -- the processors before the steps of the tree
   abbrev pub stepping : List (Acting W)
   stepping = (all_requests 0 (asking next set round s.runners) s.store).acting
 
@@ -39,11 +39,11 @@ RoundsKeepOneGroup W =
     (next : W → Option (Step W)) (set : Setting) (round : Round) (s : State W)
     → IsRound next set round s → HasOneGroup next set (result next set round s)
 
--- processors have this count in a round
+-- these processors have this count in a round
 abbrev pub HaveCount : Round → (members : List ℕ) → (count : ℕ) → Type 0
 HaveCount round members count = (h : ℕ) → is_member h members ≡ true → slice_index round h ≡ count
 
--- of a group that is in lockstep behind it, all were in the round, or none
+-- of a group that is in lockstep after the round, all members were in the round, or none
 abbrev pub RoundsTakeGroups : (W : Type 0) → Type 0
 RoundsTakeGroups W =
     (next : W → Option (Step W)) (set : Setting) (round : Round) (s : State W) (g : ℕ)

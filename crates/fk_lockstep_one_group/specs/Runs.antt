@@ -12,12 +12,12 @@ use Rattle.fk_lockstep_one_group.specs.Where.{InRoot, Goes}
 use Rattle.fk_lockstep_one_group.specs.Placed.{HasOneGroup}
 use Rattle.fk_lockstep_one_group.specs.Rounds.{IsSingle}
 
--- in each round each processor does one operation at most
+-- in each round each processor does at most one operation
 abbrev pub AreSingle : Schedule → Type 0
 AreSingle [] = Unit {0}
 AreSingle (round ∷ schedule) = IsSingle round × AreSingle schedule
 
--- two who are about to begin the group of a `start` are at one place
+-- two processors that are about to begin the group of a `start` are at one place
 abbrev pub BeginAtOne : {W X : Type 0} → (W → Option (Step W)) → (place : W → X) → State W → Type 0
 BeginAtOne {W} next place s =
     (g h : ℕ) (r q : Runner W) (a b : Step W) → slice_get s.runners g ≡ Some r
@@ -25,9 +25,9 @@ BeginAtOne {W} next place s =
     → next r.left ≡ Some a → next q.left ≡ Some b → a.operation ≡ Begin → b.operation ≡ Begin
     → place r.left ≡ place q.left
 
--- in every run of such rounds, whose last is not stopped, each processor is at one node, the
--- members of each group have one program, there is one group at most, and those who begin one
--- are at one place
+-- in every run of such rounds whose last one isn't stopped, each processor is at one node, the
+-- members of each group have one program, there is at most one group, and processors that begin a
+-- group are at one place
 abbrev pub AlwaysOneGroup : {W X : Type 0} → (W → Option (Step W)) → (place : W → X)
     → (program : W) → Type 0
 AlwaysOneGroup next place program =
@@ -39,9 +39,9 @@ AlwaysOneGroup next place program =
     → let s = run next set schedule first in IsSound processors s.tree × HaveOneProgram next s
     × HasOneGroup next set s × BeginAtOne next place s
 
--- after a lawful schedule of such rounds, whose last is not stopped, the members of each group
--- have one program, and there is one group at most, where each processor stands as its
--- operations have led it
+-- after a lawful schedule of such rounds whose last one isn't stopped, the members of each group
+-- have one program, there is at most one group, and each processor is where its operations have led
+-- it
 abbrev pub RunsHaveOneGroup : (W : Type 0) → Type 0
 RunsHaveOneGroup W =
     (next : W → Option (Step W)) (outs : W → List W) (program : W) (processors : ℕ)

@@ -1,4 +1,5 @@
--- How a processor goes through a program with one group at a time, as its operations alone tell it.
+-- How a processor goes through a program with one group at a time, as determined by its operations
+-- alone.
 use Rattle.std.specs.Prelude.{◌≡◌, ℕ, zero, suc, Bool, true, false, Option, Some, None}
 use Rattle.std.specs.Prelude.{if◌then◌else◌}
 use Rattle.fk_meaning_operation.specs.Kinds.{class_of}
@@ -8,9 +9,9 @@ use Rattle.fk_meaning_operation.specs.declared.operation.Operation.{Operation}
 use Rattle.fk_meaning_operation.specs.declared.operation.Operation.TheVariants as o
 use Rattle.fk_meaning.specs.Round.{Step}
 
--- where it stands: by itself in the root; there, until the group of a `start` has ended; in that
--- group, in lockstep; in a body of the group, by itself; at the end of a body, where those wait
--- who don't enter it
+-- where a processor is: by itself in the root; in the root until the group of a `start` has ended;
+-- in that group, in lockstep; in a body of the group, by itself; or at the end of a body, where the
+-- members wait that don't enter it
 pub data Where : Type 0 where
   InRoot : Where
   Waits : Where
@@ -18,14 +19,14 @@ pub data Where : Type 0 where
   InBody : Where
   BehindBody : Where
 
--- local operations and requests leave it there
+-- local operations and requests don't move a processor
 abbrev pub stays : Class → Where → Option Where
 stays class.Local place = Some place
 stays class.Request place = Some place
 stays class.Tree place = None
 
--- where it stands behind an operation; none if that may not stand there. Splits, and frames and
--- blocks of groups, may nowhere
+-- where a processor is after an operation; `None` if the operation may not occur there. Splits,
+-- group frames and blocks may occur nowhere
 abbrev pub goes : Where → Operation → (onward : Bool) → Option Where
 goes place (o.Leave gives true) onward = None
 goes InRoot o.Begin onward = Some (if onward then InGroup else Waits)
@@ -46,14 +47,14 @@ goes BehindBody (o.Meet true) onward = Some InGroup
 goes BehindBody operation onward = None
 
 module _ {W : Type 0} (next : W → Option (Step W)) where
-  -- nothing is left in the root alone
+  -- only in the root a processor may have nothing left
   abbrev pub GoesNext : (Goes : Where → W → Type 0) → Where → Option (Step W) → Type 0
   GoesNext Goes place None = place ≡ InRoot
   GoesNext Goes place (Some step) =
       (onward : Bool)
       → (to : Where) × (goes place step.operation onward ≡ Some to) × Goes to (step.rest onward)
 
-  -- so many operations on, whichever ways they go
+  -- for this many operations, whichever branches are taken
   abbrev pub GoesFor : (operations : ℕ) → Where → W → Type 0
   GoesFor zero place here = Unit {0}
   GoesFor (suc n) place here = GoesNext (GoesFor n) place (next here)

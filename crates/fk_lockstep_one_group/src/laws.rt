@@ -1,6 +1,4 @@
-//! The laws of programs with one group at a time.
-//! Laws of code with one group at a time.
-//! Laws of flat lists with one group at a time.
+//! The laws of programs with one group at a time, of their code and of their flat lists.
 
 ghost use Rattle.fk_lockstep_one_group.specs.Placed.{OpeningsHaveNoGroup, WaitersResume};
 ghost use Rattle.fk_lockstep_one_group.specs.Rounds.{RoundsAreKnown, RoundsKeepOneGroup};
@@ -14,44 +12,46 @@ pub fn openings_have_no_group<W>()
     ensures { OpeningsHaveNoGroup W }
 {}
 
-/// In a round of a program with one group at a time nobody changes the tree, or all who stand at
-/// one node do one step that does.
+/// In a round of a program with one group at a time either no processor changes the tree, or all
+/// processors at one node do the same step that changes it, and no others do.
 pub fn rounds_are_known<W>()
     ensures { RoundsAreKnown W }
 {}
 
-/// Behind it there is one group at most, and each processor stands where its
-/// operations have led it.
+/// After a round of a program with one group at a time there is at most one group, and each
+/// processor is where its operations have led it.
 pub fn rounds_keep_one_group<W>()
     ensures { RoundsKeepOneGroup W }
 {}
 
-/// All members of a group in lockstep behind it were in the round, or none.
+/// Of a group that is in lockstep after a round, either all members were in the round, or none.
 pub fn rounds_take_groups<W>()
     ensures { RoundsTakeGroups W }
 {}
 
-/// Who waits for the group of a `start` is about to go on behind it.
+/// In a state with at most one group, the next operation of a processor that waits for the group of
+/// a `start` is a resume.
 pub fn waiters_resume<W>()
     ensures { WaitersResume W }
 {}
 
-/// In every run in whose rounds each processor does one operation at most, there is one group at
-/// most, and its members have one program.
+/// A program with one group at a time has at most one group, whose members have one program, after
+/// every lawful schedule of rounds in which each processor does at most one operation, if its last
+/// round isn't stopped.
 pub fn runs_have_one_group<W>()
     ensures { RunsHaveOneGroup W }
 {}
 
-/// Where each operation of the functions of a program stands where it may, whichever ways are gone,
-/// each processor goes from place to place in it as its operations lead it.
+/// If each operation of the functions of a program is where it may be, whichever branches are
+/// taken, then each processor goes from place to place as its operations lead it.
 pub fn code_goes()
     ensures { CodeGoes }
 {}
 
-/// Where a program goes through its groups and bodies in their order, one group at a time, so does
-/// each list in which its code stands, if no two of its operations have one site: after every
-/// lawful schedule of rounds in which each processor does one operation at most, the members of a
-/// group in lockstep are at one index, and there is one group at most.
+/// If a program goes through its groups and bodies in their order, one group at a time, then so
+/// does each list that has its code and in which no two operations have one site. After every
+/// lawful schedule of rounds in which each processor does at most one operation, the members of a
+/// group in lockstep are at one index, and there is at most one group.
 pub fn lists_have_one_group()
     ensures { ListsHaveOneGroup }
 {}

@@ -1,5 +1,5 @@
--- What is left where those who are further out are met: behind parts, at the ends of bodies, and at
--- each `start` ahead.
+-- The remaining work at each point where a processor meets those of outer nodes: after parts, at
+-- the ends of bodies, and at each `start` ahead.
 use Rattle.std.specs.Prelude.{◌≡◌, ℕ, Bool, true, false, List, [], ◌∷◌, ◌++◌, map}
 use Rattle.fk_meaning_forms.specs.Code.{Code, done, perform, choose, while, until, turn, again}
 use Rattle.fk_meaning_forms.specs.Code.{quit, break, continue, call, ends}
@@ -10,7 +10,7 @@ use Rattle.fk_lockstep.specs.InStep.{InStep}
 use Rattle.fk_lockstep.specs.Course.{ByItself, Follows}
 use Rattle.fk_lockstep_structure.specs.Placed.{OfGroup, OfBody, OfMain, is_begin, Placed}
 
--- each `start` ahead in code, and what is left there
+-- each `start` ahead in code, with the code from it on
 abbrev pub starts_in : {A : Type 0} → Code A → List (Code A)
 starts_in done = []
 starts_in (perform t op rest) = starts_in rest
@@ -25,7 +25,7 @@ starts_in (continue rest) = starts_in rest
 starts_in (call t op f opening rest) = starts_in rest
 starts_in (ends t op rest) = starts_in rest
 
--- of the functions that run, `main` has been called first
+-- of the running functions, the outermost is `main`
 abbrev pub outermost : Code ℕ → List (Code ℕ) → Code ℕ
 outermost code [] = code
 outermost code (caller ∷ callers) = outermost caller callers
@@ -37,7 +37,7 @@ starts work = map (λ code. let at : Work = record { left = code; callers = [] }
 abbrev pub all_outs : Work → List Work
 all_outs work = outs work ++ starts work
 
--- the functions of a program, and its `main`
+-- the rules that the functions of a program and its `main` keep
 pub record AreCourses (may_call : (in_group : Bool) → (function : ℕ) → Bool)
     (bodies : (binding : ℕ) → Code ℕ) (main : ℕ) : Type 0 where
   pub nested : (function : ℕ) → Shape false false of_function (bodies function)

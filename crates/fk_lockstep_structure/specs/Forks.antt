@@ -1,5 +1,5 @@
--- What a `fork` computes behind its number of parts gives one value each, whichever
--- way is gone in it.
+-- The expressions of a `fork` after its number of parts give one value each, whichever branches are
+-- taken in them.
 use Rattle.std.specs.Prelude.{ℕ, List, [], ◌∷◌, Option, Some, None}
 use Rattle.fk_syntax.specs.Program as p
 use Rattle.fk_syntax.specs.Program.{Statement, Statements, FunctionTree}

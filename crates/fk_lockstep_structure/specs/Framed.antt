@@ -1,4 +1,4 @@
--- Where code enters and leaves calls, and where it takes words of its group's space.
+-- Where code may enter and leave calls, and where it may take words of its group's space.
 use Rattle.std.specs.Prelude.{◌≡◌, ℕ, Bool, true, false, [], length}
 use Rattle.fk_meaning_operation.specs.declared.operation.Operation.{Operation}
 use Rattle.fk_meaning_operation.specs.declared.operation.Operation.TheVariants as o
@@ -17,7 +17,7 @@ abbrev pub is_resume : Operation → Bool
 is_resume o.Resume = true
 is_resume op = false
 
--- behind parts there is a resume
+-- the code after parts begins with a resume
 abbrev pub resumes : {A : Type 0} → Code A → Bool
 resumes (perform t op rest) = is_resume op
 resumes code = false
@@ -26,22 +26,22 @@ abbrev pub is_body : Who → Bool
 is_body OfBody = true
 is_body who = false
 
--- who does what a choice leads to
+-- which processors run the branches of a choice
 abbrev pub inside : Who → Operation → Who
 inside who o.Begin = OfGroup
 inside who o.Farm = OfBody
 inside who o.Seq = OfBody
 inside who op = who
 
--- an operation that neither enters nor leaves a call. Groups alone take words of their space, and
--- none resumes in a body. What closes a body leads back to a group
+-- an operation that neither enters nor leaves a call. Only groups take words of their space, and no
+-- resume occurs in a body. What closes a body leads back to a group
 pub record Stays (who behind : Who) (op : Operation) : Type 0 where
   pub remains : calling op ≡ Remains
   pub in_group : takes_space op ≡ true → is_group who ≡ true
   pub resumes : is_resume op ≡ true → is_body who ≡ false
   pub closes : closes op ≡ true → is_group behind ≡ true
 
--- a `start` stands in `main`, and groups alone split, and have bodies
+-- a `start` occurs in `main`; only groups split and have bodies
 pub record Chooses (who : Who) (op : Operation) : Type 0 where
   pub starts : is_start op ≡ true → is_main who ≡ true
   pub divides : is_split op ≡ true → is_group who ≡ true
@@ -54,7 +54,7 @@ pub record Ends (who : Who) (op : Operation) : Type 0 where
   pub in_group : takes_space op ≡ true → is_group who ≡ true
 
 module _ {A : Type 0} (may_call : (in_group : Bool) → (function : ℕ) → Bool) where
-  -- at the opening of a call a function takes its frame, and nowhere else
+  -- a function takes its frame at the opening of a call, and nowhere else
   abbrev pub Opens : Who → Code A → Type 0
   Opens who done = Unit {0}
   Opens who (perform t op rest) = Stays who who op × Opens who rest
@@ -79,7 +79,7 @@ module _ {A : Type 0} (may_call : (in_group : Bool) → (function : ℕ) → Boo
       × Framed who rest
   Framed who (ends t op rest) = Ends who op × Framed who rest
 
--- the functions of a program, and its `main`
+-- the rules on frames that the functions of a program and its `main` keep
 pub record AreFramed (may_call : (in_group : Bool) → (function : ℕ) → Bool)
     (bodies : (binding : ℕ) → Code ℕ) (main : ℕ) : Type 0 where
   pub nested : (function : ℕ) → Shape false false of_function (bodies function)
@@ -89,11 +89,12 @@ pub record AreFramed (may_call : (in_group : Bool) → (function : ℕ) → Bool
       → Framed may_call OfBody (bodies function)
   pub main_of : Framed may_call (OfMain false) (bodies main)
 
--- how many calls wait
+-- the number of calls that wait
 abbrev pub depth : Work → ℕ
 depth work = length work.callers
 
--- such code enters and leaves calls, and takes words of a group's space, as is asked
+-- code that keeps these rules enters and leaves calls, and takes words of a group's space, only
+-- where it may
 abbrev pub CodeIsFramed : Type 0
 CodeIsFramed =
     (may_call : (in_group : Bool) → (function : ℕ) → Bool)

@@ -1,7 +1,7 @@
--- What is asked of the functions of a program, so that it goes through its groups, parts and bodies
--- in their order: where processors run by themselves nothing splits and no group begins, but by
--- `start` on the outermost level of `main`; what a `fork` computes behind its number of parts gives
--- one value each, and functions return values where they have results.
+-- The rules by which the functions of a program go through its groups, parts and bodies in their
+-- order. Where processors run by themselves, nothing splits, and no group begins except by `start`
+-- on the outermost level of `main`. The expressions of a `fork` after its number of parts give one
+-- value each. A function returns values if it has a result.
 use Rattle.std.specs.Prelude.{◌≡◌, ℕ, ◌≤◌, ◌==◌, Bool, true, false, List, [], ◌∷◌, Option, Some}
 use Rattle.std.specs.Prelude.{None}
 use Rattle.fk_syntax.specs.Tree.{Named, Tree}
@@ -25,15 +25,15 @@ use Rattle.fk_lockstep_structure.specs.Forks.{ForksAreValued}
 use Rattle.fk_lockstep_structure.specs.Returns.{FunctionsReturn}
 use Rattle.fk_lockstep_structure.specs.Ahead.{all_outs}
 
--- functions that processors by themselves call have no `sh` parameters
+-- functions that processors call by themselves have no `sh` parameters
 abbrev pub NoneShared : List DeclaredTree → Type 0
 NoneShared [] = Unit {0}
 NoneShared (x ∷ xs) = (x.shared ≡ false) × NoneShared xs
 
 module _ (tables : Tables) (may_call : (in_group : Bool) → (function : ℕ) → Bool) where
   module _ (in_group : Bool) where
-    -- a form splits or agrees in a group alone; no name means a function that may not be called
-    -- there, and `shalloc` is called in a group alone
+    -- only a group splits or agrees. No name denotes a function that may not be called there, and
+    -- only a group calls `shalloc`
     abbrev pub Splits : (at : ℕ) → Type 0
     Splits at = ((note tables at).splits ≡ true → in_group ≡ true)
         × ((note tables at).sync ≡ true → in_group ≡ true)
@@ -51,7 +51,8 @@ module _ (tables : Tables) (may_call : (in_group : Bool) → (function : ℕ) �
     abbrev pub VariablesInPlace : List DeclaredTree → Type 0
     VariablesInPlace variables = told.VariablesTold Splits Calls variables
 
-  -- statements of `main` or of another function. A `return` ends the code of the function itself
+  -- statements of `main` or of another function. A `return` may only end the code of the function
+  -- itself
   abbrev mutual
     pub StatementInPlace : (main : Bool) → Who → Statement → Type 0
     StatementInPlace main who p.Empty = Unit {0}
@@ -101,7 +102,7 @@ module _ (tables : Tables) (may_call : (in_group : Bool) → (function : ℕ) �
   BodyInPlace main who None = Unit {0}
   BodyInPlace main who (Some statements) = StatementsInPlace main who statements
 
-  -- functions that may be called, none of which is `main`; and `main`
+  -- the functions that may be called, none of which is `main`; and `main`
   abbrev pub FunctionsInPlace : (main : ℕ) → List FunctionTree → Type 0
   FunctionsInPlace main [] = Unit {0}
   FunctionsInPlace main (f ∷ fs) =
@@ -113,7 +114,7 @@ module _ (tables : Tables) (may_call : (in_group : Bool) → (function : ℕ) �
       → (is_main f ≡ true) × BodyInPlace true (OfMain true) f.body)
       × FunctionsInPlace main fs
 
--- facts of a text
+-- a text keeps all of these rules
 pub record IsInPlace (tables : Tables) (program : ProgramTree)
     (may_call : (in_group : Bool) → (function : ℕ) → Bool) : Type 0 where
   pub shaped : ProgramShaped tables program
@@ -124,14 +125,14 @@ pub record IsInPlace (tables : Tables) (program : ProgramTree)
       (functions_of program.items)
   pub returning : FunctionsReturn (functions_of program.items)
 
--- such programs are courses
+-- such programs lead each processor through their groups, parts and bodies in their order
 abbrev pub ProgramsFollow : Type 0
 ProgramsFollow =
     (tables : Tables) (program : ProgramTree) (may_call : (in_group : Bool) → (function : ℕ) → Bool)
     → IsInPlace tables program may_call
     → Follows (next_in tables program) all_outs (ByItself false) (main_work tables program)
 
--- and their groups have one remaining program
+-- the groups of such programs have one remaining program
 abbrev pub ProgramsHaveOneProgram : Type 0
 ProgramsHaveOneProgram =
     (tables : Tables) (program : ProgramTree) (may_call : (in_group : Bool) → (function : ℕ) → Bool)

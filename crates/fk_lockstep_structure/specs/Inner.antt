@@ -1,5 +1,5 @@
--- Of a text: the frames of its parts are no functions' own, and functions that processors by
--- themselves call have none.
+-- A text in which no frame of a part is a function's own, and functions that processors call by
+-- themselves have no frame.
 use Rattle.std.specs.Prelude.{◌≡◌, ℕ, ◌==◌, Bool, false, true, List, [], ◌∷◌, Option, Some, None}
 use Rattle.fk_syntax.specs.Program as p
 use Rattle.fk_syntax.specs.Program.{Statement, Statements, FunctionTree, ProgramTree}
@@ -48,7 +48,7 @@ module _ (tables : Tables) where
       BodyInner f.body × (may_call false (binding_of tables f) ≡ true
       → frame_at tables f.name.at 0 ≡ None) × FunctionsInner may_call fs
 
--- programs of such a text are framed
+-- programs of such a text keep the rules on frames
 abbrev pub ProgramsAreFramed : Type 0
 ProgramsAreFramed =
     (tables : Tables) (program : ProgramTree) (may_call : (in_group : Bool) → (function : ℕ) → Bool)

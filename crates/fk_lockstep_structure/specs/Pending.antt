@@ -1,7 +1,7 @@
--- The number of parts that a `fork` takes: it stands among the values of its call from the agree on
--- it up to the `fork`. What is done between them takes no value from below it, and leaves one value
--- more for each expression, whichever way is gone. What is called in between has values of its own,
--- and leaves a result or none behind the arguments that it takes.
+-- The number of parts that a `fork` takes. It is among the values of its call from the agree on it
+-- up to the `fork`. The code in between takes no value from below it, and leaves one value more for
+-- each expression, whichever branches are taken. A function called in between has values of its
+-- own, and replaces its arguments by its result or by nothing.
 use Rattle.std.specs.Prelude.{◌≡◌, ℕ, zero, suc, ◌==◌, Bool, true, false, not, ◌&&◌, ◌||◌, List, []}
 use Rattle.std.specs.Prelude.{◌∷◌, length, Option, Some, None, is_some, refl, if◌then◌else◌}
 use Rattle.std.proofs.Common.{ap}
@@ -27,14 +27,14 @@ abbrev pub is_enter : Operation → Bool
 is_enter (o.Enter arguments) = true
 is_enter op = false
 
--- a function that is called leaves with a result, or without one
+-- a called function leaves with a result, or without one
 abbrev pub leaves : (gives : Bool) → Operation → Bool
 leaves true (o.Leave true framed) = true
 leaves false (o.Leave false framed) = true
 leaves gives op = false
 
--- where so many values stand above the number behind an operation, so many stand above it before.
--- Other operations may not stand between
+-- the number of values above the pending number before an operation, if `above` are above it after
+-- the operation. Other operations may not occur in between
 abbrev pub above_before : Operation → (above : ℕ) → Option ℕ
 above_before (o.Push n) (suc m) = Some m
 above_before (o.Get known) (suc m) = Some m
@@ -62,8 +62,8 @@ abbrev pub before_it : Operation → Option ℕ → Option ℕ
 before_it op None = None
 before_it op (Some m) = above_before op m
 
--- and so before a choice, where so many do on one of its ways. Those who wait at `&&` and `||` have
--- the value of the whole
+-- the number of values above it before a choice, if `above` are above it at the beginning of one of
+-- its branches. Processors that wait at `&&` and `||` have the value of the whole
 abbrev pub above_choice : Operation → (onward : Bool) → (above : ℕ) → Option ℕ
 above_choice (o.Branch by) onward m = Some (suc m)
 above_choice (o.Split IfElse) onward m = Some (suc m)
@@ -77,12 +77,12 @@ abbrev pub before_way : Operation → (onward : Bool) → Option ℕ → Option 
 before_way op onward None = None
 before_way op onward (Some m) = above_choice op onward m
 
--- so many values more stand above it
+-- that many values more are above it
 abbrev pub more : (values above : ℕ) → ℕ
 more zero m = m
 more (suc n) m = more n (suc m)
 
--- and so before a call, whose arguments stand there in place of its result
+-- the number of values above it before a call, whose arguments are there in place of its result
 abbrev pub above_call : (gives : Bool) → Operation → (above : ℕ) → Option ℕ
 above_call true (o.Enter arguments) (suc m) = Some (more arguments m)
 above_call false (o.Enter arguments) m = Some (more arguments m)
@@ -92,10 +92,10 @@ abbrev pub before_call : (gives : Bool) → Operation → Option ℕ → Option 
 before_call gives op None = None
 before_call gives op (Some m) = above_call gives op m
 
--- which functions give a result
+-- `gives` tells which functions give a result
 module _ (gives : (function : ℕ) → Bool) where
-  -- how many values stand above the number that the next `fork` takes, where so many do
-  -- at the end of code
+  -- the number of values above the number that the next `fork` takes, if `after` are above it at
+  -- the end of the code
   abbrev pub above : {A : Type 0} → (after : Option ℕ) → Code A → Option ℕ
   above after done = after
   above after (perform t op rest) = before_it op (above after rest)
@@ -104,34 +104,34 @@ module _ (gives : (function : ℕ) → Bool) where
   above after (call t op f opening rest) = before_call (gives f) op (above after rest)
   above after code = None
 
--- code leads straight to a `fork`, in the part that it stands in
+-- code leads straight to a `fork`, in the part that it is in
 abbrev pub leads : {A : Type 0} → Code A → Bool
 leads (perform t op rest) = not (ends_part op) && leads rest
 leads (choose t op a b rest) = is_fork op || leads rest
 leads (call t op f opening rest) = leads rest
 leads code = false
 
--- an agree may stand before the number alone, where code leads to the `fork`, or leave the
--- number where it is
+-- an agree may occur directly on the number, if the code leads to the `fork`; or an operation
+-- leaves the number where it is
 abbrev pub MayStand : Operation → (above : Option ℕ) → (leads : Bool) → Type 0
 MayStand op None to_fork = Unit {0}
 MayStand o.Agree (Some zero) to_fork = to_fork ≡ true
 MayStand op (Some m) to_fork = is_some (above_before op m) ≡ true
 
--- nothing is pending on the ways of a choice, or as many values stand above the number before it,
--- whichever way is gone
+-- nothing is pending on the branches of a choice, or equally many values are above the number
+-- before it, whichever branch is taken
 abbrev pub MayChoose : Operation → (behind onward aside : Option ℕ) → Type 0
 MayChoose op None onward aside = (onward ≡ None) × (aside ≡ None)
 MayChoose op (Some m) onward aside = (is_some (before_way op true onward) ≡ true)
     × (before_way op false aside ≡ before_way op true onward)
 
--- nothing is pending behind a call, or it finds its arguments above the number
+-- nothing is pending after a call, or the call finds its arguments above the number
 abbrev pub MayCall : (gives : Bool) → Operation → (behind : Option ℕ) → Type 0
 MayCall gives op None = Unit {0}
 MayCall gives op (Some m) = is_some (above_call gives op m) ≡ true
 
--- what a function may be: `main`, or one that is called, which ends with a result or without one,
--- and in which no group begins
+-- the kinds of functions: `main`, or a called one, which ends with a result or without one, and in
+-- which no group begins
 abbrev pub MayEnd : (called : Option Bool) → Operation → Type 0
 MayEnd None op = Unit {0}
 MayEnd (Some gives) op = leaves gives op ≡ true
@@ -140,13 +140,13 @@ abbrev pub MayBegin : (called : Option Bool) → Operation → Type 0
 MayBegin None op = Unit {0}
 MayBegin (Some gives) op = is_begin op ≡ false
 
--- an operation that is no `fork`, and neither begins nor ends a call
+-- an operation that isn't a `fork`, and neither begins nor ends a call
 abbrev pub stands_alone : Operation → Bool
 stands_alone op = not (is_fork op) && not (is_of_call op)
 
 module _ {A : Type 0} (may_call gives : (function : ℕ) → Bool) where
-  -- code of a function in which a `fork` stands only so, in each part and behind it. No number of
-  -- its own is pending where a loop or the end of a function is
+  -- code of a function in which each `fork` keeps these rules, in each part and after it. No number
+  -- of its own is pending at a loop or at the end of a function
   abbrev pub Counted : (called : Option Bool) → (after : Option ℕ) → Code A → Type 0
   Counted called after done = Unit {0}
   Counted called after (perform t op rest) = (stands_alone op ≡ true)
@@ -189,15 +189,15 @@ module _ {A : Type 0} (may_call gives : (function : ℕ) → Bool) where
   abbrev pub Idle : (called : Option Bool) → Code A → Type 0
   Idle called code = (above gives None code ≡ None) × Counted called None code
 
-  -- so many values stand above the number where code begins. On the way to the `fork` itself
-  -- code leads to it
+  -- `m` values are above the number where the code begins. On the way to the `fork` itself the code
+  -- leads to it
   pub record At (called : Option Bool) (on_way : Bool) (after : Option ℕ) (m : ℕ)
       (code : Code A) : Type 0 where
     pub there : above gives after code ≡ Some m
     pub counted : Counted called after code
     pub leading : on_way ≡ true → leads code ≡ true
 
--- all ends in code leave with a result, or without one
+-- all ends in the code leave with a result, or all leave without one
 abbrev pub all_leave : (gives : Bool) → Code ℕ → Bool
 all_leave g done = true
 all_leave g (perform t op rest) = all_leave g rest
@@ -215,15 +215,15 @@ all_leave g (continue rest) = all_leave g rest
 all_leave g (call t op f opening rest) = all_leave g rest
 all_leave g (ends t op rest) = leaves g op && all_leave g rest
 
--- the number that is pending of a call is the first of those that are; the others are those
--- of calls that wait
+-- the pending number of a call is the first of the pending numbers; the others belong to calls that
+-- wait
 abbrev pub has_number : (above : Option ℕ) → (values : List ℕ) → (others : List ℕ → Bool)
     → (numbers : List ℕ) → Bool
 has_number None vs others ns = others ns
 has_number (Some m) vs others [] = false
 has_number (Some m) vs others (n ∷ ns) = (n == last (before m vs)) && others ns
 
--- a call that waits has no result among its values yet
+-- a call that waits doesn't have a result among its values yet
 abbrev pub waits_with : (gives : Bool) → (above : Option ℕ) → (values : List ℕ)
     → (others : List ℕ → Bool) → (numbers : List ℕ) → Bool
 waits_with true (Some zero) vs others ns = false
@@ -234,13 +234,13 @@ abbrev pub is_none : List ℕ → Bool
 is_none [] = true
 is_none (n ∷ ns) = false
 
--- what follows from either of two tests follows where one of them holds
+-- what follows from each of two tests follows if one of them holds
 abbrev pub of_either : {X : Type 0} (a b : Bool) → (a || b) ≡ true → (a ≡ true → X)
     → (b ≡ true → X) → X
 of_either true b h first second = first refl
 of_either false b h first second = second h
 
--- so many in all
+-- one more than `k` if there is a pending number, else `k`
 abbrev pub one_more : Option ℕ → ℕ → ℕ
 one_more None k = k
 one_more (Some m) k = suc k
@@ -262,7 +262,8 @@ as_many_waiting true (Some (suc m)) vs others ns k size h = as_many (Some m) vs 
 as_many_waiting false x vs others ns k size h = as_many x vs others ns k size h
 
 module _ (gives : (function : ℕ) → Bool) where
-  -- of the calls that wait for the running function, which leaves with a result or without one
+  -- the pending numbers of the calls that wait for the running function, which leaves with a result
+  -- or without one
   abbrev pub are_waiting : (running : Code ℕ) → List (Code ℕ) → List Call
       → (numbers : List ℕ) → Bool
   are_waiting running [] calls ns = is_none ns
@@ -307,7 +308,7 @@ module _ (gives : (function : ℕ) → Bool) where
         (all_waiting work.left work.callers p.callers) h;
   }
 
--- such code keeps it up to the `fork`, where its parts are nested
+-- code that keeps these rules keeps the number up to the `fork`, if its parts are nested
 abbrev pub CodeIsCounted : Type 0
 CodeIsCounted =
     (may_call gives : (function : ℕ) → Bool) (bodies : (binding : ℕ) → Code ℕ)

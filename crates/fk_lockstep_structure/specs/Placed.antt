@@ -1,4 +1,4 @@
--- Where in code the steps of the tree stand.
+-- Where in code the steps of the tree may occur.
 use Rattle.std.specs.Prelude.{◌≡◌, ℕ, Bool, true, false, not, if◌then◌else◌}
 use Rattle.fk_meaning_operation.specs.declared.operation.Operation.{Operation}
 use Rattle.fk_meaning_operation.specs.declared.operation.Operation.TheVariants as o
@@ -7,8 +7,8 @@ use Rattle.fk_meaning_forms.specs.Code.{quit, break, continue, call, ends}
 use Rattle.fk_meaning.specs.Shape.{splits}
 use Rattle.fk_lockstep.specs.InStep.{InStep}
 
--- code that a group runs; that processors run by themselves, in the body of a `farm` or `seq` or in
--- a function; and that of `main` round each `start`, on its outermost level or in an arm or a loop
+-- which processors run code: a group; processors by themselves, in the body of a `farm` or `seq` or
+-- in a function; or `main` outside of each `start`, on its outermost level or in an arm or a loop
 pub data Who : Type 0 where
   OfGroup : Who
   OfBody : Who
@@ -26,7 +26,7 @@ abbrev pub is_outermost : Who → Bool
 is_outermost (OfMain outermost) = outermost
 is_outermost who = false
 
--- in an arm or a loop, and in what is called
+-- which processors run an arm or a loop, and a called function
 abbrev pub inner : Who → Who
 inner (OfMain outermost) = OfMain false
 inner who = who
@@ -43,13 +43,13 @@ abbrev pub is_halt : Operation → Bool
 is_halt o.Halt = true
 is_halt op = false
 
--- directly behind parts stands a resume, and nowhere else
+-- a resume comes directly after parts, and nowhere else
 abbrev pub may_perform : (resuming : Bool) → Operation → Bool
 may_perform resuming o.Resume = resuming
 may_perform resuming o.Halt = false
 may_perform resuming op = not resuming
 
--- groups split, and have bodies. A group begins on the outermost level of `main` alone
+-- only groups split and have bodies. A group begins only on the outermost level of `main`
 abbrev pub may_choose : Who → Operation → Bool
 may_choose who (o.Branch onward) = true
 may_choose who (o.Split by) = is_group who
@@ -66,14 +66,14 @@ may_quit who op = true
 abbrev pub may_end : Who → Operation → Bool
 may_end who op = if is_halt op then is_main who else not (is_main who)
 
--- the ways of a choice
+-- which processors run the branches of a choice
 abbrev pub who_in : Who → Operation → Who
 who_in who o.Begin = OfGroup
 who_in who o.Farm = OfBody
 who_in who o.Seq = OfBody
 who_in who op = inner who
 
--- which functions may be called in groups, and which by processors by themselves
+-- `may_call` tells which functions may be called in groups, and which by processors by themselves
 module _ {A : Type 0} (may_call : (in_group : Bool) → (function : ℕ) → Bool) where
   abbrev pub Placed : Who → (resuming : Bool) → Code A → Type 0
   Placed who resuming done = resuming ≡ false

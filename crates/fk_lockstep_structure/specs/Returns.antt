@@ -1,4 +1,4 @@
--- Functions that return a value exactly where they have a result.
+-- Functions that return a value exactly if they have a result.
 use Rattle.std.specs.Prelude.{◌≡◌, Bool, false, not, List, [], ◌∷◌, Option, Some, None, is_some}
 use Rattle.fk_syntax.specs.Program as p
 use Rattle.fk_syntax.specs.Program.{Statement, Statements, FunctionTree}

@@ -1,5 +1,5 @@
--- Expressions that give one value, whichever way is gone in them. How an expression stands when its
--- operations are done is told by its tree.
+-- Expressions that give one value, whichever branches are taken in them. The tree of an expression
+-- determines where its result is when its operations are done.
 use Rattle.std.specs.Prelude.{◌≡◌, ℕ, ◌==◌, ◌||◌, Bool, true, false, not, List, [], ◌∷◌, codes}
 use Rattle.std.specs.Prelude.{Option, Some, None, if◌then◌else◌}
 use Rattle.fk_syntax.specs.declared.sign.Sign.{Sign}
@@ -14,15 +14,15 @@ use Rattle.fk_meaning_forms.specs.Expressions.{Signature, is_name, token}
 use Rattle.fk_meaning.specs.Calls.{takes_two, TakesEnough}
 
 pub data Way : Type 0 where
-  -- as a value, or as none
+  -- the result is a value, or there is none
   Valued : Way
   Absent : Way
-  -- at an address, in a private word, and as the name of a function
+  -- the result is at an address, in a private word, or is the name of a function
   Placed : Way
   Word : Way
   Function : (name : Named) → Way
 
--- whether it has a value
+-- whether there is a value
 abbrev pub gives : Way → Bool
 gives Absent = false
 gives (Function name) = false
@@ -32,13 +32,13 @@ abbrev pub result : (gives : Bool) → Way
 result true = Valued
 result false = Absent
 
--- a predeclared function gives a value, but for those that print
+-- a predeclared function gives a value, unless it prints
 abbrev pub predeclared_gives : Named → Bool
 predeclared_gives name =
     takes_two name || (is_name name (codes "groupsize")
     || not (is_name name (codes "putint") || is_name name (codes "putchar")))
 
--- predeclared names, and those of variables by their homes
+-- the result of predeclared names, and of variables by their homes
 abbrev pub predeclared_way : Named → Way
 predeclared_way name =
     if is_name name (codes "__PROC_NR__") then Valued
@@ -54,17 +54,17 @@ placed_way h.Private name = Word
 placed_way (h.Group r) name = Placed
 placed_way h.NoWord name = Function name
 
--- a dereference stands at its address, and what other signs make is a value
+-- a dereference is at its address, and the other signs make a value
 abbrev pub prefix_way : Sign → Way
 prefix_way g.Star = Placed
 prefix_way sign = Valued
 
--- a chain has what its last sign makes of the value on the right
+-- a chain has the result that its last sign makes of its right side
 abbrev pub joined_way : Sign → (right : Way) → Way
 joined_way g.Comma right = result (gives right)
 joined_way sign right = Valued
 
--- it has an address, or a place to which is assigned
+-- the result has an address, or a place that can be assigned to
 abbrev pub HasAddress : Way → Type 0
 HasAddress Placed = Unit {0}
 HasAddress way = ⊥
@@ -74,20 +74,20 @@ IsTarget Placed = Unit {0}
 IsTarget Word = Unit {0}
 IsTarget way = ⊥
 
--- a sign in front needs a value, a place or an address
+-- a sign in front requires a value, a place or an address
 abbrev pub PrefixNeeds : Sign → Way → Type 0
 PrefixNeeds g.Ampersand way = HasAddress way
 PrefixNeeds g.Increment way = IsTarget way
 PrefixNeeds g.Decrement way = IsTarget way
 PrefixNeeds sign way = gives way ≡ true
 
--- so many arguments as parameters
+-- there are at least as many arguments as parameters
 abbrev pub AreEnough : List DeclaredTree → Trees → Type 0
 AreEnough [] es = Unit {0}
 AreEnough (x ∷ xs) t.no_trees = ⊥
 AreEnough (x ∷ xs) (t.tree e es) = AreEnough xs es
 
--- a function of the program gives a value where it has a result
+-- a function of the program gives a value if it has a result
 abbrev pub gives_value : (functions : (binding : ℕ) → Signature) → (function : ℕ) → Bool
 gives_value functions function = not (functions function).void
 
@@ -129,13 +129,13 @@ module _ (tables : Tables) (functions : (binding : ℕ) → Signature) where
     suffixed_way w (t.up spot others) = suffixed_way Valued others
     suffixed_way w (t.down spot others) = suffixed_way Valued others
 
-  -- a sign between two needs the values of both. A comma drops the left one, where by its
-  -- type there is one
+  -- a sign between two expressions requires the values of both. A comma drops the left one, if by
+  -- its type there is one
   abbrev pub JoinNeeds : Sign → (left : Way) → (at : ℕ) → (right : Way) → Type 0
   JoinNeeds g.Comma l at r = gives l ≡ not (is_void tables at)
   JoinNeeds sign l at r = (gives l ≡ true) × (gives r ≡ true)
 
-  -- a function is called, with its arguments
+  -- a function is called, with enough arguments
   abbrev pub NameTakes : (predeclared : Bool) → Named → Trees → Type 0
   NameTakes true name arguments = TakesEnough name arguments
   NameTakes false name arguments =
@@ -178,7 +178,7 @@ module _ (tables : Tables) (functions : (binding : ℕ) → Signature) where
     SuffixesEvaluate w (t.up spot others) = IsTarget w × SuffixesEvaluate Valued others
     SuffixesEvaluate w (t.down spot others) = IsTarget w × SuffixesEvaluate Valued others
 
-    -- arguments have values
+    -- all arguments have values
     pub AllEvaluate : Trees → Type 0
     AllEvaluate t.no_trees = Unit {0}
     AllEvaluate (t.tree first others) = Evaluates first × (gives (way first) ≡ true)

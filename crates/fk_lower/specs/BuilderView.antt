@@ -1,4 +1,4 @@
--- What a builder has built.
+-- The state of a builder, as code and what is open around it.
 use Rattle.std.specs.Prelude.{ℕ, List, [], ◌∷◌, map, fold}
 use Rattle.fk_meaning_forms.specs.Code.{Code}
 use Rattle.fk_lower.specs.declared.block.Piece.{Piece}
@@ -46,7 +46,7 @@ open_by before o.FirstBody = b.FirstBody before
 open_by before (o.LastTest body) = b.LastTest before (block_code body)
 open_by before (o.Opening act function) = b.Opening before act.site act.operation function
 
--- the innermost first
+-- What is open around the pieces, the innermost first.
 abbrev pub outer_of : List Frame → List Open
 outer_of frames = fold (λ outer (frame : Frame).
     open_by (shown_code frame.before.items) frame.opened ∷ outer) [] frames
@@ -55,7 +55,7 @@ abbrev pub building_of : Builder → Building
 building_of builder =
     b.building builder.site (outer_of builder.outer.items) (shown_code builder.pieces.items)
 
--- the measures of all blocks that are closed are those of their code
+-- The measures of all closed blocks are those of their code.
 abbrev pub IsBlockMeasured : Block → Type 0
 IsBlockMeasured block = IsPartMeasured (part_of block)
 

@@ -5,8 +5,8 @@ use Rattle.fk_syntax.specs.declared.place.Place.{Place}
 use Rattle.fk_meaning_forms.specs.Code as c
 use Rattle.fk_meaning_forms.specs.Code.{Code, append, size, numbered}
 
--- what is shown of code: its operations, and where the parts of a choice, a loop and a
--- call begin and end
+-- The events that show code: its operations, and where the parts of a choice, a loop and a call
+-- begin and end.
 pub data Event : Type 0 where
   Perform : (op : Operation) → Event
   Choose : (op : Operation) → Event
@@ -23,7 +23,7 @@ pub data Event : Type 0 where
   Break : Event
   Continue : Event
 
--- what has a site of it
+-- An event with a site: that of an operation.
 abbrev pub has_site : Event → Bool
 has_site (Perform op) = true
 has_site (Choose op) = true
@@ -49,7 +49,7 @@ events_of (c.call t op f opening rest) =
 events_of (c.ends t op rest) = Ends op ∷ events_of rest
 events_of code = []
 
--- no loop of it is under way
+-- No loop of the code is under way.
 abbrev pub IsUnbegun : {A : Type 0} → Code A → Type 0
 IsUnbegun c.done = Unit {0}
 IsUnbegun (c.perform t op rest) = IsUnbegun rest
@@ -64,8 +64,8 @@ IsUnbegun (c.call t op f opening rest) = IsUnbegun opening × IsUnbegun rest
 IsUnbegun (c.ends t op rest) = IsUnbegun rest
 IsUnbegun code = ⊥
 
--- what is open round code: a way of a choice, a part of a loop, or the opening of a call, with the
--- code before it and its parts that are closed
+-- What is open around code: a branch of a choice, a part of a loop, or the opening of a call, with
+-- the code before it and its closed parts.
 pub data Open : Type 0 where
   OnwardWay : (before : Code ℕ) (site : ℕ) (op : Operation) → Open
   AsideWay : (before : Code ℕ) (site : ℕ) (op : Operation) (x : Code ℕ) → Open
@@ -76,7 +76,7 @@ pub data Open : Type 0 where
   LastTest : (before body : Code ℕ) → Open
   Opening : (before : Code ℕ) (site : ℕ) (op : Operation) (function : ℕ) → Open
 
--- the next site, what is open, the innermost first, and the code so far in it
+-- The next site, what is open (the innermost first), and the code so far in that.
 pub record Building : Type 0 where
   pub site : ℕ
   pub outer : List Open
@@ -85,7 +85,7 @@ pub record Building : Type 0 where
 abbrev pub building : ℕ → List Open → Code ℕ → Building
 building site outer code = record { site = site; outer = outer; code = code }
 
--- a part begins, or ends and another one begins; code comes behind what there is
+-- A part begins, or ends and another one begins; or code is added after what there is.
 abbrev pub opened : ℕ → Open → List Open → Building
 opened site part outer = building site (part ∷ outer) c.done
 
@@ -119,7 +119,7 @@ behind_of site (LastTest before body ∷ outer) code =
     joined site outer before (c.until body code c.done)
 behind_of site outer code = building site outer code
 
--- what is built after an event
+-- What is built after an event.
 abbrev pub after : Building → Event → Building
 after b (Perform op) = joined (suc b.site) b.outer b.code (c.perform b.site op c.done)
 after b (Choose op) = opened (suc b.site) (OnwardWay b.code b.site op) b.outer
@@ -136,7 +136,8 @@ after b Behind = behind_of b.site b.outer b.code
 after b Break = joined b.site b.outer b.code (c.break c.done)
 after b Continue = joined b.site b.outer b.code (c.continue c.done)
 
--- what ends a part, a choice, a loop or an opening finds it open, as the innermost of what is
+-- An event that ends a part, a choice, a loop or an opening finds it open, as the innermost of what
+-- is open.
 abbrev pub IsPlaced : Event → List Open → Type 0
 IsPlaced Aside (OnwardWay before n op ∷ outer) = Unit {0}
 IsPlaced Aside outer = ⊥
@@ -153,14 +154,15 @@ IsPlaced Behind (LastTest before body ∷ outer) = Unit {0}
 IsPlaced Behind outer = ⊥
 IsPlaced event outer = Unit {0}
 
--- code that is shown comes behind what is built, and its operations have the next sites
+-- Code that is shown is added after what is built, and its operations have the next sites.
 abbrev pub CodeIsBuilt : (A : Type 0) → Type 0
 CodeIsBuilt A =
     (code : Code A) → IsUnbegun code → (b : Building)
     → fold after b (events_of code)
     ≡ building (b.site + size code) b.outer (append b.code (numbered b.site code))
 
--- code that is shown from a first site on, where all that is shown is that of a text's code
+-- The built code is the numbered code, from a first site on, if the events are those of a text's
+-- code.
 abbrev pub IsShown : (site : ℕ) → List Event → Code ℕ → Type 0
 IsShown site events built = (code : Code Place) → IsUnbegun code → events_of code ≡ events
     → built ≡ numbered site code

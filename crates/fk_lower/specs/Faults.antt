@@ -15,27 +15,27 @@ use Rattle.fk_lower.specs.Tree as t
 use Rattle.fk_lower.specs.Tree.{PieceTree, Pieces, Part, code_of}
 use Rattle.fk_lower.specs.Lowered.{total}
 
--- no code is shown by these events
+-- These events show no code.
 abbrev pub ShowsNoCode : List Event → Type 0
 ShowsNoCode events = (code : Code Place) → IsUnbegun code → events_of code ≡ events → ⊥
 
--- Each operation has three entries of a list at most: itself and two jumps. So many would be too
--- many, those of the sites before it included; what is shown is no code; or memory is refused,
--- which no clause can say
+-- Each operation has at most three entries of a list: itself and two jumps. `TooLong`: that would
+-- be too many, those of the sites before included. `Misplaced`: the events show no code. `Memory`:
+-- there isn't enough memory, which no clause can say.
 abbrev pub IsBuildFault : (site : ℕ) → List Event → LowerFault → Type 0
 IsBuildFault site events TooLong = 2 ^ 32 ≤ 3 * (site + count_by has_site events)
 IsBuildFault site events Misplaced = ShowsNoCode events
 IsBuildFault site events OutOfRange = ⊥
 IsBuildFault site events Memory = Unit {0}
 
--- the same of one event
+-- The faults of one event.
 abbrev pub IsEventFault : Building → Event → LowerFault → Type 0
 IsEventFault b event TooLong = (has_site event ≡ true) × (2 ^ 32 ≤ 3 * (b.site + 1))
 IsEventFault b event Misplaced = IsPlaced event b.outer → ⊥
 IsEventFault b event OutOfRange = ⊥
 IsEventFault b event Memory = Unit {0}
 
--- how many operations stand in what is built
+-- The number of operations in what is built.
 abbrev pub size_of_open : Open → ℕ
 size_of_open (OnwardWay before n op) = suc (size before)
 size_of_open (AsideWay before n op x) = suc (size before + size x)
@@ -53,12 +53,12 @@ size_of_outer (part ∷ outer) = size_of_open part + size_of_outer outer
 abbrev pub size_of_building : Building → ℕ
 size_of_building b = size b.code + size_of_outer b.outer
 
--- each has a site of its own, and all their entries have indices
+-- Each operation has a site of its own, and all their entries have indices.
 pub record IsFew (b : Building) : Type 0 where
   pub sites : size_of_building b ≤ b.site
   pub entries : 3 * size_of_building b < 2 ^ 32
 
--- each operation of code has a number
+-- Each operation of code has a number.
 abbrev pub HaveNumbers : {A : Type 0} → Code A → Type 0
 HaveNumbers c.done = Unit {0}
 HaveNumbers (c.perform n op rest) = HasNumber op × HaveNumbers rest
@@ -77,7 +77,7 @@ HaveNumbers (c.continue rest) = HaveNumbers rest
 HaveNumbers (c.call n op f opening rest) = HasNumber op × HaveNumbers opening × HaveNumbers rest
 HaveNumbers (c.ends n op rest) = HasNumber op × HaveNumbers rest
 
--- and so it is in memory
+-- Each operation of code in memory has a number.
 abbrev mutual
   pub AreNumbered : Pieces → Type 0
   AreNumbered t.no_pieces = Unit {0}
@@ -100,19 +100,21 @@ abbrev pub AllNumbered : List Part → Type 0
 AllNumbered [] = Unit {0}
 AllNumbered (part ∷ parts) = AreNumbered part.pieces × AllNumbered parts
 
--- so of the code of all functions
+-- Each operation of the code of all functions has a number.
 abbrev pub AllHaveNumbers : List Part → Type 0
 AllHaveNumbers [] = Unit {0}
 AllHaveNumbers (part ∷ parts) = HaveNumbers (code_of part.pieces) × AllHaveNumbers parts
 
--- their lists are too long together; an operation has no number; or memory is refused
+-- The lists of all functions are too long together; an operation has no number; or there isn't
+-- enough memory.
 abbrev pub IsListFault : List Part → LowerFault → Type 0
 IsListFault parts TooLong = 2 ^ 32 ≤ total parts
 IsListFault parts OutOfRange = AllHaveNumbers parts → ⊥
 IsListFault parts Misplaced = ⊥
 IsListFault parts Memory = Unit {0}
 
--- where lists have room, memory is refused or an operation has no number
+-- If the lists have room, only these faults remain: an operation has no number, or there isn't
+-- enough memory.
 abbrev pub IsWriteFault : LowerFault → Type 0
 IsWriteFault OutOfRange = Unit {0}
 IsWriteFault Memory = Unit {0}

@@ -1,4 +1,4 @@
--- The measures of code by those of the blocks in it, from its end.
+-- The measures of code, from its end, given those of the blocks in it.
 use Rattle.std.specs.Prelude.{ℕ, ◌+◌, ◌==◌, ◌&&◌, ◌||◌, Bool, true, false, List, [], ◌∷◌, ◌++◌}
 use Rattle.fk_core_flat.specs.Items.{way_of, goes_away}
 use Rattle.fk_core_flat.specs.Flat.{gap}
@@ -9,20 +9,20 @@ use Rattle.fk_lower.specs.Spans.{round, span_in}
 use Rattle.fk_lower.specs.Tree.{PieceTree, Perform, Choose, While, Until, Quit, Break, Continue}
 use Rattle.fk_lower.specs.Tree.{Call, Ends, Pieces, no_pieces, piece}
 
--- of nothing
+-- The measures of empty code.
 abbrev pub nothing : (near : Bool) → Span
 nothing near = record { here = near; extent = 0; start = Next }
 
--- of what begins here
+-- The measures of code that begins here.
 abbrev pub beginning : (extent : ℕ) → Span
 beginning extent = record { here = true; extent = extent; start = At 0 }
 
--- the first way of a choice goes on behind the second one. That is directly behind it where the
--- second one has nothing in the list and the rest begins here
+-- The first branch of a choice goes on after the second one. That is directly after the first one's
+-- list, if the second has nothing in the list and the rest begins here.
 abbrev pub is_beside : Spans → (rest : Span) → Bool
 is_beside of_y rest = rest.here && ((span_in of_y rest.here).extent == 0)
 
--- of a piece and the code behind it, by the measures of that code
+-- The measures of a piece and the code after it, given those of that code.
 abbrev pub before : PieceTree → (rest : Span) → Span
 before (Perform act) rest =
     beginning (1 + gap (goes_away (way_of act.operation) || rest.here) + rest.extent)
@@ -51,7 +51,7 @@ abbrev pub measured : (near : Bool) → Pieces → Span
 measured near no_pieces = nothing near
 measured near (piece first others) = before first (measured near others)
 
--- the measures of the code behind each piece, the last piece's first
+-- The measures of the code after each piece, the last piece's first.
 abbrev pub rests : (near : Bool) → Pieces → List Span
 rests near no_pieces = []
 rests near (piece first others) = rests near others ++ measured near others ∷ []

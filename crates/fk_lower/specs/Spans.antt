@@ -1,5 +1,5 @@
--- What is known of code before its place is: whether it begins where it is written, how long its
--- list is, and where it begins.
+-- What is known of code before its place is known: whether it begins where it is written, how long
+-- its list is, and where it begins.
 use Rattle.std.specs.Prelude.{ℕ, ◌+◌, ◌≤◌, Bool, true, false, if◌then◌else◌}
 use Rattle.fk_meaning_forms.specs.Code.{Code, done, until, break, continue}
 use Rattle.fk_core.specs.Stands.{Around}
@@ -9,22 +9,22 @@ use Rattle.fk_lower.specs.declared.span.Start.TheVariants as s
 use Rattle.fk_lower.specs.declared.span.Span.{Span}
 use Rattle.fk_lower.specs.declared.span.Spans.{Spans}
 
--- the index where code begins that is written at an index i and goes on at an index k
+-- The index where code begins that is written at index i and goes on at index k.
 abbrev pub place : Start → Around → (i k : ℕ) → ℕ
 place (s.At offset) c i k = i + offset
 place s.Next c i k = k
 place s.Behind c i k = behind c
 place s.Onward c i k = onward c
 
--- the beginning of code that stands further on
+-- The beginning of code that is further on.
 abbrev pub moved : (by : ℕ) → Start → Start
 moved by (s.At offset) = s.At (by + offset)
 moved by s.Next = s.Next
 moved by s.Behind = s.Behind
 moved by s.Onward = s.Onward
 
--- the beginning of a loop whose body so begins, and has such an extent; where the body is left at
--- once, it is that of the rest
+-- The beginning of a loop, given the beginning and the extent of its body. If the body leaves the
+-- loop at once, it is the beginning of the rest.
 abbrev pub round : Start → (body whole : ℕ) → (rest : Start) → Start
 round (s.At offset) body whole rest = s.At offset
 round s.Next body whole rest = s.At body
@@ -49,11 +49,12 @@ spans_of code = record { far = span_of false code; near = span_of true code }
 abbrev pub span_in : Spans → (near : Bool) → Span
 span_in spans near = if near then spans.near else spans.far
 
--- how far behind the index where it is written code begins, where it begins in its own list
+-- The distance of the beginning of code from the index where it is written, if it begins in its own
+-- list.
 abbrev pub offset : Start → ℕ
 offset (s.At n) = n
 offset start = 0
 
--- it begins within its list, or directly behind it
+-- Code begins in its list, or directly after it.
 abbrev pub StartsWithin : Span → Type 0
 StartsWithin span = offset span.start ≤ span.extent

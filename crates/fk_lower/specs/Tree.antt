@@ -1,4 +1,4 @@
--- Code as it lies in memory: pieces in blocks, and what was measured of each block.
+-- Code as it is in memory: pieces in blocks, and the measures of each block.
 use Rattle.std.specs.Prelude.{◌≡◌, ℕ, List, [], ◌∷◌}
 use Rattle.fk_meaning_forms.specs.Code as c
 use Rattle.fk_meaning_forms.specs.Code.{Code}
@@ -27,12 +27,12 @@ abbrev pub pieces_of : List PieceTree → Pieces
 pieces_of [] = no_pieces
 pieces_of (x ∷ xs) = piece x (pieces_of xs)
 
--- a block: its pieces and its measures
+-- A block: its pieces and its measures.
 pub record Part : Type 0 where
   pub pieces : Pieces
   pub spans : Spans
 
--- the code of pieces, each operation with its site
+-- The code of pieces, each operation with its site.
 abbrev mutual
   pub code_of : Pieces → Code ℕ
   code_of no_pieces = c.done
@@ -52,7 +52,7 @@ abbrev mutual
       c.call act.site act.operation function (code_of opening) rest
   code_before (Ends act) rest = c.ends act.site act.operation rest
 
--- the measures of all blocks in it are those of their code
+-- The measures of all blocks in pieces are those of their code.
 abbrev mutual
   pub IsMeasured : Pieces → Type 0
   IsMeasured no_pieces = Unit {0}

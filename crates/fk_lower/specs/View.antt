@@ -1,4 +1,4 @@
--- The pieces and blocks of the code as the trees of the definitions.
+-- The pieces and blocks of the code, as the trees of the definitions.
 use Rattle.fk_lower.specs.declared.block.Piece.{Piece}
 use Rattle.fk_lower.specs.declared.block.Block.{Block}
 use Rattle.fk_lower.specs.declared.block.Piece.TheOpen.{Piece-F, Block-F}
@@ -7,7 +7,7 @@ use Rattle.fk_lower.specs.declared.block.Piece.TheFolds.{fold-Piece, fold-Block}
 use Rattle.fk_lower.specs.Tree.{PieceTree, Part, pieces_of}
 use Rattle.fk_lower.specs.Tree as t
 
--- a piece, where the blocks in it are trees
+-- A piece whose blocks are already trees.
 abbrev pub piece_step : Piece-F PieceTree Part → PieceTree
 piece_step (p.Perform act) = t.Perform act
 piece_step (p.Choose act x y) = t.Choose act x.pieces x.spans y.pieces y.spans
@@ -20,7 +20,7 @@ piece_step p.Continue = t.Continue
 piece_step (p.Call act function opening) = t.Call act function opening.pieces opening.spans
 piece_step (p.Ends act) = t.Ends act
 
--- a block, where the pieces in it are trees
+-- A block whose pieces are already trees.
 abbrev pub part_step : Block-F PieceTree Part → Part
 part_step block = record { pieces = pieces_of block.pieces.items; spans = block.spans }
 

@@ -1,4 +1,4 @@
--- The flat list of pieces, by the measures of the blocks in them.
+-- The flat list of pieces, given the measures of the blocks in them.
 use Rattle.std.specs.Prelude.{ℕ, ◌+◌, ◌||◌, Bool, true, false, List, [], ◌∷◌, ◌++◌, map, slice_get}
 use Rattle.std.specs.Prelude.{unwrap_or, Option, Some, None, if◌then◌else◌}
 use Rattle.fk_meaning_operation.specs.declared.operation.Operation.{Operation}
@@ -17,7 +17,7 @@ use Rattle.fk_lower.specs.Tree.{PieceTree, Perform, Choose, While, Until, Quit, 
 use Rattle.fk_lower.specs.Tree.{Call, Ends, Pieces, no_pieces, piece}
 use Rattle.fk_lower.specs.Measures.{is_beside, measured}
 
--- what an operation of a list is
+-- The item of an entry of a list.
 abbrev pub item_by : Option Operation → (jumps : Bool) → CoreOp → Option Item
 item_by (Some operation) jumps op = Some (act op.site operation op.target)
 item_by None true op = Some (jump op.target)
@@ -33,7 +33,7 @@ abbrev pub around_of : Option Loop → Around
 around_of None = None
 around_of (Some loop) = Some (record { behind = loop.behind; onward = loop.onward })
 
--- the entry of a function: that of its binding, and the end where there is none
+-- The entry of a function: that of its binding, or the end of the list if there is none.
 abbrev pub entry_of : (entries : List ℕ) → (end binding : ℕ) → ℕ
 entry_of entries end binding = unwrap_or (slice_get entries binding) end
 
@@ -44,11 +44,11 @@ abbrev pub a_skip : (here : Bool) → (target : ℕ) → List (Option Item)
 a_skip true target = []
 a_skip false target = Some (jump target) ∷ []
 
--- the index behind an operation, and the jump behind that where there is one
+-- The index after an operation, and after the jump that follows it, if there is one.
 abbrev pub past : (here : Bool) → ℕ → ℕ
 past here i = i + (1 + gap here)
 
--- the index where the code behind a piece is written, by the measures of that code
+-- The index where the code after a piece is written, given the measures of that code.
 abbrev pub behind_of : PieceTree → (rest : Span) → ℕ → ℕ
 behind_of (Perform a) rest i = past (goes_away (way_of a.operation) || rest.here) i
 behind_of (Choose a x of_x y of_y) rest i =
@@ -65,7 +65,7 @@ behind_of (Call a function opening of_opening) rest i =
     past rest.here (i + 1 + of_opening.near.extent)
 behind_of (Ends a) rest i = i + 1
 
--- an operation that goes on, and one that may leave the loop round it
+-- An operation that goes on; and one that may leave the loop around it.
 abbrev pub perform_written : Act → (rest : Span) → Around → (i k : ℕ) → List (Option Item)
 perform_written a rest c i k =
     let here = goes_away (way_of a.operation) || rest.here in
@@ -75,7 +75,7 @@ abbrev pub quit_written : Act → (rest : Span) → Around → (i k : ℕ) → L
 quit_written a rest c i k =
     an_act a (behind c) ++ a_skip rest.here (place rest.start c (past rest.here i) k)
 
--- where functions have these entries
+-- For functions with these entries.
 module _ (entry : (binding : ℕ) → ℕ) where
   abbrev mutual
     pub written : (near : Bool) → Around → (i k : ℕ) → Pieces → List (Option Item)

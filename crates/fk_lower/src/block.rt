@@ -14,22 +14,23 @@ pub struct Act {
     pub operation: Operation,
 }
 
-/// What code consists of, one behind the other.
+/// A piece of code. Code consists of pieces, one after another.
 #[cycle(code)]
 #[derive(Drop)]
 pub enum Piece {
     Perform(Act),
-    /// An operation that goes one of two ways, onward and aside.
+    /// An operation that takes one of two branches, onward and aside.
     Choose(Act, Block, Block),
-    /// A loop: its test, what a turn does, and the step to the next turn.
+    /// A loop: its test, its body, and the step to the next turn.
     While(Block, Block, Block),
-    /// A loop that begins with a turn, and its test.
+    /// A loop that begins with its body, and its test.
     Until(Block, Block),
-    /// An operation that goes on in the loop round it, or leaves it.
+    /// An operation that goes on in the loop around it, or leaves the loop.
     Quit(Act),
     Break,
     Continue,
-    /// Enters the function of a binding. The block is what is done at its beginning for this call.
+    /// Enters the function of a binding. The block is what that function does at its beginning for
+    /// this call.
     Call(Act, u32, Block),
     /// Ends the function.
     Ends(Act),

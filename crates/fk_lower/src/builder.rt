@@ -1,4 +1,4 @@
-//! Builds blocks of code that is shown step by step.
+//! Builds blocks from code that is shown step by step.
 
 ghost use Rattle.std.specs.Prelude.{◌≡◌, true, suc, ◌+◌, ◌*◌, ◌^◌, ◌<◌, ◌≤◌, ◌∷◌, [], map, OnOk};
 ghost use Rattle.std.specs.Prelude.{IfOk, IfErr};
@@ -20,7 +20,7 @@ use fk_meaning_operation::Operation;
 use std::alloc::Global;
 use std::mem;
 
-// What is open round a block, with its parts that are closed.
+// What is open around a block, with its closed parts.
 #[derive(Drop)]
 enum Opened {
     Onward(Act),
@@ -33,17 +33,17 @@ enum Opened {
     Opening(Act, u32),
 }
 
-// That, and the pieces before it.
+// What is open, and the pieces before it.
 #[derive(Drop)]
 struct Frame {
     before: Vec<Piece>,
     opened: Opened,
 }
 
-// Below so many sites three entries of a list for each have indices.
+// Below this number of sites, three entries of a list for each site have indices.
 const MOST_SITES: u32 = 1_431_655_765;
 
-// Code that is being built: each operation has the next number as its site.
+// Code that is being built. Each operation gets the next number as its site.
 #[derive(Drop)]
 struct Builder {
     alloc: Global,
@@ -53,7 +53,7 @@ struct Builder {
 }
 
 impl Builder {
-    // One that is shown a function, whose first operation has this site.
+    // A builder for a function whose first operation has this site.
     fn new(alloc: Global, site: u32) -> Builder
         ensures built { building_of result ≡ b.building site [] c.done }
         ensures measured { IsBuilderMeasured result }
@@ -100,7 +100,7 @@ impl Builder {
         }
     }
 
-    // Opens a block behind what there is.
+    // Opens a block after what there is.
     #[tactic(auto, using(crate::proofs::Shown::outer_more, crate::proofs::Shown::frames_measured))]
     fn open(&mut self, opened: Opened) -> Result<(), LowerFault>
         requires builder { IsBuilderMeasured self.now }
@@ -117,8 +117,8 @@ impl Builder {
         }
     }
 
-    // Closes the innermost block: what there is behind is what stood before it. It is
-    // `Misplaced` where none is open.
+    // Closes the innermost block. What is built next comes after the pieces before that block.
+    // Fails with `Misplaced` if no block is open.
     #[tactic(auto, using(crate::proofs::Shown::outer_more, crate::proofs::Shown::last_measured))]
     fn close(&mut self) -> Result<(Block, Opened), LowerFault>
         requires measured { IsBuilderMeasured self.now }
@@ -305,7 +305,7 @@ impl Builder {
         }
     }
 
-    // The block that was built.
+    // The block that was built. Fails with `Misplaced` if a block is open.
     fn finish(self) -> Result<Block, LowerFault>
         requires measured { IsBuilderMeasured self }
         requires few { IsFew (building_of self) }
@@ -322,13 +322,14 @@ impl Builder {
     }
 }
 
-/// The block of code that is shown, its operations numbered from a first site on. It takes time
-/// linear in what is shown.
+/// Builds the block of code that is shown, its operations numbered from a first site on. It takes
+/// time linear in the events.
 ///
 /// # Errors
-/// `TooLong` where three entries of a list for each operation, those of the sites before the first
-/// one included, are more than 2^32 - 1; `Misplaced` where what is shown is no code: something ends
-/// that isn't open, or is open at the end; and `Memory`.
+///
+/// `TooLong` if three entries of a list for each operation, those of the sites before the first one
+/// included, are more than 2^32 - 1; `Misplaced` if the events show no code: something ends that
+/// isn't open, or is open at the end; and `Memory` if there isn't enough memory.
 pub fn build(alloc: Global, site: u32, events: &[CodeEvent]) -> Result<Block, LowerFault>
     ensures built { IfOk result
         (λ block. IsShown site (map event_of events.now) (block_code block)) }

@@ -5,7 +5,8 @@ ghost use Rattle.fk_lower.specs.Depths as d;
 
 use fk_core::CoreOp;
 
-// How many values the running call has before the operation of a site, and 0 where that isn't told.
+// The number of values that the running call has before the operation of a site, and 0 if none is
+// given.
 fn depth_at(depths: &[u32], site: u32) -> u32
     ensures { result ≡ d.depth_at depths.now site }
 {

@@ -1,22 +1,22 @@
-//! Why code has no list.
+//! The reasons why code has no list.
 
 ghost use Rattle.std.specs.Prelude.{◌≡◌, ◌+◌, ◌^◌, ◌≤◌, IfOk, IfErr};
 
-/// Why code has no list.
+/// The reason why code has no list.
 #[derive(Clone, Copy, PartialEq, Eq, Debug)]
 pub enum LowerFault {
-    /// It would have more than 2^32 - 1 operations and jumps, or is of so many operations that it
-    /// may have: of 2^32 / 3.
+    /// The list would have more than 2^32 - 1 operations and jumps, or the code has so many
+    /// operations (2^32 / 3) that it might.
     TooLong,
     /// A constant of an operation is too large for its number.
     OutOfRange,
-    /// Something is shown where it may not be.
+    /// An event is where it may not be.
     Misplaced,
-    /// There is no memory for it.
+    /// There isn't enough memory.
     Memory,
 }
 
-// A sum, where it fits.
+// A sum, if it fits.
 pub(crate) fn further(from: u32, by: u32) -> Result<u32, LowerFault>
     ensures sum { IfOk result (λ sum. sum ≡ from + by) }
     ensures fault { IfErr result (λ fault. fault ≡ LowerFault.TooLong) }

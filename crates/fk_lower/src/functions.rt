@@ -34,7 +34,7 @@ fn outside(at: u32, next: u32) -> InsertPoint
     }
 }
 
-// How long all lists are together.
+// The length of all lists together.
 fn total(bodies: &[Block]) -> Result<u32, LowerFault>
     ensures total { IfOk result (λ end. end ≡ total (map part_of bodies.now)) }
     ensures fault { IfErr result (λ fault. fault ≡ LowerFault.TooLong) }
@@ -47,7 +47,7 @@ fn total(bodies: &[Block]) -> Result<u32, LowerFault>
     Ok(end)
 }
 
-// Where functions begin.
+// The entries of functions.
 fn entries(alloc: Global, bodies: &[Block], end: u32) -> Result<Vec<u32>, LowerFault>
     requires measured { AreMeasured (map part_of bodies.now) }
     requires room { total (map part_of bodies.now) < 2 ^ 32 }
@@ -68,7 +68,7 @@ fn entries(alloc: Global, bodies: &[Block], end: u32) -> Result<Vec<u32>, LowerF
     Ok(entries)
 }
 
-// Writes functions one behind the other.
+// Writes functions, one after another.
 fn write_all(writer: &mut Writer, entries: &Entries, bodies: &[Block]) -> Result<(), LowerFault>
     requires measured { AreMeasured (map part_of bodies.now) }
     requires room { total (map part_of bodies.now) < 2 ^ 32 }
@@ -86,7 +86,8 @@ fn write_all(writer: &mut Writer, entries: &Entries, bodies: &[Block]) -> Result
     Ok(())
 }
 
-// What is told of a list that has room: memory is refused, or an operation has no number.
+// The fault in writing a list that has room: there isn't enough memory, or an operation has no
+// number.
 fn in_writing(fault: LowerFault) -> LowerFault
     ensures memory { fault ≡ LowerFault.Memory → result ≡ LowerFault.Memory }
     ensures fault { IsWriteFault result }
@@ -97,13 +98,14 @@ fn in_writing(fault: LowerFault) -> LowerFault
     }
 }
 
-/// The flat list of functions, given by their bindings and one behind the other in that order. One
+/// The flat list of functions, given by their bindings, one after another in that order. A function
 /// without a body has an empty block, and its entry at the end of the list. The depth of each
 /// operation is that of its site. It takes time linear in the blocks.
 ///
 /// # Errors
-/// `TooLong` where the list would have more than 2^32 - 1 operations and jumps, `OutOfRange` where
-/// a constant of an operation is too large for its number, and `Memory`.
+///
+/// `TooLong` if the list would have more than 2^32 - 1 operations and jumps, `OutOfRange` if a
+/// constant of an operation is too large for its number, and `Memory` if there isn't enough memory.
 pub fn lower(alloc: Global, bodies: &[Block], depths: &[u32]) -> Result<Lowered, LowerFault>
     requires { AreMeasured (map part_of bodies.now) }
     ensures flat { IfOk result (λ lowered.

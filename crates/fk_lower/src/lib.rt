@@ -1,6 +1,6 @@
-//! From code in memory to the flat list that it comes to.
+//! From code in memory to its flat list.
 //!
-//! Code lies in memory as blocks of pieces. Each block has measures: how many operations and jumps
+//! Code is in memory as blocks of pieces. Each block has measures: how many operations and jumps
 //! its list has, and where it begins. So each target is known when it is written.
 #![tactic(auto)]
 

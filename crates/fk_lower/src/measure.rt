@@ -15,7 +15,7 @@ use crate::span::{Span, Spans, Start, gap};
 use fk_meaning_operation::Operation;
 use std::alloc::Global;
 
-/// Whether an operation goes on at its target always, and never at the next index.
+/// Whether an operation always goes on at its target, and never at the next index.
 pub fn goes_away(operation: Operation) -> bool
     ensures { result ≡ goes_away (way_of operation) }
 {
@@ -45,7 +45,7 @@ fn beginning(extent: u32) -> Span
     }
 }
 
-// Whether the first way of a choice goes on directly behind its list.
+// Whether the first branch of a choice goes on directly after its list.
 pub(crate) fn is_beside(second: &Block, rest: Span) -> bool
     ensures { result ≡ is_beside (part_of second.now).spans rest }
 {
@@ -100,7 +100,7 @@ fn before_call(act: Act, function: u32, opening: &Block, rest: Span) -> Span
     beginning(2 + opening.spans.near.extent + gap(rest.here) + rest.extent)
 }
 
-// The measures of a piece and the code behind it.
+// The measures of a piece and the code after it.
 fn before(piece: &Piece, rest: Span) -> Span
     requires within { StartsWithin rest }
     requires room { (before (piece_of piece.now) rest).extent < 2 ^ 32 }
@@ -149,7 +149,7 @@ fn measured(pieces: &[Piece], near: bool) -> Span
 }
 
 impl Block {
-    /// A block of pieces. It takes time linear in how many they are.
+    /// A block of pieces. It takes time linear in their number.
     pub fn of(pieces: Vec<Piece>) -> Block
         requires measured { IsMeasured (pieces_of (map piece_of pieces.items)) }
         requires few { 3 * size (code_of (pieces_of (map piece_of pieces.items))) < 2 ^ 32 }
@@ -164,7 +164,8 @@ impl Block {
         }
     }
 
-    /// What is known of a measured block, where it goes on directly behind its list or elsewhere.
+    /// What is known of a measured block, if it goes on directly after its list (`near`) or
+    /// elsewhere.
     pub(crate) fn span(&self, near: bool) -> Span
         requires { IsPartMeasured (part_of self.now) }
         ensures span { result ≡ span_in (part_of self.now).spans near }
@@ -174,7 +175,7 @@ impl Block {
         spans.of(near)
     }
 
-    // The measures of the code behind each piece, the last piece's first.
+    // The measures of the code after each piece, the last piece's first.
     pub(crate) fn rests(&self, alloc: Global, near: bool) -> Result<Vec<Span>, LowerFault>
         requires measured { IsPartMeasured (part_of self.now) }
         requires room { (span_in (part_of self.now).spans near).extent < 2 ^ 32 }

@@ -1,4 +1,4 @@
-//! What is known of code before its place is.
+//! What is known of code before its place is known.
 
 ghost use Rattle.std.specs.Prelude.{◌≡◌, ◌+◌, ◌^◌, ◌<◌, ◌≤◌};
 ghost use Rattle.fk_core_flat.specs.Flat.{gap};
@@ -11,14 +11,14 @@ pub enum Start {
     At(u32),
     /// Where it goes on: it does nothing.
     Next,
-    /// Behind the loop round it: it begins with a `break`.
+    /// After the loop around it: the code begins with a `break`.
     Behind,
-    /// At the next turn of the loop round it: it begins with a `continue`.
+    /// At the next turn of the loop around it: the code begins with a `continue`.
     Onward,
 }
 
 impl Start {
-    // Where code begins that stands `by` operations and jumps further on.
+    // The beginning of code that is `by` operations and jumps further on.
     pub(crate) fn moved(self, by: u32) -> Start
         requires { by + offset self < 2 ^ 32 }
         ensures { result ≡ moved by self }
@@ -29,8 +29,9 @@ impl Start {
         }
     }
 
-    // Where a `do` loop begins: with its body, which so begins and so long is, or where that is
-    // left at once, with the test behind it or the code behind the whole loop.
+    // The beginning of a `do` loop: that of its body, given its beginning and extent. If the body
+    // does nothing or goes on to the test at once, it is the test after it; if the body leaves the
+    // loop at once, it is the code after the whole loop.
     pub(crate) fn round(self, body: u32, whole: u32, rest: Start) -> Start
         requires { whole + offset rest < 2 ^ 32 }
         ensures { result ≡ round self body whole rest }
@@ -43,12 +44,12 @@ impl Start {
     }
 }
 
-/// What is known of code before its place is.
+/// What is known of code before its place is known.
 #[derive(Clone, Copy, PartialEq, Eq, Debug)]
 pub struct Span {
-    /// Whether its first operation stands where it is written.
+    /// Whether its first operation is where the code is written.
     pub here: bool,
-    /// How many operations and jumps its list has.
+    /// The number of operations and jumps of its list.
     pub extent: u32,
     pub start: Start,
 }
@@ -69,7 +70,7 @@ impl Spans {
     }
 }
 
-// How many jumps stand before what is here, or isn't.
+// The number of jumps before code that is here, or isn't.
 pub(crate) fn gap(here: bool) -> u32
     ensures jumps { result ≡ gap here }
     ensures few { result ≤ 1 }

@@ -1,4 +1,4 @@
-//! Writes the flat list of measured code, each target known.
+//! Writes the flat list of measured code. Each target is known.
 
 ghost use Rattle.std.specs.Prelude.{◌≡◌, ◌+◌, ◌^◌, ◌<◌, if◌then◌else◌, ◌∷◌, ◌++◌, [], Some, IfOk};
 ghost use Rattle.std.specs.Prelude.{IfErr, OnOk, IsTrue, ◌↔◌};
@@ -22,7 +22,7 @@ use fk_core::CoreOp;
 use fk_meaning_operation::{Operation, OwnValue, Variable};
 use std::alloc::Global;
 
-/// A loop: the indices behind it, and of its next turn.
+/// A loop: the index after it, and that of its next turn.
 #[derive(Clone, Copy, PartialEq, Eq, Debug)]
 pub struct Loop {
     pub behind: u32,
@@ -32,16 +32,16 @@ pub struct Loop {
 /// Where code is written.
 #[derive(Clone, Copy, PartialEq, Eq, Debug)]
 pub struct InsertPoint {
-    /// The innermost loop round it, if there is one.
+    /// The innermost loop around the place, if there is one.
     pub around: Option<Loop>,
-    /// The index where it is written.
+    /// The index where code is written.
     pub at: u32,
-    /// The index where it goes on.
+    /// The index where code goes on.
     pub next: u32,
 }
 
 impl InsertPoint {
-    // The index where code begins that is written at an index here, and goes on at another one.
+    // The index where code begins that is written at one index and goes on at another.
     pub(crate) fn target(&self, start: Start, at: u32, next: u32) -> u32
         requires { at + offset start < 2 ^ 32 }
         ensures { result ≡ place start (around_of self.now.around) at next }
@@ -54,7 +54,7 @@ impl InsertPoint {
         }
     }
 
-    // The index behind the loop, and 0 where there is none.
+    // The index after the loop, and 0 if there is none.
     fn behind(&self) -> u32
         ensures { result ≡ behind (around_of self.now.around) }
     {
@@ -64,7 +64,7 @@ impl InsertPoint {
         }
     }
 
-    // The index of the loop's next turn, and 0 where there is none.
+    // The index of the loop's next turn, and 0 if there is no loop.
     fn onward(&self) -> u32
         ensures { result ≡ onward (around_of self.now.around) }
     {
@@ -112,7 +112,7 @@ fn has_number(operation: Operation) -> bool
     }
 }
 
-// That a piece is measured, and has room with the code behind it.
+// A piece is measured, and has room with the code after it.
 fn has_room(piece: &Piece, rest: Span, at: u32)
     requires measured { IsPieceMeasured (piece_of piece.now) }
     requires within { StartsWithin rest }
@@ -122,7 +122,7 @@ fn has_room(piece: &Piece, rest: Span, at: u32)
     ensures room { at + (before (piece_of piece.now) rest).extent < 2 ^ 32 }
 {}
 
-/// A flat list that is being written. Its depths aren't told yet.
+/// A flat list that is being written. It has no depths yet.
 #[derive(Drop)]
 pub struct Writer {
     alloc: Global,
@@ -148,7 +148,7 @@ impl Entries {
 }
 
 impl Writer {
-    /// One that has written nothing.
+    /// A writer that has written nothing.
     pub fn new(alloc: Global) -> Writer
         ensures { result.ops.items ≡ [] }
     {
@@ -188,7 +188,7 @@ impl Writer {
         self.add(CoreOp::jump(target))
     }
 
-    // A jump, unless what it would lead to is here.
+    // A jump to the target, unless what is there comes next.
     fn skip(&mut self, here: bool, target: u32) -> Result<(), LowerFault>
         ensures items { OnOk result (items_of self.new.ops.items
             ≡ items_of self.old.ops.items ++ a_skip here target) }
@@ -245,11 +245,12 @@ impl Writer {
         Ok(at + 1)
     }
 
-    /// Writes a block at a place: its list, where functions have these entries.
+    /// Writes the list of a block at a place, where functions have these entries.
     ///
     /// # Errors
-    /// `OutOfRange` where a constant of an operation doesn't fit its number, and `Memory`. The list
-    /// then has some of the block.
+    ///
+    /// `OutOfRange` if a constant of an operation doesn't fit its number, and `Memory` if there
+    /// isn't enough memory. The list then has some of the block.
     #[tactic(auto, using(crate::proofs::Room::measured_within, crate::proofs::Room::stays, crate::proofs::Room::measured_span))]
     #[cycle(block)]
     pub fn block(
@@ -279,7 +280,7 @@ impl Writer {
         Ok(())
     }
 
-    // Answers the index behind the piece.
+    // Writes a piece, and gives the index after it.
     #[cycle(block)]
     fn piece(
         &mut self,

@@ -1,7 +1,6 @@
--- What is asked of a program so that its code is well typed: where a value is needed, there is one,
--- what is assigned to has a place, calls have their arguments and a function, and constant
--- addresses are those of shared data. Nothing is asked of group variables, of which no text with
--- plain operations has one.
+-- What well typed code asks of a program: where a value is needed there is one, an assignment has a
+-- place, a call has its arguments and a function, and constant addresses are those of shared data.
+-- Nothing is asked of group variables, because no text with plain operations has one.
 use Rattle.std.specs.Prelude.{◌≡◌, ℕ, ◌==◌, Bool, true, false, not, List, [], ◌∷◌, Option, Some}
 use Rattle.std.specs.Prelude.{None, if◌then◌else◌}
 use Rattle.fk_meaning_store.specs.Serve.{may_use}
@@ -22,7 +21,7 @@ use Rattle.fk_lower_laws.specs.Ways.{Way, Unchecked, Constant, Array, Grouped, W
 use Rattle.fk_lower_laws.specs.Ways.{Valued, gives, named_way, called_way, dotted_way, joined_way}
 use Rattle.fk_lower_laws.specs.Ways.{way}
 
--- it has a place to which is assigned; and an address
+-- An expression has a place to which a value can be assigned; and it has an address.
 abbrev pub IsTarget : Way → Type 0
 IsTarget Unchecked = Unit {0}
 IsTarget (Constant address) = Unit {0}
@@ -37,14 +36,14 @@ HasAddress Array = Unit {0}
 HasAddress Grouped = Unit {0}
 HasAddress w = ⊥
 
--- a sign in front needs a value, a place or an address
+-- A prefix sign needs a value, a place or an address.
 abbrev pub PrefixAsks : Sign → Way → Type 0
 PrefixAsks g.Ampersand w = HasAddress w
 PrefixAsks g.Increment w = IsTarget w
 PrefixAsks g.Decrement w = IsTarget w
 PrefixAsks sign w = gives w ≡ true
 
--- so many arguments as parameters
+-- There are as many arguments as parameters.
 abbrev pub AreEnough : List DeclaredTree → Trees → Type 0
 AreEnough [] es = Unit {0}
 AreEnough (x ∷ xs) t.no_trees = ⊥
@@ -56,7 +55,7 @@ IsCalled (Called gives) = Unit {0}
 
 module _ (tables : Tables) (functions : (binding : ℕ) → Signature)
     (place_of : (binding : ℕ) → FunctionKind) where
-  -- a constant address is one of shared data
+  -- A constant address is one of shared data.
   abbrev pub NameAsks : (at : ℕ) → Way → Type 0
   NameAsks at (Constant address) = may_use true address ≡ true
   NameAsks at Array = is_array tables at ≡ true
@@ -68,13 +67,13 @@ module _ (tables : Tables) (functions : (binding : ℕ) → Signature)
   DotAsks at (Constant address) = NameAsks at (dotted_way tables place_of at (Constant address))
   DotAsks at w = ⊥
 
-  -- a sign between two needs the values of both. A comma drops the left one, where by its
-  -- type there is one
+  -- An infix sign needs the values of both operands. A comma drops the left one, if by its type
+  -- there is one.
   abbrev pub JoinAsks : Sign → (left : Way) → (at : ℕ) → (right : Way) → Type 0
   JoinAsks g.Comma l at r = gives l ≡ not (is_void tables at)
   JoinAsks sign l at r = (gives l ≡ true) × (gives r ≡ true)
 
-  -- a function that is called, with as many arguments as parameters
+  -- A called function gets as many arguments as it has parameters.
   pub record TakesAll (binding : ℕ) (arguments : Trees) : Type 0 where
     pub called : IsCalled (place_of binding)
     pub enough : AreEnough (functions binding).parameters arguments
@@ -127,13 +126,13 @@ module _ (tables : Tables) (functions : (binding : ℕ) → Signature)
     SuffixesAsked w (t.up spot others) = IsTarget w × SuffixesAsked Valued others
     SuffixesAsked w (t.down spot others) = IsTarget w × SuffixesAsked Valued others
 
-    -- arguments have values
+    -- All arguments have values.
     pub AllAsked : Trees → Type 0
     AllAsked t.no_trees = Unit {0}
     AllAsked (t.tree first others) = Asked first × (gives (way tables place_of first) ≡ true)
         × AllAsked others
 
-  -- an expression with a value; and one of which a value is dropped, where by its type there is one
+  -- An expression with a value; and one whose value is dropped, if by its type there is one.
   abbrev pub ValueAsked : Tree → Type 0
   ValueAsked e = Asked e × (gives (way tables place_of e) ≡ true)
 
@@ -148,7 +147,7 @@ module _ (tables : Tables) (functions : (binding : ℕ) → Signature)
   OptionUsedAsked None = Unit {0}
   OptionUsedAsked (Some e) = UsedAsked e
 
-  -- a scalar that is declared is one to which is assigned
+  -- A declared scalar has a place to which its first value is assigned.
   abbrev pub ScalarAsked : (scalar : Bool) → DeclaredTree → Type 0
   ScalarAsked false x = Unit {0}
   ScalarAsked true x = Asked (t.Variable x.name) × IsTarget (named_way tables place_of x.name)
@@ -158,7 +157,7 @@ module _ (tables : Tables) (functions : (binding : ℕ) → Signature)
   VariablesAsked [] = Unit {0}
   VariablesAsked (x ∷ xs) = ScalarAsked (is_scalar x) x × VariablesAsked xs
 
-  -- `main` ends with a value or without, and any other function as it gives one or not
+  -- `main` returns a value or none, and any other function a value exactly if it gives one.
   abbrev pub ReturnAsked : FunctionKind → Option Tree → Type 0
   ReturnAsked Main e = OptionValueAsked e
   ReturnAsked (Called gives) None = gives ≡ false
@@ -200,11 +199,11 @@ module _ (tables : Tables) (functions : (binding : ℕ) → Signature)
   BodyAsked place None = Unit {0}
   BodyAsked place (Some statements) = StatementsAsked place false statements
 
--- `main`, or a function that is called and gives a value or not
+-- Whether a function is `main`, or one that is called, with a value or without.
 abbrev pub place_by : FunctionTree → FunctionKind
 place_by f = if is_main f then Main else Called (not (is_nothing f.result))
 
--- the place that a binding means
+-- The kind of the function that a binding means.
 abbrev pub place_in : Tables → List FunctionTree → (binding : ℕ) → FunctionKind
 place_in tables [] b = Called false
 place_in tables (f ∷ fs) b = if binding_of tables f == b then place_by f else place_in tables fs b

@@ -1,4 +1,4 @@
--- Programs that keep all rules and have a layout are as well typed code asks them.
+-- Programs that keep all rules and have a layout are as well typed code asks.
 use Rattle.std.specs.Prelude.{◌≡◌, ℕ}
 use Rattle.fk_syntax.specs.declared.facts.Facts.{Facts}
 use Rattle.fk_syntax.specs.Program.{ProgramTree}
@@ -17,7 +17,7 @@ CorrectProgramsAreAsked =
     → ProgramIsProper program
     → Fits (tables_by program facts) program.items → ProgramAsked (tables_by program facts) program
 
--- the binding of `main` means `main`, and every other one a function that is called
+-- The binding of `main` means `main`, and every other one means a function that is called.
 abbrev pub MainsHaveTheirPlace : Type 0
 MainsHaveTheirPlace =
     (program : ProgramTree) (facts : Facts) → IsCorrect program facts

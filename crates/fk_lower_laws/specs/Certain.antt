@@ -1,5 +1,5 @@
--- What a law of blocks asks of a list beside its depths, with the private words that calls
--- keep at each index.
+-- What a law of blocks needs of a list besides its depths, with the private words that calls keep
+-- at each index.
 use Rattle.std.specs.Prelude.{◌≡◌, ℕ, ◌≤◌, List, slice_get, true, Some}
 use Rattle.fk_meaning_operation.specs.declared.operation.Operation.{Operation}
 use Rattle.fk_core.specs.declared.op.CoreOp.{CoreOp}
@@ -12,25 +12,25 @@ use Rattle.fk_core_liveness.specs.declared.set.Set.{Set}
 use Rattle.fk_core_liveness.specs.Frames.{kept_in}
 use Rattle.fk_lower_laws.specs.FreeLaws.{IsPlain, GoesOnWithin}
 
--- a list in which no group splits: it goes on within itself, and in every run each
--- operation may be done
+-- A list in which no group splits. It goes on within itself, and in every run each operation may be
+-- done.
 pub record IsSteady (core : List CoreOp) (main : ℕ) : Type 0 where
   pub within : GoesOnWithin core main
   pub plain : IsPlain core
   pub may : AlwaysMay core main
 
--- each operation finds the values that it needs
+-- Each operation finds the values that it needs.
 abbrev pub HasEnough : List CoreOp → Type 0
 HasEnough core =
     (i : ℕ) (op : CoreOp) (operation : Operation) → slice_get core i ≡ Some op
     → operation_of op.kind op.number ≡ Some operation
     → needs operation ≤ op.depth
 
--- a list suits frames with so many private variables of file scope
+-- A list suits frames with this many private variables of file scope.
 pub record HasFrames (core : List CoreOp) (kept : List Set) (main firsts : ℕ) : Type 0 where
   pub frames : Frames
   pub of_file : frames.of_file ≡ firsts
   pub suits : Suits core frames main
-  -- in which calls keep no words but these
+  -- In the frames calls keep no words except those of `kept`.
   pub keeps : (index word : ℕ) → frames.keeps index word ≡ true
       → kept_in (slice_get kept index) word ≡ true

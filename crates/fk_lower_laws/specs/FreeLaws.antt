@@ -1,4 +1,4 @@
--- What is so of the flat lists of programs.
+-- Laws of the flat lists of programs.
 use Rattle.std.specs.Prelude.{◌≡◌, ℕ, ◌+◌, ◌<◌, ◌≤◌, true, List, length, slice_get, false, Some}
 use Rattle.fk_meaning_operation.specs.declared.operation.Operation.{Operation}
 use Rattle.fk_syntax.specs.Program.{ProgramTree}
@@ -14,7 +14,7 @@ use Rattle.fk_compile_text.specs.Plain.{is_plain, ArePlain}
 use Rattle.fk_core_typing.specs.Laws.{LeadsWithin}
 use Rattle.fk_lower_laws.specs.Asked.{ProgramAsked}
 
--- an index lies in the code of a function that is written from a place on
+-- An index is in the code of a function that is written from a place on.
 abbrev pub LiesIn : (bodies : (binding : ℕ) → Code ℕ) → (place : ℕ → ℕ)
     → (index binding : ℕ) → Type 0
 LiesIn bodies place i f = (place f ≤ i) × (i < place f + extent false (bodies f))
@@ -28,7 +28,7 @@ FlatListsAreApart =
     → (flat : IsFlat (bodies_of tables program) core entry)
     → AreApart (bodies_of tables program) flat.place
 
--- each operation of a list is plain
+-- Each operation of a list is plain.
 abbrev pub IsPlain : List CoreOp → Type 0
 IsPlain core =
     (i : ℕ) (op : CoreOp) (operation : Operation) → slice_get core i ≡ Some op
@@ -41,7 +41,7 @@ ListsArePlain =
     → ArePlain tables program
     → IsFlat (bodies_of tables program) core entry → IsPlain core
 
--- a list that goes on within itself from `main` on
+-- A list goes on within itself from `main` on.
 pub record GoesOnWithin (core : List CoreOp) (main : ℕ) : Type 0 where
   pub begins : main < length core
   pub leads : LeadsWithin core

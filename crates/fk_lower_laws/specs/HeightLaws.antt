@@ -1,4 +1,4 @@
--- The depths that are told of a text are those of its code.
+-- The depths given for a text are those of its code.
 use Rattle.std.specs.Prelude.{◌≡◌, List}
 use Rattle.fk_syntax.specs.Program.{ProgramTree}
 use Rattle.fk_meaning_forms.specs.Program.{bodies_of}
@@ -14,7 +14,8 @@ use Rattle.fk_core_typing.specs.Typed.{AreTyped}
 use Rattle.fk_core_typing.specs.Laws.{HasHeightsOf}
 use Rattle.fk_lower_laws.specs.Asked.{place_of}
 
--- so where the code is well typed, and all its operations are plain
+-- The depths of a list are those of the text's code, if that is well typed and all its operations
+-- are plain.
 abbrev pub ListsHaveHeights : Type 0
 ListsHaveHeights =
     (known : ProgramTables) (program : ProgramTree) (core : List CoreOp)

@@ -26,8 +26,8 @@ use Rattle.fk_lower_laws.specs.Proper.{ProgramIsProper}
 use Rattle.fk_lower_laws.specs.LoweringLaws.{IsKnownOf}
 use Rattle.fk_lower_laws.specs.Certain.{IsSteady, HasEnough, HasFrames}
 
--- the code of each function stands at its entry in a list, with its depths, and these words are
--- those that are live in it
+-- A list has the code of each function at its entry, with its depths, and these words are those
+-- that are live in it.
 pub record IsLowered (tables : Tables) (program : ProgramTree) (core : List CoreOp)
     (entry : (binding : ℕ) → ℕ) (kept : List Set) : Type 0 where
   pub flat : IsFlat (bodies_of tables program) core entry
@@ -44,7 +44,7 @@ CorrectListsAreSteady =
     → (core : List CoreOp) (entry : (binding : ℕ) → ℕ)
     → IsFlat (bodies_of tables program) core entry → IsSteady core (entry (main_of tables program))
 
--- how many private variables of file scope a text has
+-- The number of private variables of file scope of a text.
 abbrev pub count_of_file : ProgramTree → Facts → ℕ
 count_of_file program facts =
     length (firsts (told facts.notes.items facts.kinds.items) program.items)
@@ -59,8 +59,8 @@ CorrectListsHaveFrames =
     → IsLowered tables program core entry kept
     → HasFrames core kept (entry (main_of tables program)) (count_of_file program facts)
 
--- what code is made of: the depths of a list are those of all runs, each operation finds its
--- values, and the list is steady and has frames that keep the words that are live in it
+-- What the list of code with groups needs: its depths are those of all runs, each operation finds
+-- its values, and the list is steady and has frames that keep the words that are live in it.
 pub record CanHaveGroups (core : List CoreOp) (main firsts : ℕ) : Type 0 where
   pub depths : HasDepths core main
   pub enough : HasEnough core

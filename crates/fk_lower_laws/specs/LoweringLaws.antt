@@ -1,4 +1,4 @@
--- What is so of each program that keeps all rules and has a layout.
+-- Laws of each program that keeps all rules and has a layout.
 use Rattle.std.specs.Prelude.{◌≡◌, ◌≤◌, length}
 use Rattle.fk_syntax.specs.declared.facts.Facts.{Facts}
 use Rattle.fk_syntax.specs.Program.{ProgramTree}
@@ -13,24 +13,24 @@ use Rattle.fk_lower_text.specs.Whole.{AreWhole}
 use Rattle.fk_lower_text.specs.Laid.{GoUp, CanBeLaid}
 use Rattle.fk_check_laws.specs.Correct.{IsCorrect}
 
--- what is known is that of a program, with its facts
+-- What is known is that of a program with these facts.
 pub record IsKnownOf (program : ProgramTree) (facts : Facts) (known : ProgramTables) : Type 0 where
   pub tables : tables_of known ≡ tables_by program facts
   pub items : items_in known ≡ program.items
 
--- the bindings of the functions go up in the order of the text
+-- The bindings of the functions go up in the order of the text.
 abbrev pub BindingsGoUp : Type 0
 BindingsGoUp = (program : ProgramTree) (facts : Facts) (known : ProgramTables)
     → IsCorrect program facts → IsKnownOf program facts known → GoUp known 0 (functions_in known)
 
--- the private variables of file scope are few
+-- The private variables of file scope are few.
 abbrev pub FirstsAreFew : Type 0
 FirstsAreFew =
     (program : ProgramTree) (facts : Facts) → IsCorrect program facts
     → Fits (tables_by program facts) program.items
     → length (firsts (told facts.notes.items facts.kinds.items) program.items) ≤ 56
 
--- the functions can be laid where each number of an operation has room in a word
+-- The functions can be laid if each number of an operation has room in a word.
 abbrev pub TextsCanBeLaid : Type 0
 TextsCanBeLaid =
     (program : ProgramTree) (facts : Facts) (known : ProgramTables) → IsCorrect program facts

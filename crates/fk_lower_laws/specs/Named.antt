@@ -1,4 +1,4 @@
--- What is asked of a program so that its code names private words that are there.
+-- What a program needs for its code to name private words that exist.
 use Rattle.std.specs.Prelude.{◌≡◌, ℕ, ◌<◌, ◌≤◌, ◌==◌, false, List, [], ◌∷◌, ◌++◌, length}
 use Rattle.std.specs.Prelude.{if◌then◌else◌}
 use Rattle.fk_syntax.specs.Tree.{Named}
@@ -13,15 +13,15 @@ use Rattle.fk_core_flat.specs.Fitting.{ProgramFits}
 use Rattle.fk_compile_text.specs.Plain.{ArePlain}
 use Rattle.fk_lower_laws.specs.Rooms.{HasWords}
 
--- there are so many private variables of file scope, and so many private words of a function
+-- For this many private variables of file scope, and private words of a function.
 module _ (tables : Tables) (firsts words : ℕ) where
-  -- a private variable has its word
+  -- A private variable has its word.
   abbrev pub HasWord : Home → (index : ℕ) → Type 0
   HasWord h.Private i = i < words
   HasWord h.FilePrivate i = i < firsts
   HasWord home i = Unit {0}
 
-  -- a name means a declaration of the text, and the private word of that one is there
+  -- A name means a declaration of the text; and the private word of that declaration exists.
   abbrev pub IsBound : Named → Type 0
   IsBound name = ((note tables name.at).binding == no_binding) ≡ false
 
@@ -29,7 +29,7 @@ module _ (tables : Tables) (firsts words : ℕ) where
   HasItsWord name =
       let b = (note tables name.at).binding in HasWord (slot tables b).home (slot tables b).index
 
-  -- so it is with what is declared, and with each name that is used and means a declaration
+  -- What is declared has its word, and so has each used name that means a declaration.
   abbrev pub IsNamed : MarkTree → Type 0
   IsNamed (Uses name) = IsBound name → HasItsWord name
   IsNamed (Declares (Variable x)) = IsBound x.name × HasItsWord x.name
@@ -39,7 +39,7 @@ module _ (tables : Tables) (firsts words : ℕ) where
   AreNamed [] = Unit {0}
   AreNamed (mark ∷ marks) = IsNamed mark × AreNamed marks
 
-  -- a call has room for 56 parameters
+  -- A call has room for 56 parameters.
   pub record FunctionNames (f : FunctionTree) : Type 0 where
     pub room : length f.parameters ≤ 56
     pub names : AreNamed (variables_marks f.parameters ++ body_marks f.body)
@@ -49,13 +49,14 @@ module _ (tables : Tables) (words : FunctionTree → ℕ) (firsts : ℕ) where
   FunctionsName [] = Unit {0}
   FunctionsName (f ∷ fs) = FunctionNames tables firsts (words f) f × FunctionsName fs
 
--- so many private words has the function of a binding
+-- The number of private words of the function of a binding.
 abbrev pub words_in : Tables → (words : FunctionTree → ℕ) → List FunctionTree → (binding : ℕ) → ℕ
 words_in tables words [] b = 0
 words_in tables words (f ∷ fs) b = if binding_of tables f == b then words f
     else words_in tables words fs b
 
--- such programs of which all operations are plain come to code that names words that are there
+-- A program whose names have their words, and whose operations are all plain, has code that names
+-- private words that exist.
 abbrev pub CodeNamesWords : Type 0
 CodeNamesWords =
     (tables : Tables) (program : ProgramTree) (words : FunctionTree → ℕ) (firsts : ℕ)

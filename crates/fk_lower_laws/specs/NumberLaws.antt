@@ -11,7 +11,7 @@ use Rattle.fk_check_laws.specs.Correct.{IsCorrect}
 use Rattle.fk_compile_text.specs.Plain.{ArePlain}
 use Rattle.fk_lower_laws.specs.LoweringLaws.{IsKnownOf}
 
--- where all are plain, each operation of a program that keeps all rules and has a layout has one
+-- Each operation of a program that keeps all rules and has a layout has a number, if all are plain.
 abbrev pub OperationsHaveNumbers : Type 0
 OperationsHaveNumbers =
     (program : ProgramTree) (facts : Facts) (known : ProgramTables) → IsCorrect program facts

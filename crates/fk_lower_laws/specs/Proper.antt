@@ -25,7 +25,7 @@ ItemsAreProper (x ∷ xs) = ItemIsProper x × ItemsAreProper xs
 abbrev pub ProgramIsProper : ProgramTree → Type 0
 ProgramIsProper program = ItemsAreProper program.items
 
--- the program of a text is so
+-- The program of a text is proper.
 abbrev pub TextsAreProper : Type 0
 TextsAreProper =
     (source : List ℕ) (tokens : List Spelled) (program : ProgramTree)

@@ -1,4 +1,4 @@
--- Frames that have room for the private words and the values of functions.
+-- Frames with room for the private words and the values of functions.
 use Rattle.std.specs.Prelude.{ℕ, ◌+◌, ◌-◌, ◌≤◌, true, false, List, [], ◌∷◌}
 use Rattle.fk_syntax.specs.Program.{FunctionTree, ItemTree}
 use Rattle.fk_layout_sizes.specs.Operations.{takes}
@@ -10,7 +10,7 @@ use Rattle.fk_layout.specs.Frames.{told_in, private_words}
 use Rattle.fk_core_liveness.specs.declared.places.FunctionKind.{FunctionKind}
 use Rattle.fk_core_typing.specs.Heights.{raised, results_of, height}
 
--- code with at most so many values at each of its places, counted as in `height`
+-- Code with at most `most` values at each of its places, counted as in `height`.
 module _ (place_of : (binding : ℕ) → FunctionKind) (most : ℕ) where
   abbrev pub HasFew : (values : ℕ) → Code ℕ → Type 0
   HasFew h done = h ≤ most
@@ -34,11 +34,11 @@ module _ (place_of : (binding : ℕ) → FunctionKind) (most : ℕ) where
   HasFew h code = ⊥
 
 module _ (tables : Tables) (items : List ItemTree) where
-  -- the private words of a function, those of file scope apart
+  -- The private words of a function, without those of file scope.
   abbrev pub own_words : FunctionTree → ℕ
   own_words f = (own_of (told_in tables) f).privates
 
-  -- the private frames of functions have at most so many words
+  -- The private frames of functions have at most this many words.
   abbrev pub HaveRoom : (most : ℕ) → List FunctionTree → Type 0
   HaveRoom most [] = Unit {0}
   HaveRoom most (f ∷ fs) = (private_words tables items f ≤ most) × HaveRoom most fs

@@ -18,13 +18,13 @@ use Rattle.fk_lower_laws.specs.Named.{words_in}
 use Rattle.fk_lower_laws.specs.Room.{HasFew, own_words}
 use Rattle.fk_lower_laws.specs.Proper.{ProgramIsProper}
 
--- so many private words has the function of a binding, those of file scope apart
+-- The number of private words of the function of a binding, without those of file scope.
 abbrev pub words_of : Tables → ProgramTree → (binding : ℕ) → ℕ
 words_of tables program b =
     words_in tables (own_words tables program.items) (functions_of program.items) b
 
--- the private words of each function, and its values, have room beside what stands ahead and the 8
--- words that a layout counts
+-- The private words of each function, and its values, have room beside the words before them and
+-- the 8 words that a layout counts.
 pub record HaveValues (bodies : (binding : ℕ) → Code ℕ) (place_of : (binding : ℕ) → FunctionKind)
     (firsts : ℕ) (words : (binding : ℕ) → ℕ) : Type 0 where
   pub most : (binding : ℕ) → ℕ
@@ -40,8 +40,8 @@ ValuesHaveRoom =
     → HaveValues (bodies_of tables program) (place_of tables program) (file_privates program.items)
     (words_of tables program)
 
--- and each private word that is named in the code of a function is there, among its own or
--- those of file scope
+-- Each private word that is named in the code of a function exists, among the function's own or
+-- those of file scope.
 abbrev pub NamesHaveWords : Type 0
 NamesHaveWords =
     (program : ProgramTree) (facts : Facts) → IsCorrect program facts → ProgramIsTrim program
@@ -50,7 +50,7 @@ NamesHaveWords =
     → (binding : ℕ) → HasWords (file_privates program.items) (words_of tables program binding)
     (bodies_of tables program binding)
 
--- so both have room in frames
+-- The private words and the values of each function have room in its frame.
 abbrev pub CorrectProgramsHaveRoom : Type 0
 CorrectProgramsHaveRoom =
     (program : ProgramTree) (facts : Facts) → IsCorrect program facts → ProgramIsTrim program

@@ -1,5 +1,5 @@
--- Functions whose private words and values have room in frames of 64 words, told by the
--- structure of code.
+-- Functions whose private words and values have room in frames of 64 words, by the structure of
+-- code.
 use Rattle.std.specs.Prelude.{◌≡◌, ℕ, ◌+◌, ◌<◌, ◌≤◌, true}
 use Rattle.fk_meaning_operation.specs.declared.operation.Operation.{Operation}
 use Rattle.fk_meaning_operation.specs.declared.operation.Operation.TheVariants.{Get, Set}
@@ -13,9 +13,9 @@ use Rattle.fk_core_liveness.specs.declared.places.FunctionKind.{FunctionKind}
 use Rattle.fk_core_liveness.specs.declared.places.FunctionKind.TheVariants.{Main, Called}
 use Rattle.fk_lower_laws.specs.Room.{HasFew}
 
--- there are so many private variables of file scope, and so many private words of a function
+-- For this many private variables of file scope, and private words of a function.
 module _ (firsts words : ℕ) where
-  -- the variable that an operation names is there
+  -- The variable that an operation names exists.
   abbrev pub HasWord : Operation → Type 0
   HasWord (Get (Value (Private word))) = word < words
   HasWord (Get (Value (OfFile word))) = word < firsts
@@ -23,7 +23,8 @@ module _ (firsts words : ℕ) where
   HasWord (Set (OfFile word)) = word < firsts
   HasWord operation = Unit {0}
 
-  -- and so it is with all operations of code. Its calls have few arguments
+  -- The variables that all operations of code name exist. Calls begin with nothing and have few
+  -- arguments.
   abbrev pub HasWords : Code ℕ → Type 0
   HasWords done = Unit {0}
   HasWords (perform n op rest) = HasWord op × HasWords rest
@@ -38,14 +39,14 @@ module _ (firsts words : ℕ) where
   HasWords (ends n op rest) = HasWord op × HasWords rest
   HasWords code = ⊥
 
--- in the frame of `main` the private variables of file scope stand before its private words
+-- In the frame of `main` the private variables of file scope come before its private words.
 abbrev pub ahead_in : (firsts : ℕ) → FunctionKind → ℕ
 ahead_in firsts Main = firsts
 ahead_in firsts (Called gives) = 0
 
--- The private words of each function and its values have room beside what stands ahead and the 8
--- words that a layout counts for each frame: a header of 7, and one for a result behind each call,
--- also where the function that is called gives none
+-- The private words of each function and its values have room beside the words before them and the
+-- 8 words that a layout counts for each frame: a header of 7, and one for a result after each call,
+-- also if the called function gives none.
 pub record HaveRoom (bodies : (binding : ℕ) → Code ℕ) (place_of : (binding : ℕ) → FunctionKind)
     (firsts : ℕ) : Type 0 where
   pub words : (binding : ℕ) → ℕ

@@ -1,4 +1,4 @@
--- Flat lists suit frames that hold their live words.
+-- Flat lists suit frames that keep their live words.
 use Rattle.std.specs.Prelude.{◌≡◌, ℕ, Bool, List}
 use Rattle.fk_meaning_forms.specs.Code.{Code}
 use Rattle.fk_core.specs.declared.op.CoreOp.{CoreOp}
@@ -9,8 +9,8 @@ use Rattle.fk_core_liveness.specs.Live.{IsLive, IsLeast}
 use Rattle.fk_core_typing.specs.Laws.{IsTypedList, HasHeightsOf}
 use Rattle.fk_lower_laws.specs.Rooms.{HaveRoom}
 
--- a flat list of well typed functions, with depths as its code has them and room in frames: the
--- fewest words that are live in it are those that its frames hold
+-- A flat list of well typed functions, with the depths of its code and room in frames, suits frames
+-- that keep the fewest words that are live in it.
 abbrev pub LiveWordsSuit : Type 0
 LiveWordsSuit =
     (bodies : (binding : ℕ) → Code ℕ) (core : List CoreOp) (entry : ℕ → ℕ)

@@ -1,5 +1,5 @@
--- Expressions that have a type, and what else is asked of them: what their names,
--- members and calls are.
+-- Expressions that have a type, and what else is required of them: of their names, members and
+-- calls.
 use Rattle.std.specs.Prelude.{◌≡◌, ℕ, Bool, true, false, Some, None, is_some}
 use Rattle.fk_meaning_store.specs.Serve.{may_use}
 use Rattle.fk_syntax.specs.declared.place.Spot.{Spot}
@@ -26,7 +26,7 @@ abbrev pub IsNothing : ExpressionType → Bool
 IsNothing Nothing = true
 IsNothing type = false
 
--- the address of a private word isn't taken
+-- The address of a private word isn't taken.
 abbrev pub IsNoWord : Way → Type 0
 IsNoWord Word = ⊥
 IsNoWord w = Unit {0}
@@ -35,10 +35,9 @@ abbrev pub PrefixIs : Sign → Way → Type 0
 PrefixIs g.Ampersand w = IsNoWord w
 PrefixIs sign w = Unit {0}
 
--- where there is room for what is stored at a constant address
+-- For a condition of room for what is stored at a constant address.
 module _ (Room : (address : ℕ) → DataType → Type 0) where
-  -- an expression of a type stands in such a way. What is in a private word is no
-  -- array and no struct
+  -- An expression of a type is in such a way. What is in a private word is no array and no struct.
   abbrev pub StandsAs : Way → ExpressionType → Type 0
   StandsAs Valued (Computed value) = Unit {0}
   StandsAs Absent Nothing = Unit {0}
@@ -52,21 +51,21 @@ module _ (Room : (address : ℕ) → DataType → Type 0) where
 
   module _ (env : Env) (tables : Tables) (functions : (binding : ℕ) → Signature)
       (place_of : (binding : ℕ) → FunctionKind) where
-    -- by its type a name stands so; and what is called is a function with its arguments
+    -- A name is as its type says, and has what is asked of it.
     abbrev pub NameIs : Named → Type 0
     NameIs name =
         (type : ExpressionType) → type_of env (e.Use name) ≡ Some type
         → NameAsks tables functions place_of name.at (named_way tables place_of name)
         × StandsAs (named_way tables place_of name) type
 
-    -- a type is noted at the token of what a comma drops, which is no struct
+    -- A type is noted at the token of what a comma drops, which is no struct.
     abbrev pub CommaIs : Sign → Term → (at : ℕ) → Type 0
     CommaIs g.Comma before at =
         (type : ExpressionType) → type_of env before ≡ Some type → is_some (left_of type) ≡ true
         → is_void tables at ≡ IsNothing type
     CommaIs sign before at = Unit {0}
 
-    -- a member has room where its struct has
+    -- A member has room if its struct has.
     abbrev pub MemberIs : Spot → Term → Named → Type 0
     MemberIs spot before name =
         (address : ℕ) (type member : DataType) → type_of env before ≡ Some (Stored type)
@@ -93,7 +92,7 @@ module _ (Room : (address : ℕ) → DataType → Type 0) where
           Known right × CommaIs sign before at
           × LinksKnown (joined_term spot sign before (term_of right)) spot.at others
 
-      -- a call that has a type is one of a function, of which so much is asked before
+      -- A call that has a type is one of a function, of which `before_asked` is asked before.
       pub SuffixesKnown : (before_asked : Type 0) → Term → Way → Suffixes → Type 0
       SuffixesKnown A before w t.no_suffixes = Unit {0}
       SuffixesKnown A before w (t.index spot by others) = Known by
@@ -120,7 +119,7 @@ module _ (Room : (address : ℕ) → DataType → Type 0) where
       AllKnown t.no_trees = Unit {0}
       AllKnown (t.tree first others) = Known first × AllKnown others
 
--- so an expression that has a type is as it is asked, and stands by its type
+-- An expression that has a type is as well typed code asks, and is as its type says.
 abbrev pub TypedIsAsked : Type 0
 TypedIsAsked =
     (has_room : (address : ℕ) → DataType → Bool)

@@ -1,5 +1,5 @@
--- Such programs of which all operations are plain come to well typed code; and `main` is
--- where it begins.
+-- Programs that are as well typed code asks, and whose operations are all plain, have well typed
+-- code. `main` is where it begins.
 use Rattle.std.specs.Prelude.{◌≡◌, ◌⊎◌, ℕ, ◌==◌, true, List, [], ◌∷◌}
 use Rattle.fk_syntax.specs.Program.{FunctionTree, ProgramTree}
 use Rattle.fk_meaning_forms.specs.Tables.{Tables}
@@ -15,7 +15,7 @@ FormsAreTyped =
     → ArePlain tables program
     → AreTyped (place_of tables program) (bodies_of tables program)
 
--- there is a `main`, and no other function has its binding
+-- There is a `main`, and no other function has its binding.
 abbrev pub HasMain : List FunctionTree → Type 0
 HasMain [] = ⊥
 HasMain (f ∷ fs) = (is_main f ≡ true) ⊎ HasMain fs
@@ -25,7 +25,7 @@ IsMainAlone tables main [] = Unit {0}
 IsMainAlone tables main (f ∷ fs) = ((binding_of tables f == main) ≡ is_main f)
     × IsMainAlone tables main fs
 
--- so its binding means `main`, and every other one a function that is called
+-- The binding of `main` means `main` then, and every other one means a function that is called.
 abbrev pub MainHasItsPlace : Type 0
 MainHasItsPlace =
     (tables : Tables) (program : ProgramTree)

@@ -1,4 +1,4 @@
--- How an expression stands when its operations are done, told of its tree.
+-- What an expression is when its operations are done, given its tree.
 use Rattle.std.specs.Prelude.{ℕ, ◌+◌, ◌*◌, ◌==◌, Bool, true, false, not, ◌||◌, codes, if◌then◌else◌}
 use Rattle.fk_num.specs.Word.{word}
 use Rattle.fk_num.specs.Op.{applied}
@@ -16,20 +16,20 @@ use Rattle.fk_core_liveness.specs.declared.places.FunctionKind.{FunctionKind}
 use Rattle.fk_core_liveness.specs.declared.places.FunctionKind.TheVariants.{Main, Called}
 
 pub data Way : Type 0 where
-  -- as a value, or as none
+  -- It has a value, or none.
   Valued : Way
   Absent : Way
-  -- at an address that is checked before it is used; at a constant one, which needs no check; at
-  -- that of an array, which is its value; or in a group frame
+  -- It is at an address that is checked before it is used; at a constant address, which needs no
+  -- check; at the address of an array, which is its value; or in a group frame.
   Unchecked : Way
   Constant : (address : ℕ) → Way
   Array : Way
   Grouped : Way
-  -- in a private word, and as the name of a function
+  -- It is in a private word, or is the name of a function.
   Word : Way
   Function : (name : Named) → Way
 
--- whether it has a value
+-- Whether an expression has a value.
 abbrev pub gives : Way → Bool
 gives Absent = false
 gives (Function name) = false
@@ -39,7 +39,7 @@ abbrev pub result : (gives : Bool) → Way
 result true = Valued
 result false = Absent
 
--- a predeclared function gives a value, but for those that print
+-- A predeclared function gives a value, except those that print.
 abbrev pub predeclared_gives : Named → Bool
 predeclared_gives name =
     takes_two name || (is_name name (codes "groupsize")
@@ -49,7 +49,7 @@ abbrev pub place_gives : FunctionKind → Bool
 place_gives Main = false
 place_gives (Called gives) = gives
 
--- predeclared names, and those of variables by their homes
+-- The ways of predeclared names, and of variables by their homes.
 abbrev pub predeclared_way : Named → Way
 predeclared_way name =
     if is_name name (codes "__PROC_NR__") then Valued
@@ -65,12 +65,12 @@ placed_way h.Private i name = Word
 placed_way (h.Group r) i name = Grouped
 placed_way h.NoWord i name = Function name
 
--- a dereference stands at its address, and what other signs make is a value
+-- A dereference is at its address. What other signs give is a value.
 abbrev pub prefix_way : Sign → Way
 prefix_way g.Star = Unchecked
 prefix_way sign = Valued
 
--- a chain has what its last sign makes of the value on the right
+-- A chain is what its last sign makes of the right operand.
 abbrev pub joined_way : Sign → (right : Way) → Way
 joined_way g.Comma right = result (gives right)
 joined_way sign right = Valued
@@ -91,7 +91,7 @@ module _ (tables : Tables) (place_of : (binding : ℕ) → FunctionKind) where
   called_way (Function name) = result (call_gives name)
   called_way way = Absent
 
-  -- a member lies behind the beginning of its struct, as the note of its name says
+  -- A member comes after the beginning of its struct by as many words as the note of its name says.
   abbrev pub behind_member : (at address : ℕ) → ℕ
   behind_member at address = applied f.Add address (word (4 * (note tables at).binding))
 

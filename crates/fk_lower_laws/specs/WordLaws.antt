@@ -12,13 +12,13 @@ use Rattle.fk_parse_laws.specs.Words.{NumbersAreWords}
 use Rattle.fk_lower_laws.specs.WordRoom.{ItemsAreNear}
 use Rattle.fk_check_laws.specs.Correct.{IsCorrect}
 
--- the words before members are few, and so are the parameters of functions
+-- There are few words before members, and few parameters of functions.
 abbrev pub MembersAreClose : Type 0
 MembersAreClose = (program : ProgramTree) (facts : Facts) → IsCorrect program facts
     → ItemsAreNear (tables_by program facts) program.items
 
--- each number that an operation takes has room in a word, where those that are written
--- in the text have
+-- Each number that an operation takes has room in a word, if those that are written in the text
+-- have.
 abbrev pub NumbersHaveRoom : Type 0
 NumbersHaveRoom =
     (program : ProgramTree) (facts : Facts) (known : ProgramTables) → IsCorrect program facts

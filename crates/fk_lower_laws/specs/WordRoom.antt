@@ -1,5 +1,5 @@
--- Programs of which each number that an operation takes has room in a word: what is asked of their
--- tables, and of the trees.
+-- What a program needs for each number that an operation takes to have room in a word: conditions
+-- on its tables, and on its trees.
 use Rattle.std.specs.Prelude.{ℕ, ◌<◌, ◌^◌, List, [], ◌∷◌, All, Option, Some, None, length}
 use Rattle.fk_syntax.specs.declared.facts.Kind.{Kind}
 use Rattle.fk_syntax.specs.declared.facts.Note.{Note}
@@ -11,7 +11,7 @@ use Rattle.fk_meaning_forms.specs.declared.tables.Region.{Region}
 use Rattle.fk_meaning_forms.specs.declared.tables.Slot.{Slot}
 use Rattle.fk_meaning_forms.specs.Tables.{Tables, note}
 
--- 4 bytes a word, and the first word of shared data at 2^28
+-- A word has 4 bytes, and the first word of shared data is at 2^28.
 abbrev pub most_words : ℕ
 most_words = 2 ^ 29
 
@@ -24,7 +24,7 @@ pub record HasRoom (tables : Tables) : Type 0 where
   pub frames : All (λ (region : Region). region.words < 2 ^ 32) tables.regions
 
 module _ (tables : Tables) where
-  -- the words before a member
+  -- There are few words before a member.
   abbrev pub IsNear : Named → Type 0
   IsNear member = (note tables member.at).binding < most_words
 
@@ -95,7 +95,7 @@ module _ (tables : Tables) where
   BodyIsNear None = Unit {0}
   BodyIsNear (Some statements) = StatementsAreNear statements
 
-  -- and no function has too many parameters
+  -- Members are near in the body of a function, and the function has not too many parameters.
   abbrev pub ItemIsNear : ItemTree → Type 0
   ItemIsNear (p.FunctionItem f) = (length f.parameters < 2 ^ 32) × BodyIsNear f.body
   ItemIsNear item = Unit {0}

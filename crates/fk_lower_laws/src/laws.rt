@@ -1,5 +1,5 @@
-//! Laws of the code of programs.
-//! Laws of programs that keep all rules and have a layout, and of their lists.
+//! Laws of the code of programs, of programs that keep all rules and have a layout, and of their
+//! lists.
 
 ghost use Rattle.fk_lower_laws.specs.TypedLaws.{FormsAreTyped, MainHasItsPlace};
 ghost use Rattle.fk_lower_laws.specs.Typed.{TypedIsAsked};
@@ -17,34 +17,34 @@ ghost use Rattle.fk_lower_laws.specs.HeightLaws.{ListsHaveHeights};
 ghost use Rattle.fk_lower_laws.specs.Laws.{CorrectListsAreSteady, CorrectListsHaveFrames};
 ghost use Rattle.fk_lower_laws.specs.Laws.{LoweredListsCanHaveGroups};
 
-/// The code of a program of which all operations are plain is well typed, where there is a value
-/// wherever one is needed, a place where something is assigned, each call has its arguments, and
-/// `break` and `continue` stand in loops.
+/// The code of a program of which all operations are plain is well typed, if there is a value
+/// wherever one is needed, and a place where something is assigned, each call has its arguments,
+/// and `break` and `continue` are in loops.
 pub fn forms_are_typed()
     ensures { FormsAreTyped }
 {}
 
-/// The binding of `main` means `main` as the law above has it, and every other one means a
-/// function that is called, where there is a `main` and no other function has its binding.
+/// The binding of `main` means `main`, and every other one means a function that is called, if
+/// there is a `main` and no other function has its binding.
 pub fn main_has_its_place()
     ensures { MainHasItsPlace }
 {}
 
-/// An expression that has a type is as the first law asks it, and stands as its type says, where
-/// its names, its members and its calls do.
+/// An expression that has a type is as well typed code asks, and is as its type says, if its names,
+/// its members and its calls are.
 pub fn typed_is_asked()
     ensures { TypedIsAsked }
 {}
 
-/// The members in a program that keeps all rules lie near the first words of their structs, and no
+/// The members in a program that keeps all rules are near the first words of their structs, and no
 /// function has too many parameters.
 pub fn members_are_close()
     ensures { MembersAreClose }
 {}
 
-/// Each number that an operation of a program takes has room in a word, where the program keeps all
-/// rules and has a layout, and those that are written in its text have: addresses, the words before
-/// members and those of types, places and counts of arguments.
+/// Each number that an operation of a program takes has room in a word, if the program keeps all
+/// rules and has a layout, and the numbers written in its text have room: addresses, the words
+/// before members and those of types, places and counts of arguments.
 pub fn numbers_have_room()
     ensures { NumbersHaveRoom }
 {}
@@ -54,14 +54,14 @@ pub fn bindings_go_up()
     ensures { BindingsGoUp }
 {}
 
-/// The functions of a text can be laid, each at its binding, where each number of an operation has
+/// The functions of a text can be laid, each at its binding, if each number of an operation has
 /// room in a word: at most 16,000 operations are few enough for their list.
 pub fn texts_can_be_laid()
     ensures { TextsCanBeLaid }
 {}
 
 /// There are at most 56 private variables of file scope: they are among the words of the private
-/// frame of `main`, which has at most 64, and 8 before them.
+/// frame of `main`, which has at most 64, and 8 others besides them.
 pub fn firsts_are_few()
     ensures { FirstsAreFew }
 {}
@@ -72,96 +72,97 @@ pub fn texts_are_proper()
 {}
 
 /// A program that keeps all rules, as a text spells it, and has a layout, has a value wherever one
-/// is needed, and a place where something is assigned; its calls are of functions with their
-/// arguments, its constant addresses are those of shared data, and it returns values where its
-/// functions give them.
+/// is needed, and a place where something is assigned. Its calls are of functions with their
+/// arguments, its constant addresses are those of shared data, and it returns values exactly where
+/// its functions give them.
 pub fn correct_programs_are_asked()
     ensures { CorrectProgramsAreAsked }
 {}
 
-/// The binding of `main` means `main`, and every other one a function that is called.
+/// The binding of `main` means `main`, and every other one means a function that is called.
 pub fn mains_have_their_place()
     ensures { MainsHaveTheirPlace }
 {}
 
-/// No index of the flat list of a program lies in the code of two functions.
+/// No index of the flat list of a program is in the code of two functions.
 pub fn flat_lists_are_apart()
     ensures { FlatListsAreApart }
 {}
 
-/// The flat list of a program of which all operations are plain has plain operations alone.
+/// The flat list of a program of which all operations are plain has only plain operations.
 pub fn lists_are_plain()
     ensures { ListsArePlain }
 {}
 
 /// The flat list of a program with well typed code, of which all operations are plain, goes on
-/// within itself: its jumps lead to operations, none but an end goes on outside it, and its
-/// `main` begins in it.
+/// within itself: its jumps lead to operations, only an end goes on outside it, and its `main`
+/// begins in it.
 pub fn lists_go_on_within()
     ensures { ListsGoOnWithin }
 {}
 
 /// A flat list of well typed functions, whose private words and values have room in frames, suits
-/// frames that hold its live words, where calls keep no more than their arguments.
+/// frames that keep its live words.
 pub fn live_words_suit()
     ensures { LiveWordsSuit }
 {}
 
 /// A program that keeps all rules, as a text spells it, and has a layout, has room in the frame of
-/// each function for its private words and for its values, where all operations are plain.
+/// each function for its private words and for its values, if all operations are plain.
 pub fn values_have_room()
     ensures { ValuesHaveRoom }
 {}
 
-/// The code of a program of which all operations are plain names private words that are there, and
-/// its calls have few arguments and begin with nothing, where so it is with the names of its text.
+/// The code of a program of which all operations are plain names private words that exist, and its
+/// calls have few arguments and begin with nothing, if the names of its text have their words.
 pub fn code_names_words()
     ensures { CodeNamesWords }
 {}
 
-/// A program that keeps all rules and has a layout has code that names private words that are
-/// there: each is below the number of its function's own words, or among those of file scope.
+/// A program that keeps all rules and has a layout has code that names private words that exist, if
+/// all operations are plain: each is below the number of its function's own words, or among those
+/// of file scope.
 pub fn names_have_words()
     ensures { NamesHaveWords }
 {}
 
 /// A program that keeps all rules, as a text spells it, and has a layout, has room in the frame of
-/// each function for its private words and its values, and for a result behind each call, where all
+/// each function for its private words and its values, and for a result after each call, if all
 /// operations are plain.
 pub fn correct_programs_have_room()
     ensures { CorrectProgramsHaveRoom }
 {}
 
-/// Each operation of a program that keeps all rules and has a layout has a number, where all are
+/// Each operation of a program that keeps all rules and has a layout has a number, if all are
 /// plain: each private word that it names is among the 56 of its function or of file scope.
 pub fn operations_have_numbers()
     ensures { OperationsHaveNumbers }
 {}
 
-/// A list whose operations have the depths that a text tells of their sites has the heights of the
-/// text's code, where that is well typed and all its operations are plain.
+/// A list whose operations have the depths that a text gives for their sites has the heights of the
+/// text's code, if that is well typed and all its operations are plain.
 pub fn lists_have_heights()
     ensures { ListsHaveHeights }
 {}
 
-/// A flat list of a program that keeps all rules, as a text spells it, and has a layout, has plain
-/// operations alone, goes on within itself from `main` on, and may do each operation in every run,
-/// with groups too, where all operations are plain.
+/// A flat list of a program that keeps all rules, as a text spells it, and has a layout, has only
+/// plain operations, goes on within itself from `main` on, and may do each operation in every run,
+/// also with groups, if all operations are plain.
 pub fn correct_lists_are_steady()
     ensures { CorrectListsAreSteady }
 {}
 
 /// A flat list of a program that keeps all rules, as a text spells it, and has a layout, with the
-/// depths of its code and its live words, suits frames that hold these words, where all
-/// operations are plain.
+/// depths of its code and its live words, suits frames that keep these words, if all operations are
+/// plain.
 pub fn correct_lists_have_frames()
     ensures { CorrectListsHaveFrames }
 {}
 
-/// A flat list of a program that keeps all rules, as a text spells it, and has a layout, with
-/// the depths that lowering tells of the text, has the depths of all runs, finds the values that
-/// each operation needs, is steady, and has frames that hold its live words, where all
-/// operations are plain.
+/// A flat list of a program that keeps all rules, as a text spells it, and has a layout, with the
+/// depths that lowering gives for the text, has the depths of all runs, finds the values that each
+/// operation needs, is steady, and has frames that keep its live words, if all operations are
+/// plain.
 pub fn lowered_lists_can_have_groups()
     ensures { LoweredListsCanHaveGroups }
 {}

@@ -1,6 +1,6 @@
-//! What is asked of a flat list, so that code can be made of it, follows from its text.
+//! What a flat list needs, so that code can be made of it, follows from its text.
 //!
-//! The definitions stand in `specs/`, and what is proved of them in `laws`.
+//! The definitions are in `specs/`, and the laws proved of them in `laws`.
 #![tactic(auto)]
 
 pub mod laws;

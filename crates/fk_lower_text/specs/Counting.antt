@@ -4,7 +4,7 @@ use Rattle.fk_layout_walk.specs.declared.visitor.Event.{Event}
 use Rattle.fk_layout_walk.specs.declared.visitor.Mark.{Mark}
 use Rattle.fk_lower_text.specs.declared.count.Count.{Count}
 
--- a number above the greatest one stays at it
+-- A count above 2^64 - 1 stays at that number.
 abbrev pub count_after : Count → Event → Count
 count_after count event = record { events = min (count.events + 1) (2 ^ 64 - 1) }
 

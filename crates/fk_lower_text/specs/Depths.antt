@@ -1,4 +1,5 @@
--- How many values the running call has before each operation of a text, in the order of the text.
+-- The number of values that the running call has before each operation of a text, in the order of
+-- the text.
 use Rattle.std.specs.Prelude.{ℕ, List, [], ◌∷◌, ◌++◌}
 use Rattle.fk_syntax.specs.Program.{FunctionTree}
 use Rattle.fk_meaning_forms.specs.Code.{Code, done, perform, choose, while, until, turn, again}
@@ -10,8 +11,8 @@ use Rattle.fk_layout_walk_statements.specs.Texts.{code_in}
 use Rattle.fk_layout_sizes.specs.Places.{At, behind_operation, behind_call, behind, beginning}
 
 module _ (functions : (binding : ℕ) → Signature) where
-  -- of code, from a place on. What stands in the opening of a call is done by the function that is
-  -- called, which begins without values
+  -- The depths in code, from a place on. The operations in the opening of a call are done by the
+  -- called function, which begins without values.
   abbrev pub depths_from : At → Coded → List ℕ
   depths_from p done = []
   depths_from p (perform t op rest) = p.values ∷ depths_from (behind_operation p op) rest
@@ -45,13 +46,13 @@ module _ (functions : (binding : ℕ) → Signature) where
       p.values ∷ depths_from beginning opening ++ depths_from (behind_call functions p op f) rest
   depths_from p (ends t op rest) = p.values ∷ depths_from (behind_operation p op) rest
 
--- one operation behind the other
+-- The code is one operation after another.
 abbrev pub IsStraight : {A : Type 0} → Code A → Type 0
 IsStraight done = Unit {0}
 IsStraight (perform t op rest) = IsStraight rest
 IsStraight code = ⊥
 
--- so stand those in the openings of calls
+-- The opening of each call is one operation after another.
 abbrev pub HasOpenings : {A : Type 0} → Code A → Type 0
 HasOpenings done = Unit {0}
 HasOpenings (perform t op rest) = HasOpenings rest
@@ -67,7 +68,7 @@ HasOpenings (ends t op rest) = HasOpenings rest
 HasOpenings code = ⊥
 
 module _ (known : ProgramTables) where
-  -- of functions, each of which begins without values
+  -- The depths in functions, each of which begins without values.
   abbrev pub depths_of : List FunctionTree → List ℕ
   depths_of [] = []
   depths_of (f ∷ fs) = depths_from (functions_of known) beginning (code_in known f) ++ depths_of fs

@@ -1,5 +1,5 @@
--- How many values the running call has at a place in code. Numbers above the
--- greatest one stay at it.
+-- The number of values that the running call has at a place in code. A number above the greatest
+-- one stays at that.
 use Rattle.std.specs.Prelude.{ℕ, ◌-◌, ◌^◌, min, Option, Some, None}
 use Rattle.fk_syntax.specs.declared.place.Place.{Place}
 use Rattle.fk_meaning_operation.specs.declared.operation.Operation.{Operation}
@@ -24,7 +24,7 @@ depth height = min (running height.values height.beginning) (2 ^ 32 - 1)
 abbrev pub high : ℕ → Option ℕ → Height
 high values beginning = record { values = values; beginning = beginning }
 
--- behind an operation, of the call that begins where there is one
+-- The height after an operation. It is one of the call that begins, if there is one.
 abbrev pub performed_in : (values : ℕ) → Option ℕ → Operation → Height
 performed_in values None op = high (behind values op) None
 performed_in values (Some beginning) op = high values (Some (behind beginning op))
@@ -36,9 +36,9 @@ abbrev pub with_operation : Height → Option (Operation × Place) → Height
 with_operation height None = height
 with_operation height (Some operation) = performed height operation.0
 
--- a call begins without values. Behind it there is its result, where it has one, in place of its
--- arguments. The second way of a choice begins as the first one did, and what stands behind both
--- goes on from the end of the first one
+-- The height after an event. A call begins without values. After it its result, if it has one, is
+-- in place of its arguments. The second branch of a choice begins like the first one, and the code
+-- after both goes on from the end of the first one.
 abbrev pub after : Height → Event → Height
 after height (Call op place function) = high (behind height.values op) (Some 0)
 after height (Returned entered void) = high (plus entered.values (results void)) None

@@ -15,8 +15,8 @@ abbrev pub codes_of : List Block → List (Code ℕ)
 codes_of blocks = map block_code blocks
 
 module _ (known : ProgramTables) where
-  -- the code of functions, each at its binding, where there are so many bindings before, and the
-  -- next operation has a site
+  -- The code of functions, each at its binding, after `count` earlier bindings. The next operation
+  -- has this site.
   abbrev pub laid : (count site : ℕ) → List FunctionTree → List (Code ℕ)
   laid count site [] = []
   laid count site (f ∷ fs) =
@@ -24,20 +24,20 @@ module _ (known : ProgramTables) where
       ++ numbered site (code_in known f) ∷ laid (suc (binding_of (tables_of known) f))
       (site + size (code_in known f)) fs
 
-  -- the bindings of functions go up, from so many on
+  -- The bindings of functions go up, from `count` on.
   abbrev pub GoUp : (count : ℕ) → List FunctionTree → Type 0
   GoUp count [] = Unit {0}
   GoUp count (f ∷ fs) = (count ≤ binding_of (tables_of known) f)
       × GoUp (suc (binding_of (tables_of known) f)) fs
 
-  -- how many operations their code has
+  -- The number of operations in the code of functions.
   abbrev pub sizes : List FunctionTree → ℕ
   sizes [] = 0
   sizes (f ∷ fs) = size (code_in known f) + sizes fs
 
-  -- functions whose code can be shown, each at its binding, so many bindings and operations
-  -- behind the first ones: their bindings go up, and three entries of a list for each of their
-  -- operations have indices
+  -- Functions whose code can be shown, each at its binding, after `count` bindings and `site`
+  -- operations: their bindings go up, their code is plain, and three entries of a list for each of
+  -- their operations have indices.
   pub record CanBeLaid (count site : ℕ) (fs : List FunctionTree) : Type 0 where
     pub up : GoUp count fs
     pub plain : ArePlain known fs

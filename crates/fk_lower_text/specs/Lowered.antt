@@ -21,8 +21,8 @@ use Rattle.fk_lower.specs.declared.fault.LowerFault.TheVariants.{Memory}
 use Rattle.fk_lower.specs.Lowered.{IsListOf}
 use Rattle.fk_lower_text.specs.Whole.{AreWhole, AreNumbered}
 
--- a program of these items, of whose code is asked that it has the shape of flat lists, and that
--- each number of its operations has room in a word
+-- A program of these items. Its code has the shape of flat lists, and each number of its operations
+-- has room in a word.
 pub record IsLowerable (known : ProgramTables) (program : ProgramTree) : Type 0 where
   pub items : program.items ≡ items_in known
   pub shaped : AreShaped (bodies_of (tables_of known) program)
@@ -30,14 +30,14 @@ pub record IsLowerable (known : ProgramTables) (program : ProgramTree) : Type 0 
 
 module _ (known : ProgramTables) (program : ProgramTree) (core : List CoreOp)
     (entry : (binding : ℕ) → ℕ) where
-  -- the list is flat, with the code of each function at its entry; and so the code of the
-  -- program stands in it
+  -- The list is flat, with the code of each function at its entry. So it has the code of the
+  -- program.
   pub record HasProgram : Type 0 where
     pub flat : IsFlat (bodies_of (tables_of known) program) core entry
     pub code : HasCodeOf (tables_of known) program core entry
 
-  -- a schedule is lawful for the program and the list or for neither, and under it the stores and
-  -- the stands are equal
+  -- A schedule is lawful for the program and the list or for neither, and under it both have equal
+  -- stores and equal statuses.
   abbrev pub HasItsRuns : Type 0
   HasItsRuns =
       (words firsts input : List ℕ) (p : ℕ) (setting : Setting) (schedule : Schedule)
@@ -45,16 +45,16 @@ module _ (known : ProgramTables) (program : ProgramTree) (core : List CoreOp)
       (source.program_opening (tables_of known) program words firsts input p)
       (list_opening (entry (main_of (tables_of known) program)) words firsts input p)
 
--- the operations of the list are those of the text in their order, each with its rank as its site,
--- and there are few jumps between them
+-- The operations of the list are those of the text, in their order, each with its rank as its site,
+-- and there are few jumps between them.
 pub record HasSites (known : ProgramTables) (core : List CoreOp) : Type 0 where
   pub items : List Item
   pub are : IsListOf core items
   pub sites : acts items ≡ ranked 0 (sites_of_text known)
   pub few : jumps items ≤ length (acts items) + calls items
 
--- Why functions that can be laid have no list: an operation has no number, or memory is refused,
--- which no clause can say
+-- Why functions that can be laid have no list: an operation has no number, or there isn't enough
+-- memory, which no clause can say.
 abbrev pub IsTextFault : ProgramTables → LowerFault → Type 0
 IsTextFault known TooLong = ⊥
 IsTextFault known OutOfRange = AreNumbered known (functions_in known) → ⊥

@@ -1,4 +1,4 @@
--- A visitor that writes down what it is shown, as long as there is room.
+-- A visitor that records the events that it meets, as long as there is room.
 use Rattle.std.specs.Prelude.{◌+◌, length, nat_lt, if◌then◌else◌}
 use Rattle.std.specs.Vec.{with_item}
 use Rattle.fk_layout_walk.specs.declared.visitor.Event.{Event}
@@ -8,7 +8,7 @@ use Rattle.fk_lower.specs.declared.event.CodeEvent.{CodeEvent}
 use Rattle.fk_lower.specs.declared.event.CodeEvent.TheVariants as e
 use Rattle.fk_lower_text.specs.declared.noting.Noting.{Noting}
 
--- an event as it is shown to a builder
+-- An event of a visitor, as one for a builder.
 abbrev pub told : Event → CodeEvent
 told (v.Perform op place) = e.Perform op
 told (v.Choose op place) = e.Choose op

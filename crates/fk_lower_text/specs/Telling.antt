@@ -1,4 +1,4 @@
--- A visitor that tells the depths of operations, as long as there is room.
+-- A visitor that records the depths of operations, as long as there is room.
 use Rattle.std.specs.Prelude.{◌+◌, length, nat_lt, List, [], ◌∷◌, Option, Some, None, if◌then◌else◌}
 use Rattle.std.specs.Vec.{with_item}
 use Rattle.fk_meaning_operation.specs.declared.operation.Operation.{Operation}
@@ -35,7 +35,7 @@ depths_after depths event =
 abbrev pub depths_mark : Depths → Mark
 depths_mark depths = mark_of depths.height
 
--- each function begins without values
+-- Each function begins without values.
 abbrev pub begun : Depths → Depths
 begun depths = record depths { height = high 0 None }
 

@@ -1,4 +1,4 @@
--- Code whose operations a visitor is shown whole.
+-- Code whose operations a visitor meets unchanged.
 use Rattle.std.specs.Prelude.{◌≡◌, List, [], ◌∷◌}
 use Rattle.fk_meaning_operation.specs.declared.operation.Operation.{Operation}
 use Rattle.fk_syntax.specs.Program.{FunctionTree}
@@ -10,11 +10,11 @@ use Rattle.fk_layout_walk_statements.specs.Texts.{code_in}
 use Rattle.fk_lower.specs.Building.{IsUnbegun}
 use Rattle.fk_lower.specs.Faults.{HaveNumbers}
 
--- each of its numbers has room in a word
+-- Each number of an operation has room in a word.
 abbrev pub HasRoom : Operation → Type 0
 HasRoom op = shown op ≡ op
 
--- and no loop is under way
+-- Each number of the code's operations has room in a word, and no loop is under way.
 abbrev pub IsWhole : {A : Type 0} → Code A → Type 0
 IsWhole done = Unit {0}
 IsWhole (perform t op rest) = HasRoom op × IsWhole rest
@@ -28,11 +28,11 @@ IsWhole (call t op f opening rest) = HasRoom op × IsWhole opening × IsWhole re
 IsWhole (ends t op rest) = HasRoom op × IsWhole rest
 IsWhole code = ⊥
 
--- as code is built
+-- Code that can be built.
 abbrev pub IsPlain : {A : Type 0} → Code A → Type 0
 IsPlain code = IsUnbegun code × IsWhole code
 
--- so of the code of functions
+-- The code of all functions is whole (`IsWhole`); and it can be built (`IsPlain`).
 abbrev pub AreWhole : ProgramTables → List FunctionTree → Type 0
 AreWhole known [] = Unit {0}
 AreWhole known (f ∷ fs) = IsWhole (code_in known f) × AreWhole known fs
@@ -41,7 +41,7 @@ abbrev pub ArePlain : ProgramTables → List FunctionTree → Type 0
 ArePlain known [] = Unit {0}
 ArePlain known (f ∷ fs) = IsPlain (code_in known f) × ArePlain known fs
 
--- each operation of the code of functions has a number
+-- Each operation of the code of functions has a number.
 abbrev pub AreNumbered : ProgramTables → List FunctionTree → Type 0
 AreNumbered known [] = Unit {0}
 AreNumbered known (f ∷ fs) = HaveNumbers (code_in known f) × AreNumbered known fs

@@ -24,11 +24,11 @@ use fk_lower::{Block, CodeEvent, LowerFault, build};
 use fk_syntax::{Function, Item};
 use std::alloc::Global;
 
-/// The blocks of functions, each at its binding. Where there is no function there is an empty one.
+/// The blocks of functions, each at its binding. A binding without a function has an empty block.
 #[derive(Drop)]
 pub(crate) struct Bodies {
     alloc: Global,
-    // The site of the operation that comes next.
+    // The site of the next operation.
     site: u32,
     pub(crate) blocks: Vec<Block>,
 }
@@ -46,7 +46,7 @@ fn has_site(event: CodeEvent) -> bool
     )
 }
 
-// The site behind what is shown from one on.
+// The site after these events, which begin at a site.
 fn site_behind(site: u32, events: &[CodeEvent]) -> u32
     requires { site + count_by has_site (map event_of events.now) < 2 ^ 32 }
     ensures { result ≡ site + count_by has_site (map event_of events.now) }
@@ -61,7 +61,7 @@ fn site_behind(site: u32, events: &[CodeEvent]) -> u32
 }
 
 impl Bodies {
-    // A block behind those there are.
+    // Adds a block after those that there are.
     #[tactic(auto, using(crate::proofs::Keeping::codes_more, crate::proofs::Keeping::measured_more))]
     fn keep(&mut self, block: Block) -> Result<(), LowerFault>
         requires measured { AreMeasured (map part_of self.now.blocks.items) }
@@ -80,7 +80,7 @@ impl Bodies {
         }
     }
 
-    // An empty block behind those there are.
+    // Adds an empty block after those that there are.
     fn skip(&mut self) -> Result<(), LowerFault>
         requires { AreMeasured (map part_of self.now.blocks.items) }
         ensures count { OnOk result
@@ -95,7 +95,7 @@ impl Bodies {
         self.keep(empty)
     }
 
-    // Empty blocks up to a binding. Those of the bindings there are stay.
+    // Adds empty blocks up to a binding. Earlier blocks stay.
     fn reach(&mut self, binding: u32) -> Result<(), LowerFault>
         requires measured { AreMeasured (map part_of self.now.blocks.items) }
         requires up { length self.now.blocks.items ≤ binding }
@@ -112,7 +112,7 @@ impl Bodies {
         Ok(())
     }
 
-    // The block of a function behind those there are.
+    // Adds the block of a function after those that there are.
     fn push(&mut self, known: &ProgramTables, whole: &Function) -> Result<(), LowerFault>
         requires sound { IsSound known.now }
         requires measured { AreMeasured (map part_of self.now.blocks.items) }
@@ -136,7 +136,7 @@ impl Bodies {
         Ok(())
     }
 
-    // The block of a function at its binding.
+    // Adds the block of a function at its binding.
     fn add(&mut self, known: &ProgramTables, whole: &Function) -> Result<(), LowerFault>
         requires sound { IsSound known.now }
         requires measured { AreMeasured (map part_of self.now.blocks.items) }
@@ -159,7 +159,7 @@ impl Bodies {
         Ok(())
     }
 
-    // The block of the function of an item, where it has a body.
+    // Adds the block of an item, if it is a function with a body.
     fn item(&mut self, known: &ProgramTables, whole: &Item) -> Result<(), LowerFault>
         requires sound { IsSound known.now }
         requires measured { AreMeasured (map part_of self.now.blocks.items) }
@@ -188,11 +188,12 @@ impl Bodies {
         }
     }
 
-    /// Those of a text. It takes time and memory linear in the text and in the greatest binding of
-    /// a function.
+    /// The blocks of a text. It takes time and memory linear in the text and in the greatest
+    /// binding of a function.
     ///
     /// # Errors
-    /// `Memory`.
+    ///
+    /// `Memory` if there isn't enough memory.
     pub(crate) fn of(alloc: Global, known: &ProgramTables) -> Result<Bodies, LowerFault>
         requires sound { IsSound known.now }
         requires laid { CanBeLaid known.now 0 0 (functions_in known.now) }

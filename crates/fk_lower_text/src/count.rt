@@ -1,8 +1,8 @@
-//! A visitor that counts what it is shown.
+//! A visitor that counts events.
 
 use fk_layout_walk::{Event, Mark, Visitor};
 
-/// How many events it was shown. Above 2^64 - 1 it stays there.
+/// The number of events met. Above 2^64 - 1 it stays at that number.
 #[derive(Drop)]
 pub(crate) struct Count {
     pub(crate) events: u64,

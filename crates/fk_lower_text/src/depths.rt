@@ -1,4 +1,4 @@
-//! How many values the running call has before each operation of a text.
+//! The number of values that the running call has before each operation of a text.
 
 ghost use Rattle.std.specs.Prelude.{◌≡◌, ◌*◌, ◌^◌, ◌<◌, ◌∷◌, List, IfOk, IfErr, length, map};
 ghost use Rattle.fk_syntax.specs.Program.{ItemTree};
@@ -18,18 +18,18 @@ use fk_lower::LowerFault;
 use fk_syntax::Item;
 use std::alloc::Global;
 
-/// A visitor that tells how many values the running call has before each operation that it is
-/// shown, as long as there is room.
+/// A visitor that records how many values the running call has before each operation that it meets,
+/// as long as there is room.
 #[derive(Drop)]
 pub(crate) struct Depths {
     pub(crate) told: Vec<u32>,
-    /// How many of them are told.
+    /// The number of depths that are recorded.
     pub(crate) filled: usize,
     pub(crate) height: Height,
 }
 
 impl Depths {
-    // Tells the depth here, where there is room.
+    // Records the depth here, if there is room.
     fn tell(&mut self)
         ensures { self.new ≡ told_depth self.old }
     {
@@ -40,7 +40,7 @@ impl Depths {
         }
     }
 
-    // Is shown what stands in a text side by side. Each function begins without values.
+    // Visits an item of a text. Each function begins without values.
     fn item(&mut self, known: &ProgramTables, whole: &Item)
         requires { IsSound known.now }
         ensures { (others : List ItemTree)
@@ -79,11 +79,12 @@ impl Visitor for Depths {
     }
 }
 
-/// How many values the running call has before each operation of a text, in the order of the text.
-/// It takes time and memory linear in the text.
+/// The number of values that the running call has before each operation of a text, in the order of
+/// the text. It takes time and memory linear in the text.
 ///
 /// # Errors
-/// `Memory`.
+///
+/// `Memory` if there isn't enough memory.
 pub(crate) fn depths_of(alloc: Global, known: &ProgramTables) -> Result<Vec<u32>, LowerFault>
     requires { IsSound known.now }
     ensures depths { HaveOpenings known.now (functions_in known.now)

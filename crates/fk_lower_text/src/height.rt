@@ -1,4 +1,4 @@
-//! How many values the running call has at a place in code.
+//! The number of values that the running call has at a place in code.
 
 ghost use Rattle.std.specs.Prelude.{◌≡◌};
 ghost use Rattle.fk_lower_text.specs.Height as h;
@@ -7,12 +7,12 @@ use fk_layout_sizes::{pushes, takes};
 use fk_layout_walk::{Event, Mark};
 use fk_meaning_operation::Operation;
 
-/// How many values there are behind what was shown so far. A number above 2^64 - 1 stays at it.
+/// The number of values after the events so far. Above 2^64 - 1 it stays at that number.
 #[derive(Clone, Copy, PartialEq, Eq, Debug)]
 pub(crate) struct Height {
-    /// In the call whose code is shown.
+    /// The values of the call whose code is shown.
     pub(crate) values: u64,
-    /// In a call that begins, while what is done at its beginning is shown.
+    /// The values of a call that begins, while the events of its beginning are shown.
     pub(crate) beginning: Option<u64>,
 }
 
@@ -24,13 +24,13 @@ fn behind(values: u64, operation: Operation) -> u64
 }
 
 impl Height {
-    /// At the beginning of a function.
+    /// The height at the beginning of a function.
     pub(crate) const NOTHING: Height = Height {
         values: 0,
         beginning: None,
     };
 
-    /// How many values the running call has. Above 2^32 - 1 it is that number.
+    /// The number of values that the running call has. Above 2^32 - 1 it is that number.
     pub(crate) fn depth(&self) -> u32
         ensures { result ≡ h.depth self.now }
     {
@@ -56,7 +56,7 @@ impl Height {
         }
     }
 
-    /// Behind an event.
+    /// The height after an event.
     pub(crate) fn after(self, event: Event) -> Height
         ensures { result ≡ h.after self event }
     {

@@ -1,7 +1,7 @@
 //! From the text of a program to its flat list.
 //!
-//! The code of each function is shown step by step, listed, and built into a block in memory; the
-//! blocks, each at its function's binding, are lowered.
+//! The code of each function is shown step by step, recorded, and built into a block in memory.
+//! Then the blocks, each at its function's binding, are lowered.
 #![tactic(auto)]
 
 mod bodies;

@@ -1,4 +1,4 @@
-//! `main`, and where it begins in a list.
+//! `main`, and the index where it begins in a list.
 
 ghost use Rattle.std.specs.Prelude.{◌≡◌, ◌∷◌, List, OnOk, IfErr, unwrap_or};
 ghost use Rattle.fk_syntax.specs.Program.{ItemTree};
@@ -27,7 +27,7 @@ fn is_main(whole: &Function) -> bool
     whole.name.bytes == b"main".as_slice()
 }
 
-// The binding of `main`, where an item is that.
+// The binding of `main`, if the item is that function.
 fn main_here(known: &ProgramTables, item: &Item) -> Option<u32>
     ensures { (others : List ItemTree)
         → main_in (tables_of known.now) (functions_of (item_of item.now ∷ others))
@@ -46,7 +46,7 @@ fn main_here(known: &ProgramTables, item: &Item) -> Option<u32>
     }
 }
 
-// The binding of the first function that is `main`, and 0 where there is none.
+// The binding of the first function that is `main`, and 0 if there is none.
 fn main_binding(known: &ProgramTables) -> u32
     ensures { result ≡ main_in (tables_of known.now) (functions_in known.now) }
 {
@@ -58,7 +58,7 @@ fn main_binding(known: &ProgramTables) -> u32
     0
 }
 
-// The entry of a function: that of its binding, and the end of the list where there is none.
+// The entry of a function: that of its binding, or the end of the list if there is none.
 fn entry(lowered: &Lowered, binding: u32) -> u32
     ensures { result ≡ entry_of lowered.now.entries.of_bindings.items
         lowered.now.entries.end binding }
@@ -69,7 +69,8 @@ fn entry(lowered: &Lowered, binding: u32) -> u32
     }
 }
 
-/// Where `main` begins in the list of a text: at the entry of the first function that is `main`.
+/// The index where `main` begins in the list of a text: the entry of the first function that is
+/// `main`.
 pub fn entry_of_main(known: &ProgramTables, lowered: &Lowered) -> u32
     ensures { result ≡ entry_of lowered.now.entries.of_bindings.items lowered.now.entries.end
         (main_in (tables_of known.now) (functions_in known.now)) }

@@ -1,4 +1,4 @@
-//! The code of a function, as it is shown to a builder.
+//! The code of a function, as events for a builder.
 
 ghost use Rattle.std.specs.Prelude.{◌≡◌, IfErr, IfOk, map};
 ghost use Rattle.fk_syntax.specs.ProgramView.{function_of};
@@ -16,15 +16,15 @@ use fk_lower::{CodeEvent, LowerFault};
 use fk_syntax::Function;
 use std::alloc::Global;
 
-/// A visitor that writes down what it is shown, as long as there is room.
+/// A visitor that records the events that it meets, as long as there is room.
 #[derive(Drop)]
 pub(crate) struct Noting {
     pub(crate) events: Vec<CodeEvent>,
-    /// How many of them are written.
+    /// The number of events that are recorded.
     pub(crate) filled: usize,
 }
 
-// An event as it is shown to a builder.
+// An event of a visitor, as one for a builder.
 fn told(event: Event) -> CodeEvent
     ensures { result ≡ told event }
 {
@@ -47,7 +47,7 @@ fn told(event: Event) -> CodeEvent
 }
 
 impl Noting {
-    // Writes an event down, where there is room.
+    // Records an event, if there is room.
     fn write(&mut self, event: CodeEvent)
         ensures { self.new ≡ noted self.old event }
     {
@@ -79,10 +79,11 @@ impl Visitor for Noting {
     }
 }
 
-/// What is shown of the code of a function. It takes time and memory linear in that.
+/// The events that show the code of a function. It takes time and memory linear in their number.
 ///
 /// # Errors
-/// `Memory`.
+///
+/// `Memory` if there isn't enough memory.
 pub(crate) fn events_of(
     alloc: Global,
     known: &ProgramTables,

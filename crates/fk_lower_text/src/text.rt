@@ -17,13 +17,15 @@ use fk_layout_walk::ProgramTables;
 use fk_lower::{Block, LowerFault, Lowered, lower};
 use std::alloc::Global;
 
-/// The flat list of a text, by what is known of it: each function at its binding, each operation
-/// with its rank among those of the text as its site, and with as many values as are counted before
-/// it along the text. It takes time and memory linear in the text and in the greatest binding
-/// of a function.
+/// The flat list of a text, given what is known of it: each function at its binding, each operation
+/// with its rank among those of the text as its site, and with the number of values counted before
+/// it along the text as its depth. It takes time and memory linear in the text and in the greatest
+/// binding of a function.
 ///
 /// # Errors
-/// `OutOfRange` where a constant of an operation is too large for its number; and `Memory`.
+///
+/// `OutOfRange` if a constant of an operation is too large for its number, and `Memory` if there
+/// isn't enough memory.
 pub fn lower_text(alloc: Global, known: &ProgramTables) -> Result<Lowered, LowerFault>
     requires sound { IsSound known.now }
     requires laid { CanBeLaid known.now 0 0 (functions_in known.now) }

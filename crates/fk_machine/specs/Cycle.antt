@@ -1,4 +1,4 @@
--- Machines, and one cycle.
+-- Machines, and one cycle of them.
 use Rattle.std.specs.Prelude.{ℕ, suc, ◌+◌, List, [], ◌∷◌, ◌++◌, Option, Some, None, Bool, true}
 use Rattle.std.specs.Prelude.{false, ◌&&◌, cond, map, length, replicate, slice_index}
 use Rattle.fk_num.specs.Word.{Memory}
@@ -10,8 +10,9 @@ use Rattle.fk_machine.specs.declared.stand.Stand.TheVariants.{Running, Finished,
 use Rattle.fk_machine.specs.Hart.{Hart, Shared, Setting, Effect, Goes, Stops}
 use Rattle.fk_machine.specs.Step.{step}
 
--- what the harts from one on do in a cycle: the harts and the shared state after it, the address
--- that each ran, none for one that was not served, and the stand that ended the cycle, if one did
+-- What the harts from some number on do in a cycle: the harts and the shared state after it, the
+-- address that each hart ran (none for one that was not served), and the status that ended the
+-- cycle, if one did.
 pub record Turns : Type 0 where
   pub harts : List Hart
   pub shared : Shared
@@ -25,23 +26,24 @@ before h pc rest =
 abbrev pub no_address : Hart → Option ℕ
 no_address h = None
 
--- after an effect of hart h, with the others in hs, who are not served where it ends the machine
+-- The turns of hart h, after its effect, and of the others in hs. They are not served if the effect
+-- ends the machine.
 abbrev pub after_effect : Hart → List Hart → (Shared → Turns) → Shared → Effect → Turns
 after_effect h hs others s (Goes h' s') = before h' (Some h.pc) (others s')
 after_effect h hs others s (Stops stand) =
     record { harts = h ∷ hs; shared = s; ran = Some h.pc ∷ map no_address hs; stop = Some stand }
 
--- a hart that has ended is passed by
+-- A hart that has ended is skipped.
 abbrev pub turn : Bool → Setting → ℕ → Hart → List Hart → (Shared → Turns) → Shared → Turns
 turn true t number h hs others s = before h None (others s)
 turn false t number h hs others s = after_effect h hs others s (step t number h s)
 
--- the harts in ascending number
+-- The turns of all harts, in ascending number.
 abbrev pub turns : Setting → ℕ → List Hart → Shared → Turns
 turns t number [] s = record { harts = []; shared = s; ran = []; stop = None }
 turns t number (h ∷ hs) s = turn h.ended t number h hs (turns t (suc number) hs) s
 
--- the bytes of the last cycle stand in shared.output
+-- A machine. `shared.output` has the bytes of the last cycle.
 pub record Machine : Type 0 where
   pub code : List (Option Instruction)
   pub harts : List Hart
@@ -54,7 +56,7 @@ abbrev pub setting_of : Machine → Setting
 setting_of m =
     record { code = m.code; harts = length m.harts; inputs = m.inputs; finished = m.begun }
 
--- a cycle begins with nothing printed
+-- A cycle begins with nothing printed.
 abbrev pub unprinted : Shared → Shared
 unprinted s = record s { output = [] }
 
@@ -86,14 +88,14 @@ after_turns m t =
       stand = stand_after t.stop t.harts;
     }
 
--- a machine that doesn't run stays as it is
+-- One cycle. A machine that doesn't run stays as it is.
 abbrev pub cycle : Machine → Machine
 cycle m = cond (is_running m.stand) (after_turns m (turns_of m)) m
 
 abbrev pub first_hart : Hart
 first_hart = record { registers = λ r. 0; pc = 0; local = λ i. 0; ended = false }
 
--- shared data begins with the globals of the image, then the input numbers, then zeros
+-- Shared data begins with the globals of the image, then the input numbers, then zeros.
 abbrev pub first_words : Image → List ℕ → Memory
 first_words image input = slice_index (image.globals.items ++ input)
 

@@ -1,4 +1,4 @@
--- What the code of one turn, and of the turns of a cycle, does.
+-- What the code of one turn, and of all turns of a cycle, does.
 use Rattle.std.specs.Prelude.{◌≡◌, ℕ, ◌+◌, ◌-◌, ◌≤◌, List, Option, Some, None, length, slice_index}
 use Rattle.std.specs.Prelude.{vec_len, vec_capacity}
 use Rattle.fk_isa.specs.declared.hart.Hart.{Hart as HartState}
@@ -10,17 +10,17 @@ use Rattle.fk_machine.specs.Reach.{Reach}
 use Rattle.fk_machine.specs.Cycle.{Turns}
 use Rattle.fk_machine.specs.View.{hart_of, harts_of, local_of, shared_of, setting_of}
 
--- how many more bytes can be printed without taking memory
+-- How many more bytes can be printed without taking memory.
 abbrev pub room_of : SharedState → ℕ
 room_of s = vec_capacity s.output - vec_len s.output
 
--- at most so many bytes are printed, and the memory for output and for reservations stays
+-- At most this many bytes are printed, and the memory for output and for reservations stays.
 pub record PrintsUpTo (bytes : ℕ) (old new : SharedState) : Type 0 where
   pub printed : vec_len new.output ≤ vec_len old.output + bytes
   pub capacity : vec_capacity old.output ≤ vec_capacity new.output
   pub harts : vec_len new.reserved ≡ vec_len old.reserved
 
--- a hart's bus as what the hart reaches
+-- A hart's bus, as what the hart reaches.
 abbrev pub reach_of : HartBus → Reach
 reach_of b = record {
   setting = setting_of b.setting.now;
@@ -28,24 +28,25 @@ reach_of b = record {
   shared = shared_of b.shared.now;
 }
 
--- a bus is ready for its hart: it has the hart's whole memory, and room for a line
+-- A bus is ready for its hart: it has the hart's whole memory, and room for a line.
 pub record IsReady (b : HartBus) : Type 0 where
   pub own : length b.local.now ≡ 32768
   pub room : 12 ≤ room_of b.shared.now
 
--- a call keeps what the bus borrows, and prints a line at most
+-- A call keeps what the bus borrows, and prints at most a line.
 pub record Keeps (old new : HartBus) : Type 0 where
   pub local : new.local.ghost_name ≡ old.local.ghost_name
   pub shared : new.shared.ghost_name ≡ old.shared.ghost_name
   pub own : length new.local.now ≡ length old.local.now
   pub prints : PrintsUpTo 12 old.shared.now new.shared.now
 
--- an effect goes on to the new hart and shared state, or stops with a stand and leaves the old ones
+-- An effect goes on to the new hart and shared state, or stops with a status and leaves the old
+-- ones.
 abbrev pub Gives : Effect → Hart → Shared → Option Stand → Hart → Shared → Type 0
 Gives effect h s None h' s' = effect ≡ Goes h' s'
 Gives effect h s (Some stand) h' s' = (effect ≡ Stops stand) × (h' ≡ h) × (s' ≡ s)
 
--- an instruction, on a hart with its local memory and on the shared state, before and after
+-- An instruction, as what it does to a hart with its local memory and to the shared state.
 abbrev pub Does : (Hart → Shared → Effect) → HartState → List ℕ → SharedState → Option Stand
     → HartState → List ℕ → SharedState → Type 0
 Does instruction h local s stop h' local' s' =
@@ -53,14 +54,15 @@ Does instruction h local s stop h' local' s' =
     Gives (instruction hart (shared_of s)) hart (shared_of s) stop
     (hart_of h' (slice_index local')) (shared_of s')
 
--- turns leave these harts and this shared state, and end with this stand, if they do
+-- The turns leave these harts and this shared state, and end with this status, if any.
 pub record TurnsGive (t : Turns) (stop : Option Stand) (harts : List Hart)
     (shared : Shared) : Type 0 where
   pub harts_are : t.harts ≡ harts
   pub shared_is : t.shared ≡ shared
   pub stop_is : t.stop ≡ stop
 
--- the turns of all harts, before and after
+-- The turns of all harts, as what they do to the harts with their local memories and to the shared
+-- state.
 abbrev pub TakesTurns : (List Hart → Shared → Turns) → List HartState → List ℕ → SharedState
     → Option Stand → List HartState → List ℕ → SharedState → Type 0
 TakesTurns turns hs locals s stop hs' locals' s' =

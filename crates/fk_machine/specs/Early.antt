@@ -1,10 +1,10 @@
--- A run that stops early, for want of memory.
+-- A run that stops early, because there isn't enough memory.
 use Rattle.std.specs.Prelude.{◌≡◌, ℕ, ◌+◌, ◌<◌, List, ◌++◌}
 use Rattle.fk_machine.specs.Cycle.{Machine}
 use Rattle.fk_machine.specs.Run.{after, output_in}
 
--- of so many cycles some were run, one at least, and what they print was appended to the bytes, but
--- for the last of them
+-- Some of these cycles were run, at least one. What they print was appended to the bytes, except
+-- for the last of them.
 pub record StoppedEarly (cycles : ℕ) (old : Machine) (bytes : List ℕ) (new : Machine)
     (appended : List ℕ) : Type 0 where
   pub told : ℕ

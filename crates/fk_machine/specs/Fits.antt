@@ -1,10 +1,10 @@
--- Places that fit the machine.
+-- Places that are in the machine.
 use Rattle.std.specs.Prelude.{◌<◌, ◌^◌, ◌+◌}
 use Rattle.fk_machine.specs.declared.place.Location.{Location}
 use Rattle.fk_machine.specs.declared.place.Location.TheVariants.{SharedWord, ControlWord, LocalWord}
 use Rattle.fk_machine.specs.declared.place.Location.TheVariants.{DeviceWord, Nowhere}
 
--- a word of a memory lies within it
+-- A word of a memory is within that memory.
 abbrev pub IsInMachine : Location → Type 0
 IsInMachine (SharedWord i) = i < 2 ^ 20
 IsInMachine (ControlWord i) = i < 2 ^ 20 + 64

@@ -7,11 +7,11 @@ use Rattle.fk_machine.specs.declared.place.Location.{Location}
 use Rattle.fk_machine.specs.declared.place.Location.TheVariants.{SharedWord, ControlWord, LocalWord}
 use Rattle.fk_machine.specs.declared.place.Location.TheVariants.{DeviceWord, Nowhere}
 
--- whether an address lies in a memory of so many words from a start on
+-- Whether an address is in a memory of this many words from a start on.
 abbrev pub is_in : ℕ → ℕ → ℕ → Bool
 is_in a start words = nat_le start a && nat_lt a (start + 4 * words)
 
--- the devices, a word each
+-- The devices, of one word each.
 unfoldable pub device_at : ℕ → Location
 device_at a =
     if a == 0x30000000 then DeviceWord OutInt
@@ -24,8 +24,8 @@ device_at a =
     else if a == 0x3000001c then DeviceWord Inputs
     else Nowhere
 
--- the word that holds an address: of 2^20 words of shared data, 64 more of shared control, 32,768
--- of the hart's own
+-- The word that has an address: one of the 2^20 words of shared data, of the 2^20 + 64 words of
+-- shared control, or of the 32,768 words of the hart's own memory.
 unfoldable pub place_of : ℕ → Location
 place_of a =
     if is_in a 0x10000000 (2 ^ 20) then SharedWord ((a - 0x10000000) / 4)

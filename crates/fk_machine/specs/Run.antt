@@ -5,12 +5,12 @@ use Rattle.fk_image.specs.declared.Image.{Image}
 use Rattle.fk_image.specs.Limits.{count_of_word}
 use Rattle.fk_machine.specs.Cycle.{Machine, turns_of, is_running, cycle, machine_opening}
 
--- the machine after at most n cycles
+-- The machine after at most n cycles.
 abbrev pub machine : Image → List ℕ → ℕ → ℕ → Machine
 machine image input p zero = machine_opening image input p
 machine image input p (suc n) = cycle (machine image input p n)
 
--- what n cycles printed: the bytes of each cycle that was begun, in order
+-- What n cycles print: the bytes of each cycle that was begun, in order.
 abbrev pub output_of : Image → List ℕ → ℕ → ℕ → List ℕ
 output_of image input p zero = []
 output_of image input p (suc n) =
@@ -18,19 +18,19 @@ output_of image input p (suc n) =
     (output_of image input p n ++ (machine image input p (suc n)).shared.output)
     (output_of image input p n)
 
--- a machine after at most n cycles more
+-- A machine after at most n cycles more.
 abbrev pub after : ℕ → Machine → Machine
 after zero m = m
 after (suc n) m = cycle (after n m)
 
--- what it prints in them: the bytes of each cycle that was begun, in order
+-- What it prints in these cycles: the bytes of each cycle that was begun, in order.
 abbrev pub output_in : ℕ → Machine → List ℕ
 output_in zero m = []
 output_in (suc n) m =
     cond (is_running (after n m).stand)
     (output_in n m ++ (after (suc n) m).shared.output) (output_in n m)
 
--- the count of an address in the commit table, 0 where it has none
+-- The count of an address in the commit table, 0 if it isn't there.
 abbrev pub count_in : List (ℕ × ℕ) → ℕ → ℕ
 count_in [] a = 0
 count_in (commit ∷ commits) a = if commit.0 == a then count_of_word commit.1 else count_in commits a
@@ -39,11 +39,11 @@ abbrev pub count_of : Image → Option ℕ → ℕ
 count_of image None = 0
 count_of image (Some pc) = count_in image.commits.items pc
 
--- the round of a cycle: the count of the address that each hart ran, 0 for one that was not served
+-- The round of a cycle: the count of the address that each hart ran, 0 for one that was not served.
 abbrev pub round_of : Image → Machine → List ℕ
 round_of image m = map (count_of image) (turns_of m).ran
 
--- the schedule that is read off: one round for each cycle that was begun
+-- The schedule that is read off n cycles: one round for each cycle that was begun.
 abbrev pub rounds : Image → List ℕ → ℕ → ℕ → List (List ℕ)
 rounds image input p zero = []
 rounds image input p (suc n) =

@@ -1,4 +1,4 @@
--- The states of the code as those of the definitions.
+-- The states of the code, as those of the definitions.
 use Rattle.std.specs.Prelude.{ℕ, suc, ◌+◌, ◌*◌, List, [], ◌∷◌, Option, Some, None, if◌then◌else◌}
 use Rattle.std.specs.Prelude.{map, slice_index, slice_index_or, slice_range}
 use Rattle.fk_num.specs.Word.{Memory}
@@ -11,17 +11,17 @@ use Rattle.fk_machine.specs.declared.machine.Machine.{Machine as MachineState}
 use Rattle.fk_machine.specs.Hart.{Hart, Shared, Setting}
 use Rattle.fk_machine.specs.Cycle.{Machine}
 
--- a hart with its local memory
+-- A hart with its local memory.
 abbrev pub hart_of : HartState → Memory → Hart
 hart_of h local =
     record { registers = slice_index h.registers; pc = h.pc; local = local; ended = h.ended }
 
--- the local memory of the hart with a number, in those of all harts: 32,768 words each, and 16
--- unused ones after them
+-- The local memory of the hart with a number, in those of all harts: 32,768 words each, with 16
+-- unused ones after them.
 abbrev pub local_of : List ℕ → ℕ → Memory
 local_of locals number = slice_index (slice_range locals (32784 * number) (32784 * number + 32768))
 
--- the harts from a number on, each with its local memory
+-- The harts from a number on, each with its local memory.
 abbrev pub harts_of : ℕ → List HartState → (ℕ → Memory) → List Hart
 harts_of number [] local = []
 harts_of number (h ∷ hs) local = hart_of h (local number) ∷ harts_of (suc number) hs local
@@ -34,7 +34,7 @@ shared_of s = record {
   reserved = λ number. slice_index_or s.reserved.items number None;
 }
 
--- the row of the table that a word of the code is, if it is one
+-- The instruction that a word of the code is, if it is one.
 abbrev pub row_of : CodeWord → Option Instruction
 row_of w = if w.is_known then Some w.instruction else None
 
@@ -46,7 +46,7 @@ setting_of t = record {
   finished = t.finished;
 }
 
--- the machine of the definitions that a machine of the code is
+-- The machine of the definitions that a machine of the code stands for.
 unfoldable pub machine_of : MachineState → Machine
 machine_of m =
     record {

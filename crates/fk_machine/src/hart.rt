@@ -12,7 +12,7 @@ use std::alloc::{AllocError, Global};
 ///
 /// # Errors
 ///
-/// `AllocError` where memory is wanting.
+/// `AllocError` if there isn't enough memory.
 pub fn first_harts(alloc: Global, count: u32) -> Result<Vec<Hart>, AllocError>
     ensures len { IfOk result (λ hs. vec_len hs ≡ count) }
     ensures harts { (local : ℕ → Memory) → ((k : ℕ) → local k ≡ λ i. 0) →

@@ -12,7 +12,7 @@ use fk_image::Image;
 use fk_isa::Hart;
 use std::alloc::{AllocError, Global};
 
-/// A machine that runs an image: its harts, what they share, and how it stands.
+/// A machine that runs an image: its harts, what they share, and its status.
 #[derive(Drop)]
 pub struct Machine {
     setting: Setting,
@@ -40,11 +40,11 @@ impl Machine {
     ghost use Rattle.fk_machine.specs.Early.{StoppedEarly};
     ghost use Rattle.fk_machine.specs.View.{machine_of};
 
-    /// A machine before its first cycle, with so many harts. Shared data begins with the globals of
+    /// A machine with `harts` harts before its first cycle. Shared data begins with the globals of
     /// the image, then the input numbers, then zeros.
     ///
-    /// It takes all the memory that cycles need, 8 MiB for what is shared and 128 KiB for each hart
-    /// beside its code. Where that is not there it answers [`AllocError`].
+    /// It takes all the memory that cycles need: 8 MiB for what is shared and 128 KiB for each
+    /// hart, besides its code. If there isn't enough memory, it fails with [`AllocError`].
     pub fn new(
         alloc: Global,
         image: &Image,
@@ -70,9 +70,9 @@ impl Machine {
         })
     }
 
-    /// One cycle: every hart that has not ended runs one instruction, in ascending number. A fault
-    /// or a trap ends the machine at once, and the harts above are not served. A machine that
-    /// doesn't run stays as it is. The answer is how it stands then. A cycle takes no memory.
+    /// Runs one cycle, and gives the status after it. Every hart that has not ended runs one
+    /// instruction, in ascending number. A fault or a trap ends the machine at once, and the harts
+    /// above are not served. A machine that doesn't run stays as it is. A cycle takes no memory.
     pub fn cycle(&mut self) -> Stand
         requires { (machine_of self.old).begun < 2 ^ 32 - 1 }
         ensures cycle { machine_of self.new ≡ cycle (machine_of self.old) }
@@ -86,7 +86,7 @@ impl Machine {
         self.serve()
     }
 
-    // A cycle of a machine that runs and holds no output of the one before.
+    // A cycle of a machine that runs and has no output of the cycle before.
     fn serve(&mut self) -> Stand
         requires running { self.old.stand ≡ Running }
         requires unprinted { self.old.shared.output.items ≡ [] }
@@ -109,8 +109,8 @@ impl Machine {
         stand
     }
 
-    // Runs so many cycles, or fewer: none after one that prints or ends the machine. It answers how
-    // many it has run. As a function of its own, its code is the same whoever calls it.
+    // Runs at most `cycles` cycles, and gives how many it has run. It stops after a cycle that
+    // prints or ends the machine. As a function of its own, its code doesn't depend on its callers.
     #[inline(never)]
     fn run_quietly(&mut self, cycles: u32) -> u32
         requires running { self.old.stand ≡ Running }
@@ -132,12 +132,12 @@ impl Machine {
         cycles
     }
 
-    /// Runs so many cycles, or fewer where the machine ends before, and appends what each prints to
-    /// `output`, in order. No other memory is taken.
+    /// Runs `cycles` cycles, or fewer if the machine ends before, and appends what each prints to
+    /// `output`, in order. It takes memory only for `output`.
     ///
-    /// Where there is none for what a cycle has printed it answers [`AllocError`]: that cycle is
-    /// the last that the machine has run, and its bytes alone were not appended. They stand in
-    /// [`Machine::output`].
+    /// If there isn't enough for what a cycle has printed, it fails with [`AllocError`]. That cycle
+    /// is then the last that the machine has run, and only its bytes were not appended.
+    /// [`Machine::output`] gives them.
     pub fn run(&mut self, cycles: u32, output: &mut Vec<u8>) -> Result<(), AllocError>
         requires { (machine_of self.old).begun + cycles < 2 ^ 32 }
         ensures machine { OnOk result (machine_of self.new ≡ after cycles (machine_of self.old)) }
@@ -162,21 +162,21 @@ impl Machine {
         &self.shared.output
     }
 
-    /// How many cycles were begun. The cycle that ended the machine is one of them.
+    /// The number of cycles that were begun. The cycle that ended the machine is one of them.
     pub fn cycles(&self) -> u32
         ensures { result ≡ (machine_of self.now).begun }
     {
         self.setting.finished
     }
 
-    /// How the machine stands.
+    /// The status of the machine.
     pub fn stand(&self) -> Stand
         ensures { result ≡ (machine_of self.now).stand }
     {
         self.stand
     }
 
-    /// The word of shared data with an index.
+    /// The word of shared data with this index.
     pub fn word(&self, index: u32) -> u32
         requires { index < 2 ^ 20 }
         ensures { result ≡ (machine_of self.now).shared.words index }

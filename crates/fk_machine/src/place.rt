@@ -1,25 +1,25 @@
-//! What an address names.
+//! The places that addresses name.
 
 ghost use Rattle.std.specs.Prelude.{◌≡◌, ◌+◌, ◌-◌, ◌*◌, ◌/◌, ◌<◌, ◌^◌, if◌then◌else◌};
 ghost use Rattle.fk_machine.specs.Place.{is_in, place_of, device_at};
 ghost use Rattle.fk_machine.specs.Fits.{IsInMachine};
 
-/// Where shared data begins.
+/// The address of the first word of shared data.
 pub const SHARED_START: u32 = 0x1000_0000;
 
-/// How many words of shared data there are.
+/// The number of words of shared data.
 pub const SHARED_WORDS: u32 = 1 << 20;
 
-/// Where shared control begins.
+/// The address of the first word of shared control.
 pub const CONTROL_START: u32 = 0x1800_0000;
 
-/// How many words of shared control there are.
+/// The number of words of shared control.
 pub const CONTROL_WORDS: u32 = (1 << 20) + 64;
 
-/// Where the local memory of each hart begins.
+/// The address of the first word of each hart's local memory.
 pub const LOCAL_START: u32 = 0x2000_0000;
 
-/// How many words of local memory a hart has.
+/// The number of words of a hart's local memory.
 pub const LOCAL_WORDS: u32 = 32768;
 
 /// A device: one word of the map that is no memory.
@@ -43,7 +43,7 @@ pub enum Device {
     Inputs,
 }
 
-/// What an address lies in. A word of a memory goes by its index.
+/// The place that an address names. A word of a memory is given by its index.
 #[derive(Clone, Copy)]
 pub enum Location {
     SharedWord(u32),
@@ -54,7 +54,7 @@ pub enum Location {
     Nowhere,
 }
 
-// The index of an address in a memory of so many words from a start on, where it lies in it.
+// The index of an address in a memory of `words` words from `start` on, if it is there.
 fn index_in(address: u32, start: u32, words: u32) -> Option<u32>
     requires { start + 4 * words < 2 ^ 32 }
     ensures { result ≡ (if is_in address start words then Some ((address - start) / 4) else None) }
@@ -66,7 +66,7 @@ fn index_in(address: u32, start: u32, words: u32) -> Option<u32>
     }
 }
 
-/// What an address names.
+/// The place that an address names.
 #[tactic(auto, unfolding(crate::specs::Place::place_of))]
 pub(crate) fn place_at(address: u32) -> Location
     ensures place { result ≡ place_of address }

@@ -8,8 +8,8 @@ ghost use Rattle.fk_isa.specs.FitsProp.{Fits-prop};
 use fk_isa::{Instruction, decode};
 use std::alloc::{AllocError, Global};
 
-/// A word of the code, decoded. One that is no instruction stands as `ebreak`, so that it traps too
-/// and no turn but that one asks which it was.
+/// A word of the code, decoded. One that is no instruction has `ebreak` in its place. So it traps
+/// too, and only the turn that traps has to look which of both it was.
 #[derive(Drop)]
 pub struct CodeWord {
     pub instruction: Instruction,
@@ -43,11 +43,11 @@ impl CodeWord {
 #[derive(Drop)]
 pub struct Setting {
     pub code: Vec<CodeWord>,
-    /// How many harts there are.
+    /// The number of harts.
     pub harts: u32,
-    /// How many input numbers there are.
+    /// The number of input numbers.
     pub inputs: u32,
-    /// How many cycles were finished before this one.
+    /// The number of cycles finished before this one.
     pub finished: u32,
     ghost short: { vec_len code ≤ 262144 },
 }
@@ -57,7 +57,7 @@ impl Setting {
     ghost use Rattle.fk_isa.specs.Find.{row};
     ghost use Rattle.fk_machine.specs.View.{row_of};
 
-    /// The setting of the first cycle.
+    /// The setting of the first cycle. Fails if there isn't enough memory.
     pub fn new(alloc: Global, code: &[u32], harts: u32, inputs: u32) -> Result<Setting, AllocError>
         requires { length code.now ≤ 262144 }
         ensures code { IfOk result (λ t. map row_of t.code.items ≡ map row code.now) }

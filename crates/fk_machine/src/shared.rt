@@ -21,8 +21,8 @@ pub struct SharedState {
     pub output: Vec<u8>,
     /// The address of the word that each hart has reserved, in the order of their numbers.
     pub reserved: Vec<Option<u32>>,
-    /// Whether some hart may have reserved a word. It stays where a reservation is lost, until a
-    /// store to what is shared finds none left.
+    /// Whether some hart may have reserved a word. It stays true where a reservation is lost, until
+    /// a store to what is shared finds none left.
     pub has_reserved: bool,
     ghost sized: { vec_len words ≡ 2 ^ 20 },
     ghost control_sized: { vec_len control ≡ 2 ^ 20 + 64 },
@@ -38,7 +38,7 @@ impl SharedState {
     ghost use Rattle.fk_machine.specs.Does.{room_of, PrintsUpTo};
 
     /// Shared data with the globals and then the input numbers, control of zeros, and room for what
-    /// so many harts print in a cycle.
+    /// `harts` harts print in a cycle. Fails if there isn't enough memory.
     pub fn new(
         alloc: Global,
         globals: &[u32],
@@ -67,7 +67,7 @@ impl SharedState {
         })
     }
 
-    // There is room, so no memory is taken, and nothing can fail.
+    // Prints bytes. There is room for them, so no memory is taken and nothing can fail.
     fn print(&mut self, bytes: &[u8])
         requires { length bytes.now ≤ room_of self.old }
         ensures bytes { shared_of self.new
@@ -77,8 +77,8 @@ impl SharedState {
         self.output.extend_from_slice(bytes).unwrap();
     }
 
-    /// Prints the decimal of a word's signed value, and a newline. Turns print seldom, so printing
-    /// is kept out of their code.
+    /// Prints the signed value of a word in decimal, and a newline. Turns print seldom, so this
+    /// isn't inlined into their code.
     #[cold]
     #[inline(never)]
     #[tactic(auto, unfolding(fk_num::specs::Word::signed_line))]
@@ -104,7 +104,7 @@ impl SharedState {
         self.print(&[(word % 256) as u8]);
     }
 
-    /// Sets or clears the reservation of the hart with a number.
+    /// Sets or clears the reservation of the hart with this number.
     pub fn reserve(&mut self, number: u32, word: Option<u32>)
         requires { number < vec_len self.old.reserved }
         ensures reserved { shared_of self.new ≡ record (shared_of self.old)
@@ -115,7 +115,7 @@ impl SharedState {
         self.reserved[number as usize] = word;
     }
 
-    /// Clears the reservation of the hart with a number, if it is that of a word.
+    /// Clears the reservation of the hart with this number, if it is of this word.
     #[inline(always)]
     pub fn clear_own(&mut self, number: u32, word: u32)
         requires { number < vec_len self.old.reserved }
@@ -143,7 +143,7 @@ impl SharedState {
     }
 }
 
-// Clears the reservations of a word. It answers whether there is any other.
+// Clears the reservations of a word, and gives whether any other is left.
 #[inline(never)]
 fn clear_all(reserved: &mut [Option<u32>], word: u32) -> bool
     ensures reserved { reserved.new ≡ map (unless word) reserved.old }

@@ -1,6 +1,6 @@
-//! How a machine stands, and why it traps.
+//! The status of a machine, and the causes of traps.
 
-/// How a machine stands.
+/// The status of a machine.
 #[derive(Clone, Copy, PartialEq, Eq, Debug)]
 pub enum Stand {
     /// Some hart has not ended.
@@ -17,9 +17,10 @@ pub enum Stand {
 pub const FETCH: u8 = 1;
 /// The word is no instruction of the table.
 pub const UNKNOWN: u8 = 2;
-/// An access not on its size, or a taken jump or branch to an address that is no multiple of 4.
+/// An access whose address isn't aligned to its size, or a taken jump or branch to an address that
+/// is no multiple of 4.
 pub const MISALIGNED: u8 = 3;
-/// An address outside the map, code as data, or a use of a device that it doesn't take.
+/// An address outside the map, an access to code as data, or one that a device doesn't take.
 pub const ACCESS: u8 = 4;
 /// `ecall`.
 pub const ECALL: u8 = 5;
@@ -38,7 +39,7 @@ impl Stand {
         *self == Stand::Running
     }
 
-    // What comes after `Running`. Where that is `Running` again nothing is written.
+    // Changes the status from `Running`. Nothing is written if the next status is `Running` again.
     #[inline(always)]
     pub(crate) fn change_to(&mut self, next: Stand)
         requires { self.old ≡ Running }

@@ -12,8 +12,8 @@ use crate::shared::{LINE_BYTES, SharedState};
 use crate::stand::{FETCH, Stand, UNKNOWN};
 use fk_isa::{Effect, Hart, step};
 
-// A word of the code as the hart with a number runs it, over what the hart reaches. It answers the
-// stand that ends the machine, if it does.
+// Runs a word of the code for the hart with this number, on what that hart reaches. Gives the
+// status that ends the machine, if it does.
 #[inline(always)]
 fn perform(word: &CodeWord, number: u32, hart: &mut Hart, bus: &mut HartBus) -> Option<Stand>
     requires number { number < vec_len bus.old.shared.now.reserved }
@@ -34,8 +34,8 @@ fn perform(word: &CodeWord, number: u32, hart: &mut Hart, bus: &mut HartBus) -> 
     }
 }
 
-/// One instruction of the hart with a number, on its local memory and on what is shared. It answers
-/// the stand that ends the machine, if it does.
+/// Runs one instruction of the hart with this number, on its local memory and on what is shared.
+/// Gives the status that ends the machine, if it does.
 #[inline(always)]
 pub fn take_turn(
     setting: &Setting,

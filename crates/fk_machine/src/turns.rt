@@ -13,11 +13,11 @@ use crate::stand::Stand;
 use crate::turn::take_turn;
 use fk_isa::Hart;
 
-/// From one hart's local memory to the next there are so many words: 16 more than it has. Where the
-/// distance is a power of two, the words that harts use most fall into the same sets of a cache.
+/// The number of words from one hart's local memory to the next: 16 more than it has. With a power
+/// of two, the words that harts use most would fall into the same sets of a cache.
 pub const LOCAL_STRIDE: u32 = LOCAL_WORDS + 16;
 
-/// How the machine stands after its turns, of which one may have ended it.
+/// The status of the machine after the turns of a cycle, one of which may have ended it.
 pub fn stand_after(stop: Option<Stand>, harts: &[Hart]) -> Stand
     requires some { 1 ≤ length harts.now }
     ensures { (local : ℕ → Memory) → result ≡ stand_after stop (harts_of 0 harts.now local) }
@@ -29,7 +29,7 @@ pub fn stand_after(stop: Option<Stand>, harts: &[Hart]) -> Stand
     }
 }
 
-// The first hart mostly goes on, so that it is asked first, and here.
+// The first hart is mostly still running, so it is tested first, and inline.
 #[inline(always)]
 fn have_all_ended(harts: &[Hart]) -> bool
     requires some { 1 ≤ length harts.now }
@@ -45,9 +45,8 @@ fn have_ended(harts: &[Hart]) -> bool
     harts.iter().all(|hart| hart.ended)
 }
 
-/// The harts that have not ended take their turns, in ascending number from that of the first one.
-/// Where one ends the machine, those above are not served, and `stop` tells how the machine then
-/// stands.
+/// The harts that have not ended take their turns, in ascending number from `number` on. If one
+/// ends the machine, those above are not served, and `stop` gets the machine's status.
 pub fn take_turns(
     setting: &Setting,
     number: u32,

@@ -4,7 +4,7 @@ ghost use Rattle.std.specs.Prelude.{◌≡◌, ℕ, vec_len, slice_index, IfOk};
 
 use std::alloc::{AllocError, Global};
 
-// A list of `count` zeros. The clauses don't name the list, which would be computed where the
+// A list of `count` zeros. The clauses don't name the list, because it would be computed where the
 // number is known.
 #[tactic(auto, using(crate::proofs::IndexZeros::index_zeros))]
 pub fn zeros(alloc: Global, count: usize) -> Result<Vec<u32>, AllocError>

@@ -8,7 +8,7 @@ use fk_isa::Instruction;
 use std::alloc::AllocError;
 use std::test::Fail;
 
-// Writes a branch over 2000 words.
+// Writes a branch across 2000 words.
 fn write_far_branch(assembler: &mut Assembler) -> Result<(), AllocError>
     requires new { assembler.old ≡ empty }
     ensures bound { OnOk result (All (IsBound assembler.new.bound) assembler.new.lines) }
@@ -30,7 +30,7 @@ fn a_branch_over_2000_words_is_too_far(rt: HostRuntime) -> Result<(), Fail> {
     Ok(())
 }
 
-// Writes jumps to a label before them and to one behind.
+// Writes jumps to a label before them and to one after them.
 fn write_jumps(assembler: &mut Assembler) -> Result<(), AllocError>
     requires new { assembler.old ≡ empty }
     ensures bound { OnOk result (All (IsBound assembler.new.bound) assembler.new.lines) }
@@ -66,7 +66,7 @@ fn jumps_have_the_words_of_the_gnu_assembler(rt: HostRuntime) -> Result<(), Fail
     Ok(())
 }
 
-// Stores of small numbers, each at its own word.
+// Stores of small numbers, each with its own `sw`.
 #[derive(Drop)]
 struct Stores;
 
@@ -88,7 +88,7 @@ impl Blocks<u8> for Stores {
     }
 }
 
-// A block, by any blocks.
+// Adds a block, of any kind of blocks.
 fn add<B: Blocks<u8>>(blocks: &B, op: u8, into: &mut Assembler) -> Result<(), AllocError>
     requires known { B.has_block op }
     requires labels { All (GoesToMade into.old.bound) (B.block op) }

@@ -1,4 +1,4 @@
-//! Bytes of images, by hand.
+//! Handmade bytes of images.
 
 use fk_image::{ImageFault, read_image, write_image};
 use std::alloc::{AllocError, Global};
@@ -16,13 +16,13 @@ const ONE_COMMIT: [u8; 40] = [
     0x00, 0x30, 0x23, 0xa6, 0x02, 0x00, 4, 0, 0, 0, 1, 0, 0, 0,
 ];
 
-/// An entry in each of the tables, of bytes that tell their order.
+/// One entry in each of the tables, with bytes that show their order.
 const ONE_OF_EACH: [u8; 52] = [
     0x46, 0x4b, 0x39, 0x35, 1, 0, 0, 0, 1, 0, 0, 0, 1, 0, 0, 0, 1, 0, 0, 0, 1, 0, 0, 0, 1, 2, 3, 4,
     5, 6, 7, 8, 9, 0, 0, 0, 10, 0, 0, 0, 11, 0, 0, 0, 0, 0, 0, 0, 12, 0, 0, 0,
 ];
 
-/// Bytes, and the image that they are.
+/// Bytes, and the image that they encode.
 struct Spelled {
     bytes: &'static [u8],
     code: &'static [u32],
@@ -76,8 +76,8 @@ fn images_are_read_and_written_back(rt: HostRuntime) -> Result<(), Fail> {
     Ok(())
 }
 
-/// Bytes that are no image: so many of these, cut off or with zeros behind them, of which one byte
-/// is another. And why.
+/// Bytes that aren't an image: the first `length` bytes of `of`, with zeros after them if that is
+/// more, and with one byte replaced. `why` is the reason of the refusal.
 struct Refused {
     of: &'static [u8],
     length: usize,
@@ -136,7 +136,7 @@ static REFUSED: [Refused; 8] = [
         byte: 0,
         why: "entry 0 of the tables is past its limits",
     },
-    // a site of another kind
+    // A site with a kind out of range.
     Refused {
         of: &ONE_OF_EACH,
         length: 52,
@@ -146,13 +146,13 @@ static REFUSED: [Refused; 8] = [
     },
 ];
 
-// Whether a fault is told in these words.
+// Whether the text of a fault is this one.
 fn is_told(alloc: Global, fault: &ImageFault, why: &str) -> Result<bool, AllocError> {
     let text = format!(in alloc; "{fault}")?;
     Ok(text.as_str() == why)
 }
 
-// Whether bytes are refused for this reason.
+// Whether bytes are refused for the expected reason.
 fn is_refused(alloc: Global, row: &Refused) -> Result<bool, AllocError> {
     let mut bytes = Vec::from_slice(alloc, row.of)?;
     bytes.resize(row.length, 0)?;

@@ -1,4 +1,4 @@
-//! Tables of texts, from the rule of input texts by hand.
+//! Tables of input texts, made by hand from the rule of input texts.
 use fk_top_input::{InputFault, read_input};
 use std::alloc::{AllocError, Global};
 use std::process::Abort;
@@ -14,7 +14,7 @@ static NUMBERS: [(&[u8], &[u32]); 7] = [
     (b"  12", &[12]),
 ];
 
-// Each with the most numbers that there may be.
+// Each text has the greatest number of numbers that is allowed.
 static FAULTS: [(&[u8], u32, InputFault); 16] = [
     (b"12 x", 9, InputFault::NotANumber(2)),
     (b"4294967296", 9, InputFault::OutOfRange(1)),
@@ -47,7 +47,7 @@ fn numbers_are_read_in_order(rt: HostRuntime) -> Result<(), InputFault> {
     Ok(())
 }
 
-// Whether a text of at most so many numbers has this fault.
+// Whether a text has this fault if at most `limit` numbers are allowed.
 fn has_fault(alloc: Global, text: &[u8], limit: u32, fault: InputFault) -> bool {
     read_input(alloc, text, limit).err() == Some(fault)
 }
@@ -68,12 +68,12 @@ pub(crate) fn repeated(alloc: Global, piece: &[u8], count: u32) -> Result<Vec<u8
     Ok(text)
 }
 
-// Whether a text is read as so many numbers, the most that there may be.
+// Whether a text is read as `count` numbers, where no more are allowed.
 fn has_count(alloc: Global, text: &[u8], count: u32) -> Result<bool, InputFault> {
     Ok(read_input(alloc, text, count)?.len() == count as usize)
 }
 
-// A text is so many numbers, and with a byte more they are too many.
+// Checks that a text has `numbers` numbers, and that with one more byte it has a fault.
 fn are_as_many(
     rt: &impl Abort,
     alloc: Global,

@@ -1,4 +1,4 @@
-//! Tests of the table.
+//! Tests of the table of instructions.
 use fk_isa::decode;
 
 mod stepping;

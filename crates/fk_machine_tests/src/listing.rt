@@ -1,4 +1,4 @@
-//! Tests of the texts.
+//! Tests of the texts of instructions.
 use fk_asm::listing::{listing, listing_line};
 use std::process::Abort;
 
@@ -6,14 +6,14 @@ mod texts;
 
 use texts::TEXTS;
 
-// Words of images, and one that is no instruction.
+// Words of images, and one that isn't an instruction.
 static IN_IMAGES: [(u32, &[u8]); 3] = [
     (0x3000_02b7, b"lui t0, 0x30000"),
     (0x0002_a623, b"sw zero, 12(t0)"),
     (0, b".word 0x00000000"),
 ];
 
-// The words have these texts.
+// Checks the texts of words.
 fn have_texts(rt: &impl Abort, texts: &[(u32, &[u8])]) {
     for (word, text) in texts {
         assert!(rt; listing(*word).as_slice() == *text, "of {word:x}");

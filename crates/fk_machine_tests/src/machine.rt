@@ -1,4 +1,4 @@
-//! Hand-made images, in words as an assembler for RV32IMA writes them.
+//! Handmade images, in words as an assembler for RV32IMA writes them.
 
 ghost use Rattle.std.specs.Prelude.{◌≡◌, IfOk};
 ghost use Rattle.fk_machine.specs.View.{machine_of};
@@ -10,7 +10,7 @@ use fk_machine::{Machine, Stand};
 use std::alloc::{AllocError, Global};
 use std::process::Abort;
 
-/// An image, how it is run, and what that comes to.
+/// An image, how it is run, and the expected result.
 #[derive(Clone, Copy)]
 struct Case {
     name: &'static str,
@@ -18,19 +18,19 @@ struct Case {
     globals: &'static [u32],
     input: &'static [u32],
     harts: u32,
-    /// The most cycles that it is run.
+    /// The greatest number of cycles that it runs.
     bound: u32,
-    /// What each cycle prints that prints, and how many do.
+    /// The text printed by each cycle that prints, and the number of such cycles.
     text: &'static [u8],
     times: u32,
     stand: Stand,
-    /// How many cycles were begun, if that is told.
+    /// The number of begun cycles, if it is checked.
     cycles: Option<u32>,
-    /// How shared data begins.
+    /// The first words of shared data.
     words: &'static [u32],
 }
 
-// One hart that ends and prints nothing.
+// A hart that ends and prints nothing.
 const ALONE: Case = Case {
     name: "",
     code: &[],
@@ -177,8 +177,8 @@ const PARTS_OF_WORDS: Case = Case {
     ..ALONE
 };
 
-// Hart 0 reserves word 0 and hart 1 word 1. Hart 0 stores to word 2 and hart 1 to word 0, so hart 0
-// has stored nothing to the word that it reserved.
+// Hart 0 reserves word 0 and hart 1 reserves word 1. Hart 0 stores to word 2 and hart 1 to word 0.
+// Hart 0 has thus stored nothing to the word that it reserved.
 const LOST_RESERVATION: Case = Case {
     name: "a reservation is lost to another hart",
     code: &[
@@ -248,8 +248,7 @@ const ALL_HARTS: Case = Case {
     ..ALONE
 };
 
-// Harts that come to a barrier at different times print in one and the same cycle behind
-// it, three times.
+// Harts that come to a barrier at different times print in the same cycle after it, three times.
 const BARRIER: Case = Case {
     name: "all print in one cycle",
     code: &[
@@ -286,7 +285,8 @@ const BARRIER: Case = Case {
     ..ALONE
 };
 
-// Five harts in lockstep, each with 8 times its number as last value, agree on that of the highest.
+// Five harts in lockstep, each with 8 times its number as its last value, agree on the value of the
+// highest.
 const HIGHEST: Case = Case {
     name: "the highest decides",
     code: &[
@@ -349,7 +349,7 @@ fn machine_for(rt: &impl Abort, alloc: Global, case: &Case) -> Result<Machine, A
     Ok(machine)
 }
 
-// How many texts the last cycle printed, if it printed nothing else.
+// The number of texts that the last cycle printed, if it printed nothing else.
 fn texts_printed(machine: &Machine, text: &[u8]) -> Option<u32> {
     let bytes = machine.output();
     if bytes.len() == 0 {
@@ -358,8 +358,8 @@ fn texts_printed(machine: &Machine, text: &[u8]) -> Option<u32> {
     if bytes == text { Some(1) } else { None }
 }
 
-// Runs a new machine cycle by cycle. Answers in how many it printed the text of a case, if no cycle
-// printed another.
+// Runs a new machine cycle by cycle. Returns the number of cycles that printed the text of a case,
+// if no cycle printed another text.
 fn times_printed(machine: &mut Machine, case: &Case) -> Option<u32>
     requires { (machine_of machine.old).begun ≡ 0 }
 {
@@ -384,7 +384,7 @@ fn begins_with(machine: &Machine, words: &[u32]) -> bool {
     true
 }
 
-// Whether a machine stands as a case says.
+// Whether a machine has the status, cycles and words that a case expects.
 fn stands(machine: &Machine, case: &Case) -> bool {
     let cycles = match case.cycles {
         Some(cycles) => machine.cycles() == cycles,
@@ -408,8 +408,8 @@ fn appends(
     Ok(bytes.as_slice() == expected.as_slice())
 }
 
-// A case comes to what it says, cycle by cycle and in one call, which adds to what
-// was printed before.
+// Checks that a case has its expected result, both cycle by cycle and in one call. The one call
+// appends to what was printed before.
 fn comes_true(
     rt: &impl Abort,
     alloc: Global,

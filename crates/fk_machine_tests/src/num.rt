@@ -1,9 +1,9 @@
-//! Tests of the operators and the texts.
+//! Tests of the operators and of decimal texts.
 use fk_num::{Op, apply, read_unsigned, signed_text, unsigned_text};
 use std::process::Abort;
 
-// Of the suites rv32um and rv32ui of riscv-tests: the operator, its operands and the
-// word that it gives.
+// From the suites rv32um and rv32ui of riscv-tests: the operator, its operands and the resulting
+// word.
 const RISCV_TESTS: [(Op, u32, u32, u32); 41] = [
     (Op::Mul, 0x0000_7e00, 0xb6db_6db7, 0x0000_1200),
     (Op::Mul, 0xaaaa_aaab, 0x0002_fe7d, 0x0000_ff7f),
@@ -63,7 +63,7 @@ const COMPARED_BY_SIGN: [(Op, u32, u32, u32); 8] = [
     (Op::Ne, LEAST, LEAST, 0),
 ];
 
-// Each operator gives its word.
+// Checks the word that each operator gives.
 fn give(rt: &impl Abort, rows: &[(Op, u32, u32, u32)]) {
     for (op, a, b, given) in rows {
         assert!(rt; apply(*op, *a, *b) == *given, "{a:x} and {b:x}");
@@ -80,7 +80,7 @@ fn compares_and_chooses_by_sign(rt: HostRuntime) {
     give(&rt, &COMPARED_BY_SIGN);
 }
 
-// Words with their decimals as signed numbers.
+// Words with their signed values in decimal.
 static SIGNED: [(u32, &[u8]); 4] = [
     (0, b"0"),
     (0x7fff_ffff, b"2147483647"),
@@ -96,7 +96,7 @@ fn prints_decimal(rt: HostRuntime) {
     assert!(rt; unsigned_text(0xffff_ffff).as_slice() == b"4294967295".as_slice());
 }
 
-// Texts, and the words that they are read as, if they are read.
+// Texts, and the words as which they are read, if they can be read.
 static READ: [(&[u8], Option<u32>); 4] = [
     (b"00000000004294967295", Some(0xffff_ffff)),
     (b"4294967296", None),

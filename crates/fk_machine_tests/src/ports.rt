@@ -1,4 +1,4 @@
-//! Tests of the ports at each of their types.
+//! Tests of the ports, for each of their types.
 use fk_ports::{
     Failed, HostSink, HostSource, HostStore, MemSink, MemSource, MemStore, Sink, Source, Store,
     StoreFault, SureSink, SureSource, SureStore, give_all, take_all,
@@ -9,7 +9,7 @@ use std::process::Abort;
 use std::test::Fail;
 use std::{env, fmt, fs, io};
 
-// More bytes than go in one piece, each its place modulo 251.
+// More bytes than one piece holds, each of them its index modulo 251.
 fn long_bytes(alloc: Global) -> Result<Vec<u8>, AllocError> {
     let mut bytes = Vec::new(alloc);
     for place in 0..200_000_u32 {
@@ -24,13 +24,13 @@ fn fetches<F: Store>(alloc: Global, files: &mut F, name: &str, most: usize, want
     files.fetch(name, most, &mut bytes) == Ok(()) && bytes.as_slice() == wanted
 }
 
-// Whether a fetch answers a fault.
+// Whether a fetch fails with `StoreFault::Fault`.
 fn fetch_faults<F: Store>(alloc: Global, files: &mut F, name: &str) -> bool {
     let mut bytes = Vec::new(alloc);
     files.fetch(name, 9, &mut bytes) == Err(StoreFault::Fault)
 }
 
-// Whether these bytes are taken.
+// Whether the source gives these bytes.
 fn takes<S: Source>(alloc: Global, source: &mut S, most: usize, wanted: &[u8]) -> bool {
     match take_all(alloc, source, most) {
         Ok(bytes) => bytes.as_slice() == wanted,
@@ -46,7 +46,7 @@ fn gives<K: Sink>(sink: &mut K, bytes: &[u8]) -> bool {
     give_all(sink, bytes) == Ok(())
 }
 
-// Whether these bytes are put.
+// Whether the bytes can be put.
 fn puts<F: Store>(files: &mut F, name: &str, bytes: &[u8]) -> bool {
     files.put(name, bytes) == Ok(())
 }
@@ -118,7 +118,7 @@ fn never_fails_where_it_is_sure(rt: HostRuntime) -> Result<(), Fail> {
     Ok(())
 }
 
-// Whether these bytes, which begin with 0, 1 and 2, are put, and fetched whole and in part.
+// Whether these bytes, which begin with 0, 1 and 2, can be put, and fetched as a whole and in part.
 fn keeps<F: Store>(alloc: Global, files: &mut F, name: &str, bytes: &[u8]) -> bool {
     puts(files, name, bytes)
         && fetches(alloc, files, name, usize::MAX, bytes)
@@ -163,7 +163,7 @@ impl Read for BreaksOff {
 fn takes_from_a_reader(rt: HostRuntime) -> Result<(), Fail> {
     let alloc = rt.alloc();
     let bytes = long_bytes(alloc)?;
-    // pieces of 4096 and of 904 bytes by turns
+    // The pieces have 4096 and 904 bytes in turn.
     let reader = BufReader::with_capacity(alloc, 5000, bytes.as_slice())?;
     let mut source = HostSource::new(reader);
     assert!(rt; takes(alloc, &mut source, usize::MAX, &bytes));
@@ -172,7 +172,7 @@ fn takes_from_a_reader(rt: HostRuntime) -> Result<(), Fail> {
     Ok(())
 }
 
-// Takes a thousand bytes at most at once.
+// Takes at most a thousand bytes at once.
 #[derive(Drop)]
 struct Narrow {
     taken: Vec<u8>,
@@ -206,7 +206,7 @@ fn gives_to_a_writer(rt: HostRuntime) -> Result<(), Fail> {
     Ok(())
 }
 
-// An error is told in these words.
+// Checks the text of an error.
 fn is_told<E: fmt::Display>(
     rt: &impl Abort,
     alloc: Global,

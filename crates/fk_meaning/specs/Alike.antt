@@ -5,7 +5,8 @@ use Rattle.fk_meaning.specs.Processor.{Setting}
 use Rattle.fk_meaning.specs.Round.{Step, State}
 use Rattle.fk_meaning.specs.Schedule.{Schedule, opening, run, stand_of, IsLawful}
 
--- the same operation at the same site, and again related work on either way; or none on both sides
+-- both have the same operation at the same site, and related work on either branch; or both have
+-- none
 abbrev pub Same : {V W : Type 0} → (V → W → Type 0) → Option (Step V) → Option (Step W) → Type 0
 Same R None None = Unit {0}
 Same R (Some s) (Some u) = (s.operation ≡ u.operation) × (s.site ≡ u.site)
@@ -14,7 +15,8 @@ Same R s u = ⊥
 
 module _ {V W : Type 0} (next : V → Option (Step V)) (next' : W → Option (Step W))
     (setting : Setting) where
-  -- a schedule is lawful for both or for neither, and under it the stores and the stands are equal
+  -- a schedule is lawful for both or for neither, and under it the stores and the statuses are
+  -- equal
   pub record RunAlike (schedule : Schedule) (s : State V) (u : State W) : Type 0 where
     pub there : IsLawful next setting schedule s → IsLawful next' setting schedule u
     pub back : IsLawful next' setting schedule u → IsLawful next setting schedule s
@@ -22,8 +24,8 @@ module _ {V W : Type 0} (next : V → Option (Step V)) (next' : W → Option (St
     pub stand : stand_of next setting (run next setting schedule s)
         ≡ stand_of next' setting (run next' setting schedule u)
 
--- where a test relates work of one form to work of another so that related work is the same, work
--- that it relates has the same runs
+-- if all related work of two forms has the same next operation and related work on either branch,
+-- then related work has the same runs
 abbrev pub FormsRunAlike : (V W : Type 0) → Type 0
 FormsRunAlike V W =
     (next : V → Option (Step V)) (next' : W → Option (Step W)) (related : V → W → Bool)

@@ -1,4 +1,5 @@
--- What is left behind the ends of the parts, and at the ends of the bodies, that a processor is in.
+-- The work that is left after the ends of the parts, and at the ends of the bodies, that a
+-- processor is in.
 use Rattle.std.specs.Prelude.{◌≡◌, ℕ, Bool, true, false, List, [], ◌∷◌, ◌++◌, map, if◌then◌else◌}
 use Rattle.fk_meaning_operation.specs.declared.operation.Operation.{Operation}
 use Rattle.fk_meaning_operation.specs.declared.operation.Operation.TheVariants as o
@@ -9,7 +10,7 @@ use Rattle.fk_meaning_forms.specs.Code.{quit, break, continue, call, ends}
 use Rattle.fk_meaning.specs.Left.{settled}
 use Rattle.fk_meaning.specs.Next.{Work}
 
--- `farm` and `seq` open a body that members run by themselves. A meeting closes it
+-- `farm` and `seq` open a body that members run by themselves. A closing meet ends it
 abbrev pub opens_body : Operation → Bool
 opens_body o.Farm = true
 opens_body o.Seq = true
@@ -19,7 +20,7 @@ abbrev pub is_shrink : Operation → Bool
 is_shrink o.Shrink = true
 is_shrink op = false
 
--- a loop that members leave one by one is known by what ends its test
+-- a loop that members leave one by one is recognized by the operation that ends its test
 abbrev pub shrinks : {A : Type 0} → Code A → Bool
 shrinks done = false
 shrinks (perform t op rest) = shrinks rest
@@ -38,22 +39,22 @@ abbrev pub tail : {X : Type 0} → List X → List X
 tail [] = []
 tail (x ∷ xs) = xs
 
--- one more in front, or one less
+-- a list with one more element in front, or with one less
 abbrev pub grown : {X : Type 0} → Bool → X → List X → List X
 grown b x xs = if b then x ∷ xs else xs
 
 abbrev pub fallen : {X : Type 0} → Bool → List X → List X
 fallen b xs = if b then tail xs else xs
 
--- an end leads behind its part, and a meeting stands at the end of its body
+-- an end leads to the code after its part, and a closing meet is at the end of its body
 abbrev pub marked : {A : Type 0} → Operation → (here behind : Code A)
     → List (Code A) → List (Code A)
 marked o.End here behind codes = behind ∷ codes
 marked (o.Meet true) here behind codes = here ∷ codes
 marked op here behind codes = codes
 
--- what is left behind the innermost part, or from the end of the innermost body on, then behind the
--- next one, and so on
+-- the code after the innermost part, or from the end of the innermost body on; then that of the
+-- next outer part or body, and so on
 abbrev pub past : {A : Type 0} → Code A → List (Code A)
 past done = []
 past (perform t op rest) = marked op (perform t op rest) (settled rest) (past rest)
@@ -68,7 +69,8 @@ past (continue rest) = past rest
 past (call t op f opening rest) = past rest
 past (ends t op rest) = past rest
 
--- so of a processor: first in the running function, then in those that wait for a call
+-- the work of a processor: first that of the running function, then that of the functions that wait
+-- for a call
 abbrev pub works : List (Code ℕ) → List (Code ℕ) → List Work
 works callers codes =
     map (λ code. let work : Work = record { left = code; callers = callers } in work) codes
@@ -80,9 +82,9 @@ waiting (code ∷ callers) = works callers (past code) ++ waiting callers
 abbrev pub outs : Work → List Work
 outs work = works work.callers (past work.left) ++ waiting work.callers
 
--- how an operation goes on: into a part, behind which there is what those have left who wait for
--- it; into a body, at the end of which there is what those have who wait there; behind the part, or
--- from the end of the body on; or as before
+-- how an operation goes on. It may enter a part, after which comes the work of the processors that
+-- wait for it; or enter a body, at whose end is the work of the processors that wait there; or go
+-- on after a part, or from the end of a body on; or leave these as they are
 abbrev pub GoesOn : Operation → (here : Work) → (behind : List Work) → (rest : Bool → Work) → Type 0
 GoesOn (o.Split IfElse) here behind rest =
     (parent : Work) × (outs parent ≡ behind) × (outs (rest true) ≡ parent ∷ behind)
@@ -101,6 +103,6 @@ GoesOn o.Seq here behind rest = (outs (rest false) ≡ rest false ∷ behind)
 GoesOn (o.Meet true) here behind rest = behind ≡ here ∷ outs (rest true)
 GoesOn op here behind rest = (onward : Bool) → outs (rest onward) ≡ behind
 
--- where a processor with some work left goes on, at its next operation
+-- how a processor with this work goes on at its next operation
 abbrev pub GoesOnFrom : Work → Step Work → Type 0
 GoesOnFrom work step = GoesOn step.operation work (outs work) step.rest

@@ -1,5 +1,5 @@
--- Expressions whose calls are such as the rules of types allow: what is called is the name of a
--- function, at once, with arguments that it takes.
+-- Expressions whose calls satisfy the rules of types: the called expression is directly the name of
+-- a function, and the arguments are such as it takes.
 use Rattle.std.specs.Prelude.{◌≡◌, ℕ, Bool, true, false, ◌||◌, List, [], ◌∷◌, Option, Some, None}
 use Rattle.std.specs.Prelude.{codes}
 use Rattle.fk_syntax.specs.Tree as t
@@ -14,17 +14,17 @@ takes_two name =
     is_name name (codes "mpadd") || (is_name name (codes "mpmax")
     || (is_name name (codes "mpand") || is_name name (codes "mpor")))
 
--- a predeclared function has the arguments that it takes, or more
+-- a predeclared function has at least the arguments that it takes
 abbrev pub TakesEnough : Named → Trees → Type 0
 TakesEnough name t.no_trees = (takes_two name ≡ false) × (is_name name (codes "groupsize") ≡ true)
 TakesEnough name (t.tree first t.no_trees) = takes_two name ≡ false
 TakesEnough name (t.tree first (t.tree second others)) = Unit {0}
 
--- where it is told which arguments a name takes
+-- `Takes` tells which arguments a name takes
 module _ (tables : Tables) (functions : (binding : ℕ) → Signature)
     (Takes : Named → Trees → Type 0) where
-  -- what is called is the name of a function. A chain without signs, and an expression without
-  -- suffixes, are what they hold
+  -- the called expression is the name of a function. A chain without signs, and an expression
+  -- without suffixes, are what they contain
   abbrev pub CallFits : Tree → Trees → Type 0
   CallFits (t.Variable name) arguments =
       ((k : Standing → Coded) → variable tables functions name k ≡ k (ToCall name))
@@ -52,7 +52,7 @@ module _ (tables : Tables) (functions : (binding : ℕ) → Signature)
     LinksFit t.no_links = Unit {0}
     LinksFit (t.link spot sign right others) = Fits right × LinksFit others
 
-    -- a call is the first suffix
+    -- a call may only be the first suffix
     pub FirstFits : Tree → Suffixes → Type 0
     FirstFits whole t.no_suffixes = Unit {0}
     FirstFits whole (t.index spot by others) = Fits by × SuffixesFit others

@@ -1,5 +1,5 @@
--- The steps of the tree of groups: what each member does by itself, which way it goes, and what
--- becomes of the tree.
+-- The steps of the tree of groups: the effect on each member, the branch that it takes, and the
+-- effect on the tree.
 use Rattle.std.specs.Prelude.{ℕ, zero, suc, ◌==◌, ◌^◌, nat_lt, min, Bool, true, false, not, List}
 use Rattle.std.specs.Prelude.{◌∷◌, length, Option, Some, None, is_some, if◌then◌else◌}
 use Rattle.fk_num.specs.Word.{put}
@@ -19,17 +19,17 @@ use Rattle.fk_meaning_store.specs.Serve.{words_of}
 use Rattle.fk_meaning.specs.Processor.{Level, Processor, values, with_values, with_space, last}
 use Rattle.fk_meaning.specs.Processor.{before, drop_last, in_place, enter_level, leave_level}
 
--- a word read as a signed number, and 0 for one below 0
+-- a word read as a signed number, or 0 if that is below 0
 abbrev pub not_negative : ℕ → ℕ
 not_negative v = if nat_lt v (2 ^ 31) then v else 0
 
--- how many parts a split makes: for a `fork` as many as the value before the two last ones says
+-- the number of parts of a split; for a `fork` it is the value before the last two
 abbrev pub parts : SplitKind → (values : List ℕ) → ℕ
 parts IfElse vs = 2
 parts Fork vs = not_negative (last (before 2 vs))
 parts by vs = 1
 
--- the part that a member enters, where it doesn't wait
+-- the part that a member enters, unless it waits
 abbrev pub if_below : (i k : ℕ) → Option ℕ
 if_below i k = if nat_lt i k then Some i else None
 
@@ -41,7 +41,8 @@ part OrElse vs = if last vs == 0 then Some 0 else None
 part Loop vs = Some 0
 part Fork vs = if_below (last (before 1 vs)) (parts Fork vs)
 
--- how many values a split takes, and what those have who wait: `&&` is 0 for them, and `||` is 1
+-- the number of values that a split takes, and the values of the members that wait: `&&` is 0 for
+-- them, and `||` is 1
 abbrev pub taken_by : SplitKind → ℕ
 taken_by Loop = 0
 taken_by Fork = 3
@@ -52,7 +53,8 @@ waits_with AndThen vs = 0 ∷ vs
 waits_with OrElse vs = 1 ∷ vs
 waits_with by vs = vs
 
--- inside a part of a `fork` `@` is its number and `$` is the last value. Else both are as they were
+-- inside a part of a `fork`, `@` is the part's number and `$` is the last value. In other parts
+-- both stay as they were
 abbrev pub part_number : SplitKind → (old i : ℕ) → ℕ
 part_number Fork old i = i
 part_number by old i = old
@@ -73,8 +75,8 @@ abbrev pub divided : SplitKind → (size : ℕ) → Processor → Option ℕ →
 divided by size p None = with_values p (waits_with by (before (taken_by by) (values p)))
 divided by size p (Some i) = enter_level (part_level by p size i) (drop_last (taken_by by) p)
 
--- the group of `start` has the number 0 and the whole group space. It takes as many processors as
--- the value says, from the lowest on
+-- the group of `start` has the number 0 and the whole group space. It takes the `value` lowest
+-- processors
 abbrev pub start_level : Processor → (size : ℕ) → Level
 start_level p size = record { number = 0; rank = p.number; size = size; space = p.level.space }
 
@@ -102,8 +104,8 @@ with_size size p = record p { level = record (p.level) { size = size } }
 abbrev pub stays : Processor → Bool
 stays p = not (last (values p) == 0)
 
--- what a member does by itself, where the last value of the highest member and the size of the
--- group that the member is in after the step are known
+-- the effect on a member, given the last value of the highest member, and the size of the group
+-- that the member is in after the step
 abbrev pub does : Operation → (highest size : ℕ) → Processor → Processor
 does Begin highest size p =
     if is_taken highest p then enter_level (start_level p size) (drop_last 1 p) else drop_last 1 p
@@ -116,8 +118,8 @@ does Shrink highest size p = if stays p then with_size size (drop_last 1 p)
 does End highest size p = leave_level p
 does operation highest size p = p
 
--- which way it goes: into the only or the first of two parts, and on in the loop; or the other way.
--- In a `seq` the lowest member goes into the body
+-- whether a member takes the first branch: into the only or the first of two parts, and on in the
+-- loop. In a `seq` the lowest member goes into the body
 abbrev pub is_first : Option ℕ → Bool
 is_first None = false
 is_first (Some i) = i == 0
@@ -133,8 +135,8 @@ goes_onward Shrink highest lowest p = stays p
 goes_onward Seq highest lowest p = p.number == lowest
 goes_onward operation highest lowest p = true
 
--- what becomes of the tree by a step at node n, where the processor of each number, the last value
--- of the highest member and the lowest member are known
+-- the effect on the tree of a step at node n, given the processor of each number, the last value of
+-- the highest member and the lowest member
 abbrev pub changes : Operation → (n : ℕ) → (ℕ → Processor) → (highest lowest : ℕ) → t.Tree → t.Tree
 changes Begin n who highest lowest tree =
     t.begin (min (not_negative highest) (length (t.members tree n))) tree

@@ -1,8 +1,8 @@
--- Loops under way: what is left where a turn ends, or where `break` or `continue` stands first.
+-- Loops under way: the code that is left at the end of a turn, or at a `break` or `continue`.
 use Rattle.fk_meaning_forms.specs.Code.{Code, done, perform, choose, while, until, turn, again}
 use Rattle.fk_meaning_forms.specs.Code.{quit, break, continue, call, ends, append}
 
--- what is left after the innermost loop that is under way
+-- the code after the innermost loop that is under way
 abbrev pub broken : {A : Type 0} → Code A → Code A
 broken done = done
 broken (perform t op rest) = broken rest
@@ -17,7 +17,7 @@ broken (continue rest) = broken rest
 broken (call t op f opening rest) = broken rest
 broken (ends t op rest) = broken rest
 
--- what is left after the rest of its turn
+-- the code after the rest of the turn of that loop
 abbrev pub continued : {A : Type 0} → Code A → Code A
 continued done = done
 continued (perform t op rest) = continued rest
@@ -32,8 +32,7 @@ continued (continue rest) = continued rest
 continued (call t op f opening rest) = continued rest
 continued (ends t op rest) = continued rest
 
--- code before a loop that is under way, with everything that is no operation taken away
--- at its beginning
+-- code before a loop that is under way, without anything at its beginning that isn't an operation
 abbrev pub settled_turn : {A : Type 0} → Code A → Code A
 settled_turn (turn test body step rest) = append step (again test body step rest)
 settled_turn code = code
@@ -52,7 +51,7 @@ opened (continue rest) more = continued (append rest more)
 opened (call t op f opening rest) more = call t op f opening (append rest more)
 opened (ends t op rest) more = ends t op (append rest more)
 
--- so that an operation stands first, or a loop, whose test begins with one
+-- code that begins with an operation, or with a loop whose test begins with one
 abbrev pub settled : {A : Type 0} → Code A → Code A
 settled (while test body step rest) = again test body step (settled rest)
 settled (until body test rest) = opened body (turn test body done (settled rest))

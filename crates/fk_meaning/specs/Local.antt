@@ -1,4 +1,4 @@
--- What a local operation does to its processor.
+-- The effect of a local operation on its processor.
 use Rattle.std.specs.Prelude.{ℕ, ◌+◌, ◌-◌, ◌*◌, ◌^◌, ◌==◌, nat_lt, Bool, true, false, not, List, []}
 use Rattle.std.specs.Prelude.{◌∷◌, if◌then◌else◌}
 use Rattle.fk_num.specs.Word.{word, put}
@@ -52,7 +52,7 @@ applied_to Negate v = applied Sub 0 v
 applied_to Complement v = applied Xor v (2 ^ 32 - 1)
 applied_to Not v = applied Eq v 0
 
--- two values give one
+-- two values are replaced by one
 abbrev pub joined : (ℕ → ℕ → ℕ) → List ℕ → List ℕ
 joined f (b ∷ a ∷ vs) = f a b ∷ vs
 joined f vs = vs
@@ -61,15 +61,15 @@ abbrev pub in_order : (turned : Bool) → (ℕ → ℕ → ℕ) → ℕ → ℕ 
 in_order false f a b = f a b
 in_order true f a b = f b a
 
--- `malloc`: the next words of the private heap, or 0 where it has not so many
+-- `malloc`: the address of the next words of the private heap, or 0 if there aren't enough
 abbrev pub taken : (words : ℕ) → Processor → Processor
 taken words p =
     if (words == 0) then in_place 0 p
     else if nat_lt (private_words - p.top) words then in_place 0 p
     else in_place (private_address p.top) (record p { top = p.top + words })
 
--- the call that waits goes on, with a value or without. Where the function took a frame, its
--- words are free again
+-- the waiting call goes on, with a value or without. If the function took a frame, its words are
+-- free again
 abbrev pub handed : (gives : Bool) → ℕ → Call → Call
 handed true v c = record c { values = v ∷ c.values }
 handed false v c = c
@@ -98,7 +98,7 @@ local set Take p = taken (words_of (last (values p))) p
 local set (Leave gives framed) p = to_caller gives (last (values p)) (unframed framed p) p.callers
 local set operation p = p
 
--- which way a local operation goes: all but a branch have one
+-- whether a local operation takes the first branch; only `Branch` has two
 abbrev pub is_onward : Operation → Processor → Bool
 is_onward (Branch true) p = not (last (values p) == 0)
 is_onward (Branch false) p = last (values p) == 0

@@ -1,11 +1,12 @@
--- The next operation of a processor, and what is left after it on either way.
+-- The next operation of a processor, and the work that is left after it on either branch.
 use Rattle.std.specs.Prelude.{ℕ, List, [], ◌∷◌, Option, Some, None, if◌then◌else◌}
 use Rattle.fk_meaning.specs.Round.{Step}
 use Rattle.fk_meaning_forms.specs.Code.{Code, done, perform, choose, turn, again, quit, call, ends}
 use Rattle.fk_meaning_forms.specs.Code.{append}
 use Rattle.fk_meaning.specs.Left.{broken, settled}
 
--- what is left of the running function, and of those that wait for a call, the last one first
+-- the code left of the running function, and of the functions that wait for a call, the last one
+-- first
 pub record Work : Type 0 where
   pub left : Code ℕ
   pub callers : List (Code ℕ)
@@ -17,7 +18,7 @@ abbrev pub returned : List (Code ℕ) → Work
 returned [] = record { left = done; callers = [] }
 returned (code ∷ callers) = going code callers
 
--- the code of the function that a binding means
+-- `bodies` gives the code of the function that a binding names
 module _ (bodies : (binding : ℕ) → Code ℕ) where
   abbrev pub step : Code ℕ → List (Code ℕ) → Option (Step Work)
   step (perform n op rest) callers =

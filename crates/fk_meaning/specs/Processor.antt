@@ -4,7 +4,7 @@ use Rattle.fk_num.specs.Word.{Memory}
 use Rattle.fk_space.specs.Space.{Space}
 use Rattle.fk_meaning_store.specs.Store as store
 
--- what a run doesn't change: how many processors, words of globals and input numbers there are
+-- what a run doesn't change: the numbers of processors, of words of globals and of input numbers
 pub record Setting : Type 0 where
   pub processors : ℕ
   pub globals : ℕ
@@ -17,7 +17,8 @@ setting_of processors globals input =
 abbrev pub group_space : Setting → Space
 group_space set = store.group_space (set.globals + set.inputs)
 
--- what a member has of its group: `@`, its own `$`, what `groupsize()` gives, and the group's space
+-- the data of a member about its group: `@`, its own `$`, the value of `groupsize()`, and the
+-- group's space
 pub record Level : Type 0 where
   pub number : ℕ
   pub rank : ℕ
@@ -31,9 +32,9 @@ pub record Call : Type 0 where
   pub privates : Memory
   pub frames : Memory
 
--- a processor: its number, its level in the innermost group and those in the groups round it, the
--- running call and those that wait for it, its private variables of file scope, and how many words
--- of its private heap it has taken
+-- a processor: its number, its level in the innermost group and those in the groups around it, the
+-- running call and those that wait for it, its private variables of file scope, and the number of
+-- words of its private heap that it has taken
 pub record Processor : Type 0 where
   pub number : ℕ
   pub level : Level
@@ -46,7 +47,7 @@ pub record Processor : Type 0 where
 abbrev pub values : Processor → List ℕ
 values p = p.call.values
 
--- the last value, and what stands before so many values
+-- the last value, and the values before the last `count` ones
 abbrev pub last : List ℕ → ℕ
 last [] = 0
 last (v ∷ vs) = v
@@ -65,14 +66,14 @@ push v p = with_values p (v ∷ values p)
 abbrev pub drop_last : (count : ℕ) → Processor → Processor
 drop_last n p = with_values p (before n (values p))
 
--- a value in place of the last one
+-- the last value is replaced by another one
 abbrev pub in_place : ℕ → Processor → Processor
 in_place v p = with_values p (v ∷ before 1 (values p))
 
 abbrev pub with_space : Processor → Space → Processor
 with_space p s = record p { level = record (p.level) { space = s } }
 
--- enters a part; and leaves it for the group round it, as that was
+-- a processor enters a part, and leaves it for the group around it, whose level is as before
 abbrev pub enter_level : Level → Processor → Processor
 enter_level l p = record p { level = l; outer = p.level ∷ p.outer }
 

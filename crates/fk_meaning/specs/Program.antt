@@ -11,12 +11,12 @@ use Rattle.fk_meaning.specs.Next.{Work, going, next}
 abbrev pub next_in : Tables → ProgramTree → Work → Option (Step Work)
 next_in tables program = next (bodies_of tables program)
 
--- all of `main`
+-- the work of a processor at the beginning of `main`
 abbrev pub main_work : Tables → ProgramTree → Work
 main_work tables program = going (bodies_of tables program (main_of tables program)) []
 
--- p processors at the beginning of `main`, over the first values of shared data and of the private
--- variables of file scope
+-- p processors at the beginning of `main`, with the initial values of shared data and of the
+-- private variables of file scope
 abbrev pub program_opening : Tables → ProgramTree → (words firsts input : List ℕ)
     → (p : ℕ) → State Work
 program_opening tables program words firsts input p =

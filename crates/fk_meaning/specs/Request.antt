@@ -1,4 +1,4 @@
--- The request of an operation, and what its processor does with the answer.
+-- The request of an operation, and the effect of the answer on its processor.
 use Rattle.std.specs.Prelude.{ℕ, zero, suc, List, [], ◌∷◌, length}
 use Rattle.fk_num.specs.Word.{Memory, put}
 use Rattle.fk_meaning_operation.specs.Kinds.{multiprefix_kind}
@@ -15,7 +15,7 @@ use Rattle.fk_meaning.specs.Processor.{Processor, values, last, before, drop_las
 abbrev pub address : Processor → ℕ
 address p = last (before 1 (values p))
 
--- `main` has depth 1
+-- the depth of the running call; `main` has depth 1
 abbrev pub depth : Processor → ℕ
 depth p = suc (length p.callers)
 
@@ -41,7 +41,7 @@ entered n p = record p {
   callers = record (p.call) { values = before n (values p) } ∷ p.callers;
 }
 
--- the processor after it: the answer stands for what the request took
+-- the processor after its request: the answer replaces the values that the request took
 abbrev pub with_answer : Operation → (answer : ℕ) → Processor → Processor
 with_answer Read v p = in_place v p
 with_answer Write v p = in_place v (drop_last 1 p)

@@ -1,5 +1,5 @@
--- Rounds: some processors act, each with a count. What is left to do may be of any form that tells
--- its next operation.
+-- Rounds: some processors act, each with a count. The work that is left may have any form that
+-- gives its next operation.
 use Rattle.std.specs.Prelude.{◌≡◌, ℕ, zero, suc, ◌==◌, nat_lt, Bool, true, false, ◌&&◌, List, []}
 use Rattle.std.specs.Prelude.{◌∷◌, length, slice_index, Option, Some, None, is_none, is_some, map}
 use Rattle.std.specs.Prelude.{if◌then◌else◌}
@@ -21,13 +21,13 @@ use Rattle.fk_meaning.specs.Local.{local, is_onward}
 use Rattle.fk_meaning.specs.Request.{request, with_answer}
 use Rattle.fk_meaning.specs.Group.{does, goes_onward, changes, has_room}
 
--- an operation, its site, and what is left after it on either of two ways
+-- an operation, its site, and the work that is left after it on either branch
 pub record Step (W : Type 0) : Type 0 where
   pub operation : Operation
   pub site : ℕ
   pub rest : (onward : Bool) → W
 
--- a processor, and what it has left to do
+-- a processor, and the work that it has left
 pub record Runner (W : Type 0) : Type 0 where
   pub left : W
   pub has : Processor
@@ -36,25 +36,25 @@ pub record Fault : Type 0 where
   pub site : ℕ
   pub processor : ℕ
 
--- the runners stand in the order of their numbers, from 0. A fault ends the run
+-- the runners are in the order of their numbers, from 0. A fault ends the run
 pub record State (W : Type 0) : Type 0 where
   pub store : Store
   pub tree : t.Tree
   pub runners : List (Runner W)
   pub fault : Option Fault
 
--- a count for each processor, 0 for one that is not in the round
+-- a count for each processor, which is 0 if the processor isn't in the round
 abbrev pub Round : Type 0
 Round = List ℕ
 
--- the round without the processors from one on
+-- the round without the processors from number `first` on
 abbrev pub cut : (first : ℕ) → Round → Round
 cut zero [] = []
 cut zero (c ∷ round) = 0 ∷ cut zero round
 cut (suc n) [] = []
 cut (suc n) (c ∷ round) = c ∷ cut n round
 
--- a processor in a round, and the operation that it has taken and not yet done
+-- a processor in a round, and the operation that it has taken but not done yet
 pub record Acting (W : Type 0) : Type 0 where
   pub due : Option (Step W)
   pub runner : Runner W
@@ -62,15 +62,15 @@ pub record Acting (W : Type 0) : Type 0 where
 abbrev pub taking : {W : Type 0} → Runner W → Option (Step W) → Acting W
 taking r step = record { due = step; runner = r }
 
--- its operation is done, and it goes on one way
+-- the operation is done, and the processor takes a branch
 abbrev pub done : {W : Type 0} → Step W → (onward : Bool) → Processor → Acting W
 done step onward p = record { due = None; runner = record { left = step.rest onward; has = p } }
 
 abbrev pub runner_of : {W : Type 0} → Acting W → Runner W
 runner_of a = a.runner
 
--- the phase of requests. One processor passes it, or its site faults: a request that is refused, or
--- a step of the tree that finds no words
+-- the phase of requests. A processor passes it, or faults at its site: a request is refused, or a
+-- step of the tree finds no words
 pub data Phase (W : Type 0) : Type 0 where
   Passes : (store : Store) (acting : Acting W) → Phase W
   Breaks : (site : ℕ) → Phase W
@@ -90,7 +90,7 @@ abbrev pub request_phase : {W : Type 0} → Store → Acting W → Option (Step 
 request_phase s a None = Passes s a
 request_phase s a (Some step) = do_request s a (class_of step.operation) step
 
--- all of them pass it in ascending order, up to the first fault
+-- all processors pass it in ascending order, up to the first fault
 pub record Phases (W : Type 0) : Type 0 where
   pub store : Store
   pub acting : List (Acting W)
@@ -114,8 +114,8 @@ all_requests number [] s = record { store = s; acting = []; fault = None }
 all_requests number (a ∷ actings) s =
     after_phase number s a actings (all_requests (suc number) actings) (request_phase s a a.due)
 
--- the phase of the tree. The lowest and the highest member of a group, and the
--- processor of a number
+-- the phase of the tree: the lowest and the highest member of a group, and the processor with a
+-- number
 abbrev pub lowest : List ℕ → ℕ
 lowest [] = 0
 lowest (h ∷ hs) = h
@@ -150,7 +150,7 @@ who (a ∷ actings) (suc h) = who actings h
 abbrev pub agreed : {W : Type 0} → List (Acting W) → (members : List ℕ) → ℕ
 agreed actings members = last (values (who actings (highest members)))
 
--- a step at a node is one for all its members: the lowest of them brings it to the tree
+-- a step at a node is one step for all its members: the lowest of them applies it to the tree
 abbrev pub change_by : {W : Type 0} → List (Acting W) → (old : t.Tree) → (h : ℕ) → Option (Step W)
     → t.Tree → t.Tree
 change_by actings old h None tree = tree
@@ -166,7 +166,7 @@ all_changes actings old [] tree = tree
 all_changes actings old (a ∷ others) tree =
     all_changes actings old others (change_by actings old a.runner.has.number a.due tree)
 
--- each member does its own part, in the group that the new tree has for it
+-- each member does its own part of the step, in the group that it has in the new tree
 abbrev pub settled_by : {W : Type 0} → List (Acting W) → (old new : t.Tree) → Runner W
     → Option (Step W) → Runner W
 settled_by actings old new r None = r
@@ -185,7 +185,7 @@ settled actings old new [] = []
 settled actings old new (a ∷ others) =
     settled_by actings old new a.runner a.due ∷ settled actings old new others
 
--- the steps of the tree take place where nothing has faulted
+-- the steps of the tree take place if there was no fault
 abbrev pub tree_phase : {W : Type 0} → t.Tree → Store → List (Acting W) → Option Fault → State W
 tree_phase tree s actings None =
     let new = all_changes actings tree actings tree in
@@ -193,7 +193,7 @@ tree_phase tree s actings None =
 tree_phase tree s actings (Some fault) =
     record { store = s; tree = tree; runners = map runner_of actings; fault = Some fault }
 
--- which rounds are allowed. What each processor is about to do with others
+-- which rounds are allowed. First the joint operation that each processor is about to do
 abbrev pub joint_due : {W : Type 0} → Option (Step W) → Joint
 joint_due None = Alone
 joint_due (Some step) = joint_of step.operation
@@ -211,12 +211,12 @@ same_joint Closing Closing = true
 same_joint Resuming Resuming = true
 same_joint a b = false
 
--- those who run the body of an asynchronous node
+-- the members that run the body of an asynchronous node
 abbrev pub body_of : Option Kind → (members : List ℕ) → List ℕ
 body_of None members = []
 body_of (Some kind) members = t.runs kind members
 
--- a joint operation is done by all who do it together, each with count 1, where it is due
+-- all members that a joint operation needs do it, each with count 1, and it is due for all of them
 abbrev pub all_do : Round → (ℕ → Joint) → Joint → List ℕ → Bool
 all_do round does joint members =
     list_all (λ h. (slice_index round h == 1) && same_joint joint (does h)) members
@@ -229,14 +229,14 @@ joins round does tree n AtBarrier =
 joins round does tree n Closing = all_do round does Closing (t.members tree n)
 joins round does tree n Resuming = t.ready tree n && all_do round does Resuming (t.members tree n)
 
--- a group in lockstep acts whole and with one count. At every other node each acts by itself, joint
--- operations aside
+-- a group in lockstep acts as a whole and with one count. At every other node each member acts by
+-- itself, except in joint operations
 abbrev pub fits_kind : Round → (ℕ → Joint) → t.Tree → (h n : ℕ) → Option Kind → Bool
 fits_kind round does tree h n (Some Lockstep) =
     list_all (λ m. slice_index round m == slice_index round h) (t.members tree n)
 fits_kind round does tree h n kind = joins round does tree n (does h)
 
--- one that is not in the round fits always
+-- a processor that isn't in the round always fits
 abbrev pub fits : Round → (ℕ → Joint) → t.Tree → (h count : ℕ) → Bool
 fits round does tree h zero = true
 fits round does tree h (suc c) = let n = tree.places h in
@@ -264,7 +264,7 @@ module _ {W : Type 0} (next : W → Option (Step W)) (setting : Setting) where
   local_phase a None = a
   local_phase a (Some step) = do_local a (class_of step.operation) step
 
-  -- a processor after so many local operations
+  -- a processor after `count` local operations
   abbrev pub after_one : Runner W → Runner W
   after_one r = let a = taking r (next r.left) in (local_phase a a.due).runner
 
@@ -272,7 +272,7 @@ module _ {W : Type 0} (next : W → Option (Step W)) (setting : Setting) where
   after_locals zero r = r
   after_locals (suc c) r = after_locals c (after_one r)
 
-  -- a processor with a count does all but one of its operations, and takes the last
+  -- a processor with a count does all but the last of its operations, and takes the last one
   abbrev pub begin : (count : ℕ) → Runner W → Acting W
   begin zero r = taking r None
   begin (suc c) r = let q = after_locals c r in taking q (next q.left)
@@ -284,17 +284,18 @@ module _ {W : Type 0} (next : W → Option (Step W)) (setting : Setting) where
   abbrev pub all_locals : List (Acting W) → List (Acting W)
   all_locals actings = map (λ a. local_phase a a.due) actings
 
-  -- those who stand before the requests of a round
+  -- the processors before the requests of a round
   abbrev pub asking : Round → List (Runner W) → List (Acting W)
   asking round rs = all_locals (begin_all round rs)
 
-  -- the state after a round: the local operations, then the requests, then the steps of the tree
+  -- the state after a round: first the local operations, then the requests, then the steps of the
+  -- tree
   abbrev pub result : Round → State W → State W
   result round s =
       let r = all_requests 0 (asking round s.runners) s.store in
       tree_phase s.tree r.store r.acting r.fault
 
-  -- whether so many operations, the next ones, are local
+  -- whether the next `count` operations are local
   abbrev pub is_local_next : Option (Step W) → Bool
   is_local_next None = false
   is_local_next (Some step) = is_local (class_of step.operation)
@@ -303,7 +304,7 @@ module _ {W : Type 0} (next : W → Option (Step W)) (setting : Setting) where
   are_local zero r = true
   are_local (suc c) r = is_local_next (next r.left) && are_local c (after_one r)
 
-  -- a count is at most 255, and all but the last of so many operations are local
+  -- a count is at most 255, and all but the last of its operations are local
   abbrev pub may_act : (count : ℕ) → Runner W → Bool
   may_act zero r = true
   may_act (suc c) r = nat_lt c 255 && are_local c r && is_some (next (after_locals c r).left)
@@ -314,18 +315,18 @@ module _ {W : Type 0} (next : W → Option (Step W)) (setting : Setting) where
   all_may_act [] (r ∷ rs) = false
   all_may_act (c ∷ round) [] = false
 
-  -- a round is allowed where each may be in it by itself, and all of them together
+  -- a round is allowed if each processor may be in it by itself, and all of them fit together
   abbrev pub is_allowed : Round → State W → Bool
   is_allowed round s =
       all_may_act round s.runners
       && all_fit round (joint_at (begin_all round s.runners)) s.tree 0 round
 
-  -- an allowed round is possible where it has no fault
+  -- an allowed round is possible if it has no fault
   abbrev pub is_possible : Round → State W → Bool
   is_possible round s = is_none s.fault && is_allowed round s && is_none (result round s).fault
 
-  -- what is left of an allowed round with a first fault when all processors above that of the
-  -- fault are taken out
+  -- a round is stopped if it is what is left of an allowed round with a first fault, after removing
+  -- all processors above the one that faults
   pub record IsStopped (round : Round) (s : State W) : Type 0 where
     pub running : s.fault ≡ None
     pub whole : Round

@@ -1,4 +1,4 @@
--- Schedules, runs and their stand.
+-- Schedules, runs and their status.
 use Rattle.std.specs.Prelude.{◌≡◌, ℕ, zero, suc, ◌+◌, ◌<◌, ◌≤◌, List, [], ◌∷◌, Bool, true, ◌&&◌}
 use Rattle.std.specs.Prelude.{take, length, slice_get, slice_index, Option, Some, None, is_none}
 use Rattle.std.specs.Prelude.{if◌then◌else◌, ◌⊎◌}
@@ -9,15 +9,15 @@ use Rattle.fk_meaning.specs.Processor.{Level, Call, Processor, Setting, setting_
 use Rattle.fk_meaning.specs.Round.{Step, Runner, Fault, State, Round, result, is_allowed}
 use Rattle.fk_meaning.specs.Round.{is_possible, IsStopped}
 
--- at the beginning `@` is 0, `$` is the processor's number, and the whole group space is
--- there for a `start`
+-- at the beginning `@` is 0, `$` is the processor's number, and the whole group space is available
+-- for a `start`
 abbrev pub first_level : Setting → (h : ℕ) → Level
 first_level set h = record { number = 0; rank = h; size = set.processors; space = group_space set }
 
 abbrev pub first_call : Call
 first_call = record { values = []; privates = λ i. 0; frames = λ i. 0 }
 
--- every processor has its own private variables of file scope, with the same first values
+-- every processor has its own private variables of file scope, with the same initial values
 abbrev pub first_processor : Setting → (firsts : Memory) → (h : ℕ) → Processor
 first_processor set firsts h = record {
   number = h;
@@ -29,15 +29,15 @@ first_processor set firsts h = record {
   top = 0;
 }
 
--- so many processors from number h on, each with the same left to do
+-- `count` processors from number h on, each with the same work left
 abbrev pub beginners : {W : Type 0} → Setting → (firsts : Memory) → (left : W) → (h count : ℕ)
     → List (Runner W)
 beginners set firsts left h zero = []
 beginners set firsts left h (suc p) =
     record { left = left; has = first_processor set firsts h } ∷ beginners set firsts left (suc h) p
 
--- the state before the first round, of a program with these globals and first values, all of
--- which is left to do
+-- the state before the first round, of a program with these globals and initial values. Every
+-- processor has the whole program left
 abbrev pub opening : {W : Type 0} → (processors : ℕ) → (globals input : List ℕ) → (firsts : Memory)
     → (left : W) → State W
 opening processors globals input firsts left =
@@ -80,7 +80,8 @@ module _ {W : Type 0} (next : W → Option (Step W)) (setting : Setting) where
     pub allowed : is_allowed next setting round s ≡ true
     pub within : IsIn h round
 
-  -- who could act before each of 256 consecutive rounds, from round t on, is in one of them
+  -- a processor that could act before each of 256 consecutive rounds, from round t on, is in one of
+  -- them
   abbrev pub KeepsPace : Schedule → State W → Type 0
   KeepsPace schedule s =
       (h t : ℕ) → t + 256 ≤ length schedule
@@ -92,7 +93,7 @@ module _ {W : Type 0} (next : W → Option (Step W)) (setting : Setting) where
     pub possible : ArePossible schedule s
     pub pace : KeepsPace schedule s
 
-  -- finished where nobody has anything left
+  -- a run is finished when no processor has anything left
   abbrev pub all_done : List (Runner W) → Bool
   all_done [] = true
   all_done (r ∷ rs) = is_none (next r.left) && all_done rs

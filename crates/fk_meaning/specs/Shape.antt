@@ -1,4 +1,4 @@
--- How parts, bodies and loops are nested in code, and what may lead out of them.
+-- The nesting of parts, bodies and loops in code, and what may lead out of them.
 use Rattle.std.specs.Prelude.{◌≡◌, Bool, true, false, not, ◌||◌, if◌then◌else◌}
 use Rattle.fk_meaning_operation.specs.declared.operation.Operation.{Operation}
 use Rattle.fk_meaning_operation.specs.declared.operation.Operation.TheVariants as o
@@ -7,8 +7,8 @@ use Rattle.fk_meaning_forms.specs.Code.{Code, done, perform, choose, while, unti
 use Rattle.fk_meaning_forms.specs.Code.{quit, break, continue, call, ends}
 use Rattle.fk_meaning.specs.Behind.{opens_body, is_shrink}
 
--- what code may do to lead out of what it stands in: `break`, `continue`, `return`. A test of a
--- loop ends with what leaves the loop, by a shrink or by a branch
+-- the ways in which code may lead out of what it is in: `break`, `continue` and `return`. The test
+-- of a loop ends with what leaves the loop, a shrink or a branch
 pub record Exits : Type 0 where
   pub breaks : Bool
   pub continues : Bool
@@ -39,7 +39,7 @@ of_turn shrinking x = record {
 abbrev pub of_arm : Exits → Exits
 of_arm x = record x { tests = false; shrinking = false }
 
--- what makes parts, and how many
+-- the operations that make parts, and how many
 abbrev pub splits : Operation → Bool
 splits o.Begin = true
 splits (o.Split by) = true
@@ -52,7 +52,7 @@ has_two_parts op = false
 abbrev pub confines : Operation → Bool
 confines op = splits op || opens_body op
 
--- where nothing is done on the second way
+-- the operations for which the second branch does nothing
 abbrev pub waits : Operation → Bool
 waits (o.Split IfElse) = false
 waits (o.Split by) = true
@@ -69,8 +69,8 @@ abbrev pub ends_part : Operation → Bool
 ends_part o.End = true
 ends_part op = false
 
--- where an operation may stand: on its own; before a choice; at the end of a test; at a call, and
--- at the end of a function
+-- where an operation may be: on its own; before a choice; at the end of a test; or at a call and at
+-- the end of a function
 abbrev pub is_performed : Operation → Bool
 is_performed (o.Split by) = false
 is_performed o.Begin = false
@@ -105,18 +105,18 @@ abbrev pub begins : {A : Type 0} → Code A → Bool
 begins (perform t op rest) = true
 begins code = false
 
--- a closing meeting stands first
+-- the code begins with a closing meet
 abbrev pub meets : {A : Type 0} → Code A → Bool
 meets (perform t op rest) = closes op
 meets code = false
 
--- the end of a part, or what goes on in it
+-- what holds at the end of a part, and what holds where the part goes on
 abbrev pub Either : Bool → Type 0 → Type 0 → Type 0
 Either true ended goes_on = ended
 Either false ended goes_on = goes_on
 
--- code of a part ends with its part, and other code doesn't; directly behind a body there is the
--- meeting that closes it, and behind parts an operation at which those wait who don't enter one
+-- code of a part ends with its part, and other code doesn't. Directly after a body comes the meet
+-- that closes it. After parts comes an operation, at which the members wait that don't enter one
 abbrev pub Shape : {A : Type 0} → (part closing : Bool) → Exits → Code A → Type 0
 Shape part closing x done = (closing ≡ false) × (part ≡ false) × (x.tests ≡ false)
 Shape part closing x (perform t op rest) =

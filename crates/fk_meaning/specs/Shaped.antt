@@ -1,5 +1,5 @@
--- What is asked of the functions of a program, and what then is so of its runs: nothing leads out
--- of parts and bodies, and calls are such as the rules of types allow.
+-- The requirements on the functions of a program, and what follows for its runs. Nothing leads out
+-- of parts and bodies, and calls satisfy the rules of types.
 use Rattle.std.specs.Prelude.{◌≡◌, ℕ, Bool, true, false, ◌==◌, List, [], ◌∷◌, Option, Some, None}
 use Rattle.std.specs.Prelude.{if◌then◌else◌}
 use Rattle.fk_syntax.specs.Tree.{Named, Tree, Trees}
@@ -17,7 +17,7 @@ use Rattle.fk_meaning.specs.Shape.{Exits, none, of_function, of_turn, Shape}
 use Rattle.fk_meaning.specs.Calls as c
 use Rattle.fk_meaning.specs.Calls.{TakesEnough}
 
--- a function of the program takes any arguments
+-- a function of the program may have any arguments
 abbrev pub Takes : Tables → Named → Trees → Type 0
 Takes tables name arguments = ((note tables name.at).binding == no_binding) ≡ true
     → TakesEnough name arguments
@@ -83,14 +83,15 @@ abbrev pub ProgramShaped : Tables → ProgramTree → Type 0
 ProgramShaped tables program =
     let fs = functions_of program.items in FunctionsShaped tables (signature_in tables fs) fs
 
--- such programs come to code whose parts and bodies are nested
+-- such programs have code whose parts and bodies are nested
 abbrev pub ProgramsAreNested : Type 0
 ProgramsAreNested =
     (tables : Tables) (program : ProgramTree) → ProgramShaped tables program
     → (binding : ℕ) → Shape false false of_function (bodies_of tables program binding)
 
--- and whichever ways a run of such code goes, an operation goes on as they are nested: who comes to
--- the end of a part has left what those have who waited for it, and so for a body
+-- whichever branches a run of such code takes, each operation follows the nesting: at the end of a
+-- part a processor has the same work left as the processors that waited for it, and similarly for a
+-- body
 abbrev pub PartsEndWhereOthersWait : Type 0
 PartsEndWhereOthersWait =
     (bodies : (binding : ℕ) → Code ℕ)

@@ -1,4 +1,4 @@
--- The sites of the operations that a run comes to.
+-- The sites of the operations that a run reaches.
 use Rattle.std.specs.Prelude.{◌≡◌, ℕ, Bool, List, [], ◌∷◌, Option, Some, None, option_map}
 use Rattle.std.specs.Prelude.{slice_get}
 use Rattle.fk_syntax.specs.declared.place.Place.{Place}
@@ -14,7 +14,7 @@ use Rattle.fk_meaning.specs.Program.{next_in, main_work}
 abbrev pub kind_at : List (ℕ × Place) → (site : ℕ) → Option ℕ
 kind_at sites n = option_map (λ site. site.0) (slice_get sites n)
 
--- what is left after some operations, each of which goes one of two ways
+-- the work that is left after some operations, each of which takes one of two branches
 abbrev pub rest_of : Work → Bool → Option (Step Work) → Work
 rest_of work onward None = work
 rest_of work onward (Some step) = step.rest onward
@@ -23,8 +23,8 @@ abbrev pub after_ways : (next : Work → Option (Step Work)) → (ways : List Bo
 after_ways next [] work = work
 after_ways next (onward ∷ ways) work = after_ways next ways (rest_of work onward (next work))
 
--- whichever ways they go, the next operation has among the sites of the text, at its own
--- number, its own kind
+-- whichever branches are taken, the site of the next operation has the operation's kind in the list
+-- of the text's sites
 abbrev pub SitesHaveTheirKinds : Type 0
 SitesHaveTheirKinds =
     (tables : Tables) (program : ProgramTree) (ways : List Bool) (step : Step Work)

@@ -1,9 +1,9 @@
--- What a stopped round comes to.
+-- The fault of a stopped round.
 use Rattle.std.specs.Prelude.{◌≡◌, Option, Some}
 use Rattle.fk_meaning.specs.Processor.{Setting}
 use Rattle.fk_meaning.specs.Round.{Step, State, Round, result, IsStopped}
 
--- it has the first fault of the whole round that it is left of
+-- a stopped round has the first fault of the whole round from which it was cut
 abbrev pub StoppedRoundsFault : (W : Type 0) → Type 0
 StoppedRoundsFault W =
     (next : W → Option (Step W)) (setting : Setting) (round : Round) (s : State W)

@@ -1,4 +1,5 @@
--- What becomes of one word of shared data in a round, and what those who touch it are answered.
+-- What happens to one word of shared data in a round, and the answers to the processors that access
+-- it.
 use Rattle.std.specs.Prelude.{◌≡◌, ℕ, ◌==◌, ◌&&◌, Bool, true, false, List, [], ◌∷◌, Option, Some}
 use Rattle.std.specs.Prelude.{None, option_map, is_some, slice_get, take, fold, if◌then◌else◌}
 use Rattle.fk_num.specs.Op.{applied}
@@ -27,7 +28,7 @@ touches x (Write a v) = is_word x a
 touches x (Multi kind a v) = is_some (multiprefix_of kind) && is_word x a
 touches x other = false
 
--- the request with which a processor touches word x, if it stands at one
+-- the request with which a processor accesses word x, if its operation is one
 abbrev pub touch_by : (x : ℕ) → Processor → Class → Operation → Option request.Request
 touch_by x p Local operation = None
 touch_by x p Request operation = let q = request_of operation p in
@@ -45,12 +46,12 @@ operation_due (Some step) = Some step.operation
 abbrev pub touch : {W : Type 0} → (x : ℕ) → Acting W → Option request.Request
 touch x a = touch_of x a.runner.has (operation_due a.due)
 
--- what a multiprefix makes of a word
+-- a word after a multiprefix
 abbrev pub combined_with : Option Multiprefix → (word value : ℕ) → ℕ
 combined_with None w v = w
 combined_with (Some by) w v = applied (operator_of by) w v
 
--- the word after a request that touches it, and the answer
+-- the word after a request that accesses it, and the answer
 abbrev pub after : request.Request → (word : ℕ) → ℕ
 after (Write a v) w = v
 after (Multi kind a v) w = combined_with (multiprefix_of kind) w v
@@ -64,12 +65,12 @@ abbrev pub after_touch : Option request.Request → (word : ℕ) → ℕ
 after_touch None w = w
 after_touch (Some q) w = after q w
 
--- the word after processors have touched it one after the other, in ascending order
+-- the word after processors have accessed it one after the other, in ascending order
 abbrev pub word_after : {W : Type 0} → (x : ℕ) → List (Acting W) → (former : ℕ) → ℕ
 word_after x [] w = w
 word_after x (a ∷ actings) w = word_after x actings (after_touch (touch x a) w)
 
--- the values that those who touch it bring, in the same order
+-- the values of the accesses to the word, in the same order
 abbrev pub value_brought : request.Request → ℕ
 value_brought (Write a v) = v
 value_brought (Multi kind a v) = v
@@ -83,22 +84,22 @@ abbrev pub brought : {W : Type 0} → (x : ℕ) → List (Acting W) → List ℕ
 brought x [] = []
 brought x (a ∷ actings) = brought_by (touch x a) (brought x actings)
 
--- the last of some values, or another where there is none
+-- the last of some values, or another one if there are none
 abbrev pub last_or : (other : ℕ) → List ℕ → ℕ
 last_or other [] = other
 last_or other (v ∷ vs) = last_or v vs
 
--- the last value of the processor with a number, which is there
+-- the last value of the processor with a number, if there is one
 abbrev pub last_of : {W : Type 0} → List (Runner W) → (h : ℕ) → Option ℕ
 last_of runners h = option_map (λ r. last (values r.has)) (slice_get runners h)
 
 module _ {W : Type 0} (next : W → Option (Step W)) (setting : Setting) where
-  -- in a round processor h touches word x by a request
+  -- in a round processor h accesses word x by a request
   abbrev pub Touches : Round → State W → (x h : ℕ) → request.Request → Type 0
   Touches round s x h q = (a : Acting W)
       × (slice_get (asking next setting round s.runners) h ≡ Some a) × (touch x a ≡ Some q)
 
-  -- what those below processor h have made of word x, and the values that they have brought
+  -- word x after the accesses of the processors below h, and the values of these accesses
   abbrev pub word_before : Round → State W → (x h : ℕ) → ℕ
   word_before round s x h =
       word_after x (take h (asking next setting round s.runners)) (s.store.words x)
@@ -109,8 +110,8 @@ module _ {W : Type 0} (next : W → Option (Step W)) (setting : Setting) where
   abbrev pub all_brought : Round → State W → (x : ℕ) → List ℕ
   all_brought round s x = brought x (asking next setting round s.runners)
 
-  -- each who touches a word in a round without a fault is answered by it as those
-  -- below have left it
+  -- in a round without a fault, each access to a word is answered by the word as the lower
+  -- processors have left it
   pub record GoesInTurn (round : Round) (s : State W) (x : ℕ) : Type 0 where
     pub answers : (h : ℕ) (q : request.Request) → Touches round s x h q
         → last_of (result next setting round s).runners h
@@ -118,8 +119,8 @@ module _ {W : Type 0} (next : W → Option (Step W)) (setting : Setting) where
     pub word : (result next setting round s).store.words x
         ≡ word_after x (asking next setting round s.runners) (s.store.words x)
 
-  -- in a round without a fault the members of group n, in lockstep, alone touch word x, all of them
-  -- by one operation
+  -- in a round without a fault only members of group n, in lockstep, access word x, all of them by
+  -- one operation
   pub record IsGroupStep (round : Round) (s : State W) (n x : ℕ)
       (operation : Operation) : Type 0 where
     pub lockstep : t.kind s.tree n ≡ Some Lockstep

@@ -1,5 +1,5 @@
-//! Laws of the definitions. Those of rounds are so of every form `W` in which it is kept what is
-//! left to do. Laws of the definitions. Laws of parts and bodies.
+//! Laws of the definitions, and of parts and bodies. The laws of rounds hold for every form `W` of
+//! what is left to do.
 
 ghost use Rattle.fk_meaning.specs.Alike.{FormsRunAlike};
 ghost use Rattle.fk_meaning.specs.Touch.{RequestsGoInTurn, GroupStep};
@@ -8,57 +8,58 @@ ghost use Rattle.fk_meaning.specs.Told.{ListsTellMembers};
 ghost use Rattle.fk_meaning.specs.Sites.{SitesHaveTheirKinds};
 ghost use Rattle.fk_meaning.specs.Shaped.{PartsEndWhereOthersWait, ProgramsAreNested};
 
-/// Runs don't depend on the form in which it is kept what is left to do. Where work of one form and
-/// work of another are related so that both have the same operations at the same sites, and are
-/// related again on either way, then the same schedules are lawful for both, and leave the same
-/// store and stand.
+/// Runs don't depend on the form of what is left to do. Suppose that work of one form and work of
+/// another are related so that both have the same next operation at the same site, and are related
+/// again on either branch. Then the same schedules are lawful for both, and leave the same store
+/// and status.
 pub fn forms_run_alike<V, W>()
     ensures { FormsRunAlike V W }
 {}
 
-/// In a round without a fault those who touch a word of shared data do so in ascending order: each
-/// is answered by it as the lower ones have left it.
+/// In a round without a fault the processors that access a word of shared data do so in ascending
+/// order. Each gets the word as the lower ones have left it.
 pub fn requests_go_in_turn<W>()
     ensures { RequestsGoInTurn W }
 {}
 
-/// In a round in which the members of one group in lockstep alone touch a word, all of them by one
-/// operation, reads answer the former word, writes leave the value of the highest writer, and each
+/// Take a round in which only members of one group in lockstep access a word, all of them by one
+/// operation. Reads answer the former word. Writes leave the value of the highest writer. Each
 /// multiprefix answers the former word combined with the values of the lower members in ascending
 /// order.
 pub fn group_step<W>()
     ensures { GroupStep W }
 {}
 
-/// A stopped round ends the run with the first fault of the whole round that it is left of.
+/// A stopped round ends the run with the first fault of the whole round from which it was cut.
 pub fn stopped_rounds_fault<W>()
     ensures { StoppedRoundsFault W }
 {}
 
-/// A split and a shrink that are told by a list what is known of each member, in the order of the
-/// members, are those that know it of each processor.
+/// A split has the same result whether a list gives the part of each member, in the order of the
+/// members, or a function gives it for each processor. So has a shrink, for whether each member
+/// stays.
 pub fn lists_tell_members()
     ensures { ListsTellMembers }
 {}
 
-/// Whatever a run of a program comes to, the next operation of a processor has its own kind at its
-/// number in the list of the text's sites.
+/// At every point of a run of a program, the site of a processor's next operation has the kind of
+/// that operation in the list of the text's sites.
 pub fn sites_have_their_kinds()
     ensures { SitesHaveTheirKinds }
 {}
 
-/// In the code of a program parts end, `farm` and `seq` have their bodies, and loops their tests,
-/// as they are nested in the text, and nothing leads out of them in between.
+/// In the code of a program the ends of parts, the bodies of `farm` and `seq`, and the tests of
+/// loops are nested as in the text, and nothing in between leads out of them.
 ///
-/// This is so where no `break`, `continue` or `return` leads out of a part or a body, and calls
-/// have their arguments.
+/// This holds if no `break`, `continue` or `return` leads out of a part or a body, and calls have
+/// their arguments.
 pub fn programs_are_nested()
     ensures { ProgramsAreNested }
 {}
 
-/// Whatever a run of such code comes to, who comes to the end of a part has left what those
-/// have who waited for it, and who comes to the end of a `farm` or `seq` what all its
-/// members have there.
+/// At every point of a run of such code, a processor at the end of a part has the same work left as
+/// the processors that waited for it. A processor at the end of a `farm` or `seq` has the same work
+/// left as all its members have there.
 pub fn parts_end_where_others_wait()
     ensures { PartsEndWhereOthersWait }
 {}

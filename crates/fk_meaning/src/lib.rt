@@ -1,7 +1,7 @@
-//! What a program means: its next operation, processors, rounds and lawful schedules, and what is
-//! left to do behind the parts of a group.
+//! The meaning of a program: its next operation, processors, rounds and lawful schedules, and the
+//! work that is left after the parts of a group.
 //!
-//! The definitions stand in `specs/`, and what is proved of them in `laws`.
+//! The definitions are in `specs/`, and what is proved of them is in `laws`.
 #![tactic(auto)]
 
 pub mod laws;

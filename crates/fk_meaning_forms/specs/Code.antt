@@ -1,5 +1,5 @@
--- Code: what is left to do, as a list of operations with choices, loops and calls. It is what the
--- forms of a program come to, each operation with a tag: its place at first, its site once all of
+-- Code: what is left to do, as a list of operations with choices, loops and calls. The forms of a
+-- program are translated to it. Each operation has a tag: first its place, and its site once all of
 -- them are numbered.
 use Rattle.std.specs.Prelude.{ℕ, suc, ◌+◌, List, [], ◌∷◌, ◌++◌}
 use Rattle.fk_meaning_operation.specs.Kinds.{kind_of}
@@ -10,10 +10,9 @@ pub data Code (A : Type 0) : Type 0 where
   done : Code A
   -- an operation, and what is left after it
   perform : (tag : A) (op : Operation) (rest : Code A) → Code A
-  -- an operation that goes one of two ways, and what is left after both
+  -- an operation that takes one of two branches, and what is left after both
   choose : (tag : A) (op : Operation) (onward aside rest : Code A) → Code A
-  -- loops: what is tested, then what a turn does, then the step to the next turn; the second one
-  -- begins with a turn
+  -- loops: the test, then the body, then the step to the next turn; an `until` begins with its body
   while : (test body step rest : Code A) → Code A
   until : (body test rest : Code A) → Code A
   -- a loop that is under way, at the end of its turn and at the beginning of its test
@@ -23,12 +22,12 @@ pub data Code (A : Type 0) : Type 0 where
   quit : (tag : A) (op : Operation) (rest : Code A) → Code A
   break : (rest : Code A) → Code A
   continue : (rest : Code A) → Code A
-  -- enters a function: what is done at its beginning for this call, then its body
+  -- enters a function: the operations at its beginning for this call, then its body
   call : (tag : A) (op : Operation) (function : ℕ) (opening rest : Code A) → Code A
   -- ends the function: `leave` or `halt`
   ends : (tag : A) (op : Operation) (rest : Code A) → Code A
 
--- one after the other
+-- one code after the other
 abbrev pub append : {A : Type 0} → Code A → Code A → Code A
 append done more = more
 append (perform t op rest) more = perform t op (append rest more)
@@ -43,7 +42,7 @@ append (continue rest) more = continue (append rest more)
 append (call t op f opening rest) more = call t op f opening (append rest more)
 append (ends t op rest) more = ends t op (append rest more)
 
--- how many operations stand in code
+-- the number of operations in code
 abbrev pub size : {A : Type 0} → Code A → ℕ
 size done = 0
 size (perform t op rest) = suc (size rest)
@@ -73,7 +72,7 @@ sites (continue rest) = sites rest
 sites (call t op f opening rest) = (kind_of op, t) ∷ sites opening ++ sites rest
 sites (ends t op rest) = (kind_of op, t) ∷ sites rest
 
--- the operations numbered in that order, from a first number on
+-- code with its operations numbered in that order, from a first number on
 abbrev pub numbered : {A : Type 0} → ℕ → Code A → Code ℕ
 numbered n done = done
 numbered n (perform t op rest) = perform n op (numbered (suc n) rest)

@@ -32,7 +32,7 @@ use Rattle.fk_meaning_forms.specs.Tables.{is_unsigned, slot, region, frame_at}
 use Rattle.fk_meaning_forms.specs.Signs.{operator_of, is_shift, move_of}
 use Rattle.fk_meaning_forms.specs.Texts.{text_of}
 
--- each operation stands with its place. Most can't fault, and have none
+-- each operation has its place; operations that can't fault have none
 abbrev pub Coded : Type 0
 Coded = Code Place
 
@@ -42,20 +42,21 @@ nowhere = record { line = 0; column = 0 }
 abbrev pub plain : Operation → (rest : Coded) → Coded
 plain op rest = perform nowhere op rest
 
--- how an expression stands when its operations are done: as a value; at an address that is not
--- checked yet, behind a dereference or an index or not; in a private word; or as a function's name
+-- where the result of an expression is when its operations are done: it is a value; at an address
+-- that isn't checked yet, which comes from a dereference or an index or not; in a private word; or
+-- it is the name of a function
 pub data Standing : Type 0 where
   OnList : Standing
   AtAddress : (deep : Bool) (spot : Spot) → Standing
   InWord : (variable : Variable) → Standing
   ToCall : (name : Named) → Standing
 
--- the operations of an expression, where what follows is known for each way in which it may stand
+-- the operations of an expression, given what follows for each place in which its result may be
 abbrev pub Stands : Type 0
 Stands = (Standing → Coded) → Coded
 
--- the token by which an expression is known: its sign, its name or its number; the last one of a
--- chain or of suffixes
+-- the token that identifies an expression: its sign, name or number. For a chain it is that of the
+-- last link, and for suffixes that of the last one
 abbrev pub last_link : (at : ℕ) → Links → ℕ
 last_link at t.no_links = at
 last_link at (t.link spot sign right others) = last_link spot.at others
@@ -89,8 +90,8 @@ spot_of name = record { at = name.at; place = name.place }
 abbrev pub is_name : Named → (bytes : List ℕ) → Bool
 is_name name bytes = bytes_eq name.bytes bytes
 
--- a function, as its calls see it: the token of its name, its parameters, and whether
--- it has no result
+-- a function as its calls see it: the token of its name, its parameters, and whether it has no
+-- result
 pub record Signature : Type 0 where
   pub at : ℕ
   pub parameters : List DeclaredTree
@@ -101,7 +102,7 @@ abbrev pub put_bytes : (bytes : List ℕ) → Coded → Coded
 put_bytes [] rest = rest
 put_bytes (b ∷ bytes) rest = plain (o.Push b) (plain o.PrintByte (put_bytes bytes rest))
 
--- one binary operator, or what moves a pointer by steps
+-- a binary operator, or the operations that move a pointer by steps
 abbrev pub moved : Move → (step : ℕ) → Operation → Coded → Coded
 moved Forth step op rest = plain (o.Index step) rest
 moved Back step op rest = plain (o.Apply u.Negate) (plain (o.Index step) rest)
@@ -111,7 +112,7 @@ abbrev pub agreed : (sync : Bool) → Coded → Coded
 agreed sync rest = if sync then plain o.Agree rest else rest
 
 module _ (tables : Tables) (functions : (binding : ℕ) → Signature) where
-  -- an address is checked where it lies behind a dereference or an index
+  -- an address is checked if it comes from a dereference or an index
   abbrev pub checked : (deep : Bool) → Spot → Coded → Coded
   checked deep spot rest = if deep then perform spot.place (o.Check false) rest else rest
 
@@ -122,12 +123,12 @@ module _ (tables : Tables) (functions : (binding : ℕ) → Signature) where
   valued (InWord variable) rest = plain (o.Get (n.Value variable)) rest
   valued standing rest = rest
 
-  -- as an address
+  -- an expression as an address
   abbrev pub addressed : Standing → Coded → Coded
   addressed (AtAddress deep spot) rest = checked deep spot rest
   addressed standing rest = rest
 
-  -- as the target of a compound assignment: first its value, at last the new one
+  -- the target of a compound assignment: first its value is read, at last the new one is stored
   abbrev pub fetched : Standing → Coded → Coded
   fetched (AtAddress deep spot) rest = checked deep spot (plain o.CopyLast (plain o.Read rest))
   fetched (InWord variable) rest = plain (o.Get (n.Value variable)) rest
@@ -141,7 +142,7 @@ module _ (tables : Tables) (functions : (binding : ℕ) → Signature) where
   abbrev pub value_of : Stands → Coded → Coded
   value_of e rest = e (λ standing. valued standing rest)
 
-  -- a value that nobody uses is dropped, where there is one
+  -- an unused value is dropped, if there is one
   abbrev pub dropped : (at : ℕ) → Coded → Coded
   dropped at rest = if is_void tables at then rest else plain o.DropLast rest
 
@@ -170,7 +171,7 @@ module _ (tables : Tables) (functions : (binding : ℕ) → Signature) where
       if b == no_binding then predeclared name k
       else placed (slot tables b).home (slot tables b).index name k
 
-  -- `a op b`: an operator on two values, the types of which the tokens tell
+  -- `a op b`: an operator on two values, chosen by the types of their tokens
   abbrev pub operate : Sign → (left right : ℕ) → Coded → Coded
   operate sign left right rest =
       let unsigned = if is_shift sign then is_unsigned tables left
@@ -179,7 +180,7 @@ module _ (tables : Tables) (functions : (binding : ℕ) → Signature) where
       if step == 0 then plain (operator_of sign unsigned) rest
       else moved (move_of sign) step (operator_of sign unsigned) rest
 
-  -- `v op= e`: the value, [e], the operator, the new value
+  -- `v op= e`: the value of v, that of e, the operator, and the new value
   abbrev pub updated : Sign → Stands → (left right : ℕ) → (e : Coded → Coded) → Stands
   updated sign target left right e k =
       target
@@ -199,9 +200,9 @@ module _ (tables : Tables) (functions : (binding : ℕ) → Signature) where
   prefixed spot g.Decrement e at k = updated g.Minus e at spot.at one k
   prefixed spot sign e at k = value_of e (k OnList)
 
-  -- `&&` and `||` go on with their right side, whose value becomes 0 or 1, or with another
-  -- value; `?:` goes one of two ways. In a synchronous region the group agrees before it
-  -- branches, or splits
+  -- `&&` and `||` go on with their right side, whose value becomes 0 or 1, or with another value;
+  -- `?:` takes one of two branches. In a synchronous region the group agrees before it branches, or
+  -- it splits
   abbrev pub truth : Stands → Coded → Coded
   truth e rest = value_of e (plain (o.Push 0) (plain (o.Binary f.Ne false) rest))
 
@@ -235,8 +236,7 @@ module _ (tables : Tables) (functions : (binding : ℕ) → Signature) where
       target (λ standing. addressed standing (value_of value (assigned standing (k OnList))))
   assignment sign target left value right k = updated sign target left right (value_of value) k
 
-  -- suffixes. A member lies so many words behind the beginning of its struct, as the note
-  -- of its name says
+  -- suffixes. The note of a member's name has the offset of the member in its struct in words
   abbrev pub member : (at : ℕ) → Coded → Coded
   member at rest = plain (o.Push (4 * (note tables at).binding)) (plain (o.Binary f.Add false) rest)
 
@@ -254,7 +254,7 @@ module _ (tables : Tables) (functions : (binding : ℕ) → Signature) where
   abbrev pub pointed : Spot → (at : ℕ) → Stands → Stands
   pointed spot at e k = value_of e (member at (k (AtAddress true spot)))
 
-  -- `v++` and `v--`: as in front, then undone, for a pointer in bytes
+  -- `v++` and `v--`: the prefix form, which is then undone; for a pointer by the bytes of a step
   abbrev pub step_back : (at : ℕ) → ℕ
   step_back at = if (kind_at tables at).step == 0 then 1 else (kind_at tables at).step
 
@@ -263,8 +263,8 @@ module _ (tables : Tables) (functions : (binding : ℕ) → Signature) where
       updated sign e at 0 one
       (λ standing. plain (o.Push (step_back at)) (plain (operator_of back false) (k OnList)))
 
-  -- a call: the arguments, agreed for `sh` parameters; enter; the frame, and the `sh`
-  -- parameters put into it
+  -- a call: the arguments, with an agree for `sh` parameters; the enter; the frame; and the `sh`
+  -- parameters, which are put into it
   abbrev pub arguments : List DeclaredTree → List Stands → Coded → Coded
   arguments (x ∷ xs) (e ∷ es) rest = value_of e (agreed x.shared (arguments xs es rest))
   arguments xs es rest = rest

@@ -23,7 +23,7 @@ functions_of (FunctionItem f ∷ items) = with_body f f.body (functions_of items
 abbrev pub binding_of : Tables → FunctionTree → ℕ
 binding_of tables f = (note tables f.name.at).binding
 
--- the function that a binding means, as calls see it
+-- the signature of the function that a binding names
 abbrev pub signature_of : FunctionTree → Signature
 signature_of f = record { at = f.name.at; parameters = f.parameters; void = is_nothing f.result }
 
@@ -38,7 +38,7 @@ signature_in tables (f ∷ fs) b = if binding_of tables f == b then signature_of
 abbrev pub is_main : FunctionTree → Bool
 is_main f = bytes_eq f.name.bytes (codes "main")
 
--- the code of one function, of those that there are
+-- the code of one function, among all functions of the text
 abbrev pub code_of : Tables → (all : List FunctionTree) → FunctionTree → Coded
 code_of tables all f = code f.body
   where
@@ -58,7 +58,7 @@ sites_in tables all (f ∷ fs) = sites (code_of tables all f) ++ sites_in tables
 abbrev pub sites_of : Tables → ProgramTree → List (ℕ × Place)
 sites_of tables program = let fs = functions_of program.items in sites_in tables fs fs
 
--- the code of the function that a binding means. Each operation has the number of its site
+-- the code of the function that a binding names. Each operation has the number of its site
 abbrev pub body_in : Tables → (all : List FunctionTree) → (first : ℕ) → List FunctionTree
     → (binding : ℕ) → Code ℕ
 body_in tables all n [] b = done
@@ -69,7 +69,7 @@ body_in tables all n (f ∷ fs) b =
 abbrev pub bodies_of : Tables → ProgramTree → (binding : ℕ) → Code ℕ
 bodies_of tables program b = let fs = functions_of program.items in body_in tables fs 0 fs b
 
--- `main`
+-- the binding of `main`
 abbrev pub main_in : Tables → List FunctionTree → ℕ
 main_in tables [] = 0
 main_in tables (f ∷ fs) = if is_main f then binding_of tables f else main_in tables fs

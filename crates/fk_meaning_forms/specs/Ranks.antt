@@ -2,8 +2,7 @@
 use Rattle.std.specs.Prelude.{◌≡◌, ℕ, suc, List, [], ◌∷◌}
 use Rattle.fk_meaning_forms.specs.Code.{Code, sites, numbered}
 
--- the kinds of a list of operations, each with its rank in place of its tag, counted
--- from a first one
+-- the kinds of a list of operations, each with its rank, counted from `first`, in place of its tag
 abbrev pub ranked : {A : Type 0} → (first : ℕ) → List (ℕ × A) → List (ℕ × ℕ)
 ranked n [] = []
 ranked n (site ∷ more) = (site.0, n) ∷ ranked (suc n) more

@@ -1,4 +1,4 @@
--- What a sign does to two values.
+-- The operations of signs on two values.
 use Rattle.std.specs.Prelude.{Bool, true, false, if◌then◌else◌}
 use Rattle.fk_num.specs.declared.operator.Op.{Op}
 use Rattle.fk_num.specs.declared.operator.Op.TheVariants as f
@@ -9,7 +9,7 @@ use Rattle.fk_syntax.specs.declared.sign.Sign.TheVariants as g
 use Rattle.fk_meaning_forms.specs.declared.signs.Move.{Move}
 use Rattle.fk_meaning_forms.specs.declared.signs.Move.TheVariants.{Forth, Back, NoMove}
 
--- the operator of a sign, on the values as they stand or turned round
+-- the operator of a sign, on the values in their order or swapped
 abbrev pub either : (unsigned : Bool) → (signed other : Op) → Operation
 either unsigned signed other = Binary (if unsigned then other else signed) false
 
@@ -41,7 +41,7 @@ operator_of g.EqualTo u = Binary f.Eq false
 operator_of g.NotEqualTo u = Binary f.Ne false
 operator_of sign u = Binary f.Add false
 
--- a shift has the sign of what is shifted. Every other operator is unsigned where one side is
+-- a shift is unsigned if the shifted value is. Every other operator is unsigned if one side is
 abbrev pub is_shift : Sign → Bool
 is_shift g.ShiftLeft = true
 is_shift g.ShiftLeftAssign = true
@@ -49,7 +49,7 @@ is_shift g.ShiftRight = true
 is_shift g.ShiftRightAssign = true
 is_shift sign = false
 
--- what a sign does to a pointer on its left
+-- the effect of a sign on a pointer on its left
 abbrev pub move_of : Sign → Move
 move_of g.Plus = Forth
 move_of g.PlusAssign = Forth

@@ -23,7 +23,7 @@ pub record Inside : Type 0 where
   pub main : Bool
   pub framed : Bool
 
--- types by their words: a struct, and nothing at all
+-- types by their words: a struct type, and `void`
 abbrev pub is_struct : TypeTree → Bool
 is_struct type = is_base type.base && (type.stars == 0)
   where
@@ -42,7 +42,7 @@ abbrev pub is_scalar : DeclaredTree → Bool
 is_scalar x = not (is_some x.length) && not (is_struct x.kind)
 
 module _ (tables : Tables) (functions : (binding : ℕ) → Signature) where
-  -- an expression that stands as a statement, and one that may be absent
+  -- an expression used as a statement, and one that may be absent
   abbrev pub used : Tree → Coded → Coded
   used e rest = value tables functions e (dropped tables functions (token e) rest)
 
@@ -54,8 +54,7 @@ module _ (tables : Tables) (functions : (binding : ℕ) → Signature) where
   value_or absent None rest = absent rest
   value_or absent (Some e) rest = value tables functions e rest
 
-  -- a scalar that is declared gets its value, or 0. An array and a struct keep what
-  -- their words hold
+  -- a declared scalar gets its initial value, or 0. Arrays and structs keep what their words hold
   abbrev pub declared : DeclaredTree → Coded → Coded
   declared x rest =
       if is_scalar x
@@ -72,8 +71,8 @@ module _ (tables : Tables) (functions : (binding : ℕ) → Signature) where
   abbrev pub part_frame : Spot → (part : ℕ) → Coded → Coded
   part_frame spot part rest = framed tables functions (frame_at tables spot.at part) spot.place rest
 
-  -- loops: a condition, and what leaves the loop by it. An absent condition is 1. A private
-  -- loop runs in a part
+  -- loops: a condition, and the operation that leaves the loop by it. An absent condition is 1. A
+  -- private loop runs in a part
   abbrev pub leaving : Note → Coded
   leaving here = if here.splits then quit nowhere o.Shrink done
       else agreed here.sync (quit nowhere (o.Branch true) done)
@@ -152,7 +151,7 @@ module _ (tables : Tables) (functions : (binding : ℕ) → Signature) where
     all_executed inside (p.statement first others) rest =
         executed inside first (all_executed inside others rest)
 
-  -- a function: its statements, and its end, where one with a result gives 0
+  -- a function: its statements, and its end. A function with a result returns 0 there
   abbrev pub end_of : Inside → (void : Bool) → Coded
   end_of inside void =
       if inside.main then ends nowhere o.Halt done

@@ -1,4 +1,4 @@
--- What the forms of a program need to know of its names, its types and its places in memory.
+-- The tables that give the names, types and places in memory of a program.
 use Rattle.std.specs.Prelude.{ℕ, zero, suc, ◌-◌, ◌^◌, ◌==◌, ◌&&◌, ◌||◌, Bool, false, List, [], ◌∷◌}
 use Rattle.std.specs.Prelude.{Option, Some, None, if◌then◌else◌}
 use Rattle.fk_syntax.specs.declared.facts.Note.{Note}
@@ -7,15 +7,15 @@ use Rattle.fk_meaning_forms.specs.declared.tables.Home.TheVariants.{NoWord}
 use Rattle.fk_meaning_forms.specs.declared.tables.Slot.{Slot}
 use Rattle.fk_meaning_forms.specs.declared.tables.Region.{Region}
 
--- a note for each token; the types; a slot for each declaration; and the group
--- frames that have words
+-- a note for each token; the types; a slot for each declaration; and the group frames that have
+-- words
 pub record Tables : Type 0 where
   pub notes : List Note
   pub kinds : List Kind
   pub slots : List Slot
   pub regions : List Region
 
--- a predeclared name means no declaration
+-- the binding of a predeclared name, which has no declaration
 abbrev pub no_binding : ℕ
 no_binding = 2 ^ 32 - 1
 
@@ -37,7 +37,7 @@ abbrev pub no_region : Region
 no_region = record { at = 0; part = 0; level = 0; words = 0 }
 
 module _ (tables : Tables) where
-  -- the note of a token, and the type that it tells
+  -- the note of a token, and the type in it
   abbrev pub note : (at : ℕ) → Note
   note at = nth no_note tables.notes at
 
@@ -50,7 +50,7 @@ module _ (tables : Tables) where
   abbrev pub is_void : (at : ℕ) → Bool
   is_void at = (kind_at at).words == 0
 
-  -- an array is compared as the pointer that it is
+  -- an array counts as a pointer, and so compares as unsigned
   abbrev pub is_unsigned : (at : ℕ) → Bool
   is_unsigned at = (kind_at at).unsigned || (kind_at at).array
 
@@ -60,7 +60,7 @@ module _ (tables : Tables) where
   abbrev pub region : (number : ℕ) → Region
   region number = nth no_region tables.regions number
 
-  -- the group frame at a token, where it has words
+  -- the group frame at a token, if it has words
   abbrev pub frame_in : List Region → (at part : ℕ) → Option Region
   frame_in [] at part = None
   frame_in (r ∷ rs) at part = if (r.at == at) && (r.part == part) then Some r

@@ -1,7 +1,7 @@
-//! The operations of every form of the language, once, in their order.
+//! The operations of every form of the language, in their order.
 //!
-//! A program comes to code: operations with choices, loops and calls. The sites of a text are the
-//! operations of its code in order.
+//! A program is translated to code: operations with choices, loops and calls. The sites of a text
+//! are the operations of its code in order.
 #![tactic(auto)]
 
 pub mod laws;

@@ -1,4 +1,4 @@
-//! What a sign does to two values.
+//! The operations of signs on two values.
 
 ghost use Rattle.std.specs.Prelude.{◌≡◌};
 ghost use Rattle.fk_meaning_forms.specs.Signs.{operator_of as operator_by, is_shift as is_a_shift};
@@ -8,17 +8,17 @@ use fk_meaning_operation::Operation;
 use fk_num::Op;
 use fk_syntax::Sign;
 
-/// What a sign does to a pointer on its left.
+/// The effect of a sign on a pointer on its left.
 #[derive(Clone, Copy, PartialEq, Eq, Debug)]
 pub enum Move {
     Forth,
     Back,
-    /// It is no sum and no difference.
+    /// The sign is neither a sum nor a difference.
     NoMove,
 }
 
-/// The operation of a sign on two words, for `unsigned` numbers or for signed ones. A sign of an
-/// assignment has that of its operator. The signs that are no operators of two words are taken as
+/// The operation of a sign on two words, for `unsigned` numbers or for signed ones. The sign of a
+/// compound assignment has that of its operator. Signs that aren't operators on two words count as
 /// a sum.
 pub fn operator_of(sign: Sign, unsigned: bool) -> Operation
     ensures { result ≡ operator_by sign unsigned }
@@ -44,8 +44,8 @@ pub fn operator_of(sign: Sign, unsigned: bool) -> Operation
     Operation::Binary(if unsigned { otherwise } else { signed }, turned)
 }
 
-/// Whether a sign shifts. A shift has the sign of what is shifted; every other operator is
-/// unsigned where one side is.
+/// Whether a sign shifts. A shift is unsigned if the shifted value is; every other operator is
+/// unsigned if one side is.
 pub fn is_shift(sign: Sign) -> bool
     ensures { result ≡ is_a_shift sign }
 {
@@ -55,7 +55,7 @@ pub fn is_shift(sign: Sign) -> bool
     )
 }
 
-/// What a sign does to a pointer on its left.
+/// The effect of a sign on a pointer on its left.
 pub fn move_of(sign: Sign) -> Move
     ensures { result ≡ move_by sign }
 {

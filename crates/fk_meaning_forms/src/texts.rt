@@ -1,12 +1,12 @@
-//! The bytes that a text stands for.
+//! The bytes that a text denotes.
 
 ghost use Rattle.std.specs.Prelude.{◌≡◌, IfOk};
 ghost use Rattle.fk_meaning_forms.specs.Texts.{escaped as escaped_by, text_of};
 
 use std::alloc::{AllocError, Global};
 
-/// The bytes that the token of a text prints: those between its quotes, escapes taken for what
-/// they stand for.
+/// The bytes that the token of a text prints: those between its quotes, with each escape replaced
+/// by the byte that it denotes.
 pub fn text_bytes(alloc: Global, token: &[u8]) -> Result<Vec<u8>, AllocError>
     ensures { IfOk result (λ bytes. bytes.items ≡ text_of token.now) }
 {
@@ -27,7 +27,7 @@ pub fn text_bytes(alloc: Global, token: &[u8]) -> Result<Vec<u8>, AllocError>
     Ok(bytes)
 }
 
-// What a byte behind a backslash stands for.
+// The byte that an escape denotes: a backslash and this byte.
 fn escaped(byte: u8) -> u8
     ensures { result ≡ escaped_by byte }
 {

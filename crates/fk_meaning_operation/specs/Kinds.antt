@@ -1,4 +1,4 @@
--- The kinds of operations by their numbers, and what is so of each kind.
+-- The numbers of the kinds of operations, and the properties of each kind.
 use Rattle.std.specs.Prelude.{ℕ, ◌==◌, ◌||◌, nat_lt, true, false, Option, Some, None, if◌then◌else◌}
 use Rattle.fk_meaning_operation.specs.declared.operation.Multiprefix.{Multiprefix}
 use Rattle.fk_meaning_operation.specs.declared.operation.Multiprefix.TheVariants.{MpAdd, MpMax}
@@ -81,7 +81,7 @@ class_of_kind kind = if nat_lt kind 12 then Local else if nat_lt kind 23 then Re
 abbrev pub class_of : Operation → Class
 class_of operation = class_of_kind (kind_of operation)
 
--- what those who do a joint operation do together
+-- what the processors at a joint operation do together
 abbrev pub joint_of : Operation → Joint
 joint_of Begin = Starting
 joint_of (Meet false) = AtBarrier
@@ -89,7 +89,7 @@ joint_of (Meet true) = Closing
 joint_of Resume = Resuming
 joint_of operation = Alone
 
--- how an operation of a kind may fault: a check, an enter, and a frame and a split
+-- the fault that an operation of a kind can have: checks, enters, frames and splits have one
 abbrev pub fault_of : (kind : ℕ) → Option FaultKind
 fault_of kind =
     if kind == 12 then Some BadAddress

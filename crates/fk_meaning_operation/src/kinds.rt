@@ -1,9 +1,9 @@
-//! What is said of kinds of operations.
+//! Classes of operations, joint operations, and faults.
 
-/// When in a round an operation is done.
+/// The phase of a round in which an operation is done.
 #[derive(Clone, Copy, PartialEq, Eq)]
 pub enum Class {
-    /// By the processor alone.
+    /// The operation involves its processor alone.
     Local,
     /// At most one access to what all processors share.
     Request,
@@ -11,10 +11,10 @@ pub enum Class {
     Tree,
 }
 
-/// What those who do a joint operation do together.
+/// What the processors at a joint operation do together.
 #[derive(Clone, Copy, PartialEq, Eq)]
 pub enum Joint {
-    /// Nothing: it is no joint operation.
+    /// Nothing: the operation isn't joint.
     Alone,
     Starting,
     AtBarrier,
@@ -22,13 +22,13 @@ pub enum Joint {
     Resuming,
 }
 
-/// Why an operation ends a run.
+/// The fault with which an operation ends a run.
 #[derive(Clone, Copy, PartialEq, Eq, Debug)]
 pub enum FaultKind {
     /// An address that may not be used.
     BadAddress,
-    /// A call from depth 256.
+    /// A call from a function at depth 256.
     CallDepth,
-    /// A group frame or a split that its group has no words for.
+    /// A group frame or a split for which its group doesn't have enough words.
     GroupSpace,
 }

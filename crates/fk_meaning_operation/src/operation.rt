@@ -1,17 +1,17 @@
-//! Operations, and what their constants are.
+//! Operations and their constants.
 
 use fk_num::Op;
 
 /// A private word of a processor.
 #[derive(Clone, Copy)]
 pub enum Variable {
-    /// A parameter or variable of the running call, by its place.
+    /// A parameter or variable of the running call, by its index.
     Private(u32),
-    /// A private variable of file scope, by its place.
+    /// A private variable of file scope, by its index.
     OfFile(u32),
 }
 
-/// What a processor can push of what it knows by itself.
+/// A value that a processor can push without a request.
 #[derive(Clone, Copy)]
 pub enum OwnValue {
     Value(Variable),
@@ -20,11 +20,11 @@ pub enum OwnValue {
     /// `@`.
     GroupNumber,
     ProcessorNumber,
-    /// How many processors the run has.
+    /// The number of processors in the run.
     Processors,
-    /// What `groupsize()` gives.
+    /// The value of `groupsize()`.
     GroupSize,
-    /// How many input numbers there are.
+    /// The number of input numbers.
     InputLength,
     /// The address of a word of the frame that was taken at a nesting, 0 for that of the function.
     FrameAddress(u32, u32),
@@ -39,30 +39,31 @@ pub enum Unary {
     Not,
 }
 
-/// An operator by which a word of shared data is combined with a value.
+/// An operator that combines a word of shared data with a value.
 #[derive(Clone, Copy, PartialEq, Eq)]
 pub enum Multiprefix {
     MpAdd,
-    /// The signed greater one.
+    /// The greater one of two signed numbers.
     MpMax,
     MpAnd,
     MpOr,
 }
 
-/// Who of a group enters which part.
+/// How a split distributes the members of a group among parts.
 #[derive(Clone, Copy, PartialEq, Eq)]
 pub enum SplitKind {
-    /// `if` without `else`: one part, of those whose value isn't 0.
+    /// `if` without `else`: one part, for the members whose value isn't 0.
     IfAlone,
-    /// `if` with `else`, and `?:`: one part of those, and one of the others.
+    /// `if` with `else`, and `?:`: one part for the members whose value isn't 0, and one for the
+    /// others.
     IfElse,
-    /// `&&`: one part, of those whose value isn't 0. For the others it is 0.
+    /// `&&`: one part, for the members whose value isn't 0. The others get 0.
     AndThen,
-    /// `||`: one part, of those whose value is 0. For the others it is 1.
+    /// `||`: one part, for the members whose value is 0. The others get 1.
     OrElse,
-    /// A loop: one part of all.
+    /// A loop: one part for all members.
     Loop,
-    /// `fork`: each enters the part that it names, if there is one.
+    /// `fork`: each member enters the part that it names, if there is one.
     Fork,
 }
 
@@ -76,17 +77,19 @@ pub enum Operation {
     DropLast,
     CopyLast,
     Apply(Unary),
-    /// An operator on the two last values; with `true` on these turned round.
+    /// An operator on the last two values, which are swapped if the flag is `true`.
     Binary(Op, bool),
-    /// Takes an index and an address, pushes the address of that element. A size is in bytes.
+    /// Takes an index and an address, and pushes the address of that element. The size of an
+    /// element is in bytes.
     Index(u32),
-    /// Goes the first way where the value isn't 0; with `false` where it is 0.
+    /// Takes the first branch if the value isn't 0; with `false` if it is 0.
     Branch(bool),
     /// `malloc`.
     Take,
-    /// Ends a call, with a value or without, of a function that took a group frame or not.
+    /// Ends a call, with a value or without. `framed` tells whether the function took a group
+    /// frame.
     Leave { gives: bool, framed: bool },
-    /// Tests an address; with `true` one of shared data alone, for a multiprefix.
+    /// Checks an address; with `true` it must be one of shared data, for a multiprefix.
     Check(bool),
     Read,
     Write,
@@ -95,12 +98,12 @@ pub enum Operation {
     PrintByte,
     /// `shmalloc`.
     Heap,
-    /// Begins a call with so many arguments.
+    /// Begins a call with this number of arguments.
     Enter(u32),
-    /// The group of `start`.
+    /// Begins the group of a `start`.
     Begin,
     Agree,
-    /// Takes a group frame of so many words at a nesting, 0 for that of a function.
+    /// Takes a group frame of `words` words at a nesting, 0 for that of a function.
     Frame { nesting: u32, words: u32 },
     /// `shalloc`.
     Block,
@@ -110,7 +113,7 @@ pub enum Operation {
     Resume,
     Farm,
     Seq,
-    /// A meeting at a `barrier`; with `true` the end of a `farm` or `seq`.
+    /// A meet: at a `barrier`, or with `true` at the end of a `farm` or `seq`.
     Meet(bool),
     Halt,
 }

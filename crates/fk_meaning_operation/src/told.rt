@@ -1,4 +1,4 @@
-//! What is told of an operation: its kind, its class, what it is done with, and how it may fault.
+//! The kind, the class, the joint operation and the fault of an operation.
 
 ghost use Rattle.std.specs.Prelude.{◌≡◌};
 ghost use Rattle.fk_meaning_operation.specs.Kinds.{kind_of, class_of, joint_of, fault_of};
@@ -8,7 +8,7 @@ use crate::kinds::{Class, FaultKind, Joint};
 use crate::operation::{Multiprefix, Operation};
 
 impl Multiprefix {
-    /// The number of its kind of operation, 15 to 18.
+    /// The number of its operation kind, 15 to 18.
     pub fn kind(&self) -> u8
         ensures { result ≡ multiprefix_kind self.now }
     {
@@ -20,7 +20,7 @@ impl Multiprefix {
         }
     }
 
-    /// The multiprefix of a kind of operation, if it is one.
+    /// The multiprefix with this operation kind, if there is one.
     pub fn of_kind(kind: u8) -> Option<Multiprefix>
         ensures { result ≡ multiprefix_of kind }
     {
@@ -74,7 +74,7 @@ impl Operation {
         }
     }
 
-    /// Whether it is local, a request to what all processors share, or a step of the tree.
+    /// The class: local, a request to what all processors share, or a step of the tree.
     pub fn class(&self) -> Class
         ensures { result ≡ class_of self.now }
     {
@@ -85,7 +85,7 @@ impl Operation {
         }
     }
 
-    /// What all who stand at it do together.
+    /// What the processors at this operation do together.
     pub fn joint(&self) -> Joint
         ensures { result ≡ joint_of self.now }
     {
@@ -98,7 +98,7 @@ impl Operation {
         }
     }
 
-    /// How it may fault, if it may.
+    /// The fault that the operation can have, if any.
     pub fn fault(&self) -> Option<FaultKind>
         ensures { result ≡ fault_of (kind_of self.now) }
     {
@@ -107,7 +107,7 @@ impl Operation {
 }
 
 impl FaultKind {
-    /// How an operation of a kind may fault, if it may.
+    /// The fault that an operation of this kind can have, if any.
     pub fn of_kind(kind: u8) -> Option<FaultKind>
         ensures { result ≡ fault_of kind }
     {

@@ -1,4 +1,4 @@
--- What a `State` ends as when its store was lent.
+-- A `State` after its store was lent.
 use Rattle.std.specs.Borrow.{Lends, MutBor, Fml}
 use Rattle.fk_meaning_store.specs.declared.store.Store32.{Store32}
 use Rattle.fk_meaning_store.specs.contracts.store.Store32 as store
@@ -6,6 +6,6 @@ use Rattle.fk_meaning_state.specs.declared.state.State.{State}
 use Rattle.fk_meaning_state.specs.contracts.state.State.{the_row}
 use Rattle.fk_meaning_state.specs.View.{with_store}
 
--- the state has the store that was left behind the reference, and is as before in all else
+-- the state has the store that was left in the reference, and is otherwise as before
 abbrev pub LendsStore : MutBor State → MutBor Store32 → Fml
 LendsStore s r = Lends the_row store.the_row s r (with_store s.now)

@@ -36,7 +36,7 @@ processor_of p = record {
   top = p.top;
 }
 
--- its parts
+-- the parts of a `State`
 abbrev pub store_in : State → Store32
 store_in s = s.store
 
@@ -46,11 +46,11 @@ tree_in s = s.tree
 abbrev pub processors_in : State → List Processor
 processors_in s = s.processors.items
 
--- another store in place of its own
+-- a state with another store
 abbrev pub with_store : State → Store32 → State
 with_store s store = record s { store = store }
 
--- the state of a run in which every processor has this left to do, and none has faulted
+-- the state of a run that hasn't faulted, in which every processor has the work `left`
 module _ {W : Type 0} (left : W) where
   abbrev pub runner_of : Processor → rounds.Runner W
   runner_of p = record { left = left; has = processor_of p }

@@ -12,11 +12,11 @@ use fk_layout::Layout;
 use fk_syntax::{Facts, Program};
 use std::alloc::{AllocError, Global};
 
-/// The state before the first round of a program: `p` processors at the beginning of `main`, over
-/// the globals and, behind them, the input numbers.
+/// The state before the first round of a program: `p` processors at the beginning of `main`. Shared
+/// data has the globals and then the input numbers.
 ///
 /// It takes 4 MiB for shared data, and for each processor 64 KiB for its private heap and a word
-/// for each private variable of file scope. Fails only for want of memory.
+/// for each private variable of file scope. It fails only if there isn't enough memory.
 pub fn opening(
     alloc: Global,
     program: &Program,

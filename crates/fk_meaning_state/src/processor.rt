@@ -1,4 +1,4 @@
-//! Processors, and how they begin.
+//! Processors, and their initial state.
 
 ghost use Rattle.std.specs.Prelude.{◌≡◌, map, slice_index, IfOk};
 ghost use Rattle.fk_meaning.specs.Schedule as run;
@@ -10,14 +10,14 @@ use crate::setting::Setting;
 use fk_space::Space;
 use std::alloc::{AllocError, Global};
 
-/// What a member has of its group.
+/// The data of a member about its group.
 #[derive(Clone, Copy)]
 pub struct Level {
-    /// `@`
+    /// `@`.
     pub number: u32,
     /// Its own `$`.
     pub rank: u32,
-    /// What `groupsize()` gives.
+    /// The value of `groupsize()`.
     pub size: u32,
     pub space: Space,
 }
@@ -27,9 +27,10 @@ pub struct Level {
 pub struct Call {
     /// The value list, the last value first.
     pub values: Vec<u32>,
-    /// Its private words. Those behind them are 0.
+    /// Its private words. All words after these are 0.
     pub privates: Vec<u32>,
-    /// The first word of the frame that was taken at each nesting, from 0 for that of the function.
+    /// The first word of the frame that was taken at each nesting; nesting 0 is that of the
+    /// function.
     pub frames: Vec<u32>,
 }
 
@@ -40,7 +41,7 @@ pub struct Processor {
     pub number: u32,
     /// Its level in the innermost group.
     pub level: Level,
-    /// Its levels in the groups round it, the innermost first.
+    /// Its levels in the groups around it, the innermost first.
     pub outer: Vec<Level>,
     /// The running call.
     pub call: Call,
@@ -48,13 +49,13 @@ pub struct Processor {
     pub callers: Vec<Call>,
     /// Its private variables of file scope.
     pub own: Vec<u32>,
-    /// How many words of its private heap it has taken.
+    /// The number of words of its private heap that it has taken.
     pub top: u32,
 }
 
 impl Level {
     /// The level of a processor at the beginning: `@` is 0, `$` is its number, and the whole group
-    /// space is there for a `start`.
+    /// space is available for a `start`.
     fn first(setting: Setting, number: u32) -> Level
         ensures { level_of result ≡ run.first_level (setting_of setting) number }
     {
@@ -81,8 +82,8 @@ impl Call {
 }
 
 impl Processor {
-    /// A processor at the beginning of `main`, by what the private variables of file scope begin
-    /// as.
+    /// A processor at the beginning of `main`, given the initial values of the private variables of
+    /// file scope.
     fn first(
         alloc: Global,
         setting: Setting,
@@ -110,7 +111,7 @@ pub(crate) fn beginners(
     setting: Setting,
     firsts: &[u32],
 ) -> Result<Vec<Processor>, AllocError>
-    // Whatever it is that all of them have left to do.
+    // This holds for whatever work all of them have left.
     ensures { IfOk result (λ processors. (left : Work) → map (runner_of left) processors.items
         ≡ run.beginners (setting_of setting) (slice_index firsts.now) left 0 setting.processors) }
 {

@@ -1,13 +1,13 @@
-//! What a run doesn't change.
+//! The constants of a run.
 
 ghost use Rattle.std.specs.Prelude.{◌+◌, ◌^◌, ◌≤◌};
 
 use fk_space::Space;
 
-/// How many words of shared data there are.
+/// The number of words of shared data.
 const SHARED_WORDS: u32 = 1 << 20;
 
-/// What a run doesn't change: how many processors, words of globals and input numbers there are.
+/// The constants of a run: the numbers of processors, of words of globals and of input numbers.
 #[derive(Clone, Copy)]
 pub(crate) struct Setting {
     pub(crate) processors: u32,
@@ -21,7 +21,7 @@ impl Setting {
     ghost use Rattle.fk_meaning.specs.Processor.{group_space};
     ghost use Rattle.fk_meaning_state.specs.View.{setting_of};
 
-    /// The group space: one half, rounded down, of the words of shared data behind the globals and
+    /// The group space: one half, rounded down, of the words of shared data after the globals and
     /// the input numbers.
     pub(crate) fn group_space(self) -> Space
         ensures { result ≡ group_space (setting_of self) }

@@ -14,9 +14,9 @@ use fk_meaning_store::Store32;
 use fk_tree::Tree;
 use std::alloc::{AllocError, Global};
 
-/// The state of a run that has not faulted: what all processors share, the tree of groups, and the
-/// processors. What these have left to do stands elsewhere; before the first round it is all of
-/// `main` for each of them.
+/// The state of a run that hasn't faulted: the store, the tree of groups, and the processors. The
+/// work that the processors have left is kept elsewhere; before the first round each of them has
+/// the whole `main` left.
 #[derive(Drop)]
 pub struct State {
     store: Store32,
@@ -25,8 +25,8 @@ pub struct State {
 }
 
 impl State {
-    /// The state before a first round: `p` processors at the beginning, over what shared data and
-    /// the private variables of file scope begin as, and the input numbers.
+    /// The state before the first round: `p` processors at the beginning, with the initial values
+    /// of shared data and of the private variables of file scope, and the input numbers.
     pub(crate) fn first(
         alloc: Global,
         words: &[u32],
@@ -37,7 +37,7 @@ impl State {
         requires words { length words.now + length input.now ≤ 2 ^ 19 }
         requires some { 1 ≤ p }
         requires few { p ≤ 1024 }
-        // Whatever it is that all of them have left to do.
+        // This holds for whatever work all of them have left.
         ensures opening { IfOk result (λ state. (left : Work) → state_of left state
             ≡ run.opening p words.now input.now (slice_index firsts.now) left) }
         ensures processors { IfOk result (λ state. processors_of (store_in state) ≡ p) }
@@ -57,7 +57,7 @@ impl State {
         })
     }
 
-    /// What all processors share. Nothing but the store changes by what is done with it.
+    /// The store that all processors share. Changes made through it change only the store.
     pub fn store(&mut self) -> &mut Store32
         ensures* writes_back { sem 𝓛 (LendsStore self.entry result) }
         ensures value { result.now ≡ store_in self.old }

@@ -1,4 +1,4 @@
--- How a request is served.
+-- Serving requests.
 use Rattle.std.specs.Prelude.{ℕ, ◌+◌, ◌-◌, ◌*◌, ◌/◌, ◌%◌, ◌^◌, ◌==◌, nat_le, nat_lt, Bool, true}
 use Rattle.std.specs.Prelude.{false, not, ◌&&◌, ◌||◌, List, [], ◌∷◌, ◌++◌, Option, Some, None}
 use Rattle.std.specs.Prelude.{is_some, if◌then◌else◌}
@@ -19,7 +19,7 @@ use Rattle.fk_meaning_store.specs.declared.request.Request.TheVariants.{Byte, He
 use Rattle.fk_meaning_store.specs.Store.{Store, shared_words, private_words, address_of}
 use Rattle.fk_meaning_store.specs.Store.{private_address}
 
--- a request is served, with an answer, or it is a fault, and changes nothing
+-- the result of a request: it is served with an answer, or it faults and changes nothing
 pub data Answer : Type 0 where
   Served : (store : Store) (answer : ℕ) → Answer
   Faults : (kind : FaultKind) → Answer
@@ -33,8 +33,8 @@ is_shared address = is_in address (address_of 0) shared_words
 abbrev pub is_private : (address : ℕ) → Bool
 is_private address = is_in address (private_address 0) private_words
 
--- which addresses may be used: the words of shared data, and, but for a multiprefix, those of
--- the private heap
+-- which addresses may be used: those of the words of shared data, and, except for a multiprefix,
+-- those of the private heap
 abbrev pub may_use : (shared_alone : Bool) (address : ℕ) → Bool
 may_use shared_alone address =
     (address % 4 == 0) && (is_shared address || (not shared_alone && is_private address))
@@ -71,11 +71,11 @@ combined (Some by) s h a v =
 abbrev pub printed : (bytes : List ℕ) → Store → Answer
 printed bytes s = Served (record s { output = s.output ++ bytes }) 0
 
--- a size in bytes, read as a signed number, in words: 0 where it isn't above 0
+-- a size in bytes, read as a signed number, in words; 0 if it isn't above 0
 abbrev pub words_of : (bytes : ℕ) → ℕ
 words_of bytes = if nat_lt bytes (2 ^ 31) then (bytes + 3) / 4 else 0
 
--- `shmalloc`: a block of the global heap, or 0
+-- `shmalloc`: the address of a block of the global heap, or 0
 abbrev pub block_address : Option ℕ → ℕ
 block_address None = 0
 block_address (Some index) = address_of index
@@ -87,7 +87,7 @@ hired words s =
     else let block = heap s.top shared_words words in
     Served (record s { top = block.0 }) (block_address block.1)
 
--- a read gives the word, and a write replaces it. There is no call from depth 256
+-- a read answers the word, and a write replaces it. At depth 256 a call faults
 abbrev pub serve : Request → Store → (h : ℕ) → Answer
 serve (Read a) s h = Served s (read s h a)
 serve (Write a v) s h = Served (write s h a v) v
@@ -98,8 +98,8 @@ serve (Heap bytes) s h = hired (words_of bytes) s
 serve (Check a shared_alone) s h = if may_use shared_alone a then Served s 0 else Faults BadAddress
 serve (Depth depth) s h = if nat_lt depth 256 then Served s 0 else Faults CallDepth
 
--- what can be asked for where there is room for so many bytes of output: addresses that their check
--- allows, and texts that fit
+-- the requests that can be served with room for `room` bytes of output: the addresses satisfy their
+-- check, and the printed bytes fit
 abbrev pub can_serve : (room : ℕ) → Request → Bool
 can_serve room (Read a) = may_use false a
 can_serve room (Write a v) = may_use false a

@@ -1,10 +1,10 @@
--- What all processors share.
+-- The state that all processors share.
 use Rattle.std.specs.Prelude.{ℕ, ◌+◌, ◌-◌, ◌*◌, ◌/◌, ◌^◌, List, [], ◌++◌, length, slice_index}
 use Rattle.fk_num.specs.Word.{Memory}
 use Rattle.fk_space.specs.Space.{Space, whole}
 
--- shared data, the private heap of each processor, the top of the global heap, and the
--- bytes printed so far
+-- shared data, the private heap of each processor, the top of the global heap, and the bytes
+-- printed so far
 pub record Store : Type 0 where
   pub words : Memory
   pub heaps : ℕ → Memory
@@ -24,8 +24,8 @@ address_of index = 0x10000000 + 4 * index
 abbrev pub private_address : (index : ℕ) → ℕ
 private_address index = 0x20010000 + 4 * index
 
--- shared data has the globals and the input numbers first. Of the words behind these the group
--- space has one half, rounded down, and the global heap the others
+-- shared data begins with the globals and the input numbers. Of the words after these, the group
+-- space has one half, rounded down, and the global heap has the others
 abbrev pub group_words : (taken : ℕ) → ℕ
 group_words taken = (shared_words - taken) / 2
 
@@ -35,8 +35,8 @@ group_space taken = whole taken (group_words taken)
 abbrev pub heap_start : (taken : ℕ) → ℕ
 heap_start taken = taken + group_words taken
 
--- at the beginning: the globals, the input numbers and then zeros; private heaps of zeros; nothing
--- hired, nothing printed
+-- the store at the beginning: the globals, the input numbers and then zeros; private heaps of
+-- zeros; no block taken, and nothing printed
 abbrev pub opening_store : (globals input : List ℕ) → Store
 opening_store globals input = record {
   words = slice_index (globals ++ input);

@@ -19,19 +19,19 @@ store_of s = record {
   output = s.output.items;
 }
 
--- how many processors have a private heap, and the room for output bytes that is left
+-- the number of processors, and the room that is left for bytes of output
 abbrev pub processors_of : Store32 → ℕ
 processors_of s = s.processors
 
 abbrev pub room_of : Store32 → ℕ
 room_of s = s.spare
 
--- a call uses as much of the room as it prints, and keeps the processors
+-- a call uses as much of the room as it prints, and doesn't change the number of processors
 pub record KeepsRoom (old new : Store32) : Type 0 where
   pub room : room_of new + length (store_of new).output ≡ room_of old + length (store_of old).output
   pub processors : processors_of new ≡ processors_of old
 
--- what a call that served a request has answered, and the store that it left
+-- the answer of a call that served a request, with the store after it
 abbrev pub answer_of : Result ℕ FaultKind → Store → Answer
 answer_of (Ok answer) s = Served s answer
 answer_of (Err kind) s = Faults kind

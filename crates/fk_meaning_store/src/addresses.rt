@@ -7,10 +7,10 @@ ghost use Rattle.fk_meaning_store.specs.Serve.{shared_index as index_at};
 ghost use Rattle.fk_meaning_store.specs.Serve.{private_index as private_index_at};
 ghost use Rattle.fk_meaning_store.specs.Store.{address_of as address_at};
 
-/// The words of shared data.
+/// The number of words of shared data.
 pub(crate) const SHARED_WORDS: u32 = 1 << 20;
 
-/// The words of a private heap.
+/// The number of words of a private heap.
 pub(crate) const PRIVATE_WORDS: u32 = 16_384;
 
 /// The address of the first word of shared data.
@@ -19,7 +19,7 @@ const SHARED: u32 = 0x1000_0000;
 /// The address of the first word of every private heap.
 const PRIVATE: u32 = 0x2001_0000;
 
-/// The bytes of a word.
+/// The number of bytes of a word.
 const WORD_BYTES: u32 = 4;
 
 pub(crate) fn is_shared(address: u32) -> bool
@@ -34,7 +34,8 @@ fn is_private(address: u32) -> bool
     PRIVATE <= address && address < PRIVATE + WORD_BYTES * PRIVATE_WORDS
 }
 
-/// Whether an address may be used; with `shared_alone` for a multiprefix.
+/// Whether an address may be used. With `shared_alone` it must be one of shared data, as for a
+/// multiprefix.
 pub(crate) fn may_use(shared_alone: bool, address: u32) -> bool
     ensures { result ≡ may_be_used shared_alone address }
 {

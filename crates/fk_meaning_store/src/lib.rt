@@ -1,5 +1,5 @@
-//! What all processors share: shared data, private heaps, the global heap and the output; and how
-//! a request of a processor is served.
+//! The state that all processors share: shared data, private heaps, the global heap and the output.
+//! It serves the requests of processors.
 #![tactic(auto)]
 
 mod addresses;

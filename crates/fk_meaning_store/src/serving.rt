@@ -1,4 +1,4 @@
-//! How a request is served.
+//! Serving requests.
 
 ghost use Rattle.std.specs.Prelude.{◌≡◌, ◌<◌, IsTrue, OnErr, if◌then◌else◌};
 ghost use Rattle.fk_meaning_store.specs.Serve.{serve as served_by, can_serve, combined};
@@ -14,15 +14,15 @@ use crate::store::Store32;
 use fk_meaning_operation::{FaultKind, Multiprefix};
 use fk_num::{Op, apply};
 
-/// The depth from which no call begins.
+/// The depth at which a function can't begin a call.
 const DEEPEST: u32 = 256;
 
-/// The bytes of a word.
+/// The number of bytes of a word.
 const WORD_BYTES: u32 = 4;
 
-/// Serves one request of a processor, or answers its fault, which changes nothing. It takes no
-/// memory. A read answers the word, a write its value, a multiprefix the former word, a request
-/// for a block its address or 0, and all others 0.
+/// Serves one request of a processor, or returns its fault, which changes nothing. It takes no
+/// memory. The answer is the word for a read, the value for a write, the former word for a
+/// multiprefix, the address or 0 for a block, and 0 for all others.
 pub fn serve(store: &mut Store32, request: Request, processor: u32) -> Result<u32, FaultKind>
     requires processor { processor < processors_of store.old }
     requires request { IsTrue (can_serve (room_of store.old) request) }
@@ -57,14 +57,14 @@ pub fn serve(store: &mut Store32, request: Request, processor: u32) -> Result<u3
     }
 }
 
-// A test that holds, or a fault.
+// The answer 0 if a check holds, else a fault.
 fn check(holds: bool, kind: FaultKind) -> Result<u32, FaultKind>
     ensures { result ≡ (if holds then Ok 0 else Err kind) }
 {
     if holds { Ok(0) } else { Err(kind) }
 }
 
-// A size in bytes, read as a signed number, in words.
+// The number of words of a size in bytes, which is read as a signed number; 0 if that is negative.
 fn words_of(bytes: u32) -> u32
     ensures { result ≡ words_in bytes }
 {
@@ -86,7 +86,7 @@ fn operator_of(by: Multiprefix) -> Op
     }
 }
 
-// The former word.
+// Does a multiprefix on the word at an address. Returns the former word.
 fn combine(store: &mut Store32, kind: u8, address: u32, value: u32, processor: u32) -> u32
     requires processor { processor < processors_of store.old }
     requires request { IsTrue (can_serve (room_of store.old) (Request.Multi kind address value)) }

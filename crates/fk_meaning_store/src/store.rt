@@ -10,11 +10,11 @@ use fk_num::signed_text;
 use fk_space::heap;
 use std::alloc::{AllocError, Global};
 
-/// The most bytes that a number is printed in: a sign, ten digits and a newline.
+/// The greatest number of bytes that printing a number takes: a sign, ten digits and a newline.
 const LINE_BYTES: u32 = 12;
 
-/// What all processors share: shared data, the private heap of each of them, the top of the global
-/// heap, and the output so far.
+/// The state that all processors share: shared data, the private heap of each processor, the top of
+/// the global heap, and the output so far.
 #[derive(Drop)]
 pub struct Store32 {
     words: Vec<u32>,
@@ -23,7 +23,7 @@ pub struct Store32 {
     processors: u32,
     top: u32,
     output: Vec<u8>,
-    /// The room for output bytes that is left.
+    /// The room that is left for bytes of output.
     spare: u32,
     ghost sized: { vec_len words ≡ 2 ^ 20 },
     ghost owned: { vec_len heaps ≡ processors * 16384 },
@@ -35,8 +35,8 @@ impl Store32 {
     ghost use Rattle.fk_meaning_store.specs.Store.{opening_store};
     ghost use Rattle.fk_meaning_store.specs.View.{store_of, processors_of, room_of};
 
-    /// The store at the beginning of a run: shared data has the globals, then the input numbers,
-    /// then zeros. Each processor's private heap has zeros.
+    /// The store at the beginning of a run. Shared data has the globals, then the input numbers,
+    /// then zeros. Each private heap has zeros.
     pub fn new(
         alloc: Global,
         globals: &[u32],
@@ -68,14 +68,14 @@ impl Store32 {
         &self.output
     }
 
-    /// How many bytes can be printed before room has to be reserved.
+    /// The number of bytes that can be printed before room has to be reserved.
     pub fn spare(&self) -> u32
         ensures { result ≡ room_of self.now }
     {
         self.spare
     }
 
-    /// Makes room for at least so many bytes of output.
+    /// Makes room for at least this number of bytes of output.
     pub fn reserve(&mut self, bytes: u32) -> Result<(), AllocError>
         ensures room { IfOk result (λ _. bytes ≤ room_of self.new) }
         ensures kept { room_of self.old ≤ room_of self.new }
@@ -89,7 +89,7 @@ impl Store32 {
         Ok(())
     }
 
-    /// How many processors have a private heap.
+    /// The number of processors, each of which has a private heap.
     pub fn processors(&self) -> u32
         ensures { result ≡ processors_of self.now }
     {
@@ -131,7 +131,7 @@ impl Store32 {
         }
     }
 
-    // There is room, so no memory is taken, and nothing can fail.
+    // Appends bytes to the output. There is room for them, so this takes no memory and can't fail.
     fn print(&mut self, bytes: &[u8])
         requires { length bytes.now ≤ room_of self.old }
         ensures bytes { Served (store_of self.new) 0 ≡ printed bytes.now (store_of self.old) }
@@ -142,7 +142,7 @@ impl Store32 {
         self.spare = spare - bytes.len() as u32;
     }
 
-    /// Prints the decimal of a word's signed value, and a newline.
+    /// Prints the signed value of a word in decimal, and a newline.
     #[tactic(auto, unfolding(fk_num::specs::Word::signed_line))]
     pub(crate) fn print_number(&mut self, word: u32)
         requires { 12 ≤ room_of self.old }
@@ -164,7 +164,8 @@ impl Store32 {
         self.print(&[(word % 256) as u8]);
     }
 
-    /// Takes a block of so many words from the global heap: its address, or 0.
+    /// Takes a block of this number of words from the global heap. Returns its address, or 0 if
+    /// there is none.
     pub(crate) fn hire(&mut self, words: u32) -> u32
         ensures block { Served (store_of self.new) result ≡ hired words (store_of self.old) }
         ensures rest { KeepsRoom self.old self.new }
@@ -181,7 +182,8 @@ impl Store32 {
     }
 }
 
-// Zeros. The clauses don't name the list, which would be computed where the number is known.
+// A list of zeros. The clauses don't name the list, which would be computed where the number is
+// known.
 #[tactic(auto, using(crate::proofs::IndexZeros::index_zeros))]
 fn zeros(alloc: Global, count: usize) -> Result<Vec<u32>, AllocError>
     ensures len { IfOk result (λ v. vec_len v ≡ count) }

@@ -11,7 +11,7 @@ fn graph(alloc: Global) -> Result<Vec<Vec<usize>>, AllocError> {
     Ok(graph)
 }
 
-// Whether a vertex is on a cycle is found so.
+// Checks whether a vertex is found to be on a cycle.
 fn is_found(
     rt: &impl Abort,
     alloc: Global,

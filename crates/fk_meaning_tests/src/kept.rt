@@ -1,4 +1,4 @@
-//! A list made by hand, of loops in one another.
+//! A handmade list of nested loops.
 
 use fk_core::CoreOp;
 use fk_core_liveness::live_words;
@@ -9,8 +9,8 @@ const NESTED: u32 = 70;
 
 const WORD: OwnValue = OwnValue::Value(Variable::Private(3));
 
-// A variable is read in the test of the outermost loop. Each loop begins with a branch behind its
-// end, where a jump leads back to its beginning.
+// The test of the outermost loop reads a variable. Each loop begins with a branch that leaves it,
+// and ends with a jump back to its beginning.
 fn nested(alloc: Global) -> Result<Vec<CoreOp>, AllocError> {
     let mut ops = Vec::new(alloc);
     ops.push(CoreOp::of(Operation::Get(WORD), 0, 0, 0))?;

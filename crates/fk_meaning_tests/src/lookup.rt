@@ -2,7 +2,7 @@ use fk_layout_lookup::Lookup;
 use fk_layout_walk::ProgramTables;
 use std::test::Fail;
 
-// Where memory is ample, the lookup of a text is made.
+// The lookup tables of an empty text are made if there is enough memory.
 #[test]
 fn a_text_of_nothing_is_looked_up(rt: HostRuntime) -> Result<(), Fail> {
     let known = ProgramTables {

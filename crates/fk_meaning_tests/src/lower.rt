@@ -33,7 +33,7 @@ static LEFT_LOOP: [CodeEvent; 18] = [
     CodeEvent::Ends(Operation::Halt),
 ];
 
-// The kind, the target and the depth of each operation and jump of its list.
+// The kind, the target and the depth of each operation and jump in the list of this code.
 static LISTED: [(u8, u32, u32); 11] = [
     (2, 0, 0),
     (9, 10, 1),
@@ -48,7 +48,7 @@ static LISTED: [(u8, u32, u32); 11] = [
     (34, 0, 7),
 ];
 
-// The list of that body, which the binding 1 has, where the binding 0 has none.
+// The list of this code for binding 1; binding 0 has no code.
 fn lowered(alloc: Global) -> Result<Lowered, Fail> {
     let bodies = vec![in alloc; build(alloc, 0, &[])?, build(alloc, 0, &LEFT_LOOP)?]?;
     Ok(lower(alloc, &bodies, &[0, 1, 0, 1, 0, 1, 0, 7])?)

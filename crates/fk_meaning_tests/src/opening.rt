@@ -1,5 +1,5 @@
-//! How seven processors begin texts with variables of file scope, of which only the
-//! names are tokens.
+//! The state of seven processors at the beginning of texts with variables of file scope, whose only
+//! tokens are the names.
 
 ghost use Rattle.std.specs.Prelude.{◌≡◌};
 ghost use Rattle.fk_meaning_store.specs.View.{processors_of};
@@ -20,22 +20,22 @@ const PLACE: Place = Place { line: 1, column: 1 };
 
 const WORD_0: u32 = 0x1000_0000;
 
-/// An `int` of file scope, or an array of such, and what it begins as.
+/// An `int` of file scope, or an array of `int`, and its initial value.
 struct Variable {
     shared: bool,
     length: Option<u32>,
     first: Option<u32>,
 }
 
-/// Variables, what is known of each of their tokens, and how processors begin with them.
+/// Variables, the facts of each of their tokens, and the initial state.
 struct Case {
     variables: &'static [Variable],
     shared: bool,
     kind: Kind,
     input: &'static [u32],
-    /// How many words the shared variables have.
+    /// The number of words of the shared variables.
     words: usize,
-    /// The variables of each processor.
+    /// The private variables of each processor.
     own: &'static [u32],
     /// The first words of shared data.
     data: [u32; 3],
@@ -93,7 +93,7 @@ static CASES: [Case; 2] = [
     },
 ];
 
-// A variable by the index of its token.
+// A variable whose name has this token.
 fn declared(variable: &Variable, at: u32) -> Declared<'static> {
     let spot = Spot { at, place: PLACE };
     let first = match variable.first {
@@ -131,7 +131,7 @@ fn text_of(alloc: Global, case: &Case) -> Result<Program<'static>, AllocError> {
     })
 }
 
-// What is known of the tokens of a case.
+// The facts of the tokens of a case.
 fn facts_of(alloc: Global, case: &Case) -> Result<Facts, AllocError> {
     let note = Note {
         kind: 0,
@@ -146,7 +146,7 @@ fn facts_of(alloc: Global, case: &Case) -> Result<Facts, AllocError> {
     })
 }
 
-// How seven processors begin a text.
+// The initial state of seven processors for a text.
 fn opened(
     rt: &impl Abort,
     alloc: Global,
@@ -160,7 +160,7 @@ fn opened(
     Ok(opening(alloc, program, facts, &layout, case.input, 7)?)
 }
 
-// Whether a processor begins at the root, in a group of all seven, with these words of its own.
+// Whether a processor begins in the root, in a group of all seven, with these private variables.
 fn begins(processor: &Processor, own: &[u32]) -> bool {
     let level = processor.level;
     level.number == 0
@@ -169,7 +169,7 @@ fn begins(processor: &Processor, own: &[u32]) -> bool {
         && processor.own.as_slice() == own
 }
 
-// Shared data begins with these words.
+// Checks that shared data begins with these words.
 fn has_words(rt: &impl Abort, store: &mut Store32, words: [u32; 3])
     requires { processors_of store.old ≡ 7 }
 {
@@ -178,7 +178,7 @@ fn has_words(rt: &impl Abort, store: &mut Store32, words: [u32; 3])
     answers(rt, store, Request::Read(WORD_0 + 8), 6, Ok(words[2]));
 }
 
-// Seven processors begin the text of a case as it says.
+// Checks that seven processors begin the text of a case as it expects.
 fn begin(rt: &impl Abort, alloc: Global, case: &Case) -> Result<(), Fail> {
     let program = text_of(alloc, case)?;
     let facts = facts_of(alloc, case)?;

@@ -1,7 +1,7 @@
 use fk_meaning_operation::{FaultKind, Multiprefix, Operation, SplitKind};
 use fk_num::Op;
 
-// Operations with their kinds, and how they may fault.
+// Operations with their kinds and the faults that they can have.
 static OPERATIONS: [(Operation, u8, Option<FaultKind>); 7] = [
     (Operation::Push(7), 1, None),
     (Operation::Binary(Op::Add, false), 7, None),

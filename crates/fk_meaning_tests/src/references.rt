@@ -17,7 +17,7 @@ fn spot(at: u32) -> Spot {
     Spot { at, place: PLACE }
 }
 
-// s.m->k, by the tokens 0 to 4
+// The expression s.m->k, with the tokens 0 to 4.
 fn chain(alloc: Global) -> Result<Expr<'static>, AllocError> {
     let suffixes = vec![in alloc;
         Suffix::Dot(spot(1), name(b"m", 2)),
@@ -26,7 +26,7 @@ fn chain(alloc: Global) -> Result<Expr<'static>, AllocError> {
     Expr::postfix(alloc, Expr::Named(name(b"s", 0)), suffixes)
 }
 
-// These are the references of that chain.
+// Checks that these are the references of that chain.
 fn are_of_chain(rt: &impl Abort, list: &[Reference]) {
     assert!(rt; list.len() == 3);
     assert!(rt; matches!(&list[0], Reference::Name(_)));
@@ -43,7 +43,7 @@ fn a_member_is_told_with_the_token_before_it(rt: HostRuntime) -> Result<(), Allo
     Ok(())
 }
 
-// What may be absent is added: with what was there before so many are named.
+// Adds an expression that may be absent, and checks the number of references after it.
 fn names<'a>(
     rt: &impl Abort,
     references: &mut References<'a>,

@@ -17,7 +17,7 @@ const VOID_POINTER: Value = Value::Pointer(Target {
     stars: 0,
 });
 
-// Operands that are no zero.
+// Operands. All but `ZERO` are no constant zero.
 const INT: Operand = Operand {
     value: Value::Int,
     is_zero: false,
@@ -43,7 +43,7 @@ const ZERO: Operand = Operand {
     is_zero: true,
 };
 
-// A sign, the operands on its sides, and what it gives.
+// A sign, the operands on its two sides, and the type of the result.
 static BETWEEN: [(Sign, Operand, Operand, Option<Value>); 12] = [
     (Sign::Star, INT, UNSIGNED, Some(Value::Unsigned)),
     (Sign::ShiftLeft, INT, UNSIGNED, Some(Value::Int)),
@@ -66,7 +66,7 @@ fn signs_between_operands(rt: HostRuntime) {
     }
 }
 
-// What a value gives before `-` and `~`, before `!`, and as it is counted by `++` and `--`.
+// The type of a value after `-` and `~`, after `!`, and after `++` and `--`.
 static ALONE: [(Value, Option<Value>, Option<Value>, Option<Value>); 3] = [
     (
         Value::Unsigned,
@@ -90,7 +90,7 @@ fn signs_on_one_value(rt: HostRuntime) {
     assert!(rt; sign_within(Sign::Assign).is_none());
 }
 
-// An operand, a value, and whether it converts to that.
+// An operand, a type, and whether the operand converts to it.
 static CONVERTED: [(Operand, Value, bool); 5] = [
     (INT, Value::Unsigned, true),
     (TO_VOID, INT_POINTER, true),
@@ -106,7 +106,7 @@ fn values_convert(rt: HostRuntime) {
     }
 }
 
-// The operands behind a `?`, and what is chosen.
+// The two operands of `?:`, and the type of the result.
 static CHOSEN: [(Operand, Operand, Option<Value>); 3] = [
     (TO_INT, TO_VOID, Some(VOID_POINTER)),
     (ZERO, TO_INT, Some(INT_POINTER)),

@@ -5,7 +5,7 @@ fn whole() -> Space {
     Space::whole(0, 524_288)
 }
 
-// A number of parts, and how many words each gets.
+// A number of parts, and the number of words of each.
 const DIVIDED: [(u32, Option<u32>); 4] = [
     (2, Some(262_136)),
     (26_214, Some(16)),
@@ -22,7 +22,7 @@ fn a_space_is_divided_evenly(rt: HostRuntime) {
     }
 }
 
-// 524,280 - 12 words are 174,756 for each of three parts.
+// Of 524,280 - 12 words each of three parts gets 174,756.
 const FIRST: Space = Space {
     low: 20,
     high: 174_776,
@@ -39,7 +39,7 @@ fn parts_follow_each_other(rt: HostRuntime) {
     assert!(rt; space.child(3, 2).high == 524_288);
 }
 
-// What a part of two gets of a part of two, and so on, to the last that has 16 words.
+// The share of one of two parts, divided again and again down to the last share, of 16 words.
 const SHARES: [u32; 14] = [
     262_136, 131_060, 65_522, 32_753, 16_368, 8_176, 4_080, 2_032, 1_008, 496, 240, 112, 48, 16,
 ];
@@ -55,7 +55,7 @@ fn parts_are_divided(rt: HostRuntime) {
     assert!(rt; space.share(2).is_none());
 }
 
-// Twenty words, of which a frame has taken five.
+// A space of twenty words, in which a frame has taken five.
 const FRAMED: Space = Space {
     low: 100,
     high: 120,
@@ -63,7 +63,7 @@ const FRAMED: Space = Space {
     blocks: 120,
 };
 
-// Twenty words, of which a frame has taken five and a block the other seven.
+// A space of twenty words, in which a frame has taken five and a block the other seven.
 const FULL: Space = Space {
     low: 100,
     high: 120,

@@ -15,7 +15,7 @@ const HEAP_0: u32 = 0x2001_0000;
 
 const LAST_OF_HEAP: u32 = 0x2001_FFFC;
 
-// A processor's request is answered so.
+// Checks the answer to a processor's request.
 pub(crate) fn answers(
     rt: &impl Abort,
     store: &mut Store32,
@@ -37,7 +37,7 @@ fn an_opening_has_the_globals_and_the_input(rt: HostRuntime) -> Result<(), Alloc
     answers(&rt, &mut store, Request::Read(WORD_0 + 4), 0, Ok(6));
     answers(&rt, &mut store, Request::Read(WORD_0 + 8), 0, Ok(7));
     answers(&rt, &mut store, Request::Read(LAST_WORD), 1, Ok(0));
-    // 3 words are taken, and the group space has 524,286 of the other 1,048,573
+    // 3 words are taken, and the group space has 524,286 of the other 1,048,573.
     let block = WORD_0 + 4 * 524_289;
     answers(&rt, &mut store, Request::Heap(1), 0, Ok(block));
     Ok(())
@@ -60,7 +60,7 @@ fn a_multiprefix_answers_the_former_word(rt: HostRuntime) -> Result<(), AllocErr
     let mut store = Store32::new(rt.alloc(), &[5], &[], 1)?;
     assert!(rt; store.processors() == 1);
     answers(&rt, &mut store, Request::Multi(15, WORD_0, 2), 0, Ok(5));
-    // the signed greater one of 7 and -1, then 7 & 12, then 4 | 3
+    // The greater one of 7 and -1 as signed numbers, then 7 & 12, then 4 | 3.
     answers(
         &rt,
         &mut store,
@@ -74,7 +74,7 @@ fn a_multiprefix_answers_the_former_word(rt: HostRuntime) -> Result<(), AllocErr
     Ok(())
 }
 
-// Of each address the only processor is told so whether it may be used.
+// Checks the answer to the only processor for each address.
 fn are_checked(
     rt: &impl Abort,
     store: &mut Store32,
@@ -95,8 +95,8 @@ fn addresses_that_may_be_used(rt: HostRuntime) -> Result<(), AllocError> {
     are_checked(&rt, &mut store, &[WORD_0, LAST_WORD], true, Ok(0));
     are_checked(&rt, &mut store, &[HEAP_0, LAST_OF_HEAP], false, Ok(0));
     are_checked(&rt, &mut store, &[HEAP_0, LAST_OF_HEAP], true, bad);
-    // 0, an address between two words, the word after the last, shared control, and two round the
-    // private heap
+    // 0, an address between two words, the word after the last one, shared control, and the words
+    // before and after the private heap.
     let others = [
         0,
         WORD_0 + 2,
@@ -140,7 +140,7 @@ fn output_takes_the_room_that_was_reserved(rt: HostRuntime) -> Result<(), AllocE
     Ok(())
 }
 
-// For requests for so many bytes the only processor gets these blocks.
+// Checks the blocks that the only processor gets for requests of these numbers of bytes.
 fn gives_blocks(rt: &impl Abort, store: &mut Store32, blocks: &[(u32, u32)]) {
     for (bytes, block) in blocks {
         assert!(rt; store.processors() == 1);
@@ -150,7 +150,7 @@ fn gives_blocks(rt: &impl Abort, store: &mut Store32, blocks: &[(u32, u32)]) {
 
 #[test]
 fn the_heap_fills(rt: HostRuntime) -> Result<(), AllocError> {
-    // 524,288 words: sizes are rounded up, and one of 0 or less takes none
+    // 524,288 words: sizes are rounded up, and a size of 0 or less gives no block.
     let blocks = [
         (0, 0),
         (0xFFFF_FFFF, 0),
@@ -161,7 +161,7 @@ fn the_heap_fills(rt: HostRuntime) -> Result<(), AllocError> {
     ];
     let mut store = Store32::new(rt.alloc(), &[], &[], 1)?;
     gives_blocks(&rt, &mut store, &blocks);
-    // one that doesn't fit makes the heap full
+    // A block that doesn't fit makes the heap full.
     let mut store = Store32::new(rt.alloc(), &[], &[], 1)?;
     gives_blocks(&rt, &mut store, &[(0x7FFF_FFFF, 0), (4, 0)]);
     Ok(())

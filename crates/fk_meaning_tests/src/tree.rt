@@ -6,8 +6,8 @@ use fk_tree::Tree;
 use std::alloc::{AllocError, Global};
 use std::process::Abort;
 
-// Starts the seven processors of a tree, and splits their group in three parts by the rest: the
-// group, and the first part.
+// Starts the seven processors of a tree, and splits their group into three parts by the remainder.
+// Returns the group and the first part.
 fn split_by_rest(alloc: Global, tree: &mut Tree) -> Result<(u64, u64), AllocError>
     requires root { tree_of tree.old ≡ t.root 7 }
     requires seven { processors tree.old ≡ 7 }
@@ -18,7 +18,7 @@ fn split_by_rest(alloc: Global, tree: &mut Tree) -> Result<(u64, u64), AllocErro
     Ok((group, first))
 }
 
-// These are the members of a node.
+// Checks the members of a node.
 pub(crate) fn has_members(rt: &impl Abort, tree: &Tree, node: u64, members: &[u32]) {
     assert!(rt; tree.members(node) == members, "{node}");
 }
@@ -29,7 +29,7 @@ static MEMBERS: [(u64, &[u32]); 3] = [(2, &[0, 3, 6]), (3, &[1, 4]), (4, &[2, 5]
 // Processors, and the node of each.
 static PLACES: [(u32, u64); 3] = [(6, 2), (4, 3), (5, 4)];
 
-// The parts are at their nodes.
+// Checks that the members of the parts are at their nodes.
 fn is_split(rt: &impl Abort, tree: &Tree)
     requires seven { processors tree.now ≡ 7 }
 {
@@ -41,8 +41,9 @@ fn is_split(rt: &impl Abort, tree: &Tree)
     }
 }
 
-// The tree of `start fork (3; @=$%3; $=$/3) ..` on seven processors: the part with each number has
-// those whose number has it as its rest, so the sizes of the parts are 3, 2 and 2.
+// The tree of `start fork (3; @=$%3; $=$/3) ..` on seven processors. Each part has the processors
+// whose number has the part's number as its remainder, so that the sizes of the parts are 3, 2 and
+// 2.
 #[test]
 fn a_group_is_split_by_the_rest(rt: HostRuntime) -> Result<(), AllocError> {
     let mut tree = Tree::root(rt.alloc(), 7)?;

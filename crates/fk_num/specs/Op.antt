@@ -1,4 +1,4 @@
--- What each operator gives, on words of 32 bits: the instructions of these names of RV32I and of
+-- The results of the operators on words of 32 bits: the instructions with these names in RV32I and
 -- its M extension.
 use Rattle.std.specs.Prelude.{ℕ, ℤ, pos, ◌-◌, ◌*◌, ◌/◌, ◌%◌, ◌^◌, ◌-ℤ◌, ◌*ℤ◌, ◌==◌, not, bit_and}
 use Rattle.std.specs.Prelude.{bit_or, bit_xor, int_div, int_le, int_lt, int_rem, max, min, nat_le}
@@ -23,9 +23,9 @@ word_of z = residue 32 z
 abbrev pub upper_word : ℤ → ℕ
 upper_word product = residue 64 product / 2 ^ 32
 
--- Quotients are rounded towards zero, and remainders have the dividend's sign.
--- By zero the quotient is all ones and the remainder is the dividend.
--- The quotient of -2^31 by -1 is 2^31, whose word is that of -2^31.
+-- Quotients are rounded towards zero, and remainders have the dividend's sign. Division by zero
+-- gives all ones as the quotient and the dividend as the remainder. The quotient of -2^31 by -1 is
+-- 2^31, whose word is that of -2^31.
 abbrev pub signed_quotient : ℕ → ℕ → ℕ
 signed_quotient a b = if b == 0 then 2 ^ 32 - 1 else word_of (int_div (signed a) (signed b))
 
@@ -38,11 +38,11 @@ quotient a b = if b == 0 then 2 ^ 32 - 1 else a / b
 abbrev pub remainder : ℕ → ℕ → ℕ
 remainder a b = if b == 0 then a else a % b
 
--- how far a shift goes: the low five bits of its right word
+-- the distance of a shift: the low five bits of its right operand
 abbrev pub distance : ℕ → ℕ
 distance b = b % 32
 
--- the word that an operator gives of two words
+-- the word that an operator gives for two words
 abbrev pub applied : Op → ℕ → ℕ → ℕ
 applied Add a b = word_sum a b
 applied Sub a b = word_of (pos a -ℤ pos b)

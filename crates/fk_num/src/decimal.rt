@@ -29,8 +29,8 @@ pub fn unsigned_text(v: u32) -> ArrayVec<u8, 10>
     digits
 }
 
-/// The word that a text writes. It is `None` exactly where the text is not one or more decimal
-/// digits of a number below 2^32. Leading zeros are allowed, and it takes no memory.
+/// The word that a text denotes. It is `None` exactly if the text isn't one or more decimal digits
+/// of a number below 2^32. Leading zeros are allowed. It takes no memory.
 pub fn read_unsigned(text: &[u8]) -> Option<u32>
     ensures { result ≡ read_word text.now }
 {
@@ -44,7 +44,7 @@ pub fn read_unsigned(text: &[u8]) -> Option<u32>
     Some(value)
 }
 
-/// The number that one more digit makes of a number.
+/// The number that results from adding one more digit; `None` from 2^32 on.
 fn with_digit(value: u32, byte: u8) -> Option<u32>
     ensures { result ≡ one_more_digit value byte }
 {

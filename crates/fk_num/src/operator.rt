@@ -18,23 +18,23 @@ pub enum Op {
     MulHSU,
     /// The high word of the product of two unsigned operands.
     MulHU,
-    /// The quotient, rounded towards zero. By zero it is all ones, and that of
-    /// -2^31 by -1 is -2^31.
+    /// The quotient, rounded towards zero. Division by zero gives all ones, and -2^31 by -1 gives
+    /// -2^31.
     DivS,
     DivU,
-    /// The remainder, with the dividend's sign. By zero it is the dividend, and that of
-    /// -2^31 by -1 is 0.
+    /// The remainder, with the dividend's sign. Division by zero gives the dividend, and -2^31 by
+    /// -1 gives 0.
     RemS,
     RemU,
     And,
     Or,
     Xor,
-    /// The shifts go as far as the low five bits of the right operand say.
+    /// The shifts go by the low five bits of the right operand.
     Shl,
     /// Copies the sign bit.
     ShrS,
     ShrU,
-    /// The comparisons give 1 where they hold, and 0 elsewhere.
+    /// The comparisons give 1 if they hold, else 0.
     LtS,
     LtU,
     LeS,
@@ -47,7 +47,7 @@ pub enum Op {
     MaxU,
 }
 
-/// The word that an operator gives of two words.
+/// The word that an operator gives for two words.
 #[inline]
 pub fn apply(op: Op, a: u32, b: u32) -> u32
     ensures { result ≡ applied op a b }

@@ -12,7 +12,7 @@ use Rattle.fk_lex.specs.declared.token.TokenKind.TheVariants as kind
 use Rattle.fk_parse_declarations.specs.Grammar.{variables, member, joined_lists, parameters}
 use Rattle.fk_parse_statements.specs.Statements.{block, statement_within}
 
--- ---- items and programs, in whose own tokens no level is open. A function's body is level 1
+-- ---- items and programs, whose own tokens have no open level. A function's body is level 1
 
 -- "struct" Name "{" member { member } "}" ";"
 abbrev pub struct_item : Language ItemTree
@@ -22,7 +22,7 @@ struct_item =
     (token 0 kind.Struct then token 0 kind.Word then token 0 kind.OpenBrace then member 0
     then many (member 0) then token 0 kind.CloseBrace then token 0 kind.Semicolon)
 
--- a function's mode, and that of one without a word
+-- the mode of a function; without a mode word it is `async`
 abbrev pub mode_of : Option (Placed × Mode) → Mode
 mode_of None = mode.Async
 mode_of (Some x) = x.1

@@ -1,4 +1,4 @@
--- What a text is read as.
+-- The result of reading a text.
 use Rattle.std.specs.Prelude.{◌≡◌, ◌+◌, ◌<◌, List, [], ◌∷◌, Result, Ok, Err, length}
 use Rattle.fk_syntax.specs.declared.place.Place.{Place}
 use Rattle.fk_syntax.specs.Program.{ItemTree, ProgramTree}
@@ -8,7 +8,7 @@ use Rattle.fk_parse_combinators.specs.Reads.{Stop, Unexpected, EndOfText, Nestin
 use Rattle.fk_parse_combinators.specs.Reads.{IsShallow, IsLongest, ReadsNothing, ReadsDeep}
 use Rattle.fk_parse.specs.Items.{Items}
 
--- the longest stretch that begins a text ends before a token, and nests within the bound
+-- the longest prefix that begins a text ends before a token, and nests within the bound
 pub record ReadsUnexpected (tokens rest : List Placed) : Type 0 where
   pub stretch : Stretch
   pub longest : IsLongest Items tokens stretch rest
@@ -22,15 +22,15 @@ pub record SpellsItems (tokens : List Placed) (items : List ItemTree) : Type 0 w
   pub spelled : Spells Items stretch items
   pub shallow : IsShallow stretch
 
--- all tokens are those of a text; no text goes on with a token; all tokens begin a text and are
--- none; a token opens a level past the bound
+-- all tokens are a text; or no text goes on with a token; or all tokens begin a text but aren't a
+-- whole one; or a token opens a level past the bound
 abbrev pub ReadsText : List Placed → Result (List ItemTree) Stop → Type 0
 ReadsText tokens (Ok items) = SpellsItems tokens items
 ReadsText tokens (Err (Unexpected rest)) = ReadsUnexpected tokens rest
 ReadsText tokens (Err EndOfText) = ReadsNothing Items tokens []
 ReadsText tokens (Err (Nesting rest)) = ReadsDeep Items tokens rest
 
--- the place directly behind the last token, 1:1 where there is none
+-- the place directly after the last token; 1:1 if there are no tokens
 abbrev pub end_of : Place → List Spelled → Place
 end_of end [] = end
 end_of end (t ∷ tokens) =
@@ -39,13 +39,13 @@ end_of end (t ∷ tokens) =
 abbrev pub beginning : Place
 beginning = record { line = 1; column = 1 }
 
--- the tokens are those of a program
+-- these tokens spell a program
 pub record SpellsProgram (tokens : List Spelled) (program : ProgramTree) : Type 0 where
   pub items : SpellsItems (numbered 0 tokens) program.items
   pub end : program.end ≡ end_of beginning tokens
   pub count : program.tokens ≡ length tokens
 
--- tokens have one answer as a text
+-- tokens have exactly one answer as a text
 abbrev pub OneText : Type 0
 OneText = (tokens : List Placed) → (answer : Result (List ItemTree) Stop) × ReadsText tokens answer
     × ((other : Result (List ItemTree) Stop) → ReadsText tokens other → other ≡ answer)
@@ -55,7 +55,7 @@ abbrev pub OneTree : Type 0
 OneTree = (tokens : List Placed) (a b : List ItemTree) → Spell Items tokens a
     → Spell Items tokens b → a ≡ b
 
--- tokens are those of at most one program
+-- tokens spell at most one program
 abbrev pub OneProgram : Type 0
 OneProgram = (tokens : List Spelled) (p q : ProgramTree) → SpellsProgram tokens p
     → SpellsProgram tokens q → p ≡ q

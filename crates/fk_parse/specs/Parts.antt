@@ -13,7 +13,7 @@ use Rattle.fk_parse_statements.specs.Reading.{statements_with, read_block}
 use Rattle.fk_parse_combinators.specs.Kinds.{just}
 use Rattle.fk_lex.specs.declared.token.TokenKind.TheVariants as kind
 
--- ---- items, where so many levels may be open, of which a function's body opens the first
+-- ---- items, where `left` levels may be open. A function's body opens the first of them
 
 abbrev pub read_body_within : ℕ → Reader Statements
 read_body_within left = read_block (statements_with (left - 1))
@@ -26,14 +26,14 @@ read_optional_body B =
 abbrev pub read_item_within : ℕ → Reader ItemTree
 read_item_within left = read_item (inner left) (read_body_within left)
 
--- a function, by its mode, type and name, and what stands behind its name
+-- a function, made of its mode, type and name, and of what follows its name
 abbrev pub function_made : Mode → TypeTree → Named
     → List DeclaredTree × Option Statements → ItemTree
 function_made mode result name (list, inside) = FunctionItem
     (record { mode = mode; result = result; name = name; parameters = list; body = inside })
 
--- variables, by the first words of their type, the stars and the name of the first, and what
--- stands behind its name
+-- variables, made of the base of their type, the stars and the name of the first one, and of what
+-- follows that name
 abbrev pub variables_made : BaseType → ℕ → Named
     → (Option ℕ × Option Tree) × List Declarator → ItemTree
 variables_made base stars name ((size, first), others) =

@@ -1,5 +1,5 @@
--- How items and programs are read, token by token. What is read so is what the grammar says: that
--- is proved, and the contracts of the public functions speak of the grammar alone.
+-- How items and programs are read, token by token. It is proved that the result is what the grammar
+-- says, and the contracts of the public functions refer only to the grammar.
 use Rattle.fk_parse_combinators.specs.declared.limits.TheConstants.{LEVELS}
 use Rattle.std.specs.Prelude.{◌-◌, ℕ, List, [], ◌∷◌, map, Option, Some, None, Bool, false, Result}
 use Rattle.std.specs.Prelude.{Ok, Err, length, ◌||◌, ◌&&◌}
@@ -22,9 +22,9 @@ use Rattle.fk_parse_declarations.specs.Reading.{read_rest, read_variable, read_v
 use Rattle.fk_parse_declarations.specs.Reading.{read_member, begins_parameter, read_parameters}
 use Rattle.fk_parse_statements.specs.Reading.{read_block, statements_with}
 
--- ---- items: E reads expressions with all levels left, B a function's body
+-- ---- items: E reads expressions with all levels left, and B reads a function's body
 
--- "struct", a name and an opening brace come next
+-- the next tokens are "struct", a name and an opening brace
 abbrev pub struct_is_next : List Placed → Bool
 struct_is_next (s ∷ n ∷ t ∷ ts) =
     just kind.Struct s.kind && just kind.Word n.kind && just kind.OpenBrace t.kind
@@ -38,7 +38,7 @@ read_struct =
     and repeated begins_type read_member
     and expect kind.CloseBrace and expect kind.Semicolon)
 
--- behind a function's name
+-- the rest of a function after its name
 unfoldable pub read_function_tail : Reader Statements
     → Reader (List DeclaredTree × Option Statements)
 read_function_tail B =
@@ -46,7 +46,8 @@ read_function_tail B =
     (expect kind.OpenParenthesis and read_parameters and expect kind.CloseParenthesis
     and by_next (just kind.OpenBrace) (giving Some B) (giving (λ t. None) (expect kind.Semicolon)))
 
--- behind the name of the first variable: what belongs to it, and the other variables
+-- the rest of a declaration after the name of the first variable: its own part, and the other
+-- variables
 unfoldable pub read_variables_tail : Option Readers
     → Reader ((Option ℕ × Option Tree) × List Declarator)
 read_variables_tail E =
@@ -54,13 +55,13 @@ read_variables_tail E =
     (read_rest E and repeated (just kind.Comma) (giving (λ (comma, next). next)
     (expect kind.Comma and read_variable E)) and expect kind.Semicolon)
 
--- what stands behind the first name of an item: that of a function, or that of variables
+-- what follows the first name of an item: the rest of a function, or that of variables
 pub data Tail : Type 0 where
   OfFunction : (parameters : List DeclaredTree) (body : Option Statements) → Tail
   OfVariables : (length : Option ℕ) (first : Option Tree) (others : List Declarator) → Tail
 
--- an item without a word before its type, by the first words of the type, its stars, its name, and
--- what stands behind it
+-- an item that begins with a type, made of the base of the type, its stars, its name, and what
+-- follows the name
 abbrev pub made_of : BaseType → ℕ → Named → Tail → ItemTree
 made_of base stars name (OfFunction parameters body) =
     FunctionItem (record {
@@ -74,7 +75,7 @@ made_of base stars name (OfVariables length first others) =
     VariablesItem (map (declared false base)
     (record { stars = stars; name = name; length = length; first = first } ∷ others))
 
--- a parenthesis behind the name says that it is a function
+-- an item is a function if a parenthesis follows its name
 unfoldable pub read_tail : Option Readers → Reader Statements → Reader Tail
 read_tail E B =
     by_next (just kind.OpenParenthesis)
@@ -117,7 +118,7 @@ read_body = read_block (statements_with (LEVELS - 1))
 unfoldable pub read_items : Reader (List ItemTree)
 read_items = repeated begins_item (read_item (inner LEVELS) read_body)
 
--- the items of a text, all of its tokens
+-- the items of a text, if they use all its tokens
 abbrev pub whole : List ItemTree → List Placed → Result (List ItemTree) Stop
 whole items [] = Ok items
 whole items (t ∷ rest) = Err (Unexpected (t ∷ rest))

@@ -1,6 +1,7 @@
 //! Items: structs, variables of file scope, and functions.
 //!
-//! `left` is how many levels may be open in a text. A function's body opens the first.
+//! `left` is the number of levels that may be open in a text. A function's body opens the first
+//! one.
 
 ghost use Rattle.std.specs.Prelude.{◌-◌, ◌<◌, map, IfOk};
 ghost use Rattle.std.specs.Option.{option_map};
@@ -96,7 +97,7 @@ fn struct_item<'a>(alloc: Global, cursor: &mut Cursor<'_, 'a>) -> Result<Item<'a
     Ok(Item::Struct(name, members))
 }
 
-/// mode type stars Name, and a function from there on
+/// mode type stars Name, and the rest of a function
 #[tactic(auto, using(fk_expr::proofs::Halting::halting), unfolding(crate::specs::Reading::read_moded))]
 fn moded<'a>(alloc: Global, cursor: &mut Cursor<'_, 'a>, left: u32) -> Result<Item<'a>, SyntaxFault>
     requires { 0 < left }
@@ -111,7 +112,7 @@ fn moded<'a>(alloc: Global, cursor: &mut Cursor<'_, 'a>, left: u32) -> Result<It
     function(alloc, cursor, left, mode, TypeName { base, stars }, name)
 }
 
-/// An item that begins with a type: a parenthesis behind its name says that it is a function.
+/// An item that begins with a type. It is a function if a parenthesis follows its name.
 #[tactic(auto, using(fk_expr::proofs::Halting::halting), unfolding(crate::specs::Reading::read_bare, crate::specs::Reading::read_tail))]
 fn bare<'a>(alloc: Global, cursor: &mut Cursor<'_, 'a>, left: u32) -> Result<Item<'a>, SyntaxFault>
     requires { 0 < left }
@@ -129,7 +130,7 @@ fn bare<'a>(alloc: Global, cursor: &mut Cursor<'_, 'a>, left: u32) -> Result<Ite
     function(alloc, cursor, left, Mode::Async, kind, name)
 }
 
-/// Variables, from behind the name of the first.
+/// The rest of a declaration of variables, after the name of the first one.
 #[tactic(auto, using(fk_expr::proofs::Halting::halting), unfolding(crate::specs::Reading::read_variables_tail, fk_parse_declarations::specs::Reading::read_rest))]
 fn file_variables<'a>(
     alloc: Global,
@@ -157,7 +158,7 @@ fn file_variables<'a>(
     Ok(Item::Variables(rows))
 }
 
-/// A function, from behind its name: "(" params ")" ( ";" | block )
+/// The rest of a function, after its name: "(" params ")" ( ";" | block )
 #[tactic(auto, using(fk_expr::proofs::Halting::halting), unfolding(crate::specs::Reading::read_function_tail))]
 fn function<'a>(
     alloc: Global,

@@ -1,4 +1,4 @@
-//! What a kind of token tells, and the kinds that begin an item.
+//! The modes by kinds of tokens, and the kinds that begin an item.
 
 ghost use Rattle.std.specs.Prelude.{◌≡◌};
 ghost use Rattle.fk_parse.specs.Kinds.{mode_told};
@@ -8,7 +8,7 @@ use fk_lex::token::TokenKind;
 use fk_parse_declarations::kinds::begins_parameter;
 use fk_syntax::program::Mode;
 
-/// The mode that a word names.
+/// The mode that a kind of token denotes, if it is that of a mode word.
 pub fn mode(kind: TokenKind) -> Option<Mode>
     ensures { result ≡ mode_told kind }
 {

@@ -3,28 +3,28 @@
 ghost use Rattle.fk_parse.specs.Parses.{OneProgram, OneText, OneTree};
 ghost use Rattle.fk_parse.specs.Refusals.{OneFault, TreeOrFault};
 
-/// Any tokens have one answer as a text, and no other: its items, or why there are none.
+/// Any tokens have exactly one answer as a text: its items, or the reason why there are none.
 pub fn one_text()
     ensures { OneText }
 {}
 
-/// Tokens are those of at most one list of items, however deep they nest: a level past the bound is
-/// a refusal, and no other grammar.
+/// Tokens spell at most one list of items, however deep they nest. A level past the bound leads to
+/// a refusal, and not to another tree.
 pub fn one_tree()
     ensures { OneTree }
 {}
 
-/// Tokens are those of at most one program.
+/// Tokens spell at most one program.
 pub fn one_program()
     ensures { OneProgram }
 {}
 
-/// Any tokens are those of a program, or they are refused, and never both. Want of memory aside.
+/// Any tokens either spell a program or are refused, and never both, if there is enough memory.
 pub fn tree_or_fault()
     ensures { TreeOrFault }
 {}
 
-/// Tokens are refused by at most one fault. Want of memory aside.
+/// Tokens are refused by at most one fault, if there is enough memory.
 pub fn one_fault()
     ensures { OneFault }
 {}

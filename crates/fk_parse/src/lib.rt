@@ -1,4 +1,4 @@
-//! The syntax of Fork95: the program of a text's tokens.
+//! The parser of Fork95: the program that a text's tokens spell.
 #![tactic(auto)]
 
 mod item;

@@ -19,16 +19,16 @@ use fk_syntax::place::Place;
 use fk_syntax::program::{Item, Program};
 use std::alloc::Global;
 
-/// The program of these tokens, by the grammar of Fork95. An `if` has the `else` that comes
-/// next, a parenthesis directly behind `start` opens its count, and statements and expressions
-/// nest at most [`LEVELS`] deep.
+/// The program that these tokens spell, by the grammar of Fork95. An `else` belongs to the nearest
+/// `if`, and a parenthesis directly after `start` opens its count. Statements and expressions nest
+/// at most [`LEVELS`] deep.
 ///
 /// # Errors
 ///
-/// Unexpected tells the first token with which no text of the grammar goes on, however deep it
-/// may nest, and Nesting the token that opens a level more. Of both the earlier token counts, and
-/// at one token Unexpected. EndOfText comes where the tokens begin a text and are none. Memory may
-/// be wanting for any tokens.
+/// `Unexpected` has the first token with which no text of the grammar goes on, however deep it may
+/// nest. `Nesting` has the token that opens a level too many. Of both the earlier token counts, and
+/// at the same token `Unexpected`. `EndOfText` means that the tokens begin a text but aren't a
+/// whole one. `Memory` may come for any tokens, if there isn't enough memory.
 pub fn parse<'a>(alloc: Global, tokens: &[Token<'a>]) -> Result<Program<'a>, SyntaxFault>
     requires few { length tokens.now < 2 ^ 32 }
     requires narrow { (end_of beginning (map spelled tokens.now)).column < 2 ^ 32 }
@@ -44,7 +44,7 @@ pub fn parse<'a>(alloc: Global, tokens: &[Token<'a>]) -> Result<Program<'a>, Syn
     })
 }
 
-/// The items of all tokens, where so many levels may be open.
+/// The items of all tokens, where at most `left` levels may be open.
 fn text<'a>(alloc: Global, tokens: &[Token<'a>], left: u32) -> Result<Vec<Item<'a>>, SyntaxFault>
     requires few { length tokens.now < 2 ^ 32 }
     requires levels { 0 < left }
@@ -61,7 +61,7 @@ fn text<'a>(alloc: Global, tokens: &[Token<'a>], left: u32) -> Result<Vec<Item<'
     Ok(items)
 }
 
-/// The place directly behind the last token, 1:1 where there is none.
+/// The place directly after the last token; 1:1 if there are no tokens.
 fn end(tokens: &[Token]) -> Place
     requires { (end_of beginning (map spelled tokens.now)).column < 2 ^ 32 }
     ensures { result ≡ end_of beginning (map spelled tokens.now) }

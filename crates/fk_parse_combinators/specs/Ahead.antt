@@ -1,4 +1,4 @@
--- Tokens of the code as those of the definitions.
+-- The tokens of the code in the form of the definitions.
 use Rattle.std.specs.Prelude.{◌^◌, ◌<◌, ◌≤◌, length, List, [], ◌∷◌, Option, Some, None, Bool, false}
 use Rattle.std.specs.Prelude.{◌&&◌}
 use Rattle.fk_lex.specs.declared.token.TokenKind.{TokenKind}
@@ -11,11 +11,11 @@ use Rattle.fk_parse_combinators.specs.Kinds.{just}
 abbrev pub seen : Numbered → Placed
 seen token = placed token.at (spelled token.token)
 
--- of fewer tokens than 2^32 at least one was read
+-- at least one token was read, of fewer than 2^32
 abbrev pub Shortens : List Placed → List Placed → Type 0
 Shortens old new = (length new < length old) × (length old < 2 ^ 32)
 
--- of fewer tokens than 2^32 any number was read
+-- any number of tokens was read, of fewer than 2^32
 abbrev pub Leaves : List Placed → List Placed → Type 0
 Leaves old new = (length new ≤ length old) × (length old < 2 ^ 32)
 
@@ -24,12 +24,12 @@ abbrev pub next_kind : List Placed → Option TokenKind
 next_kind [] = None
 next_kind (t ∷ ts) = Some t.kind
 
--- the kind of the one behind it
+-- the kind of the token after the next one
 abbrev pub second_kind : List Placed → Option TokenKind
 second_kind (t ∷ u ∷ ts) = Some u.kind
 second_kind ts = None
 
--- tokens of these kinds come next, one after the other
+-- the next tokens have these kinds
 abbrev pub pair_is : TokenKind → TokenKind → List Placed → Bool
 pair_is first second [] = false
 pair_is first second (t ∷ ts) = just first t.kind && next_is (just second) ts

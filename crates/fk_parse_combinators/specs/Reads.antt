@@ -1,26 +1,26 @@
--- What a reader answers of the tokens before it, for a language.
+-- The answer of a reader on the tokens before it, for a language.
 use Rattle.std.specs.Prelude.{◌≡◌, ℕ, ◌<◌, ◌≤◌, List, [], ◌∷◌, ◌++◌, Result, Ok, Err, All, length}
 use Rattle.fk_parse_combinators.specs.declared.limits.TheConstants.{LEVELS}
 use Rattle.fk_parse_combinators.specs.Languages.{Placed, Marked, Stretch, tokens_of, Language}
 
--- why a stretch isn't read, with the tokens from the one at fault on
+-- why nothing is read, with the tokens from the one at fault on
 pub data Stop : Type 0 where
   -- no stretch of the language goes on with this token
   Unexpected : (rest : List Placed) → Stop
   -- the tokens end, and no stretch of the language ends there
   EndOfText : Stop
-  -- this token opens more levels than there may be
+  -- this token opens a level too many
   Nesting : (rest : List Placed) → Stop
 
 -- what was read, and the tokens after it
 abbrev pub Answer : Type 0 → Type 0
 Answer A = Result (A × List Placed) Stop
 
--- a language for each bound on the levels that its stretches open: each holds those before it
+-- a language for each bound on the levels that its stretches open
 abbrev pub Family : Type 0 → Type 1
 Family A = ℕ → Language A
 
--- with no bound on the levels
+-- the language without a bound on the levels
 abbrev pub Spells : {A : Type 0} → Family A → Language A
 Spells L s a = (bound : ℕ) × L bound s a
 
@@ -28,7 +28,7 @@ Spells L s a = (bound : ℕ) × L bound s a
 abbrev pub Spell : {A : Type 0} → Family A → List Placed → A → Type 0
 Spell L tokens a = (s : Stretch) × (tokens_of s ≡ tokens) × Spells L s a
 
--- some tokens more make it one
+-- a stretch that becomes one of the language by adding some tokens
 abbrev pub Begins : {A : Type 0} → Family A → Stretch → Type 0
 Begins L s = (more : Stretch) × (a : _) × Spells L (s ++ more) a
 
@@ -38,7 +38,7 @@ Begin L tokens = (s : Stretch) × (tokens_of s ≡ tokens) × Begins L s
 abbrev pub IsShallow : Stretch → Type 0
 IsShallow s = All (λ m. m.level ≤ LEVELS) s
 
--- this stretch comes first, and with the token after it no stretch begins
+-- this stretch comes first, and the stretch with the token after it begins nothing in the language
 pub record IsLongest {A : Type 0} (L : Family A) (tokens : List Placed) (s : Stretch)
     (rest : List Placed) : Type 0 where
   pub first : tokens ≡ tokens_of s ++ rest
@@ -80,7 +80,7 @@ Reads L tokens (Err (Unexpected rest)) = ReadsNothing L tokens rest × (0 < leng
 Reads L tokens (Err EndOfText) = ReadsNothing L tokens []
 Reads L tokens (Err (Nesting rest)) = ReadsDeep L tokens rest
 
--- a list of tokens has one answer
+-- a list of tokens has exactly one answer
 abbrev pub HasOneAnswer : {A : Type 0} → Family A → Type 0
 HasOneAnswer {A} L = (tokens : List Placed) → (answer : Answer A) × Reads L tokens answer
     × ((other : Answer A) → Reads L tokens other → other ≡ answer)

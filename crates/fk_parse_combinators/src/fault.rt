@@ -6,7 +6,7 @@ use fk_syntax::Place;
 use std::alloc::{AllocError, AllocFailed};
 use thiserror::Error;
 
-/// Why tokens are not read.
+/// Why tokens can't be read.
 #[derive(Debug, Drop, Error)]
 pub enum SyntaxFault {
     /// No text of the grammar goes on with this token.
@@ -18,7 +18,7 @@ pub enum SyntaxFault {
     /// This token opens one level of nesting more than may be open.
     #[error("Nesting")]
     Nesting(Place),
-    /// There is no memory for the tree.
+    /// There isn't enough memory for the tree.
     #[error("Memory")]
     Memory(AllocError),
 }

@@ -1,8 +1,9 @@
-//! How tokens are read by a grammar: a place among them, what is expected there, and the faults.
+//! Reading tokens by a grammar: a position among the tokens, what is expected there, and the
+//! faults.
 //!
 //! The definitions say what a language of tokens is, and what it means that its longest stretch is
-//! read. The proofs have, once for each combinator of a grammar, that readers put together in the
-//! same way read it exactly.
+//! read. The proofs show, once for each combinator of a grammar, that readers combined in the same
+//! way read the language exactly.
 #![tactic(auto)]
 
 pub mod cursor;

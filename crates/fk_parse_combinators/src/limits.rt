@@ -1,4 +1,4 @@
-//! The bound on nesting, which is no part of any grammar.
+//! The bound on nesting, which isn't part of the grammar.
 
-/// How many levels of nesting may be open at a token.
+/// The greatest number of levels of nesting that may be open at a token.
 pub const LEVELS: u32 = 128;

@@ -1,5 +1,5 @@
--- The grammar of declarations. A stretch is given with the levels that are open at
--- each of its tokens.
+-- The grammar of declarations. Each token of a stretch has the number of levels that are open at
+-- it.
 use Rattle.std.specs.Prelude.{ℕ, ◌+◌, List, [], ◌∷◌, ◌++◌, map, Option, Some, None, Bool, false}
 use Rattle.std.specs.Prelude.{length}
 use Rattle.fk_syntax.specs.Tree.{Named, BaseType, Tree}
@@ -11,7 +11,7 @@ use Rattle.fk_expr.specs.Grammar.{base, Assignment}
 use Rattle.fk_parse_declarations.specs.Kinds.{sharing_told}
 use Rattle.fk_lex.specs.declared.token.TokenKind.TheVariants as kind
 
--- a list of one or more, with commas between
+-- a list of one or more elements, with commas between them
 abbrev pub separated : {A : Type 0} → ℕ → Language A → Language (List A)
 separated l L = making (λ (first, others). first ∷ others)
     (L then many (making (λ (comma, next). next) (token l kind.Comma then L)))
@@ -21,8 +21,7 @@ abbrev pub length_of : ℕ → Language ℕ
 length_of l = making (λ (opening, ((at, (value, unsigned)), closing)). value)
     (token l kind.OpenBracket then telling l number_told then token l kind.CloseBracket)
 
--- what is declared, but for its sharing and the first words of its type: stars, name,
--- length, initial value
+-- a declared name without its sharing and the base of its type: stars, name, length, initial value
 pub record Declarator : Type 0 where
   pub stars : ℕ
   pub name : Named
@@ -54,7 +53,7 @@ declared shared base d =
       first = d.first;
     }
 
--- without a word, a variable isn't shared
+-- a variable without a sharing word isn't shared
 abbrev pub is_shared : Option (Placed × Bool) → Bool
 is_shared None = false
 is_shared (Some x) = x.1
@@ -71,7 +70,7 @@ abbrev pub member : ℕ → Language (List DeclaredTree)
 member l = making (λ (words, (list, end)). map (declared false words) list)
     (base l then separated l (member_name l) then token l kind.Semicolon)
 
--- the members of declarations, one after the other
+-- the members of several declarations, one after the other
 abbrev pub joined_lists : {A : Type 0} → List (List A) → List A
 joined_lists [] = []
 joined_lists (list ∷ lists) = list ++ joined_lists lists

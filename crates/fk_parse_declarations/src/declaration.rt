@@ -29,7 +29,7 @@ use fk_syntax::place::Name;
 use fk_syntax::program::Declared;
 use std::alloc::Global;
 
-/// What is declared, but for its sharing and the first words of its type.
+/// A declared name without its sharing and the base of its type.
 #[derive(Drop)]
 pub struct Declarator<'a> {
     pub stars: u32,
@@ -39,7 +39,7 @@ pub struct Declarator<'a> {
 }
 
 impl<'a> Declarator<'a> {
-    /// The whole declaration.
+    /// The whole declaration, with this sharing and base.
     pub fn complete(self, shared: bool, base: Base<'a>) -> Declared<'a>
         ensures { declared_of result ≡ declared shared (base_of base.entry)
             (declarator_of self.entry) }
@@ -84,7 +84,7 @@ pub fn variables<'a>(
     }
 }
 
-/// The first variable, and { "," variable }: a row for each.
+/// The rows of the first variable and of { "," variable }
 pub fn rows<'a>(
     alloc: Global,
     cursor: &mut Cursor<'_, 'a>,
@@ -162,7 +162,8 @@ pub fn array_length(cursor: &mut Cursor) -> Result<Option<u32>, SyntaxFault>
     Ok(Some(length))
 }
 
-/// member = type stars Name [ length ] { "," stars Name [ length ] } ";", whose rows are added
+/// member = type stars Name [ length ] { "," stars Name [ length ] } ";" Its rows are added to
+/// `members`.
 #[tactic(auto, using(fk_expr::proofs::Halting::halting), unfolding(crate::specs::Reading::read_member, crate::specs::Reading::read_separated))]
 pub fn add_member<'a>(
     cursor: &mut Cursor<'_, 'a>,
@@ -181,7 +182,7 @@ pub fn add_member<'a>(
     Ok(())
 }
 
-/// { member }, whose rows are added
+/// { member } Its rows are added to `members`.
 pub fn add_members<'a>(
     cursor: &mut Cursor<'_, 'a>,
     members: &mut Vec<Declared<'a>>,
@@ -271,7 +272,7 @@ fn parameter<'a>(cursor: &mut Cursor<'_, 'a>) -> Result<Declared<'a>, SyntaxFaul
     })
 }
 
-/// [ "sh" | "pr" ]: whether it is `sh`.
+/// [ "sh" | "pr" ]; returns whether it is `sh`.
 fn shared(cursor: &mut Cursor) -> Result<bool, SyntaxFault>
     ensures read { Makes is_shared (λ shared. shared) result cursor.new (read_sharing cursor.old) }
     ensures few { IfOk result (λ _. Leaves cursor.old cursor.new) }

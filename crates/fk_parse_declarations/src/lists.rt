@@ -1,12 +1,12 @@
-//! Lists of what was read.
+//! Lists of parsed elements.
 //!
-//! Their items are of any type, so no proof goes through the kinds of expressions for them.
+//! Their elements have any type, so that no proof goes through the cases of expressions for them.
 
 ghost use Rattle.std.specs.Prelude.{◌≡◌, ◌∷◌, ◌++◌, [], IfOk, OnOk};
 
 use std::alloc::{AllocError, Global};
 
-/// A list of one item, with room for no more. Fails only for want of memory.
+/// A list of one element, with no room for more. It fails only if there isn't enough memory.
 pub fn one<T: Drop>(alloc: Global, item: T) -> Result<Vec<T>, AllocError>
     ensures { IfOk result (λ list. list.items ≡ item ∷ []) }
 {
@@ -15,7 +15,7 @@ pub fn one<T: Drop>(alloc: Global, item: T) -> Result<Vec<T>, AllocError>
     Ok(list)
 }
 
-/// Puts an item behind others. Fails only for want of memory.
+/// Appends an element. It fails only if there isn't enough memory.
 pub fn put<T: Drop>(items: &mut Vec<T>, item: T) -> Result<(), AllocError>
     ensures items { OnOk result (items.new.items ≡ items.old.items ++ item ∷ []) }
 {

@@ -1,4 +1,4 @@
--- In which order the group frames of a program stand, and that they stand behind its first token.
+-- The order of the group frames of a program, which all come after its first token.
 use Rattle.std.specs.Prelude.{◌<◌, List, All}
 use Rattle.fk_syntax.specs.Program.{ProgramTree}
 use Rattle.fk_lex.specs.Reading.{Spelled}
@@ -7,13 +7,13 @@ use Rattle.fk_layout_slots.specs.Told.{Told}
 use Rattle.fk_layout_slots.specs.Frames.{regions_of}
 use Rattle.fk_parse_laws.specs.Order.{AreInOrder}
 
--- those of a program that tokens spell are in order, whatever is told of it
+-- the frames of a program that tokens spell are in order, whatever its facts are
 abbrev pub FramesStandInOrder : Type 0
 FramesStandInOrder =
     (told : Told) (tokens : List Spelled) (program : ProgramTree) → SpellsProgram tokens program
     → AreInOrder (regions_of told program.items)
 
--- and none of them at the first token
+-- no frame is at the first token
 abbrev pub FramesStandBehindFirst : Type 0
 FramesStandBehindFirst =
     (told : Told) (tokens : List Spelled) (program : ProgramTree) → SpellsProgram tokens program

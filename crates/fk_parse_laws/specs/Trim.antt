@@ -1,5 +1,5 @@
--- Programs without empty chains and empty lists of suffixes, and whose parameters have
--- no first values.
+-- Programs without empty chains and empty lists of suffixes, whose parameters have no initial
+-- values.
 use Rattle.std.specs.Prelude.{◌≡◌, ℕ, List, [], ◌∷◌, Option, Some, None}
 use Rattle.fk_syntax.specs.Tree as t
 use Rattle.fk_syntax.specs.Tree.{Tree, Links, Trees, Suffixes}
@@ -16,7 +16,7 @@ abbrev pub HasSuffixes : Suffixes → Type 0
 HasSuffixes t.no_suffixes = ⊥
 HasSuffixes others = Unit {0}
 
--- a chain has a sign, and what has suffixes has one
+-- a chain has a sign, and an expression with suffixes has at least one
 abbrev mutual
   pub IsTrim : Tree → Type 0
   IsTrim (t.Number spot value unsigned) = Unit {0}
@@ -57,7 +57,7 @@ abbrev pub VariablesAreTrim : List DeclaredTree → Type 0
 VariablesAreTrim [] = Unit {0}
 VariablesAreTrim (x ∷ xs) = OptionIsTrim x.first × VariablesAreTrim xs
 
--- parameters have no first values
+-- parameters have no initial values
 abbrev pub ParametersAreTrim : List DeclaredTree → Type 0
 ParametersAreTrim [] = Unit {0}
 ParametersAreTrim (x ∷ xs) = (x.first ≡ None) × ParametersAreTrim xs
@@ -105,7 +105,7 @@ ItemsAreTrim (x ∷ xs) = ItemIsTrim x × ItemsAreTrim xs
 abbrev pub ProgramIsTrim : ProgramTree → Type 0
 ProgramIsTrim program = ItemsAreTrim program.items
 
--- the program of a text is so
+-- the program of a text is trim
 abbrev pub TextsAreTrim : Type 0
 TextsAreTrim =
     (source : List ℕ) (tokens : List Spelled) (program : ProgramTree)

@@ -1,5 +1,5 @@
--- Programs whose numbers have room in a word: values, characters, the lengths of arrays, and
--- the bytes of texts.
+-- Programs whose numbers fit into words: values, characters, the lengths of arrays, and the bytes
+-- of texts.
 use Rattle.std.specs.Prelude.{ℕ, ◌<◌, ◌^◌, List, [], ◌∷◌, All, Option, Some, None}
 use Rattle.fk_syntax.specs.Tree as t
 use Rattle.fk_syntax.specs.Tree.{Tree, Links, Trees, Suffixes}

@@ -1,37 +1,35 @@
-//! Laws of the numbers of a text.
-//! Laws of the trees of texts.
-//! Laws of their order.
+//! Laws of the numbers, the trees and the order of texts.
 
 ghost use Rattle.fk_parse_laws.specs.Words.{TextsHaveWords};
 ghost use Rattle.fk_parse_laws.specs.Trim.{TextsAreTrim};
 ghost use Rattle.fk_parse_laws.specs.Order.{FramesInOrder};
 ghost use Rattle.fk_parse_laws.specs.Program.{FramesStandInOrder, FramesStandBehindFirst};
 
-/// A program that is spelled by the tokens of a text has only numbers below 2^32, as values, as
-/// characters, as lengths and in its texts.
+/// If the tokens of a text spell a program, its numbers are below 2^32: values, characters, lengths
+/// and the bytes of its texts.
 pub fn texts_have_words()
     ensures { TextsHaveWords }
 {}
 
-/// A program that is spelled by the tokens of a text has no chain without a sign, no expression
-/// with suffixes that has none, and no parameter with a first value.
+/// If the tokens of a text spell a program, each chain in it has a sign, each expression with
+/// suffixes has at least one, and no parameter has an initial value.
 pub fn texts_are_trim()
     ensures { TextsAreTrim }
 {}
 
-/// The group frames of a tree in which the tokens ascend stand in the order of their tokens, and at
-/// one token that of an `else` behind the other.
+/// If the tokens of a tree ascend, its group frames are in the order of their tokens. At one token
+/// the frame of an `else` comes after the other one.
 pub fn frames_in_order()
     ensures { FramesInOrder }
 {}
 
-/// The group frames of each program that tokens spell stand in the order of their tokens, whatever
+/// The group frames of each program that tokens spell are in the order of their tokens, whatever
 /// its types are and wherever groups split.
 pub fn frames_stand_in_order()
     ensures { FramesStandInOrder }
 {}
 
-/// No group frame stands at the first token of a program.
+/// No group frame is at the first token of a program.
 pub fn frames_stand_behind_first()
     ensures { FramesStandBehindFirst }
 {}

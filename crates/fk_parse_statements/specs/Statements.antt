@@ -1,5 +1,4 @@
--- The grammar of statements. A stretch is given with the levels that are open at
--- each of its tokens.
+-- The grammar of statements. Each token of a stretch has the number of levels that are open at it.
 use Rattle.std.specs.Prelude.{◌≡◌, ℕ, zero, suc, ◌+◌, [], ◌∷◌, Some, None, Bool, true, false}
 use Rattle.std.specs.Prelude.{IsTrue}
 use Rattle.fk_syntax.specs.Tree.{Tree}
@@ -13,10 +12,10 @@ use Rattle.fk_expr.specs.Grammar.{Comma}
 use Rattle.fk_lex.specs.declared.token.TokenKind.TheVariants as kind
 use Rattle.fk_parse_declarations.specs.Grammar.{variables}
 
--- those that stand in a statement are given by their level
+-- inner statements are given by their level
 
--- whether an `else` behind a statement belongs to none of its own: it doesn't end in an
--- `if` without one
+-- whether an `else` after a statement can't belong to an `if` in it: the statement doesn't end in
+-- an `if` without an `else`
 abbrev pub is_closed : Statement → Bool
 is_closed (If at c chosen) = false
 is_closed (IfElse at c chosen otherwise) = is_closed otherwise
@@ -28,7 +27,7 @@ is_closed (Seq at inside) = is_closed inside
 is_closed (Fork at parts part rank inside) = is_closed inside
 is_closed other = true
 
--- those of a language that a test accepts
+-- the values of a language that satisfy a test
 abbrev pub accepted : {A : Type 0} → (A → Bool) → Language A → Language A
 accepted test L s a = L s a × IsTrue (test a)
 
@@ -37,7 +36,7 @@ abbrev pub Leads : TokenKind → Stretch → Type 0
 Leads kind [] = ⊥
 Leads kind (m ∷ s) = m.token.kind ≡ kind
 
--- those that don't begin with a kind of token
+-- the stretches of a language that don't begin with a token of this kind
 abbrev pub not_before : {A : Type 0} → TokenKind → Language A → Language A
 not_before kind L s a = L s a × (Leads kind s → ⊥)
 
@@ -83,7 +82,7 @@ for_statement bound S l =
     then maybe (Comma l bound) then token l kind.Semicolon then maybe (Comma l bound)
     then token l kind.CloseParenthesis then S (l + 1))
 
--- "start" [ "(" comma ")" ] stmt: a parenthesis directly behind `start` opens its count
+-- "start" [ "(" comma ")" ] stmt: a parenthesis directly after `start` opens its count
 abbrev pub start_statement : ℕ → (ℕ → Language Statement) → ℕ → Language Statement
 start_statement bound S l =
     making (λ (word, (count, inside)). Start (spot word) (Some count) inside)
@@ -103,7 +102,7 @@ fork_statement bound S l =
     (token l kind.Semicolon then token l kind.Dollar then token l kind.Assign then Comma l bound))
     then token l kind.CloseParenthesis then S (l + 1))
 
--- a word and ";"
+-- a keyword and ";"
 abbrev pub plain : ℕ → TokenKind → Language Placed
 plain l is = making (λ (word, end). word) (token l is then token l kind.Semicolon)
 
@@ -127,7 +126,7 @@ statement bound S l =
     (token l kind.Return then maybe (Comma l bound) then token l kind.Semicolon)
     or making (λ (tree, end). Expression tree) (Comma l bound then token l kind.Semicolon)
 
--- statements that open at most so many levels
+-- statements that open at most `bound` levels
 abbrev pub statement_within : ℕ → ℕ → Language Statement
 statement_within zero l = nothing
 statement_within (suc bound) l = statement bound (statement_within bound) l

@@ -7,7 +7,7 @@ use fk_expr::kinds::begins_expression;
 use fk_lex::token::TokenKind;
 use fk_parse_declarations::kinds::begins_parameter;
 
-/// Whether it is a word that begins a statement.
+/// Whether a token of this kind is a keyword that begins a statement.
 #[tactic(auto, unfolding(fk_parse_combinators::specs::Kinds::just))]
 pub fn begins_word(kind: TokenKind) -> bool
     ensures { result ≡ begins_word kind }

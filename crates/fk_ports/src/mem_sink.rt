@@ -37,8 +37,8 @@ impl Model for MemSink {
 }
 
 impl MemSink {
-    /// A sink with room for `capacity` bytes, which it takes now. The calls of these numbers fail,
-    /// where 1 is the first.
+    /// A sink with room for `capacity` bytes, for which it takes memory now. The calls with these
+    /// numbers fail, counted from 1.
     pub fn new(alloc: Global, capacity: usize, fails: Vec<u64>) -> Result<MemSink, AllocError>
         ensures { IfOk result (λ sink. sink ≡ record {
           taken = [];
@@ -68,8 +68,8 @@ impl Sink for MemSink {
 
     ghost taken = { λ sink. Some sink.taken };
 
-    /// Takes as many bytes as it has room for. It fails exactly where the number of the call is
-    /// listed or the sink is full.
+    /// Takes as many bytes as it has room for. It fails exactly if the number of the call is listed
+    /// or the sink is full.
     fn give(&mut self, bytes: &[u8]) -> Result<usize, Failed>
         ensures exact { is_err result ≡ (is_to_fail self.old.calls || is_full self.old) }
         ensures count { IfOk result (λ n. n ≡ min (length bytes.now) (room self.old)) }

@@ -9,7 +9,7 @@ use crate::source::Source;
 use crate::unread::Unread;
 use std::marker::Model;
 
-/// A source of bytes in memory, whose calls fail as they are told to.
+/// A source of bytes in memory, whose calls fail as listed.
 #[derive(Drop)]
 pub struct MemSource {
     unread: Unread,
@@ -26,7 +26,7 @@ impl Model for MemSource {
 }
 
 impl MemSource {
-    /// A source of these bytes. The calls of these numbers fail, where 1 is the first.
+    /// A source of these bytes. The calls with these numbers fail, counted from 1.
     pub fn new(bytes: Vec<u8>, fails: Vec<u64>) -> MemSource
         ensures { result ≡ record { left = bytes.items; calls = no_calls fails.items; faults = 0 } }
     {
@@ -43,8 +43,8 @@ impl Source for MemSource {
 
     ghost left = { λ source. Some source.left };
 
-    /// Moves as many bytes as are left and have room. It fails exactly where the number of the
-    /// call is listed.
+    /// Moves as many bytes as are left and have room. It fails exactly if the number of the call is
+    /// listed.
     fn take(&mut self, into: &mut [u8]) -> Result<usize, Failed>
         ensures exact { is_err result ≡ is_to_fail self.old.calls }
         ensures count { IfOk result (λ n. n ≡ min (length self.old.left) (length into.old)) }

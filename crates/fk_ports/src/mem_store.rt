@@ -38,8 +38,8 @@ impl Model for MemStore {
 }
 
 impl MemStore {
-    /// A store of these files. Of two files of one name the first counts. The calls of these
-    /// numbers fail, where 1 is the first and those of both kinds are counted together.
+    /// A store of these files. Of two files with one name the first counts. The calls with these
+    /// numbers fail, counted from 1, those of both kinds together.
     pub fn new(files: Vec<(String, Vec<u8>)>, fails: Vec<u64>) -> MemStore
         ensures { result ≡ record {
           files = stored_files files.items;
@@ -56,7 +56,7 @@ impl MemStore {
         }
     }
 
-    /// The bytes of the named file. It is `None` exactly where there is no such name.
+    /// The bytes of the named file. It is `None` exactly if no file has the name.
     pub fn bytes(&self, name: &str) -> Option<&[u8]>
         ensures { option_copied result ≡ file self.now.files name.now }
     {
@@ -72,7 +72,7 @@ impl Store for MemStore {
 
     ghost files = { λ store. Some store.files };
 
-    /// Appends the first `most` bytes of the named file. Memory aside it fails exactly where the
+    /// Appends the first `most` bytes of the named file. Apart from memory, it fails exactly if the
     /// number of the call is listed or no file has the name.
     fn fetch(&mut self, name: &str, most: usize, into: &mut Vec<u8>) -> Result<(), StoreFault>
         ensures exact { IsErrOf result StoreFault.Fault
@@ -94,7 +94,7 @@ impl Store for MemStore {
         Ok(())
     }
 
-    /// Makes these the bytes of the name. Memory aside it fails exactly where the number of the
+    /// Makes these the bytes of the name. Apart from memory, it fails exactly if the number of the
     /// call is listed.
     fn put(&mut self, name: &str, bytes: &[u8]) -> Result<(), StoreFault>
         ensures exact { IsErrOf result StoreFault.Fault ↔ IsTrue (is_to_fail self.old.calls) }
@@ -112,7 +112,7 @@ impl Store for MemStore {
     }
 }
 
-/// Where the named file stands in a list of files.
+/// The index of the named file in a list of files.
 fn place_of(files: &[(String, Vec<u8>)], name: &str) -> Option<usize>
     ensures { result ≡ position (is_named name.now) files.now }
 {

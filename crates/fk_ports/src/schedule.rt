@@ -1,4 +1,4 @@
-//! Which calls of an object in memory fail.
+//! The calls of an object in memory that fail.
 ghost use Rattle.std.specs.Prelude.{◌≡◌};
 ghost use Rattle.fk_ports.specs.InMemory.{counted, is_to_fail, no_calls};
 
@@ -26,7 +26,7 @@ impl Schedule {
         Schedule { made: 0, fails }
     }
 
-    /// Counts a call, and answers whether it fails.
+    /// Counts a call, and gives whether it fails.
     pub(crate) fn next_fails(&mut self) -> bool
         ensures fails { result ≡ is_to_fail self.old }
         ensures counted { self.new ≡ counted self.old }

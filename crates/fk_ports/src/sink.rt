@@ -7,18 +7,18 @@ ghost use Rattle.fk_ports.specs.Known.{TakesPrefix};
 
 use crate::faults::Failed;
 
-/// A sink of bytes, as standard output.
+/// A sink of bytes, such as standard output.
 ///
-/// It counts its faults. The count never falls: a fault raises it, or finds it at
-/// its end, 2^64 - 1.
+/// It counts its faults. The count never falls: a fault raises it, or finds it at its greatest
+/// value, 2^64 - 1.
 pub trait Sink {
-    /// The faults so far.
+    /// The number of faults so far.
     ghost faults: { Self → ℕ };
 
-    /// The bytes that were taken, if the sink tells them.
+    /// The bytes that were taken, if they are known.
     ghost taken: { Self → Option (List ℕ) };
 
-    /// Takes one or more bytes from the front of a piece, and answers how many. It fails only by a
+    /// Takes one or more bytes from the front of a piece, and gives how many. It fails only by a
     /// fault, which is counted, and then takes none.
     fn give(&mut self, bytes: &[u8]) -> Result<usize, Failed>
         requires { 0 < length bytes.now }
@@ -33,9 +33,10 @@ pub trait Sink {
         ensures never_falls { faults self.old ≤ faults self.new };
 }
 
-/// Gives all of a piece. After `Failed` the sink took some bytes of its front.
+/// Gives all of a piece to a sink. If it fails, the sink took some bytes from the front of the
+/// piece.
 ///
-/// It takes no memory. A piece without bytes makes no call.
+/// It takes no memory. An empty piece makes no call.
 pub fn give_all<K: Sink>(sink: &mut K, bytes: &[u8]) -> Result<(), Failed>
     ensures all { OnOk result (K.taken sink.new ≡ append_known (K.taken sink.old) bytes.now) }
     ensures prefix { OnErr result (TakesPrefix (K.taken sink.old) (K.taken sink.new) bytes.now) }

@@ -8,22 +8,22 @@ use crate::faults::StoreFault;
 
 /// A store of named files.
 ///
-/// It counts its faults, those of `fetch` and those of `put` apart. A count never falls: a fault
-/// raises it, or finds it at its end, 2^64 - 1.
+/// It counts its faults, those of `fetch` and those of `put` separately. A count never falls: a
+/// fault raises it, or finds it at its greatest value, 2^64 - 1.
 pub trait Store {
-    /// The faults of `fetch` so far.
+    /// The number of faults of `fetch` so far.
     ghost fetch_faults: { Self → ℕ };
 
-    /// The faults of `put` so far.
+    /// The number of faults of `put` so far.
     ghost put_faults: { Self → ℕ };
 
-    /// The files, if the store tells them.
+    /// The files, if they are known.
     ghost files: { Self → Option Files };
 
-    /// Appends the first `most` bytes of the named file, or all of it where it has fewer.
+    /// Appends the first `most` bytes of the named file, or all of them if it has fewer.
     ///
-    /// It answers `Fault` where the store fails, which is counted, or where it tells its files and
-    /// none has the name, which is not.
+    /// It fails with `Fault` if the store fails, which is counted, or if the files are known and
+    /// none has the name, which isn't counted.
     fn fetch(&mut self, name: &str, most: usize, into: &mut Vec<u8>) -> Result<(), StoreFault>
         ensures appended { OnOk result
             (AppendsFile (files self.old) name.now most into.old.items into.new.items) }
@@ -41,7 +41,7 @@ pub trait Store {
 
     /// Makes these the bytes of the name, and leaves every other name as it was.
     ///
-    /// It answers `Fault` only where the store fails, which is counted.
+    /// It fails with `Fault` only if the store fails, which is counted.
     fn put(&mut self, name: &str, bytes: &[u8]) -> Result<(), StoreFault>
         ensures put { OnOk result
             (files self.new ≡ with_file_known (files self.old) name.now bytes.now) }

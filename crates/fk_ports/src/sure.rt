@@ -82,7 +82,8 @@ impl Store for SureStore {
 
     ghost files = { λ _. None };
 
-    /// Appends the first `most` of its bytes, whatever the name. It fails only for want of memory.
+    /// Appends the first `most` of its bytes, whatever the name. It fails only if there isn't
+    /// enough memory.
     fn fetch(&mut self, _name: &str, most: usize, into: &mut Vec<u8>) -> Result<(), StoreFault>
         ensures sure { IsOkUnless result StoreFault.Memory }
         ensures appended { OnOk result (into.new.items ≡ into.old.items ++ take most self.old) }
@@ -103,7 +104,7 @@ impl Store for SureStore {
     }
 }
 
-/// A sink that keeps the number of bytes only. It never fails.
+/// A sink that keeps only the number of bytes. It never fails.
 #[derive(Drop)]
 pub struct SureSink {
     count: u64,
@@ -118,14 +119,14 @@ impl Model for SureSink {
 }
 
 impl SureSink {
-    /// A sink that took nothing yet.
+    /// A sink that has taken nothing yet.
     pub fn new() -> SureSink
         ensures { result ≡ 0 }
     {
         SureSink { count: 0 }
     }
 
-    /// How many bytes were taken. It stands still at 2^64 - 1.
+    /// The number of bytes that were taken. It stays at 2^64 - 1.
     pub fn count(&self) -> u64
         ensures { result ≡ self.now }
     {

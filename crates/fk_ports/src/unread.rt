@@ -3,7 +3,7 @@ ghost use Rattle.std.specs.Prelude.{◌≡◌, drop, length, min, take};
 
 use std::marker::Model;
 
-/// The bytes that are left of those in memory.
+/// The bytes in memory that are left.
 #[derive(Drop)]
 pub(crate) struct Unread {
     bytes: Vec<u8>,
@@ -27,7 +27,7 @@ impl Unread {
         Unread { bytes, start: 0 }
     }
 
-    /// Moves as many bytes as are left and have room, and answers how many.
+    /// Moves as many bytes as are left and have room, and gives how many.
     pub(crate) fn move_to(&mut self, into: &mut [u8]) -> usize
         ensures count { result ≡ min (length self.old) (length into.old) }
         ensures left { self.new ≡ drop result self.old }

@@ -1,4 +1,4 @@
--- What the holders of a token say of its place, the innermost first.
+-- The properties of a token's place, by the holders around it, the innermost first.
 use Rattle.std.specs.Prelude.{Bool, true, false, List, [], ◌∷◌}
 use Rattle.fk_syntax.specs.declared.program.Mode.{Mode}
 use Rattle.fk_syntax.specs.declared.program.Mode.TheVariants.{Sync, Async, Straight}
@@ -10,7 +10,7 @@ use Rattle.fk_regions.specs.declared.around.Region.TheVariants.{Synchronous, Asy
 use Rattle.fk_regions.specs.declared.around.Loops.{Loops}
 use Rattle.fk_regions.specs.declared.around.Loops.TheVariants.{Outside, Inside, Beyond}
 
--- how a body runs by the mode of its function: a straight one as its callers do
+-- the region of a body by the mode of its function; a straight one runs as its callers do
 abbrev pub region_by : Mode → Region
 region_by Sync = Synchronous
 region_by Async = Asynchronous
@@ -29,13 +29,13 @@ region (Fork ∷ outer) = Synchronous
 region (Farm ∷ outer) = Asynchronous
 region (Seq ∷ outer) = Asynchronous
 
--- a loop, seen from the body of a `start`, `fork`, `farm` or `seq` in it
+-- a loop, as seen from the body of a `start`, `fork`, `farm` or `seq` inside it
 abbrev pub beyond : Loops → Loops
 beyond Outside = Outside
 beyond Inside = Beyond
 beyond Beyond = Beyond
 
--- the innermost loop round a place
+-- the innermost loop around a place
 abbrev pub loops : List Holder → Loops
 loops [] = Outside
 loops (Main mode ∷ outer) = Outside
@@ -53,7 +53,7 @@ is_straight_mode Sync = false
 is_straight_mode Async = false
 is_straight_mode Straight = true
 
--- the function round a place is straight
+-- the function around a place is straight
 abbrev pub is_straight : List Holder → Bool
 is_straight [] = false
 is_straight (Main mode ∷ outer) = is_straight_mode mode
@@ -66,7 +66,7 @@ is_straight (Fork ∷ outer) = is_straight outer
 is_straight (Farm ∷ outer) = is_straight outer
 is_straight (Seq ∷ outer) = is_straight outer
 
--- a place stands directly in the outermost block of `main`
+-- a place is directly in the outermost block of `main`
 abbrev pub is_in_main : List Holder → Bool
 is_in_main [] = false
 is_in_main (Main mode ∷ outer) = true
@@ -79,7 +79,7 @@ is_in_main (Fork ∷ outer) = false
 is_in_main (Farm ∷ outer) = false
 is_in_main (Seq ∷ outer) = false
 
--- a place stands in a `start`, `fork`, `farm` or `seq`
+-- a place is in a `start`, `fork`, `farm` or `seq`
 abbrev pub is_in_body : List Holder → Bool
 is_in_body [] = false
 is_in_body (Main mode ∷ outer) = false

@@ -1,4 +1,4 @@
--- Which rules of regions a program breaks, and which of its tokens stand in synchronous regions.
+-- The rules on regions that a program breaks, and its tokens in synchronous regions.
 use Rattle.std.specs.Prelude.{◌≡◌, ◌⊎◌, ◌↔◌, ℕ, Bool, true, List, Option, Some, IsTrue, length}
 use Rattle.std.specs.Prelude.{slice_get}
 use Rattle.fk_syntax.specs.declared.place.Place.{Place}
@@ -19,24 +19,24 @@ use Rattle.fk_regions.specs.Around.{region, is_straight}
 use Rattle.fk_regions.specs.Misplaced.{Misplaced, Decides}
 use Rattle.fk_regions.specs.Called.{Calls}
 
--- a token breaks a rule where it stands
+-- a token breaks a rule at its place
 abbrev pub BreaksRule : (Callee → Type 0) → Standing (List Holder) → Rule → Type 0
 BreaksRule calls token rule = Misplaced token.around calls token.word rule
     ⊎ ((rule ≡ NotStraight) × (is_straight token.around ≡ true) × Decides calls token.word)
 
--- the sum of the rules: some token of the program breaks the rule at its place
+-- the rules as a whole: some token of the program breaks the rule at its place
 abbrev pub Broken : ProgramTree → Place → Rule → Type 0
 Broken program place rule = (i : ℕ) × (token : Standing (List Holder))
     × (slice_get (tokens program) i ≡ Some token)
     × (token.spot.place ≡ place) × BreaksRule (Calls program token.spot.at) token rule
 
--- the token of an index stands in a synchronous region
+-- the token with this index is in a synchronous region
 abbrev pub IsSynchronous : ProgramTree → ℕ → Type 0
 IsSynchronous program index = (i : ℕ) × (token : Standing (List Holder))
     × (slice_get (tokens program) i ≡ Some token)
     × (token.spot.at ≡ index) × (region token.around ≡ Synchronous)
 
--- a note says whether its token stands in a synchronous region, and all else as before
+-- a note tells whether its token is in a synchronous region, and is otherwise as before
 abbrev pub SaysRegion : ProgramTree → ℕ → Note → Option Note → Type 0
 SaysRegion program index old new = (sync : Bool) × (new ≡ Some (record old { sync = sync }))
     × (IsTrue sync ↔ IsSynchronous program index)
@@ -49,7 +49,8 @@ pub record AreRegions (program : ProgramTree) (old new : Facts) : Type 0 where
   pub notes : (index : ℕ) (note : Note) → slice_get old.notes.items index ≡ Some note
       → SaysRegion program index note (slice_get new.notes.items index)
 
--- why a program has no regions: the first rule that it breaks, by place and then by number
+-- the refusal of a program: the first rule that it breaks, by place and then by number; or there
+-- isn't enough memory
 abbrev pub IsRefusal : ProgramTree → CheckFault → Type 0
 IsRefusal program (f.Rule place number) = (rule : Rule) × IsLeast (Broken program)
     (Some (record { place = place; rule = rule })) × (number ≡ number_of rule)

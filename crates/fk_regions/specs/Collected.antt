@@ -1,4 +1,4 @@
--- What stands round a token, as the code keeps it.
+-- The surroundings of a token, as the code keeps them.
 use Rattle.std.specs.Prelude.{Bool, true, false}
 use Rattle.fk_syntax.specs.declared.program.Mode.{Mode}
 use Rattle.fk_regions.specs.declared.around.Holder.{Holder}
@@ -12,7 +12,7 @@ use Rattle.fk_regions.specs.declared.token.Token.{Token}
 use Rattle.fk_regions.specs.Tokens.{Standing}
 use Rattle.fk_regions.specs.Around.{region_by, beyond, is_straight_mode}
 
--- nothing stands round it
+-- the surroundings at file scope, where there is no holder
 abbrev pub outside : Around
 outside =
     record { region = Neither; loops = Outside; straight = false; in_main = false; in_body = false }
@@ -30,7 +30,7 @@ abbrev pub body_around : Region → Around → Around
 body_around region around =
     record around { region = region; loops = beyond around.loops; in_main = false; in_body = true }
 
--- what stands round the parts of a holder, by what stands round it
+-- the surroundings of the parts of a holder, by those of the holder
 abbrev pub within : Holder → Around → Around
 within (Main mode) around = function_around mode true
 within (Function mode) around = function_around mode false

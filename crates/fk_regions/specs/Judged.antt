@@ -1,4 +1,4 @@
--- Which rules a token breaks, by what the code keeps of what stands round it.
+-- The rules that a token breaks, by the surroundings that the code keeps.
 use Rattle.std.specs.Prelude.{◌≡◌, ◌⊎◌, Bool, true, false, ◌&&◌, Option, Some, None}
 use Rattle.fk_syntax.specs.declared.place.Place.{Place}
 use Rattle.fk_syntax.specs.declared.program.Mode.TheVariants.{Sync, Async, Straight}
@@ -17,24 +17,24 @@ use Rattle.fk_regions.specs.declared.callee.Callee.{Callee}
 use Rattle.fk_regions.specs.declared.callee.Callee.TheVariants as c
 use Rattle.fk_regions.specs.Tokens.{Standing}
 
--- a rule on what stands in synchronous regions alone
+-- the rule, unless the region is synchronous
 abbrev pub unless_synchronous : Region → Rule → Option Rule
 unless_synchronous Synchronous rule = None
 unless_synchronous Asynchronous rule = Some rule
 unless_synchronous Neither rule = Some rule
 
--- a rule on what stands in no synchronous region
+-- the rule, if the region is synchronous
 abbrev pub where_synchronous : Region → Rule → Option Rule
 where_synchronous Synchronous rule = Some rule
 where_synchronous Asynchronous rule = None
 where_synchronous Neither rule = None
 
--- a rule that is broken where a test fails
+-- the rule, if a test fails
 abbrev pub unless : Bool → Rule → Option Rule
 unless true rule = None
 unless false rule = Some rule
 
--- a rule that is broken where a test holds
+-- the rule, if a test holds
 abbrev pub where_true : Bool → Rule → Option Rule
 where_true true rule = Some rule
 where_true false rule = None
@@ -86,7 +86,7 @@ abbrev pub straight_rule : Around → Word → Option Callee → Option Rule
 straight_rule around word callee =
     where_true (around.straight && is_deciding word callee) r.NotStraight
 
--- what one token breaks
+-- the rules that one token breaks, at its place
 abbrev pub Breaks : Option Callee → Standing Around → Place → Rule → Type 0
 Breaks callee token at rule =
     ((at ≡ token.spot.place) × (misplaced_rule token.around token.word callee ≡ Some rule))

@@ -1,4 +1,4 @@
--- What marks leave of notes.
+-- The notes after marking.
 use Rattle.std.specs.Prelude.{ℕ, zero, suc, true, false, List, [], ◌∷◌}
 use Rattle.fk_syntax.specs.declared.facts.Note.{Note}
 use Rattle.fk_regions.specs.declared.around.Region.{Region}
@@ -12,7 +12,7 @@ cleared note = record note { sync = false }
 abbrev pub marked : Note → Note
 marked note = record note { sync = true }
 
--- the note of an index is marked, where there is one
+-- the note with this index is marked, if there is one
 unfoldable pub synchronous_at : List Note → ℕ → List Note
 synchronous_at [] at = []
 synchronous_at (note ∷ notes) zero = marked note ∷ notes

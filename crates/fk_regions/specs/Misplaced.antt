@@ -1,4 +1,4 @@
--- Which tokens may not stand where they do.
+-- The tokens that may not be where they are.
 use Rattle.std.specs.Prelude.{◌≡◌, ◌≢◌, true, false, List}
 use Rattle.fk_syntax.specs.declared.program.Mode.{Mode}
 use Rattle.fk_syntax.specs.declared.program.Mode.TheVariants.{Sync, Async, Straight}
@@ -15,7 +15,7 @@ use Rattle.fk_regions.specs.declared.callee.Callee.{Callee}
 use Rattle.fk_regions.specs.declared.callee.Callee.TheVariants as c
 use Rattle.fk_regions.specs.Around.{region, loops, is_in_main, is_in_body}
 
--- a token breaks a rule, by what stands round it and what it calls, where it is a name
+-- a token breaks a rule, by its surroundings and, if it is a name, by what it calls
 pub data Misplaced (around : List Holder) (calls : Callee → Type 0) : Word → Rule → Type 0 where
   start_elsewhere : is_in_main around ≡ false → Misplaced around calls w.Start r.StartNotInMain
   farm_outside : region around ≢ Synchronous → Misplaced around calls w.Farm r.FarmOutside
@@ -34,8 +34,8 @@ pub data Misplaced (around : List Holder) (calls : Callee → Type 0) : Word →
   break_leaves : loops around ≡ Beyond → Misplaced around calls w.Break r.LoopLeavesBody
   continue_leaves : loops around ≡ Beyond → Misplaced around calls w.Continue r.LoopLeavesBody
 
--- a token may not stand in a straight function: it decides what is run next, waits, or calls what
--- may do so
+-- a token may not be in a straight function, because it decides what is run next, waits, or calls a
+-- function that may do so
 pub data Decides (calls : Callee → Type 0) : Word → Type 0 where
   if_decides : Decides calls w.If
   loop_decides : Decides calls w.Loop

@@ -1,4 +1,4 @@
--- The tokens of a program, and what stands round each of them.
+-- The tokens of a program, and the surroundings of each.
 use Rattle.std.specs.Prelude.{ℕ, List, [], ◌∷◌, ◌++◌, Option, Some, None, codes, nat_eq}
 use Rattle.std.specs.Prelude.{if◌then◌else◌}
 use Rattle.std.specs.Cmp.Lexicographic.{pointwise}
@@ -17,8 +17,8 @@ use Rattle.fk_regions.specs.declared.token.Word.TheVariants as w
 use Rattle.fk_regions.specs.declared.token.Spelling.{Spelling}
 use Rattle.fk_regions.specs.declared.token.Spelling.TheVariants as s
 
--- a token, what it is, and what stands round it. That may be told in any way: as the list of all
--- that holds the token, or as a summary of that list
+-- a token, its kind, and its surroundings. These may have any form: the list of all holders of the
+-- token, or a summary of that list
 pub record Standing (R : Type 0) : Type 0 where
   pub around : R
   pub spot : Spot
@@ -36,7 +36,7 @@ spot_of name = record { at = name.at; place = name.place }
 abbrev pub spelling_of : List ℕ → Spelling
 spelling_of name = if pointwise nat_eq name (codes "shalloc") then s.Shalloc else s.Other
 
--- two signs of a chain decide whether what follows is run
+-- two signs of a chain decide whether the code after them is run
 abbrev pub word_of_sign : Sign → Word
 word_of_sign AndAnd = w.Branching
 word_of_sign OrOr = w.Branching
@@ -96,7 +96,7 @@ abbrev pub variables_tokens : {R : Type 0} → R → List DeclaredTree → List 
 variables_tokens around [] = []
 variables_tokens around (x ∷ xs) = variable_tokens around x ++ variables_tokens around xs
 
--- the tokens that stand directly in a statement: its keyword and its expressions
+-- the tokens directly in a statement: its keyword and its expressions
 abbrev pub own_tokens : {R : Type 0} → R → Statement → List (Standing R)
 own_tokens around p.Empty = []
 own_tokens around (p.Expression value) = tree_tokens around value
@@ -124,8 +124,8 @@ own_tokens around (p.Break spot) = stands around spot w.Break ∷ []
 own_tokens around (p.Continue spot) = stands around spot w.Continue ∷ []
 own_tokens around (p.Return spot value) = stands around spot w.Return ∷ optional_tokens around value
 
--- the tokens of a statement: its own, and those of the statements that it holds, round which one
--- holder more stands, as `within` tells
+-- the tokens of a statement: its own, and those of the statements inside it. These have one more
+-- holder around them, which `within` adds
 abbrev mutual
   pub statement_tokens : {R : Type 0} → (Holder → R → R) → R → Statement → List (Standing R)
   statement_tokens within around p.Empty = []
@@ -163,7 +163,7 @@ abbrev mutual
   statements_tokens within around (p.statement first others) =
       statement_tokens within around first ++ statements_tokens within around others
 
--- what the outermost block of a function is
+-- the holder that is the outermost block of a function
 abbrev pub holder_of : FunctionTree → Holder
 holder_of function = if pointwise nat_eq function.name.bytes (codes "main")
     then h.Main function.mode else h.Function function.mode
@@ -172,7 +172,7 @@ abbrev pub body_tokens : {R : Type 0} → (Holder → R → R) → R → Option 
 body_tokens within around None = []
 body_tokens within around (Some body) = statements_tokens within around body
 
--- those of the bodies of functions, and of what variables of file scope have as initial values
+-- the tokens in the bodies of functions, and in the initial values of variables of file scope
 abbrev pub item_tokens : {R : Type 0} → (Holder → R → R) → R → ItemTree → List (Standing R)
 item_tokens within around (p.StructItem name members) = []
 item_tokens within around (p.VariablesItem variables) = variables_tokens around variables
@@ -183,6 +183,6 @@ abbrev pub items_tokens : {R : Type 0} → (Holder → R → R) → R → List I
 items_tokens within around [] = []
 items_tokens within around (x ∷ xs) = item_tokens within around x ++ items_tokens within around xs
 
--- the tokens of a program, each with all that holds it, the innermost first
+-- the tokens of a program, each with all its holders, the innermost first
 abbrev pub tokens : ProgramTree → List (Standing (List Holder))
 tokens program = items_tokens ◌∷◌ [] program.items

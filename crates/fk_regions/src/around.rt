@@ -1,4 +1,4 @@
-//! What stands round a token.
+//! The surroundings of a token.
 
 ghost use Rattle.std.specs.Prelude.{◌≡◌};
 ghost use Rattle.fk_regions.specs.Around.{region_by};
@@ -6,14 +6,14 @@ ghost use Rattle.fk_regions.specs.Collected.{within, outside, function_around, b
 
 use fk_syntax::Mode;
 
-/// What holds a part of a program.
+/// What directly contains a part of a program.
 #[derive(Clone, Copy)]
 pub enum Holder {
     /// The outermost block of `main`.
     Main(Mode),
-    /// That of another function.
+    /// The outermost block of another function.
     Function(Mode),
-    /// A block inside.
+    /// An inner block.
     Block,
     /// A part of an `if`.
     Branch,
@@ -29,42 +29,42 @@ pub enum Holder {
     Seq,
 }
 
-/// How the processors run what stands at a place.
+/// How the processors run the code at a place.
 #[derive(Clone, Copy)]
 pub enum Region {
     /// In lockstep.
     Synchronous,
     /// Each by itself.
     Asynchronous,
-    /// As the callers do, or not at all.
+    /// As the callers do; or the code isn't run at all.
     Neither,
 }
 
-/// How the innermost loop stands to a place.
+/// Where the innermost loop around a place is.
 #[derive(Clone, Copy)]
 pub enum Loops {
-    /// There is none.
+    /// There is no loop.
     Outside,
-    /// It holds the place.
+    /// The loop contains the place, with no `start`, `fork`, `farm` or `seq` in between.
     Inside,
-    /// It does too, and a `start`, `fork`, `farm` or `seq` stands between.
+    /// The loop contains the place, with a `start`, `fork`, `farm` or `seq` in between.
     Beyond,
 }
 
-/// What the rules ask of what stands round a token.
+/// What the rules need to know about the surroundings of a token.
 #[derive(Clone, Copy)]
 pub struct Around {
     pub region: Region,
     pub loops: Loops,
     /// Whether the function is `straight`.
     pub straight: bool,
-    /// Whether the innermost of all is the outermost block of `main`.
+    /// Whether the innermost holder is the outermost block of `main`.
     pub in_main: bool,
-    /// Whether a `start`, `fork`, `farm` or `seq` holds it.
+    /// Whether it is inside a `start`, `fork`, `farm` or `seq`.
     pub in_body: bool,
 }
 
-/// How the body of a function runs, by its mode.
+/// The region of the body of a function, by its mode.
 pub fn region_of(mode: Mode) -> Region
     ensures { result ≡ region_by mode }
 {
@@ -76,7 +76,7 @@ pub fn region_of(mode: Mode) -> Region
 }
 
 impl Around {
-    /// Nothing, as at file scope.
+    /// The surroundings at file scope, where there is no holder.
     pub(crate) fn outside() -> Around
         ensures { result ≡ outside }
     {
@@ -89,7 +89,7 @@ impl Around {
         }
     }
 
-    /// What stands round the parts of something that holds them, by what stands round that.
+    /// The surroundings of the parts of a holder, whose own surroundings are `self`.
     pub(crate) fn within(self, holder: Holder) -> Around
         ensures { result ≡ within holder self }
     {

@@ -10,13 +10,13 @@ use fk_types_names::{Declaration, Meaning, Names};
 /// What a name calls.
 #[derive(Clone, Copy)]
 pub enum Callee {
-    /// A function of the text, by its mode.
+    /// A function that the text declares, with its mode.
     Function(Mode),
-    /// What is declared before each text.
+    /// A predeclared name.
     Predeclared,
 }
 
-// What the declaration of a number is called as.
+// What calls of the declaration with this number call; `None` for a variable.
 fn declared_callee<'p, 'a>(declarations: &[Declaration<'p, 'a>], number: u32) -> Option<Callee>
     ensures { result ≡ callee_of (slice_get (map declaration_of declarations.now) number) }
 {
@@ -30,14 +30,14 @@ fn declared_callee<'p, 'a>(declarations: &[Declaration<'p, 'a>], number: u32) ->
     }
 }
 
-// What the token of an index means, where it is a name in an expression.
+// The meaning of the token with this index, if it is a name in an expression.
 fn meaning_at(meanings: &[Option<Meaning>], token: u32) -> Option<Meaning>
     ensures { result ≡ option_and_then (λ m. m) (slice_get meanings.now token) }
 {
     meanings.get(token as usize).copied().flatten()
 }
 
-/// What the token of an index calls, where it is a name in an expression.
+/// What the token with this index calls, if it is a name in an expression.
 pub(crate) fn called_by<'p, 'a>(names: &Names<'p, 'a>, token: u32) -> Option<Callee>
     ensures { result ≡ callee_in names.now token }
 {

@@ -1,4 +1,4 @@
-//! The tokens of a program, with what stands round each of them.
+//! The tokens of a program, with the surroundings of each.
 
 ghost use Rattle.std.specs.Prelude.{◌≡◌, ◌∷◌, ◌++◌, [], map, IfOk, OnOk};
 ghost use Rattle.std.specs.Option.{option_map};
@@ -20,14 +20,14 @@ use crate::token::{Token, Word, spelling_of, word_of_sign};
 use fk_syntax::{Declared, Expr, Function, Item, Link, Name, Spot, Stmt, Suffix};
 use std::alloc::{AllocError, Global};
 
-/// Tokens, with what stands round each of them.
+/// Tokens, with the surroundings of each.
 #[derive(Drop)]
 pub(crate) struct Tokens {
     list: Vec<Token>,
 }
 
 impl Tokens {
-    /// Those of a program. Fails only for want of memory.
+    /// The tokens of a program. It fails only if there isn't enough memory.
     pub(crate) fn of(alloc: Global, items: &[Item]) -> Result<Vec<Token>, AllocError>
         ensures { IfOk result
             (λ tokens. map seen tokens.items
@@ -40,7 +40,8 @@ impl Tokens {
         Ok(tokens.list)
     }
 
-    // What is read stands before what it is added to: such calls have shorter proofs than methods.
+    // The inputs come before the list that grows, because such calls have shorter proofs than
+    // methods.
     fn add(&mut self, around: Around, spot: Spot, word: Word) -> Result<(), AllocError>
         ensures { OnOk result (seen_in self.new ≡ seen_in self.old
             ++ stands around spot word ∷ []) }
@@ -56,7 +57,7 @@ impl Tokens {
         self.add(around, spot, Word::Other)
     }
 
-    // A name that is not one of an expression.
+    // Adds the name of a member or of a declared variable.
     fn add_member(name: &Name, around: Around, into: &mut Self) -> Result<(), AllocError>
         ensures { OnOk result (seen_in into.new ≡ seen_in into.old
             ++ other around (spot_of (named name.now)) ∷ []) }
@@ -98,7 +99,7 @@ impl Tokens {
         }
     }
 
-    // A sign or a cast, and its operand.
+    // Adds a sign or a cast, and its operand.
     #[cycle(expression)]
     fn add_operand(
         operand: &Expr,
@@ -113,7 +114,7 @@ impl Tokens {
         Self::add_expression(operand, around, into)
     }
 
-    // The sign and the two sides of an assignment.
+    // Adds the sign and the two sides of an assignment.
     #[cycle(expression)]
     fn add_assigned<'e, 'a>(
         target: &'e Expr<'a>,
@@ -131,7 +132,7 @@ impl Tokens {
         Self::add_expression(value, around, into)
     }
 
-    // The sign and the three parts of a choice.
+    // Adds the sign and the three parts of a `?:`.
     #[cycle(expression)]
     fn add_choice<'e, 'a>(
         condition: &'e Expr<'a>,
@@ -236,7 +237,7 @@ impl Tokens {
         Ok(())
     }
 
-    // The keyword and the three expressions of a `for`.
+    // Adds the keyword and the three expressions of a `for`.
     fn add_head<'e, 'a>(
         before: &'e Option<Expr<'a>>,
         condition: &'e Option<Expr<'a>>,
@@ -256,7 +257,7 @@ impl Tokens {
         Self::add_optional(after, around, into)
     }
 
-    // The keyword and the three expressions of a `fork`.
+    // Adds the keyword and the three expressions of a `fork`.
     fn add_parts<'e, 'a>(
         parts: &'e Expr<'a>,
         part: &'e Expr<'a>,
@@ -276,7 +277,7 @@ impl Tokens {
         Self::add_optional(rank, around, into)
     }
 
-    // A keyword and the expression after it.
+    // Adds a keyword and the expression after it, if there is one.
     fn add_value(
         value: &Option<Expr>,
         around: Around,
@@ -291,7 +292,7 @@ impl Tokens {
         Self::add_optional(value, around, into)
     }
 
-    // A keyword and the condition after it.
+    // Adds a keyword and the condition after it.
     fn add_condition(
         condition: &Expr,
         around: Around,
@@ -306,7 +307,7 @@ impl Tokens {
         Self::add_expression(condition, around, into)
     }
 
-    // What stands directly in a statement: its keyword and its expressions.
+    // Adds the tokens directly in a statement: its keyword and its expressions.
     fn add_own(statement: &Stmt, around: Around, into: &mut Self) -> Result<(), AllocError>
         ensures { OnOk result (seen_in into.new
             ≡ seen_in into.old ++ own_tokens around (statement_of statement.now)) }
@@ -432,7 +433,7 @@ impl Tokens {
     }
 }
 
-// Where a name stands.
+// The token of a name and its place.
 fn spot_of(name: &Name) -> Spot
     ensures { result ≡ spot_of (named name.now) }
 {
@@ -442,7 +443,7 @@ fn spot_of(name: &Name) -> Spot
     }
 }
 
-// What the outermost block of a function is.
+// The holder that is the outermost block of a function.
 fn holder_of(function: &Function) -> Holder
     ensures { result ≡ holder_of (function_of function.now) }
 {

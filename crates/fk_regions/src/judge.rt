@@ -1,4 +1,4 @@
-//! Which rule a token breaks where it stands.
+//! The rule that a token breaks at its place.
 
 ghost use Rattle.std.specs.Prelude.{◌≡◌, Some};
 ghost use Rattle.fk_check_rules.specs.Least.{IsLeast};
@@ -12,7 +12,7 @@ use crate::token::{Spelling, Token, Word};
 use fk_check_rules::{Fault, Rule, first_of};
 use fk_syntax::{Mode, Place};
 
-// A rule on what stands in synchronous regions alone.
+// The rule, unless the region is synchronous.
 fn unless_synchronous(region: Region, rule: Rule) -> Option<Rule>
     ensures { result ≡ unless_synchronous region rule }
 {
@@ -22,7 +22,7 @@ fn unless_synchronous(region: Region, rule: Rule) -> Option<Rule>
     }
 }
 
-// A rule on what stands in no synchronous region.
+// The rule, if the region is synchronous.
 fn where_synchronous(region: Region, rule: Rule) -> Option<Rule>
     ensures { result ≡ where_synchronous region rule }
 {
@@ -47,7 +47,7 @@ fn called_rule(region: Region, spelling: Spelling, callee: Option<Callee>) -> Op
     }
 }
 
-// The rule that a token breaks by what holds it, other than that on straight functions.
+// The rule that a token breaks by its surroundings, other than the rule on straight functions.
 fn misplaced_rule(around: Around, word: Word, callee: Option<Callee>) -> Option<Rule>
     ensures { result ≡ misplaced_rule around word callee }
 {
@@ -69,7 +69,7 @@ fn misplaced_rule(around: Around, word: Word, callee: Option<Callee>) -> Option<
     }
 }
 
-// Whether a token decides what is run next, waits, or calls what may do so.
+// Whether a token decides what is run next, waits, or calls a function that may do so.
 fn is_deciding(word: Word, callee: Option<Callee>) -> bool
     ensures { result ≡ is_deciding word callee }
 {
@@ -80,7 +80,7 @@ fn is_deciding(word: Word, callee: Option<Callee>) -> bool
     }
 }
 
-// The rule on straight functions, where a token breaks it.
+// The rule on straight functions, if a token breaks it.
 fn straight_rule(around: Around, word: Word, callee: Option<Callee>) -> Option<Rule>
     ensures { result ≡ straight_rule around word callee }
 {
@@ -91,7 +91,7 @@ fn straight_rule(around: Around, word: Word, callee: Option<Callee>) -> Option<R
     }
 }
 
-// A rule that is broken at a place, if one is.
+// The fault of a broken rule at a place, if there is one.
 fn fault_at(place: Place, rule: Option<Rule>) -> Option<Fault>
     ensures { IsLeast (λ at broken. (at ≡ place) × (rule ≡ Some broken)) result }
 {
@@ -101,7 +101,7 @@ fn fault_at(place: Place, rule: Option<Rule>) -> Option<Fault>
     }
 }
 
-/// The first rule that a token breaks, if it is a name by what it calls.
+/// The first rule that a token breaks. `callee` is what it calls, if it is a name.
 pub(crate) fn token_fault(token: &Token, callee: Option<Callee>) -> Option<Fault>
     ensures { IsLeast (Breaks callee (seen token.now)) result }
 {

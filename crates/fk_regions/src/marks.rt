@@ -1,4 +1,4 @@
-//! Which notes are of tokens in synchronous regions.
+//! Marks the notes of tokens in synchronous regions.
 
 ghost use Rattle.std.specs.Prelude.{◌≡◌, map, fold};
 ghost use Rattle.fk_regions.specs.Collected.{seen};
@@ -8,7 +8,7 @@ use crate::around::Region;
 use crate::token::Token;
 use fk_syntax::Note;
 
-// No token stands in a synchronous region.
+// Notes that no token is in a synchronous region.
 fn clear(notes: &mut [Note])
     ensures { notes.new ≡ map cleared notes.old }
 {
@@ -17,7 +17,7 @@ fn clear(notes: &mut [Note])
     }
 }
 
-// The token of an index stands in one.
+// Notes that the token with this index is in a synchronous region.
 fn mark_at(notes: &mut [Note], at: usize)
     ensures { notes.new ≡ synchronous_at notes.old at }
 {
@@ -35,7 +35,7 @@ fn mark_one(notes: &mut [Note], token: &Token)
     }
 }
 
-/// Sets in each note whether its token is one of these that stand in a synchronous region.
+/// Sets in each note whether its token is one of these and in a synchronous region.
 pub(crate) fn mark(notes: &mut [Note], tokens: &[Token])
     ensures { notes.new ≡ fold after (map cleared notes.old) (map seen tokens.now) }
 {

@@ -1,4 +1,4 @@
-//! Tokens, as far as the rules of regions ask for them.
+//! Tokens, as far as the rules on regions need them.
 
 ghost use Rattle.std.specs.Prelude.{◌≡◌};
 ghost use Rattle.fk_regions.specs.Tokens.{word_of_sign, spelling_of};
@@ -6,19 +6,19 @@ ghost use Rattle.fk_regions.specs.Tokens.{word_of_sign, spelling_of};
 use crate::around::Around;
 use fk_syntax::{Sign, Spot};
 
-/// How a name in an expression is spelled.
+/// The spelling of a name in an expression.
 #[derive(Clone, Copy)]
 pub enum Spelling {
-    /// `shalloc`
+    /// `shalloc`.
     Shalloc,
     Other,
 }
 
-/// What a token is.
+/// The kind of a token.
 #[derive(Clone, Copy)]
 pub enum Word {
     If,
-    /// `while`, `do` or `for`
+    /// `while`, `do` or `for`.
     Loop,
     Start,
     Fork,
@@ -28,14 +28,14 @@ pub enum Word {
     Break,
     Continue,
     Return,
-    /// `&&`, `||` or the `?` of a choice
+    /// `&&`, `||` or the `?` of a `?:`.
     Branching,
-    /// A name in an expression
+    /// A name in an expression.
     Name(Spelling),
     Other,
 }
 
-/// A token of a program, and what stands round it.
+/// A token of a program, and its surroundings.
 #[derive(Clone, Copy)]
 pub struct Token {
     pub around: Around,
@@ -43,7 +43,7 @@ pub struct Token {
     pub word: Word,
 }
 
-/// What the sign of a chain is.
+/// The kind of the sign of a chain.
 pub(crate) fn word_of_sign(sign: Sign) -> Word
     ensures { result ≡ word_of_sign sign }
 {
@@ -53,7 +53,7 @@ pub(crate) fn word_of_sign(sign: Sign) -> Word
     }
 }
 
-/// How a name is spelled.
+/// The spelling of a name.
 pub(crate) fn spelling_of(name: &[u8]) -> Spelling
     ensures { result ≡ spelling_of name.now }
 {

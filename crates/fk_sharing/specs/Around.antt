@@ -1,4 +1,4 @@
--- What the holders of a token say of its place, the innermost first.
+-- The properties of a token's place, by the holders around it, the innermost first.
 use Rattle.std.specs.Prelude.{Bool, true, false, ◌||◌, List, [], ◌∷◌}
 use Rattle.fk_regions.specs.declared.around.Region.{Region}
 use Rattle.fk_regions.specs.declared.around.Region.TheVariants.{Synchronous, Asynchronous, Neither}
@@ -26,21 +26,21 @@ is_in_function (Body here ∷ outer) = true
 is_in_function (Branch shared ∷ outer) = is_in_function outer
 is_in_function (Loop shared ∷ outer) = is_in_function outer
 
--- a private split holds a place
+-- a place is in a private split
 abbrev pub is_in_split : List Holder → Bool
 is_in_split [] = false
 is_in_split (Body here ∷ outer) = is_in_split outer
 is_in_split (Branch shared ∷ outer) = splits (region outer) shared || is_in_split outer
 is_in_split (Loop shared ∷ outer) = splits (region outer) shared || is_in_split outer
 
--- one of the holders up to the innermost loop, that included, is a private split
+-- one of the holders up to and including the innermost loop is a private split
 abbrev pub is_split_to_loop : List Holder → Bool
 is_split_to_loop [] = false
 is_split_to_loop (Body here ∷ outer) = is_split_to_loop outer
 is_split_to_loop (Branch shared ∷ outer) = splits (region outer) shared || is_split_to_loop outer
 is_split_to_loop (Loop shared ∷ outer) = splits (region outer) shared
 
--- one of those inside the innermost loop is
+-- one of the holders inside the innermost loop is a private split
 abbrev pub is_split_in_loop : List Holder → Bool
 is_split_in_loop [] = false
 is_split_in_loop (Body here ∷ outer) = is_split_in_loop outer

@@ -1,5 +1,4 @@
--- Which rules of sharing a program breaks, which of its expressions are shared, and where a group
--- splits.
+-- The rules on sharing that a program breaks, its shared expressions, and where a group splits.
 use Rattle.std.specs.Prelude.{◌≡◌, ◌≢◌, ◌↔◌, ℕ, Bool, true, false, List, Option, Some, IsTrue}
 use Rattle.std.specs.Prelude.{length, slice_get}
 use Rattle.fk_syntax.specs.declared.place.Place.{Place}
@@ -29,7 +28,7 @@ use Rattle.fk_sharing.specs.Tokens.{Standing, tokens}
 use Rattle.fk_sharing.specs.Around.{region, splits, is_in_function, is_in_split, is_split_to_loop}
 use Rattle.fk_sharing.specs.Around.{is_split_in_loop}
 
--- a token breaks a rule, by what it is and what stands round it
+-- a token breaks a rule, by its kind and its surroundings
 pub data BreaksRule (around : List Holder) : Word → Rule → Type 0 where
   return_leaves : is_in_split around ≡ true → BreaksRule around w.Return r.ReturnFromSplit
   break_leaves : is_split_to_loop around ≡ true → BreaksRule around w.Break r.BreakFromSplit
@@ -43,34 +42,34 @@ pub data BreaksRule (around : List Holder) : Word → Rule → Type 0 where
   shared_parameter : (mode : Mode) → mode ≢ Sync
       → BreaksRule around (w.Parameter true mode) r.SharedParameter
 
--- a group splits at a token: it decides what is run next, by a private condition, in a synchronous
+-- a group splits at a token that decides what is run next by a private condition, in a synchronous
 -- region
 abbrev pub is_splitting : Region → Word → Bool
 is_splitting here (w.Decides shared) = splits here shared
 is_splitting here _ = false
 
--- of the tokens of the program one is at an index and passes a test
+-- one of the tokens of the program has this index and passes a test
 abbrev pub HasAt : ProgramTree → (Standing (List Holder) → Bool) → ℕ → Type 0
 HasAt program test index = (thing : ℕ → Option Thing) × Tells program thing
     × (i : ℕ) × (token : Standing (List Holder)) × (slice_get (tokens thing program) i ≡ Some token)
     × (token.spot.at ≡ index) × (test token ≡ true)
 
--- the token of an index is the main token of a shared expression
+-- the token with this index is the main token of a shared expression
 abbrev pub IsSharedAt : ProgramTree → ℕ → Type 0
 IsSharedAt program = HasAt program (λ token. token.shared)
 
--- a group splits at the token of an index
+-- a group splits at the token with this index
 abbrev pub SplitsAt : ProgramTree → ℕ → Type 0
 SplitsAt program = HasAt program (λ token. is_splitting (region token.around) token.word)
 
--- the sum of the rules: some token of the program breaks the rule at its place
+-- the rules as a whole: some token of the program breaks the rule at its place
 abbrev pub Broken : ProgramTree → Place → Rule → Type 0
 Broken program place rule = (thing : ℕ → Option Thing) × Tells program thing
     × (i : ℕ) × (token : Standing (List Holder)) × (slice_get (tokens thing program) i ≡ Some token)
     × (token.spot.place ≡ place) × BreaksRule token.around token.word rule
 
--- a note says whether its token is that of a shared expression, and whether a group splits there;
--- and all else as before
+-- a note tells whether its token is the main token of a shared expression, and whether a group
+-- splits there, and is otherwise as before
 abbrev pub SaysSharing : ProgramTree → ℕ → Note → Option Note → Type 0
 SaysSharing program index old new = (shared : Bool) × (splits : Bool)
     × (new ≡ Some (record old { shared = shared; splits = splits }))
@@ -84,7 +83,8 @@ pub record AreShared (program : ProgramTree) (old new : Facts) : Type 0 where
   pub notes : (index : ℕ) (note : Note) → slice_get old.notes.items index ≡ Some note
       → SaysSharing program index note (slice_get new.notes.items index)
 
--- why a program has none: the first rule that it breaks, by place and then by number
+-- the refusal of a program: the first rule that it breaks, by place and then by number; or there
+-- isn't enough memory
 abbrev pub IsRefusal : ProgramTree → CheckFault → Type 0
 IsRefusal program (c.Rule place number) = (rule : Rule) × IsLeast (Broken program)
     (Some (record { place = place; rule = rule })) × (number ≡ number_of rule)

@@ -1,4 +1,4 @@
--- What stands round a token, as the code keeps it.
+-- The surroundings of a token, as the code keeps them.
 use Rattle.std.specs.Prelude.{true, false, ◌||◌}
 use Rattle.fk_regions.specs.declared.around.Region.TheVariants.{Neither}
 use Rattle.fk_sharing.specs.declared.around.Holder.{Holder}
@@ -8,7 +8,7 @@ use Rattle.fk_sharing.specs.declared.token.Token.{Token}
 use Rattle.fk_sharing.specs.Around.{splits}
 use Rattle.fk_sharing.specs.Tokens.{Standing}
 
--- nothing stands round it
+-- the surroundings at file scope, where there is no holder
 abbrev pub outside : Around
 outside = record {
   region = Neither;
@@ -18,7 +18,7 @@ outside = record {
   continue_leaves = false;
 }
 
--- what stands round the parts of a holder, by what stands round it
+-- the surroundings of the parts of a holder, by those of the holder
 abbrev pub within : Holder → Around → Around
 within (Body here) around = record around { region = here; in_function = true }
 within (Branch shared) around = record around {

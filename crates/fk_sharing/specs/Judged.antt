@@ -1,4 +1,4 @@
--- Which rule a token breaks, by what the code keeps of what stands round it.
+-- The rule that a token breaks, by the surroundings that the code keeps.
 use Rattle.std.specs.Prelude.{◌≡◌, Bool, true, false, ◌&&◌, Option, Some, None}
 use Rattle.fk_syntax.specs.declared.place.Place.{Place}
 use Rattle.fk_syntax.specs.declared.sign.Sign.{Sign}
@@ -31,7 +31,7 @@ private_rule f.Scalar = None
 private_rule f.Array = Some r.PrivateArray
 private_rule f.Struct = Some r.PrivateStruct
 
--- an `sh` variable stands in a synchronous region, or in no function
+-- an `sh` variable is in a synchronous region, or outside of all functions
 abbrev pub shared_rule_by : Bool → Region → Option Rule
 shared_rule_by true here = unless_synchronous here r.SharedOutside
 shared_rule_by false here = None
@@ -60,6 +60,6 @@ broken_rule around (w.Variable shared form) = variable_rule around shared form
 broken_rule around (w.Parameter shared mode) = parameter_rule shared mode
 broken_rule around w.Other = None
 
--- what one token breaks
+-- the rule that one token breaks, at its place
 abbrev pub Breaks : Standing Around → Place → Rule → Type 0
 Breaks token at rule = (at ≡ token.spot.place) × (broken_rule token.around token.word ≡ Some rule)

@@ -1,4 +1,4 @@
--- What marks leave of notes.
+-- The notes after marking.
 use Rattle.std.specs.Prelude.{ℕ, zero, suc, Bool, false, ◌||◌, List, [], ◌∷◌}
 use Rattle.fk_syntax.specs.declared.facts.Note.{Note}
 use Rattle.fk_sharing.specs.declared.around.Around.{Around}
@@ -12,7 +12,7 @@ abbrev pub joined : Note → Bool → Bool → Note
 joined note shared splits =
     record note { shared = note.shared || shared; splits = note.splits || splits }
 
--- the note of an index is marked, where there is one
+-- the marks are added to the note with this index, if there is one
 unfoldable pub joined_at : List Note → ℕ → Bool → Bool → List Note
 joined_at [] at shared splits = []
 joined_at (note ∷ notes) zero shared splits = joined note shared splits ∷ notes

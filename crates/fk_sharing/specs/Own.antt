@@ -1,4 +1,4 @@
--- The tokens that stand directly in a statement, as the code goes through them.
+-- The tokens directly in a statement, in the order in which the code goes through them.
 use Rattle.std.specs.Prelude.{ℕ, Bool, true, List, [], Option}
 use Rattle.fk_syntax.specs.Program as p
 use Rattle.fk_syntax.specs.Program.{Statement}
@@ -7,7 +7,7 @@ use Rattle.fk_sharing_class.specs.Class.{is_shared}
 use Rattle.fk_sharing.specs.Tokens.{Standing, optional_tokens, is_condition_shared}
 use Rattle.fk_sharing.specs.Tokens.{condition_tokens, head_tokens, parts_tokens, simple_tokens}
 
--- those of what decides in it whether what it holds is run
+-- the tokens that decide in a statement whether its parts are run
 abbrev pub decision_tokens : {R : Type 0} → (ℕ → Option Thing) → R → Statement → List (Standing R)
 decision_tokens thing around (p.If spot condition body) =
     condition_tokens thing around spot condition
@@ -21,7 +21,7 @@ decision_tokens thing around (p.For spot before condition after body) =
     head_tokens thing around spot before condition after
 decision_tokens thing around _ = []
 
--- and whether that is shared. Where nothing decides it is
+-- whether the condition of a statement is shared; without a condition it is
 abbrev pub is_decision_shared : (ℕ → Option Thing) → Statement → Bool
 is_decision_shared thing (p.If spot condition body) = is_shared thing condition
 is_decision_shared thing (p.IfElse spot condition body otherwise) = is_shared thing condition
@@ -31,7 +31,7 @@ is_decision_shared thing (p.For spot before condition after body) =
     is_condition_shared thing condition
 is_decision_shared thing _ = true
 
--- those of a statement in which nothing decides
+-- the tokens directly in a statement without a condition
 abbrev pub own_tokens : {R : Type 0} → (ℕ → Option Thing) → R → Statement → List (Standing R)
 own_tokens thing around (p.Start spot count body) = optional_tokens thing around count
 own_tokens thing around (p.Fork spot parts part rank body) =

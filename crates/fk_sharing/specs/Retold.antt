@@ -1,4 +1,4 @@
--- What the code keeps of what stands round a token.
+-- The summary of a token's surroundings that the code keeps.
 use Rattle.std.specs.Prelude.{List}
 use Rattle.fk_sharing.specs.declared.around.Holder.{Holder}
 use Rattle.fk_sharing.specs.declared.around.Around.{Around}

@@ -1,5 +1,5 @@
--- The tokens of a program that its sharing is about, and what stands round each of them. What each
--- token of a name is in the program is given.
+-- The tokens of a program that matter for sharing, and the surroundings of each. What the tokens of
+-- names denote is given.
 use Rattle.std.specs.Prelude.{ℕ, ◌==◌, ◌&&◌, Bool, true, false, List, [], ◌∷◌, ◌++◌, Option, Some}
 use Rattle.std.specs.Prelude.{None}
 use Rattle.fk_syntax.specs.declared.place.Spot.{Spot}
@@ -23,9 +23,8 @@ use Rattle.fk_sharing.specs.declared.token.Form.TheVariants as f
 use Rattle.fk_sharing.specs.declared.token.Word.{Word}
 use Rattle.fk_sharing.specs.declared.token.Word.TheVariants as w
 
--- a token, whether it is the main token of a shared expression, what it is, and what stands round
--- it. That may be told in any way: as the list of all that holds the token, or as a summary of
--- that list
+-- a token, whether it is the main token of a shared expression, its kind, and its surroundings.
+-- These may have any form: the list of all holders of the token, or a summary of that list
 pub record Standing (R : Type 0) : Type 0 where
   pub around : R
   pub spot : Spot
@@ -36,21 +35,21 @@ abbrev pub stands : {R : Type 0} → R → Spot → Bool → Word → Standing R
 stands around spot shared word =
     record { around = around; spot = spot; shared = shared; word = word }
 
--- the main token of an expression that says no more than its class
+-- the main token of an expression of which only the class matters
 abbrev pub plain : {R : Type 0} → R → Spot → Bool → Standing R
 plain around spot shared = stands around spot shared w.Other
 
--- a token that is no expression's
+-- a token that isn't the main token of an expression
 abbrev pub bare : {R : Type 0} → R → Spot → Word → Standing R
 bare around spot word = stands around spot false word
 
--- two signs of a chain decide by what stands before them whether what follows is run
+-- two signs of a chain decide, by the expression before them, whether the one after them is run
 abbrev pub word_of_sign : Sign → Bool → Word
 word_of_sign AndAnd before = w.Decides before
 word_of_sign OrOr before = w.Decides before
 word_of_sign _ before = w.Other
 
--- what an expression is, where it is a name
+-- what an expression denotes, if it is a name
 abbrev pub named_thing : (ℕ → Option Thing) → Tree → Option Thing
 named_thing thing (t.Variable name) = thing name.at
 named_thing thing _ = None
@@ -59,11 +58,11 @@ abbrev pub is_struct_base : t.BaseType → Bool
 is_struct_base (t.Struct name) = true
 is_struct_base _ = false
 
--- a type is that of a struct
+-- a type is a struct type
 abbrev pub is_struct : TypeTree → Bool
 is_struct type = is_struct_base type.base && (type.stars == 0)
 
--- what a variable is made of
+-- the form of a variable
 abbrev pub form_by : Option ℕ → Bool → Form
 form_by (Some length) struct = f.Array
 form_by None true = f.Struct
@@ -73,7 +72,7 @@ abbrev pub form_of : DeclaredTree → Form
 form_of variable = form_by variable.length (is_struct variable.kind)
 
 -- the tokens of an expression, each part before the sign that it belongs to. Signs of a chain and
--- suffixes group to the left, and each is the main token of an expression
+-- suffixes group to the left, and each of them is the main token of an expression
 abbrev mutual
   pub tree_tokens : {R : Type 0} → (ℕ → Option Thing) → R → Tree → List (Standing R)
   tree_tokens thing around (t.Number spot value unsigned) =
@@ -105,7 +104,7 @@ abbrev mutual
       around second ++ stands around spot (is_shared thing (t.Choose spot condition first second))
       (w.Decides (is_shared thing condition)) ∷ []
 
-  -- by whether what stands before is shared
+  -- `before` tells whether the expression before the links is shared
   pub links_tokens : {R : Type 0} → (ℕ → Option Thing) → R → Bool → Links → List (Standing R)
   links_tokens thing around before t.no_links = []
   links_tokens thing around before (t.link spot sign right others) = tree_tokens thing around right
@@ -118,7 +117,8 @@ abbrev mutual
   trees_tokens thing around (t.tree first others) =
       tree_tokens thing around first ++ trees_tokens thing around others
 
-  -- by whether what stands before is shared, and whether a call of it is
+  -- `before` tells whether the expression before the suffixes is shared, and `called` whether a
+  -- call of it is
   pub suffixes_tokens : {R : Type 0} → (ℕ → Option Thing) → R → Bool → Bool → Suffixes
       → List (Standing R)
   suffixes_tokens thing around before called t.no_suffixes = []
@@ -141,7 +141,7 @@ abbrev pub optional_tokens : {R : Type 0} → (ℕ → Option Thing) → R → O
 optional_tokens thing around None = []
 optional_tokens thing around (Some tree) = tree_tokens thing around tree
 
--- a condition that is absent is a number
+-- an absent condition counts as a number
 abbrev pub is_condition_shared : (ℕ → Option Thing) → Option Tree → Bool
 is_condition_shared thing None = true
 is_condition_shared thing (Some tree) = is_shared thing tree
@@ -169,13 +169,13 @@ head_tokens thing around spot before condition after = optional_tokens thing aro
     ++ optional_tokens thing around condition ++ optional_tokens thing around after
     ++ bare around spot (w.Decides (is_condition_shared thing condition)) ∷ []
 
--- those of the three expressions of a `fork`
+-- the tokens of the three expressions of a `fork`
 abbrev pub parts_tokens : {R : Type 0} → (ℕ → Option Thing) → R → Tree → Tree → Option Tree
     → List (Standing R)
 parts_tokens thing around parts part rank = tree_tokens thing around parts
     ++ tree_tokens thing around part ++ optional_tokens thing around rank
 
--- those of a statement that holds no other
+-- the tokens of a statement that contains no other
 abbrev pub simple_tokens : {R : Type 0} → (ℕ → Option Thing) → R → Statement → List (Standing R)
 simple_tokens thing around (p.Expression value) = tree_tokens thing around value
 simple_tokens thing around (p.Declare variables) = variables_tokens thing around variables
@@ -185,8 +185,8 @@ simple_tokens thing around (p.Return spot value) =
     optional_tokens thing around value ++ bare around spot w.Return ∷ []
 simple_tokens thing around _ = []
 
--- the tokens of a statement: its own, and those of the statements that it holds, round which one
--- holder more stands, as `within` tells
+-- the tokens of a statement: its own, and those of the statements inside it. These have one more
+-- holder around them, which `within` adds
 abbrev mutual
   pub statement_tokens : {R : Type 0} → (ℕ → Option Thing) → (Holder → R → R) → R → Statement
       → List (Standing R)
@@ -266,6 +266,6 @@ items_tokens thing within around [] = []
 items_tokens thing within around (x ∷ xs) =
     item_tokens thing within around x ++ items_tokens thing within around xs
 
--- the tokens of a program, each with all that holds it, the innermost first
+-- the tokens of a program, each with all its holders, the innermost first
 abbrev pub tokens : (ℕ → Option Thing) → ProgramTree → List (Standing (List Holder))
 tokens thing program = items_tokens thing ◌∷◌ [] program.items

@@ -1,4 +1,4 @@
-//! What stands round a token.
+//! The surroundings of a token.
 
 ghost use Rattle.std.specs.Prelude.{◌≡◌};
 ghost use Rattle.fk_sharing.specs.Around.{splits};
@@ -6,32 +6,32 @@ ghost use Rattle.fk_sharing.specs.Collected.{within, outside};
 
 use fk_regions::Region;
 
-/// What holds a part of a program, as far as its sharing goes by it.
+/// What directly contains a part of a program, as far as sharing depends on it.
 #[derive(Clone, Copy)]
 pub enum Holder {
-    /// The body of a function, a `start`, `fork`, `farm` or `seq`, by its region.
+    /// The body of a function, a `start`, `fork`, `farm` or `seq`, with its region.
     Body(Region),
-    /// A part of an `if`, by whether its condition is shared.
+    /// A part of an `if`, with whether its condition is shared.
     Branch(bool),
-    /// The body of a loop, by whether its condition is shared.
+    /// The body of a loop, with whether its condition is shared.
     Loop(bool),
 }
 
-/// What the rules ask of what stands round a token.
+/// What the rules need to know about the surroundings of a token.
 #[derive(Clone, Copy)]
 pub struct Around {
     pub region: Region,
-    /// Whether it stands in a function.
+    /// Whether the token is in a function.
     pub in_function: bool,
-    /// Whether a private split holds it.
+    /// Whether the token is in a private split.
     pub in_split: bool,
-    /// Whether a `break` leaves a private split here, that of its own loop included.
+    /// Whether a `break` here leaves a private split, possibly that of its own loop.
     pub break_leaves: bool,
-    /// Whether a `continue` leaves a private split here, inside its loop.
+    /// Whether a `continue` here leaves a private split inside its loop.
     pub continue_leaves: bool,
 }
 
-/// Whether a group splits in a region by a condition, by whether that is shared.
+/// Whether a group splits in a region at a condition. `shared` tells whether the condition is.
 pub(crate) fn splits(region: Region, shared: bool) -> bool
     ensures { result ≡ splits region shared }
 {
@@ -42,7 +42,7 @@ pub(crate) fn splits(region: Region, shared: bool) -> bool
 }
 
 impl Around {
-    /// Nothing, as at file scope.
+    /// The surroundings at file scope, where there is no holder.
     pub(crate) fn outside() -> Around
         ensures { result ≡ outside }
     {
@@ -55,7 +55,7 @@ impl Around {
         }
     }
 
-    /// What stands round the parts of something that holds them, by what stands round that.
+    /// The surroundings of the parts of a holder, whose own surroundings are `self`.
     pub(crate) fn within(self, holder: Holder) -> Around
         ensures { result ≡ within holder self }
     {

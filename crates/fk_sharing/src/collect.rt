@@ -1,4 +1,4 @@
-//! The tokens of a program that its sharing is about, with what stands round each of them.
+//! The tokens of a program that matter for sharing, with the surroundings of each.
 
 ghost use Rattle.std.specs.Prelude.{◌≡◌, ◌∷◌, ◌++◌, [], map, IfOk, OnOk};
 ghost use Rattle.std.specs.Option.{option_map};
@@ -37,14 +37,14 @@ const SYNCHRONOUS: Holder = Holder::Body(Region::Synchronous);
 
 const ASYNCHRONOUS: Holder = Holder::Body(Region::Asynchronous);
 
-/// Tokens, with what stands round each of them.
+/// Tokens, with the surroundings of each.
 #[derive(Drop)]
 pub(crate) struct Tokens {
     list: Vec<Token>,
 }
 
 impl Tokens {
-    /// Those of a program. Fails only for want of memory.
+    /// The tokens of a program. It fails only if there isn't enough memory.
     pub(crate) fn of(alloc: Global, items: &[Item], names: &Names) -> Result<Vec<Token>, AllocError>
         ensures { IfOk result (λ tokens. map seen tokens.items
             ≡ items_tokens (thing_in names.now) within outside (map item_of items.now)) }
@@ -56,7 +56,8 @@ impl Tokens {
         Ok(tokens.list)
     }
 
-    // What is read stands before what it is added to: such calls have shorter proofs than methods.
+    // The inputs come before the list that grows, because such calls have shorter proofs than
+    // methods.
     fn add(
         &mut self,
         around: Around,
@@ -76,7 +77,8 @@ impl Tokens {
         Ok(())
     }
 
-    // The main token of an expression, by whether that is shared.
+    // Adds the main token of an expression, and returns its class. `shared` tells whether it is
+    // shared.
     fn add_plain(&mut self, around: Around, spot: Spot, shared: bool) -> Result<bool, AllocError>
         ensures tokens { OnOk result (seen_in self.new ≡ seen_in self.old
             ++ plain around spot shared ∷ []) }
@@ -86,7 +88,7 @@ impl Tokens {
         Ok(shared)
     }
 
-    // A token that is no expression's.
+    // Adds a token that isn't the main token of an expression.
     fn add_bare(&mut self, around: Around, spot: Spot, word: Word) -> Result<(), AllocError>
         ensures { OnOk result (seen_in self.new ≡ seen_in self.old
             ++ bare around spot word ∷ []) }
@@ -94,7 +96,7 @@ impl Tokens {
         self.add(around, spot, false, word)
     }
 
-    // The tokens of an expression, and whether it is shared.
+    // Adds the tokens of an expression. Returns whether it is shared.
     #[cycle(expression)]
     fn add_expression(
         expression: &Expr,
@@ -138,7 +140,7 @@ impl Tokens {
         }
     }
 
-    // A name, and whether it is shared.
+    // Adds a name in an expression. Returns whether it is shared.
     fn add_named(
         name: &Name,
         names: &Names,
@@ -154,7 +156,7 @@ impl Tokens {
         into.add_plain(around, spot_of(name), shared)
     }
 
-    // An operand behind a sign, and whether both are shared.
+    // Adds an operand and the sign before it. Returns whether the expression is shared.
     #[cycle(expression)]
     fn add_prefix(
         operand: &Expr,
@@ -176,7 +178,7 @@ impl Tokens {
         Ok(shared)
     }
 
-    // An assignment, and whether it is shared.
+    // Adds an assignment. Returns whether it is shared.
     #[cycle(expression)]
     fn add_assigned<'t, 'a>(
         target: &'t Expr<'a>,
@@ -198,7 +200,7 @@ impl Tokens {
         into.add_plain(around, spot, is_assigned_shared(sign, target, value))
     }
 
-    // A choice, and whether it is shared.
+    // Adds a `?:`. Returns whether it is shared.
     #[cycle(expression)]
     fn add_choice<'t, 'a>(
         condition: &'t Expr<'a>,
@@ -221,7 +223,8 @@ impl Tokens {
         into.add_question(around, spot, condition, condition && first && second)
     }
 
-    // The sign of a choice, by whether its condition is shared, and whether it is itself.
+    // Adds the `?` of a `?:`. `condition` tells whether its condition is shared, and `shared`
+    // whether the whole expression is. Returns `shared`.
     fn add_question(
         &mut self,
         around: Around,
@@ -237,8 +240,8 @@ impl Tokens {
         Ok(shared)
     }
 
-    // A sign of a chain, by whether what stands before and behind it is shared; and whether both
-    // with the sign are.
+    // Adds a sign of a chain. `before` and `right` tell whether the expressions before and after it
+    // are shared. Returns whether the chain up to there is.
     fn add_sign(
         &mut self,
         around: Around,
@@ -257,7 +260,8 @@ impl Tokens {
         Ok(shared)
     }
 
-    // The links of a chain, by whether its first operand is shared; and whether the chain is.
+    // Adds the links of a chain. `first` tells whether its first operand is shared. Returns whether
+    // the chain is.
     #[cycle(expression)]
     fn add_links(
         links: &[Link],
@@ -279,8 +283,8 @@ impl Tokens {
         Ok(shared)
     }
 
-    // The suffixes of an expression, by whether it is shared and whether a call of it is; and
-    // whether it is with them.
+    // Adds the suffixes of an expression. `whole` tells whether it is shared, and `call` whether a
+    // call of it is. Returns whether it is shared with the suffixes.
     #[cycle(expression)]
     fn add_suffixes(
         suffixes: &[Suffix],
@@ -335,7 +339,7 @@ impl Tokens {
         Ok(())
     }
 
-    // An expression that may be absent, and whether it is shared. An absent one is.
+    // Adds an expression that may be absent. Returns whether it is shared; an absent one is.
     fn add_optional(
         value: &Option<Expr>,
         names: &Names,
@@ -382,7 +386,7 @@ impl Tokens {
         Ok(())
     }
 
-    // A condition and the keyword that decides by it; and whether it is shared.
+    // Adds a condition and the keyword that decides by it. Returns whether the condition is shared.
     fn add_condition(
         condition: &Expr,
         names: &Names,
@@ -400,7 +404,8 @@ impl Tokens {
         Ok(shared)
     }
 
-    // The keyword and the three expressions of a `for`; and whether its condition is shared.
+    // Adds the keyword and the three expressions of a `for`. Returns whether its condition is
+    // shared.
     fn add_head<'t, 'a>(
         before: &'t Option<Expr<'a>>,
         condition: &'t Option<Expr<'a>>,
@@ -423,7 +428,7 @@ impl Tokens {
         Ok(shared)
     }
 
-    // The three expressions of a `fork`.
+    // Adds the three expressions of a `fork`.
     fn add_parts<'t, 'a>(
         parts: &'t Expr<'a>,
         part: &'t Expr<'a>,
@@ -442,8 +447,8 @@ impl Tokens {
         Ok(())
     }
 
-    // What decides in a statement whether what it holds is run; and whether that is shared, as it
-    // is where nothing decides.
+    // Adds the tokens that decide in a statement whether its parts are run. Returns whether the
+    // condition is shared, which is true if there is none.
     fn add_decision(
         statement: &Stmt,
         names: &Names,
@@ -480,7 +485,7 @@ impl Tokens {
         }
     }
 
-    // What stands directly in a statement in which nothing decides.
+    // Adds the tokens directly in a statement without a condition.
     fn add_own(
         statement: &Stmt,
         names: &Names,
@@ -638,7 +643,7 @@ impl Tokens {
     }
 }
 
-// Where a name stands.
+// The token of a name and its place.
 fn spot_of(name: &Name) -> Spot
     ensures { result ≡ spot_of (named name.now) }
 {

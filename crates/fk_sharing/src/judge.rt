@@ -1,4 +1,4 @@
-//! Which rule a token breaks where it stands.
+//! The rule that a token breaks at its place.
 
 ghost use Rattle.std.specs.Prelude.{◌≡◌, Some};
 ghost use Rattle.fk_check_rules.specs.Least.{IsLeast};
@@ -110,7 +110,7 @@ fn broken_rule(around: Around, word: Word) -> Option<Rule>
     }
 }
 
-/// The rule that a token breaks, and where.
+/// The fault of the rule that a token breaks, if it breaks one.
 pub(crate) fn token_fault(token: &Token) -> Option<Fault>
     ensures { IsLeast (Breaks (seen token.now)) result }
 {

@@ -2,7 +2,7 @@
 
 ghost use Rattle.fk_sharing.specs.Laws.{SplitsInLockstep};
 
-/// A group splits only at a token that stands in a synchronous region.
+/// A group splits only at a token in a synchronous region.
 pub fn splits_in_lockstep()
     ensures { SplitsInLockstep }
 {}

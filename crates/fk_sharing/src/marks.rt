@@ -1,4 +1,4 @@
-//! Which notes are of shared expressions, and of tokens where a group splits.
+//! Marks the notes of shared expressions, and of tokens at which a group splits.
 
 ghost use Rattle.std.specs.Prelude.{◌≡◌, map, fold};
 ghost use Rattle.fk_sharing.specs.Collected.{seen};
@@ -8,7 +8,7 @@ use crate::judge::is_splitting;
 use crate::token::Token;
 use fk_syntax::Note;
 
-// No expression is shared, and no group splits.
+// Notes that no expression is shared, and that no group splits.
 fn clear(notes: &mut [Note])
     ensures { notes.new ≡ map cleared notes.old }
 {
@@ -28,7 +28,7 @@ fn joined(note: Note, shared: bool, splits: bool) -> Note
     }
 }
 
-// What the token of an index is too.
+// Adds the marks of a token to the note with this index.
 fn join_at(notes: &mut [Note], at: usize, shared: bool, splits: bool)
     ensures { notes.new ≡ joined_at notes.old at shared splits }
 {
@@ -44,8 +44,8 @@ fn mark_one(notes: &mut [Note], token: &Token)
     join_at(notes, token.spot.at as usize, token.shared, splits);
 }
 
-/// Sets in each note whether its token is that of a shared expression, and whether a group splits
-/// there, by these tokens.
+/// Sets in each note whether its token is the main token of a shared expression, and whether a
+/// group splits there, by these tokens.
 pub(crate) fn mark(notes: &mut [Note], tokens: &[Token])
     ensures { notes.new ≡ fold after (map cleared notes.old) (map seen tokens.now) }
 {

@@ -1,4 +1,4 @@
-//! Tokens, as far as the rules of sharing ask for them.
+//! Tokens, as far as the rules on sharing need them.
 
 ghost use Rattle.std.specs.Prelude.{◌≡◌, map};
 ghost use Rattle.fk_syntax.specs.View.{tree_of, type_of};
@@ -11,7 +11,7 @@ use fk_sharing_class::{Thing, thing_at};
 use fk_syntax::{Base, Declared, Expr, Mode, Sign, Spot, TypeName};
 use fk_types_names::Names;
 
-/// What a variable is made of.
+/// The form of a variable.
 #[derive(Clone, Copy)]
 pub enum Form {
     /// One word.
@@ -20,35 +20,35 @@ pub enum Form {
     Struct,
 }
 
-/// What a token is.
+/// The kind of a token.
 #[derive(Clone, Copy)]
 pub enum Word {
-    /// `if`, `while`, `do`, `for`, `&&`, `||` or the `?` of a choice, by whether its condition is
-    /// shared
+    /// `if`, `while`, `do`, `for`, `&&`, `||` or the `?` of a `?:`, with whether its condition is
+    /// shared.
     Decides(bool),
-    /// A sign before its operand, and what that is where it is a name
+    /// A sign before its operand, with what the operand denotes if it is a name.
     Prefix(Sign, Option<Thing>),
     Break,
     Continue,
     Return,
-    /// The name of a variable where it is declared, by whether `sh` stands before it
+    /// The name of a declared variable, with whether it has `sh`.
     Variable(bool, Form),
-    /// That of a parameter, and the mode of its function
+    /// The name of a parameter, with whether it has `sh` and with the mode of its function.
     Parameter(bool, Mode),
     Other,
 }
 
-/// A token of a program, and what stands round it.
+/// A token of a program, and its surroundings.
 #[derive(Clone, Copy)]
 pub struct Token {
     pub around: Around,
     pub spot: Spot,
-    /// Whether it is the main token of an expression that is shared.
+    /// Whether it is the main token of a shared expression.
     pub shared: bool,
     pub word: Word,
 }
 
-/// What the sign of a chain is, by whether what stands before it is shared.
+/// The kind of the sign of a chain. `before` tells whether the expression before it is shared.
 pub(crate) fn word_of_sign(sign: Sign, before: bool) -> Word
     ensures { result ≡ word_of_sign sign before }
 {
@@ -67,7 +67,7 @@ fn is_struct(kind: &TypeName) -> bool
     }
 }
 
-/// What a variable is made of.
+/// The form of a variable.
 pub(crate) fn form_of(variable: &Declared) -> Form
     ensures { result ≡ form_of (declared_of variable.now) }
 {
@@ -80,7 +80,7 @@ pub(crate) fn form_of(variable: &Declared) -> Form
     }
 }
 
-/// What an expression is, where it is a name.
+/// What an expression denotes, if it is a name.
 pub(crate) fn named_thing(expression: &Expr, names: &Names) -> Option<Thing>
     ensures { result ≡ named_thing (thing_in names.now) (tree_of expression.now) }
 {

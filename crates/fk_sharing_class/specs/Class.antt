@@ -1,4 +1,4 @@
--- Which expressions are shared, by what the tokens of their names are.
+-- Which expressions are shared, by what the tokens of their names denote.
 use Rattle.std.specs.Prelude.{ℕ, Bool, true, false, ◌&&◌, ◌||◌, List, codes, nat_eq, Option, Some}
 use Rattle.std.specs.Prelude.{None}
 use Rattle.std.specs.Cmp.Lexicographic.{pointwise}
@@ -10,13 +10,12 @@ use Rattle.fk_sharing_class.specs.declared.thing.Thing.{Thing}
 use Rattle.fk_sharing_class.specs.declared.thing.Thing.TheVariants.{SharedVariable, PrivateVariable}
 use Rattle.fk_sharing_class.specs.declared.thing.Thing.TheVariants.{Function, Predeclared}
 
--- of the names that are declared before each text, those that are values and the same for all
--- processors
+-- the predeclared names of values that are the same for all processors
 abbrev pub is_common : List ℕ → Bool
 is_common bytes = pointwise nat_eq bytes (codes "__STARTED_PROCS__")
     || pointwise nat_eq bytes (codes "__inputs") || pointwise nat_eq bytes (codes "__input")
 
--- and those whose calls give a group one value
+-- the predeclared names whose calls give one value for a whole group
 abbrev pub is_of_group : List ℕ → Bool
 is_of_group bytes =
     pointwise nat_eq bytes (codes "groupsize") || pointwise nat_eq bytes (codes "shalloc")
@@ -42,13 +41,13 @@ abbrev pub is_call_shared : (ℕ → Option Thing) → Tree → Bool
 is_call_shared thing (t.Variable name) = is_named_call_shared (thing name.at) name.bytes
 is_call_shared thing _ = false
 
--- a sign with an expression on each side is shared: the comma where its right side is, any other
--- where both sides are
+-- a sign with two operands is shared: the comma if its right side is, and any other one if both
+-- sides are
 abbrev pub is_joined_shared : Sign → Bool → Bool → Bool
 is_joined_shared Comma left right = right
 is_joined_shared _ left right = left && right
 
--- an assignment is shared: by `=` where its value is, by any other sign where its target is too
+-- an assignment is shared: with `=` if its value is, and with any other sign if its target is too
 abbrev pub is_assigned_shared : Sign → Bool → Bool → Bool
 is_assigned_shared Assign target value = value
 is_assigned_shared _ target value = target && value
@@ -72,14 +71,14 @@ abbrev mutual
   is_shared thing (t.Choose spot condition first second) =
       is_shared thing condition && is_shared thing first && is_shared thing second
 
-  -- signs that group to the left, by whether what stands before them is shared
+  -- signs that group to the left, by whether the expression before them is shared
   pub is_chain_shared : (ℕ → Option Thing) → Bool → Links → Bool
   is_chain_shared thing before t.no_links = before
   is_chain_shared thing before (t.link spot sign right others) =
       is_chain_shared thing (is_joined_shared sign before (is_shared thing right)) others
 
-  -- suffixes, by whether what stands before them is shared, and whether a call of it is. Only a
-  -- name is called
+  -- suffixes, by whether the expression before them is shared, and whether a call of it is. Only a
+  -- name can be called
   pub is_postfix_shared : (ℕ → Option Thing) → Bool → Bool → Suffixes → Bool
   is_postfix_shared thing before called t.no_suffixes = before
   is_postfix_shared thing before called (t.index spot by others) =

@@ -1,4 +1,4 @@
-//! Which expressions are shared.
+//! The class of an expression: whether it is shared.
 
 ghost use Rattle.std.specs.Prelude.{◌≡◌, ◌↔◌, IsTrue, map};
 ghost use Rattle.fk_syntax.specs.Tree.{links_of, suffixes_of};
@@ -16,7 +16,7 @@ use crate::thing::{is_name_shared, is_named_call_shared, thing_at};
 use fk_syntax::{Expr, Link, Sign, Suffix};
 use fk_types_names::Names;
 
-/// Whether a sign between two expressions is shared, by whether each of them is.
+/// Whether a sign with two operands is shared, by whether each of these is.
 pub fn is_joined_shared(sign: Sign, left: bool, right: bool) -> bool
     ensures { result ≡ is_joined_shared sign left right }
 {
@@ -87,7 +87,7 @@ fn is_expression_shared(names: &Names, expression: &Expr) -> bool
     }
 }
 
-// Whether a chain is shared, by whether its first operand is.
+// Whether a chain is shared, where `first` tells whether its first operand is.
 #[cycle(expression)]
 fn is_chain_shared(names: &Names, first: bool, links: &[Link]) -> bool
     ensures { result
@@ -100,8 +100,8 @@ fn is_chain_shared(names: &Names, first: bool, links: &[Link]) -> bool
     shared
 }
 
-// Whether an expression with suffixes is shared, by whether it is without them, and whether a call
-// of it is.
+// Whether an expression with suffixes is shared. `whole` tells whether it is without them, and
+// `called` whether a call of it is.
 #[cycle(expression)]
 fn is_postfix_shared(names: &Names, whole: bool, called: bool, suffixes: &[Suffix]) -> bool
     ensures { result ≡ is_postfix_shared (thing_in names.now) whole called
@@ -120,15 +120,15 @@ fn is_postfix_shared(names: &Names, whole: bool, called: bool, suffixes: &[Suffi
     shared
 }
 
-/// Whether an expression of a program is shared, by the names of the program: then it has one value
-/// for a whole group, where the group runs it in lockstep. Else it is private, and each processor
-/// may have a value of its own. It takes no memory, and time linear in the expression.
+/// Whether an expression of a program is shared, by the names of the program. A shared expression
+/// has one value for a whole group that runs it in lockstep. Any other one is private, and each
+/// processor may have its own value. It takes no memory, and time linear in the expression.
 ///
 /// Numbers, `sizeof`, `@`, `groupsize()`, `__STARTED_PROCS__`, `__inputs`, `__input`, variables and
 /// parameters with `sh` and calls of `shalloc` are shared. Other variables and parameters, `$`,
 /// `__PROC_NR__` and all other calls are private. A prefix sign, a cast, a member, `++` and `--`
-/// are as their operand is, `=` as its right side, and the comma as its last part. All else is
-/// shared where all its parts are.
+/// have the class of their operand, `=` has that of its right side, and the comma that of its last
+/// part. Every other expression is shared if all its parts are.
 pub fn is_shared(names: &Names, expression: &Expr) -> bool
     ensures { (program : ProgramTree) → AreNames program names.now
         → (IsTrue result ↔ IsShared program (tree_of expression.now)) }

@@ -1,5 +1,5 @@
-//! The classes of the expressions of Fork95: which have the same value for a whole group, and
-//! which a value of its own for each processor.
+//! The classes of the expressions of Fork95: which ones have one value for a whole group, and which
+//! ones may have a different value for each processor.
 #![tactic(auto)]
 
 mod class;

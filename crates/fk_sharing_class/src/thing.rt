@@ -1,4 +1,4 @@
-//! What names are, and which of them are shared.
+//! What names denote, and which of them are shared.
 
 ghost use Rattle.std.specs.Prelude.{◌≡◌, map, slice_get};
 ghost use Rattle.fk_types_names.specs.View.{declaration_of};
@@ -8,20 +8,20 @@ ghost use Rattle.fk_sharing_class.specs.Class.{is_named_call_shared};
 
 use fk_types_names::{Declaration, Meaning, Names};
 
-/// What a name in an expression is.
+/// What a name in an expression denotes.
 #[derive(Clone, Copy)]
 pub enum Thing {
     /// A variable or parameter with `sh`.
     SharedVariable,
-    /// One without.
+    /// A variable or parameter without `sh`.
     PrivateVariable,
-    /// A function of the text.
+    /// A function that the text declares.
     Function,
-    /// What is declared before each text.
+    /// A predeclared name.
     Predeclared,
 }
 
-// What the declaration of a number declares.
+// What the declaration with this number declares.
 fn declared_thing(declarations: &[Declaration], number: u32) -> Option<Thing>
     ensures { result ≡ thing_of (slice_get (map declaration_of declarations.now) number) }
 {
@@ -36,7 +36,7 @@ fn declared_thing(declarations: &[Declaration], number: u32) -> Option<Thing>
     }
 }
 
-/// What the token of an index is, where it is a name in an expression and means something.
+/// What the token with this index denotes, if it is a name in an expression and has a meaning.
 pub fn thing_at(names: &Names, token: u32) -> Option<Thing>
     ensures { result ≡ thing_in names.now token }
 {
@@ -47,8 +47,7 @@ pub fn thing_at(names: &Names, token: u32) -> Option<Thing>
     }
 }
 
-// Of the names that are declared before each text: whether one is a value, the same for all
-// processors.
+// Whether a predeclared name is a value that is the same for all processors.
 fn is_common(name: &[u8]) -> bool
     ensures { result ≡ is_common name.now }
 {
@@ -57,14 +56,14 @@ fn is_common(name: &[u8]) -> bool
         || name == b"__input".as_slice()
 }
 
-// Of the names that are declared before each text: whether its calls give a group one value.
+// Whether calls of a predeclared name give one value for a whole group.
 fn is_of_group(name: &[u8]) -> bool
     ensures { result ≡ is_of_group name.now }
 {
     name == b"groupsize".as_slice() || name == b"shalloc".as_slice()
 }
 
-/// Whether a name is shared, by what it is.
+/// Whether a name is shared, by what it denotes.
 pub fn is_name_shared(thing: Option<Thing>, name: &[u8]) -> bool
     ensures { result ≡ is_name_shared thing name.now }
 {
@@ -75,7 +74,7 @@ pub fn is_name_shared(thing: Option<Thing>, name: &[u8]) -> bool
     }
 }
 
-/// Whether a call of a name is shared, by what it is.
+/// Whether a call of a name is shared, by what the name denotes.
 pub fn is_named_call_shared(thing: Option<Thing>, name: &[u8]) -> bool
     ensures { result ≡ is_named_call_shared thing name.now }
 {

@@ -1,4 +1,4 @@
--- The law of blocks.
+-- The law of blocks of single processors.
 use Rattle.std.specs.Prelude.{◌≡◌, ℕ, ◌<◌, ◌≤◌, List, [], length, true, Some, None, slice_get}
 use Rattle.std.specs.Prelude.{slice_index}
 use Rattle.fk_num.specs.Word.{Memory}
@@ -19,15 +19,15 @@ use Rattle.fk_sim_block.specs.Stands.{Places, StandsAt}
 use Rattle.fk_sim_block.specs.Next.{StandsOp}
 use Rattle.fk_sim_block.specs.Ready.{is_alone, IsReady}
 
--- how many cycles a block runs at most before its commit, and behind it. With one jump that is at
--- most 254 from one commit to the next
+-- The most cycles that a block runs before its commit, and after it. With the one cycle of a jump,
+-- that is at most 254 from one commit to the next.
 abbrev pub most_before : ℕ
 most_before = 70
 
 abbrev pub most_behind : ℕ
 most_behind = 183
 
--- a machine of this image runs with so many processors and input numbers
+-- A machine of this image runs with these numbers of processors and of input numbers.
 pub record IsRunning (image : Image) (setting : Setting) (t : MachineSetting) : Type 0 where
   pub code : Holds image t
   pub processors : t.harts ≡ setting.processors
@@ -39,11 +39,11 @@ pub record IsRunning (image : Image) (setting : Setting) (t : MachineSetting) : 
 abbrev pub member_of : Owner → Hart → Member
 member_of p h = record { number = number_of p; hart = h }
 
--- a processor at another index
+-- The processor moved to another index.
 abbrev pub gone_to : (index : ℕ) → Owner → Owner
 gone_to i p = record p { runner = record (p.runner) { left = position i p.runner.left.callers } }
 
--- one at the beginning of `main`
+-- The processor with this number at the beginning of `main`.
 abbrev pub beginner : Setting → (firsts : Memory) → (main number : ℕ) → Owner
 beginner setting firsts main number =
     record {
@@ -52,7 +52,8 @@ beginner setting firsts main number =
     }
 
 module _ (core : List CoreOp) (image : Image) (places : Places) where
-  -- a hart stands at the index of an operation that its processor is about to do
+  -- The hart is at the beginning of the block at index i, whose operation its processor is about to
+  -- do.
   pub record Enters (setting : Setting) (t : MachineSetting) (i : ℕ) (op : CoreOp)
       (operation : Operation) (p : Owner) (h : Hart) : Type 0 where
     pub running : IsRunning image setting t
@@ -61,13 +62,14 @@ module _ (core : List CoreOp) (image : Image) (places : Places) where
     pub ready : IsReady op operation p.runner
     pub at : StandsAt places p h
 
-  -- the operation is done, and the hart stands where its processor goes on
+  -- The processor has done its operation, and the hart is at the block where that processor goes
+  -- on.
   pub record HasDone (d : Doing) (h : Hart) : Type 0 where
     pub done : d.acting.due ≡ None
     pub at : StandsAt places (owner_of d) h
 
-  -- a hart commits once, after so many private instructions and with so many behind. Its fault is
-  -- told in the commit
+  -- The hart runs `before` private instructions, commits once, and runs `behind` private
+  -- instructions after that. If the operation faults, the commit reports the fault.
   pub record Does (setting : Setting) (t : MachineSetting) (p : Owner) (h : Hart) : Type 0 where
     pub before : ℕ
     pub behind : ℕ
@@ -76,13 +78,13 @@ module _ (core : List CoreOp) (image : Image) (places : Places) where
     pub does : OneDoes (core_source core setting) image t 1 before behind (member_of p h) p
         (λ h' d. HasDone d h')
 
-  -- the block of a local operation or a request
+  -- The block of a local operation or of a request.
   abbrev pub BlockDoes : (i : ℕ) → CoreOp → Operation → Type 0
   BlockDoes i op operation =
       (setting : Setting) (t : MachineSetting) (p : Owner) (h : Hart)
       → Enters setting t i op operation p h → Does setting t p h
 
-  -- that of a halt ends its hart
+  -- The block of a halt ends its hart.
   pub record Halts (setting : Setting) (t : MachineSetting) (p : Owner) (h : Hart) : Type 0 where
     pub before : ℕ
     pub few_before : before ≤ most_before
@@ -94,7 +96,7 @@ module _ (core : List CoreOp) (image : Image) (places : Places) where
       (setting : Setting) (t : MachineSetting) (p : Owner) (h : Hart)
       → Enters setting t i op Halt p h → Halts setting t p h
 
-  -- that of a jump is one instruction, and does no operation
+  -- The block of a jump is one instruction, and does no operation.
   pub record Jumps (t : MachineSetting) (p : Owner) (h : Hart) (target : ℕ) : Type 0 where
     pub hart : Hart
     pub private : IsPrivateIn image t (number_of p) h hart
@@ -106,7 +108,7 @@ module _ (core : List CoreOp) (image : Image) (places : Places) where
       → StandsAt places p h
       → Jumps t p h op.target
 
-  -- from its opening each hart comes to the block where `main` begins
+  -- From its start each hart comes to the block where `main` begins.
   pub record Begins (t : MachineSetting) (p : Owner) : Type 0 where
     pub cycles : ℕ
     pub few : cycles ≤ most_behind
@@ -114,8 +116,8 @@ module _ (core : List CoreOp) (image : Image) (places : Places) where
     pub runs : RunsPrivately image t (number_of p) cycles first_hart hart
     pub at : StandsAt places p hart
 
-  -- The law. The steps of the tree of groups, and the operations that several do together,
-  -- are still to come
+  -- The law of blocks for operations that a processor does alone. `GroupLaw` has the steps of the
+  -- tree of groups and the joint operations.
   pub record BlockLaw (firsts : List ℕ) (main : ℕ) : Type 0 where
     pub alone : (i : ℕ) (op : CoreOp) (operation : Operation) → StandsOp core i op operation
         → is_alone operation ≡ true

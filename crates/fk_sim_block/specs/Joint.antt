@@ -1,4 +1,4 @@
--- Operations that several do together by meeting at an arrival word, and how a member does so.
+-- Joint operations: their members meet at an arrival word. How one member meets the others.
 use Rattle.std.specs.Prelude.{◌≡◌, ◌≢◌, ℕ, zero, suc, ◌+◌, ◌*◌, ◌%◌, ◌≤◌, List, Bool, true, false}
 use Rattle.std.specs.Prelude.{Option, Some, ◌⊎◌}
 use Rattle.fk_num.specs.Word.{Memory, word_sum}
@@ -18,35 +18,39 @@ use Rattle.fk_sim_block.specs.Node.{Polling, Nestings, StandsInNode, OwnsHeader,
 use Rattle.fk_sim_block.specs.Node.{closing_word}
 use Rattle.fk_sim_block.specs.Lockstep.{IsMember}
 
--- a barrier, the end of a body, and where members wait for parts to end
+-- The operations whose members meet at an arrival word: a barrier, the end of a body, and the wait
+-- for parts to end.
 abbrev pub is_meeting : Operation → Bool
 is_meeting (Meet closing) = true
 is_meeting Resume = true
 is_meeting operation = false
 
--- those who run a body meet at one word of the node, and all its members at another
+-- The control word of the node where the members of a joint operation meet: one for barriers, where
+-- those who run the body meet, and one for all other operations, where all members of the node
+-- meet.
 abbrev pub word_of : Operation → ℕ
 word_of (Meet false) = barrier_word
 word_of operation = closing_word
 
--- how many they are
+-- How many members meet for an operation: those who run the body, or the whole group.
 abbrev pub AreSoMany : Operation → (runs : Option ℕ) → Owner → ℕ → Type 0
 AreSoMany (Meet false) runs p n = runs ≡ Some n
 AreSoMany operation runs p n = p.runner.has.level.size ≡ n
 
--- how many steps lie between the poll that finds all and the commit
+-- The number of steps between the poll that finds all members and the commit.
 abbrev pub lead : ℕ
 lead = 1
 
--- how many steps a member takes at most to its arrival. Behind that it polls, finds all there
--- and leaves in three cycles at most, so that it commits as soon as a block that does not
--- meet (most_before)
+-- The most steps that a member takes to its arrival. After that it polls, finds all members there
+-- and leaves, in three cycles at most. So it commits within the bound of a block that doesn't meet
+-- (`most_before`).
 abbrev pub most_to_meet : ℕ
 most_to_meet = 67
 
 -- ---- one member
 
--- it polls with all else that it had at first
+-- The hart is about to poll. Apart from the registers that polling changes it is as it was at
+-- first.
 pub record Polls (polling : Polling) (first h : Hart) : Type 0 where
   pub live : h.ended ≡ false
   pub at : h.pc ≡ 4 * polling.at
@@ -55,8 +59,8 @@ pub record Polls (polling : Polling) (first h : Hart) : Type 0 where
       → h.registers register ≡ first.registers register
 
 module _ (image : Image) (word number : ℕ) where
-  -- its turn, an instruction of count c, leaves a value in the arrival word, and no other word
-  -- changes. Then something holds
+  -- The hart's turn in this cycle is an instruction of count c. It leaves a value in the arrival
+  -- word and changes no other word, and `Then` holds afterwards.
   pub record TurnsTo (mine : Words) (t : MachineSetting) (c : ℕ) (h : Hart) (own : Memory)
       (value : ℕ) (Then : Hart → Type 0) : Type 0 where
     pub hart : Hart
@@ -66,20 +70,22 @@ module _ (image : Image) (word number : ℕ) where
     pub others : (i : ℕ) → i ≢ word → words i ≡ own i
     pub follows : Then hart
 
-  -- so it is in every node that owns the word, by the value that its turn finds there
+  -- The hart has such a turn in every node that owns the word. What it leaves, and what holds
+  -- afterwards, depend on the value that it finds there.
   abbrev pub Turns : MachineSetting → (c : ℕ) → Hart → (leaves : ℕ → ℕ)
       → (Then : (found : ℕ) → Hart → Type 0) → Type 0
   Turns t c h leaves Then =
       (mine : Words) (own : Memory) → mine word ≡ true
       → TurnsTo mine t c h own (leaves (own word)) (λ h'. Then (own word) h')
 
-  -- n members meet. One that has left is as is told
+  -- One of n members that meet. `Left` holds of its hart once it has left.
   module _ (polling : Polling) (first : Hart) (n : ℕ) (Left : Hart → Type 0) where
-    -- it adds 1, stores 0, or leaves the word
+    -- A turn at the arrival word: an arriving member adds 1.
     abbrev pub IsArriving : MachineSetting → Hart → Type 0
     IsArriving t h = Turns t 0 h (λ v. word_sum v 1) (λ v h'. Polls polling first h')
 
-    -- leaving is an instruction of a count: the commit, or none
+    -- A leaving member stores 0, by an instruction of this count: 1 where leaving is the commit,
+    -- else 0.
     abbrev pub IsLeaving : (count : ℕ) → MachineSetting → Hart → Type 0
     IsLeaving count t h = Turns t count h (λ v. 0) (λ v h'. Left h')
 
@@ -89,14 +95,15 @@ module _ (image : Image) (word number : ℕ) where
     abbrev pub GoesToPoll : MachineSetting → Hart → Type 0
     GoesToPoll t h = Turns t 0 h (λ v. v) (λ v h'. Polls polling first h')
 
-    -- it polls in odd cycles, and is back in the next odd one, or has found all of them there
+    -- The hart polls in odd cycles. If it finds all n members there, it goes on to leave; else it
+    -- polls again in the next odd cycle.
     abbrev pub KeepsPolling : (count : ℕ) → Type 0
     KeepsPolling count =
         (t : MachineSetting) (h : Hart) → Holds image t → t.finished % 2 ≡ 1 → Polls polling first h
         → Turns t 0 h (λ v. v)
         (λ v h'. (v ≡ n → GoesToLeave count (later t) h') × (v ≢ n → GoesToPoll (later t) h'))
 
-    -- where it stands at the beginning of a cycle, by its phase
+    -- Where the hart is at the beginning of a cycle, by its phase.
     abbrev pub StandsByPhase : (count : ℕ) → MachineSetting → Phase → Hart → Type 0
     StandsByPhase count t Outside h = ⊥
     StandsByPhase count t Away h = ⊥
@@ -109,20 +116,20 @@ module _ (image : Image) (word number : ℕ) where
     StandsByPhase count t (Leaving (suc zero)) h = (t.finished % 2 ≡ 0) × GoesToLeave count t h
     StandsByPhase count t (Leaving (suc (suc d))) h = ⊥
 
-    -- where leaving is the commit
+    -- Where the hart is by its phase, if leaving is the commit.
     abbrev pub StandsInPhase : MachineSetting → Phase → Hart → Type 0
     StandsInPhase t f h = StandsByPhase 1 t f h
 
--- ---- the block of such an operation
+-- ---- the block of a joint operation
 
 module _ (image : Image) (places : Places) (nestings : Nestings) (setting : Setting)
     (runs : Option ℕ) (i : ℕ) where
-  -- a member that has left stands for its processor at the next index
+  -- A member that has left stands for its processor at the next index.
   abbrev pub StandsBehind : Owner → Hart → Type 0
   StandsBehind p h = StandsAt places (gone_to (suc i) p) h
       × StandsInNode places nestings setting runs (gone_to (suc i) p) h
 
-  -- a member of so many who meet at a word, in a phase
+  -- A member is in a phase at an arrival word where n members meet.
   pub record MeetsAt (word n : ℕ) (t : MachineSetting) (f : Phase) (m : Member)
       (p : Owner) : Type 0 where
     pub polling : Polling
@@ -133,7 +140,8 @@ module _ (image : Image) (places : Places) (nestings : Nestings) (setting : Sett
 
 module _ (core : List CoreOp) (image : Image) (places : Places) (nestings : Nestings) (i : ℕ)
     (op : CoreOp) (operation : Operation) where
-  -- from the beginning of the block it arrives after so many private steps, in an even cycle
+  -- From the beginning of its block a member arrives after d private steps, at most `most`, in an
+  -- even cycle.
   abbrev pub BlockMeets : (most : ℕ) → Type 0
   BlockMeets most =
       (setting : Setting) (t : MachineSetting) (mine : Words) (runs : Option ℕ) (first n : ℕ)

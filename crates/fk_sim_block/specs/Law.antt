@@ -28,7 +28,7 @@ use Rattle.fk_sim_block.specs.Lockstep.{AreOfSize, IsLowest, one_runs}
 use Rattle.fk_sim_block.specs.Joint.{most_to_meet, is_meeting, BlockMeets}
 use Rattle.fk_sim_block.specs.Start.{most_united, most_to_start, BlockStarts}
 
--- which way a local operation goes is known before it. Requests go on
+-- Which branch an operation takes, known before it is done. All but local operations go on.
 abbrev pub way_by : Class → Operation → Processor → Bool
 way_by Local operation p = is_onward operation p
 way_by Request operation p = true
@@ -37,47 +37,48 @@ way_by Tree operation p = true
 abbrev pub way_of : Operation → Processor → Bool
 way_of operation p = way_by (class_of operation) operation p
 
--- steps of the tree that the members of a group in lockstep do together, and in which
--- their node stays
+-- The steps of the tree that the members of a group in lockstep do together, and in which they keep
+-- their node.
 abbrev pub is_shared_step : Operation → Bool
 is_shared_step Agree = true
 is_shared_step Farm = true
 is_shared_step Seq = true
 is_shared_step operation = false
 
--- those behind which each member goes on by itself
+-- The steps after which each member goes on by itself.
 abbrev pub sets_apart : Operation → Bool
 sets_apart Farm = true
 sets_apart Seq = true
 sets_apart operation = false
 
--- what is so of the members who do one
+-- What a step asks of its members.
 abbrev pub IsAskedOf : Operation → (lowest size : ℕ) → List Owner → Type 0
 IsAskedOf Farm lowest size ps = (size ≤ 1024) × AreOfSize size ps
 IsAskedOf Seq lowest size ps = (length ps ≤ 1024) × IsLowest lowest ps
 IsAskedOf operation lowest size ps = Unit {0}
 
--- behind it each member runs a body with so many others, the lowest runs one alone, or nobody does
+-- How many members run a body after a step, as a member sees it: after a `farm` all, after a `seq`
+-- the lowest alone, and after other steps none.
 abbrev pub runs_behind : Operation → (lowest size : ℕ) → Owner → Option ℕ
 runs_behind Farm lowest size p = Some size
 runs_behind Seq lowest size p = one_runs lowest p
 runs_behind operation lowest size p = None
 
--- how many cycles a block runs before its commit, and behind it, by the index of its operation
--- and the way that goes: members who come to it together commit together, and stand at the
--- next block together
+-- The number of cycles that a block runs before its commit, by the index of its operation, and
+-- after it, by the index and the branch that is taken. So members who come to a block together
+-- commit together, and are at the next block together.
 pub record Cycles : Type 0 where
   pub before : (index : ℕ) → ℕ
   pub behind : (index : ℕ) → (onward : Bool) → ℕ
 
 module _ (core : List CoreOp) (image : Image) (places : Places) (nestings : Nestings) where
-  -- an operation is done, and the hart stands in its node where its processor goes on
+  -- The processor has done its operation, and the hart is in its node where that processor goes on.
   pub record HasDoneInNode (setting : Setting) (runs : Option ℕ) (d : Doing)
       (h : Hart) : Type 0 where
     pub done : HasDone core image places d h
     pub node : StandsInNode places nestings setting runs (owner_of d) h
 
-  -- the block of a jump
+  -- The block of a jump, for a member of a node.
   pub record JumpsInNode (setting : Setting) (t : MachineSetting) (runs : Option ℕ) (m : Member)
       (p : Owner) (target : ℕ) : Type 0 where
     pub hart : Hart
@@ -92,14 +93,14 @@ module _ (core : List CoreOp) (image : Image) (places : Places) (nestings : Nest
       → Holds image t → p.runner.left.at ≡ i → IsMember places nestings setting runs first m p
       → JumpsInNode setting t runs m p op.target
 
-  -- from its opening each hart comes to the block where `main` begins, in the root,
-  -- whose body all run
+  -- From its start each hart comes to the block where `main` begins, in the root, whose body all
+  -- harts run.
   pub record BeginsInNode (setting : Setting) (t : MachineSetting) (p : Owner) : Type 0 where
     pub begins : Begins core image places t p
     pub node : StandsInNode places nestings setting (Some setting.processors) p begins.hart
 
   module _ (cycles : Cycles) where
-    -- the block of a local operation or a request of a member
+    -- The block of a local operation or a request, for a member of a node.
     abbrev pub BlockDoesInNode : (i : ℕ) → CoreOp → Operation → Type 0
     BlockDoesInNode i op operation =
         (setting : Setting) (t : MachineSetting) (runs : Option ℕ) (first : ℕ)
@@ -110,7 +111,8 @@ module _ (core : List CoreOp) (image : Image) (places : Places) (nestings : Nest
         (cycles.behind i (way_of operation p.runner.has)) m p
         (λ h d. HasDoneInNode setting runs d h)
 
-    -- The law. Splits, frames and blocks of groups are still to come
+    -- The law of blocks for groups. It doesn't cover splits, nor the frames and memory blocks of
+    -- groups.
     pub record GroupLaw (firsts : List ℕ) (main : ℕ) : Type 0 where
       pub few_before : (i : ℕ) → cycles.before i ≤ most_before
       pub few_behind : (i : ℕ) (onward : Bool) → cycles.behind i onward ≤ most_behind
@@ -123,8 +125,8 @@ module _ (core : List CoreOp) (image : Image) (places : Places) (nestings : Nest
       pub begins : (setting : Setting) (t : MachineSetting) (number : ℕ) → IsRunning image setting t
           → number < setting.processors
           → BeginsInNode setting t (beginner setting (slice_index firsts) main number)
-      -- who do a step in lockstep, do it together, and then they are in lockstep still, or each
-      -- goes on by itself
+      -- Members who come to a step in lockstep do it together. After it they are still in lockstep,
+      -- or each goes on by itself.
       pub agrees : (i : ℕ) (op : CoreOp) (lowest size : ℕ) → StandsOp core i op Agree
           → StepTogether core image places nestings i op Agree (λ ps. Unit {0}) (cycles.before i)
           (cycles.behind i true) None (λ p. None) lowest size
@@ -135,11 +137,11 @@ module _ (core : List CoreOp) (image : Image) (places : Places) (nestings : Nest
           (runs_behind operation lowest size) lowest size
       pub ends : (i : ℕ) (op : CoreOp) (lowest size : ℕ) → StandsOp core i op End
           → EndTogether core image places nestings i op (cycles.behind i true) lowest size
-      -- who meet do so by phases
+      -- Members who meet at an arrival word do so by phases.
       pub meets : (i : ℕ) (op : CoreOp) (operation : Operation) → StandsOp core i op operation
           → is_meeting operation ≡ true
           → BlockMeets core image places nestings i op operation most_to_meet
-      -- at the beginning of `start` all processors meet in the root, and commit soon behind that
+      -- At the beginning of `start` all processors meet in the root, and commit soon after.
       pub few_to_begin : (i : ℕ) (op : CoreOp) → StandsOp core i op Begin
           → cycles.before i < most_united
       pub starts : (i : ℕ) (op : CoreOp) → StandsOp core i op Begin

@@ -18,15 +18,15 @@ use Rattle.fk_sim_block.specs.Node.{Nestings}
 use Rattle.fk_sim_block.specs.Lockstep.{AllEnter}
 use Rattle.fk_sim_block.specs.Law.{Cycles, GroupLaw, way_of, HasDoneInNode}
 
--- all go the same way
+-- All processors take the same branch.
 abbrev pub AllGo : Operation → (onward : Bool) → List Owner → Type 0
 AllGo operation onward [] = Unit {0}
 AllGo operation onward (p ∷ ps) = (way_of operation p.runner.has ≡ onward)
     × AllGo operation onward ps
 
--- members in lockstep who come to a local operation or a request in one cycle, and go the
--- same way, commit in one, and have done it in one: each stands at its next block. They leave
--- their node's words
+-- Members in lockstep who come to a local operation or a request in one cycle, and take the same
+-- branch, commit in one cycle and come to the next block in one cycle. Their node's words stay as
+-- they are.
 abbrev pub MembersDoTogether : Type 0
 MembersDoTogether =
     (core : List CoreOp) (image : Image) (places : Places) (nestings : Nestings) (cycles : Cycles)

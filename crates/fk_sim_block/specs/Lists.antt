@@ -1,4 +1,4 @@
--- Lists whose runs a law of blocks carries, beside that they are well formed.
+-- What a list needs, besides being well formed, for a law of blocks to cover its runs.
 use Rattle.std.specs.Prelude.{◌≡◌, ℕ, ◌<◌, List, [], length, Bool, true, false, All, slice_get}
 use Rattle.std.specs.Prelude.{Some, None, ◌⊎◌}
 use Rattle.fk_meaning_operation.specs.declared.operation.Operation.{Operation}
@@ -12,32 +12,32 @@ use Rattle.fk_core.specs.Next.{Position, is_jump, landing, follows, next, list_o
 use Rattle.fk_core.specs.WellFormed.{IsOperation}
 use Rattle.fk_sim_block.specs.Ready.{is_alone, MayDo}
 
--- an index and those to which calls return are in the list
+-- The index of a processor, and those to which its calls return, are in the list.
 pub record StaysInList (core : List CoreOp) (w : Position) : Type 0 where
   pub at : w.at < length core
   pub callers : All (λ i. i < length core) w.callers
 
--- the end of a call, and that of `main`
+-- The operations that end a call, or `main`.
 abbrev pub is_end : Operation → Bool
 is_end (Leave gives framed) = true
 is_end Halt = true
 is_end operation = false
 
--- a list of operations that processors without groups do
+-- A list of operations that processors do without groups.
 pub record IsFree (core : List CoreOp) : Type 0 where
-  -- a jump leads to an operation
+  -- A jump leads to an operation.
   pub jumps : (i : ℕ) (op : CoreOp) → slice_get core i ≡ Some op → is_jump op ≡ true
       → IsOperation core op.target
-  -- all others are operations without a group, or a halt
+  -- Every entry that is read as an operation is a halt, or one that a processor does alone.
   pub alone : (i : ℕ) (op : CoreOp) (operation : Operation) → slice_get core i ≡ Some op
       → operation_of op.kind op.number ≡ Some operation
       → (is_alone operation ≡ true) ⊎ (operation ≡ Halt)
-  -- no operation but an end goes on outside the list
+  -- Every operation that isn't an end goes on inside the list.
   pub within : (i : ℕ) (op : CoreOp) (operation : Operation) → slice_get core i ≡ Some op
       → operation_of op.kind op.number ≡ Some operation → is_end operation ≡ false
       → (onward : Bool) → StaysInList core (follows core operation i op.target [] onward)
 
--- in every run, whenever a processor is about to do an operation, it may
+-- In every lawful run without a fault, a processor that is about to do an operation may do it.
 abbrev pub AlwaysMay : List CoreOp → (main : ℕ) → Type 0
 AlwaysMay core main =
     (words firsts input : List ℕ) (p : ℕ) (schedule : Schedule)

@@ -22,27 +22,27 @@ use Rattle.fk_sim_block.specs.Block.{Enters}
 use Rattle.fk_sim_block.specs.Node.{Nestings, StandsInNode, OwnsHeader, first_word, root_words}
 use Rattle.fk_sim_block.specs.Node.{agreed_word}
 
--- how many values a step of a group looks at
+-- How many values a step of a group looks at.
 abbrev pub values_of_step : Operation → ℕ
 values_of_step Agree = 1
 values_of_step Begin = 1
 values_of_step operation = 0
 
--- the last value of the highest of some processors in ascending number
+-- The last value of the highest processor, in a list of processors in ascending number.
 abbrev pub highest_value : List Owner → ℕ
 highest_value ps = last_or 0 (map (λ p. last (values p.runner.has)) ps)
 
--- a call goes on at another index with the same levels in its frame
+-- The frame of the call has the same levels at both indices.
 pub record LevelsStay (nestings : Nestings) (i j : ℕ) : Type 0 where
   pub levels : nestings.levels j ≡ nestings.levels i
   pub behind : nestings.behind j ≡ nestings.behind i
 
--- all are of a group of this size
+-- All processors are in groups of this size.
 abbrev pub AreOfSize : (size : ℕ) → List Owner → Type 0
 AreOfSize size [] = Unit {0}
 AreOfSize size (p ∷ ps) = (p.runner.has.level.size ≡ size) × AreOfSize size ps
 
--- the first of them, and no other, is the one with this number
+-- The first processor of the list, and no other, has this number.
 abbrev pub NoneIs : (number : ℕ) → List Owner → Type 0
 NoneIs n [] = Unit {0}
 NoneIs n (p ∷ ps) = ((number_of p == n) ≡ false) × NoneIs n ps
@@ -51,20 +51,20 @@ abbrev pub IsLowest : (number : ℕ) → List Owner → Type 0
 IsLowest n [] = Unit {0}
 IsLowest n (p ∷ ps) = ((number_of p == n) ≡ true) × NoneIs n ps
 
--- it alone runs the body
+-- The lowest member alone runs the body.
 abbrev pub one_runs : (lowest : ℕ) → Owner → Option ℕ
 one_runs lowest p = if number_of p == lowest then Some 1 else None
 
 module _ (core : List CoreOp) (i : ℕ) (op : CoreOp) (operation : Operation) where
-  -- a processor that takes part with the step, which is done once all have
+  -- A processor that takes part with the step. The step is done once all members have taken part.
   abbrev pub is_due : Owner → Doing
   is_due p = record {
     acting = taking p.runner (Some (step_at core i op operation p.runner.left.callers));
     heap = p.heap;
   }
 
-  -- what the step makes of it, where the last value of the highest member, the lowest member and
-  -- the size of its group behind the step are known
+  -- What the step makes of a processor, given the last value of the highest member, the number of
+  -- the lowest member, and the size of its group after the step.
   abbrev pub stepped : (highest lowest size : ℕ) → Owner → Owner
   stepped highest lowest size p = record {
     runner = record {
@@ -76,14 +76,14 @@ module _ (core : List CoreOp) (i : ℕ) (op : CoreOp) (operation : Operation) wh
   }
 
 module _ (places : Places) (nestings : Nestings) (setting : Setting) where
-  -- a member stands for its processor in the node whose first control word this is
+  -- A member stands for its processor, in the node whose first control word is `begin`.
   pub record IsMember (runs : Option ℕ) (begin : ℕ) (m : Member) (p : Owner) : Type 0 where
     pub number : m.number ≡ number_of p
     pub at : StandsAt places p m.hart
     pub node : StandsInNode places nestings setting runs p m.hart
     pub words : first_word p.runner.has.level p.runner.has.outer ≡ begin
 
-  -- so does each, which may run a body of its own
+  -- Each member stands for its processor, and may run a body with a number of others of its own.
   abbrev pub AreMembers : (runs : Owner → Option ℕ) → (begin : ℕ) → List Member
       → List Owner → Type 0
   AreMembers runs begin [] [] = Unit {0}
@@ -91,7 +91,7 @@ module _ (places : Places) (nestings : Nestings) (setting : Setting) where
       × AreMembers runs begin ms ps
   AreMembers runs begin ms ps = ⊥
 
-  -- so many private instructions lead a member, by itself, to where it stands for its processor
+  -- `behind` private instructions lead a member, by itself, to where it stands for its processor.
   pub record ComesAlone (image : Image) (t : MachineSetting) (behind : ℕ) (runs : Option ℕ)
       (begin : ℕ) (m : Member) (p : Owner) : Type 0 where
     pub hart : Hart
@@ -107,7 +107,7 @@ module _ (places : Places) (nestings : Nestings) (setting : Setting) where
 
 module _ (core : List CoreOp) (image : Image) (places : Places) (nestings : Nestings) (i : ℕ)
     (op : CoreOp) (operation : Operation) where
-  -- all members come to the step in one cycle
+  -- All members come to the step in one cycle.
   abbrev pub AllEnter : Setting → MachineSetting → (runs : Option ℕ) → (first : ℕ) → List Member
       → List Owner → Type 0
   AllEnter setting t runs first [] [] = Unit {0}
@@ -117,16 +117,16 @@ module _ (core : List CoreOp) (image : Image) (places : Places) (nestings : Nest
       × AllEnter setting t runs first ms ps
   AllEnter setting t runs first ms ps = ⊥
 
-  -- all members stand where their processors go on, and no control word has changed but that
-  -- of what is agreed
+  -- All members are where their processors go on, and no control word has changed except the agreed
+  -- value's.
   pub record HaveStepped (setting : Setting) (runs : Owner → Option ℕ) (first lowest size : ℕ)
       (ps : List Owner) (before : Memory) (ms : List Member) (own : Memory) : Type 0 where
     pub members : AreMembers places nestings setting runs first ms
         (map (stepped core i op operation (highest_value ps) lowest size) ps)
     pub others : (j : ℕ) → (j ≡ first + agreed_word → ⊥) → own j ≡ before j
 
-  -- where something is so of the members, after so many cycles all commit in one, and after so many
-  -- more they have done the step
+  -- Where the members are as the step asks, all commit together after `before` cycles, and have
+  -- done the step together `behind` cycles after that.
   abbrev pub StepTogether : (List Owner → Type 0) → (before behind : ℕ) → (runs : Option ℕ)
       → (runs' : Owner → Option ℕ) → (lowest size : ℕ) → Type 0
   StepTogether Asked before behind runs runs' lowest size =
@@ -138,8 +138,8 @@ module _ (core : List CoreOp) (image : Image) (places : Places) (nestings : Nest
       × NodeRun image mine (later (in_cycles before t)) behind ms' own'
       (λ ms'' own''. HaveStepped setting runs' first lowest size ps own ms'' own''))
 
-  -- behind their common commit each comes by itself to where its processor goes on, and no control
-  -- word has changed but that of what is agreed
+  -- After their common commit each member comes by itself to where its processor goes on, and no
+  -- control word has changed except the agreed value's.
   pub record HaveParted (setting : Setting) (t : MachineSetting) (behind : ℕ)
       (runs : Owner → Option ℕ) (first lowest size : ℕ) (ps : List Owner) (before : Memory)
       (ms : List Member) (own : Memory) : Type 0 where
@@ -147,7 +147,7 @@ module _ (core : List CoreOp) (image : Image) (places : Places) (nestings : Nest
         (map (stepped core i op operation (highest_value ps) lowest size) ps)
     pub others : (j : ℕ) → (j ≡ first + agreed_word → ⊥) → own j ≡ before j
 
-  -- the same of a step behind which they are in lockstep no more
+  -- Like `StepTogether`, for a step after which the members are no longer in lockstep.
   abbrev pub PartTogether : (List Owner → Type 0) → (before behind : ℕ) → (runs : Option ℕ)
       → (runs' : Owner → Option ℕ) → (lowest size : ℕ) → Type 0
   PartTogether Asked before behind runs runs' lowest size =
@@ -158,12 +158,12 @@ module _ (core : List CoreOp) (image : Image) (places : Places) (nestings : Nest
       (λ ms' ds own'. (ds ≡ map (is_due core i op operation) ps) × HaveParted setting
       (later (in_cycles before t)) behind runs' first lowest size ps own ms' own')
 
--- no level stands in the frames of these calls
+-- The frames of these calls have no saved level.
 abbrev pub NoneSaved : Nestings → List ℕ → Type 0
 NoneSaved nestings [] = Unit {0}
 NoneSaved nestings (i ∷ indices) = (nestings.levels i ≡ 0) × NoneSaved nestings indices
 
--- a processor is in the group of `start`: the root alone is round it
+-- A processor is in the group of `start`: the root alone is around that group.
 pub record IsInStart (nestings : Nestings) (p : Owner) : Type 0 where
   pub root : Level
   pub outer : p.runner.has.outer ≡ root ∷ []
@@ -175,8 +175,8 @@ AreInStart nestings (p ∷ ps) = IsInStart nestings p × AreInStart nestings ps
 
 module _ (core : List CoreOp) (image : Image) (places : Places) (nestings : Nestings) (i : ℕ)
     (op : CoreOp) where
-  -- all members commit in this cycle, and so many later each stands by itself in the root. All
-  -- words are as they were
+  -- All members commit in this cycle, and `behind` cycles later each is by itself in the root. All
+  -- control words are as they were.
   abbrev pub EndTogether : (behind : ℕ) → (lowest size : ℕ) → Type 0
   EndTogether behind lowest size =
       (setting : Setting) (t : MachineSetting) (mine : Words) (first : ℕ) (ms : List Member)

@@ -1,4 +1,4 @@
--- The operation at an index is the next one of a processor there.
+-- The operation at an index is the next one of a processor at that index.
 use Rattle.std.specs.Prelude.{◌≡◌, ℕ, List, false, Some, slice_get}
 use Rattle.fk_meaning_operation.specs.declared.operation.Operation.{Operation}
 use Rattle.fk_meaning.specs.Processor.{Setting}
@@ -8,7 +8,7 @@ use Rattle.fk_core.specs.Numbers.{operation_of}
 use Rattle.fk_core.specs.Next.{Position, is_jump, follows}
 use Rattle.fk_sim_block.specs.Owner.{Commons, Owner, number_of, as_part, phases, part}
 
--- an operation stands at an index
+-- The list has this operation at index i.
 pub record StandsOp (core : List CoreOp) (i : ℕ) (op : CoreOp)
     (operation : Operation) : Type 0 where
   pub stands : slice_get core i ≡ Some op
@@ -24,7 +24,7 @@ step_at core i op operation callers =
       rest = follows core operation i op.target callers;
     }
 
--- with count 1 a processor does it
+-- A processor at the index of an operation does it, if it takes part with count 1.
 abbrev pub OperationsAreNext : Type 0
 OperationsAreNext =
     (core : List CoreOp) (i : ℕ) (op : CoreOp) (operation : Operation) (setting : Setting)

@@ -1,4 +1,4 @@
--- Where a hart finds the control words of its node, and what it keeps of the groups round it.
+-- Where a hart finds the control words of its node, and what it keeps of the groups around it.
 use Rattle.std.specs.Prelude.{◌≡◌, ℕ, zero, suc, ◌+◌, ◌*◌, ◌^◌, ◌<◌, ◌≤◌, List, [], ◌∷◌, length}
 use Rattle.std.specs.Prelude.{Bool, true, Option, IfSome}
 use Rattle.fk_num.specs.Word.{Memory}
@@ -10,17 +10,18 @@ use Rattle.fk_sim_block.specs.Stands.{Frames, Places, ahead, frame_start, frame_
 
 -- ---- the control words of a node
 
--- those of the root stand behind all words of shared data
+-- The control words of the root lie after all words of shared data.
 abbrev pub root_words : ℕ
 root_words = 2 ^ 20
 
--- a group's stand at the indices of its space. The root has no group round it
+-- The first control word of a group has the index at which the group's space begins. The root has
+-- no group around it.
 abbrev pub first_word : Level → (outer : List Level) → ℕ
 first_word level [] = root_words
 first_word level (o ∷ outer) = level.space.low
 
--- from the first one on: how many have arrived at a `barrier`; how many at what ends a body, a part
--- or the group of `start`; what is agreed
+-- The control words of a node, from its first one on: how many members have arrived at a `barrier`;
+-- how many at the end of a body, of a part or of the group of `start`; and the agreed value.
 abbrev pub barrier_word : ℕ
 barrier_word = 0
 
@@ -30,73 +31,73 @@ closing_word = 1
 abbrev pub agreed_word : ℕ
 agreed_word = 2
 
--- the address of a control word
+-- The address of a control word.
 abbrev pub control_address : (word : ℕ) → ℕ
 control_address word = 0x18000000 + 4 * word
 
--- a node owns its header of 8 words
+-- A node owns its header of 8 words.
 pub record OwnsHeader (mine : Words) (first : ℕ) : Type 0 where
   pub within : first + 8 ≤ root_words + 64
   pub own : (word : ℕ) → word < 8 → mine (first + word) ≡ true
 
--- where its members are in no block of a step of the tree nobody has arrived
+-- Nobody has arrived at an arrival word of the node.
 pub record IsAtRest (first : ℕ) (own : Memory) : Type 0 where
   pub barrier : own (first + barrier_word) ≡ 0
   pub closing : own (first + closing_word) ≡ 0
 
--- ---- what a hart has of them
+-- ---- what a hart has of its node and of the groups around it
 
--- registers: the address of its node's first control word, and how many run the body of an
--- asynchronous node
+-- Registers of a hart: the address of its node's first control word, and how many members run the
+-- body of an asynchronous node.
 abbrev pub node_register : ℕ
 node_register = 10
 
 abbrev pub body_register : ℕ
 body_register = 11
 
--- where in the code a hart polls, and which registers change meanwhile
+-- Where in the code a hart polls, and which registers change while it does.
 pub record Polling : Type 0 where
   pub at : ℕ
   pub changes : (register : ℕ) → Bool
 
--- Where those who begin the group of `start` are when they have met, by the index where they do so,
--- and what their own lines made of a hart before it met
+-- Where the harts that begin the group of `start` poll, by the index of that operation, and what
+-- the instructions before that make of a hart.
 pub record Gathering : Type 0 where
   pub there : (index : ℕ) → Polling
   pub coming : (index : ℕ) → Hart → Hart
 
--- Where the levels round a processor stand in frames. The outermost is that of the root, and is
--- known without words
+-- Where the frames have the levels around a processor. The outermost level is the root's, and needs
+-- no words.
 pub record Nestings : Type 0 where
-  -- how many levels stand in the frame of a call that goes on at an index
+  -- The number of levels in the frame of a call that goes on at an index.
   pub levels : (index : ℕ) → ℕ
-  -- the word behind the header of that frame where the first of them begins
+  -- The word after the header of that frame at which the first of these levels begins.
   pub behind : (index : ℕ) → ℕ
-  -- where processors meet that begin the group of `start`, whose level is the first of these
+  -- Where processors meet that begin the group of `start`.
   pub start : Gathering
 
--- the levels of a call have room in its frame, behind its private words and beside so many values
+-- The levels of a call have room in its frame, after its private words and beside this many values.
 pub record HasLevelRoom (frames : Frames) (nestings : Nestings) (index values : ℕ) : Type 0 where
   pub room : ahead frames (frames.is_main index) + 7 + nestings.behind index
       + 4 * nestings.levels index + values ≤ 64
   pub apart : 0 < nestings.levels index → (word : ℕ) → frames.keeps index word ≡ true
       → word < nestings.behind index
 
--- the root's level: `@` is 0, and `$` the number of the processor
+-- The root's level: `@` is 0, and `$` is the number of the processor.
 pub record IsRoot (processors processor : ℕ) (level : Level) : Type 0 where
   pub number : level.number ≡ 0
   pub rank : level.rank ≡ processor
   pub size : level.size ≡ processors
 
--- four words are a level: `@`, `$`, the size of the group, and the address of its node's
--- first control word
+-- A level is four words: `@`, `$`, the size of the group, and the address of its node's first
+-- control word.
 pub record HasLevel (memory : Memory) (at : ℕ) (level : Level) (outer : List Level) : Type 0 where
   pub number : memory at ≡ level.number
   pub rank : memory (at + 1) ≡ level.rank
   pub size : memory (at + 2) ≡ level.size
   pub node : memory (at + 3) ≡ control_address (first_word level outer)
 
--- so many levels of a frame, the innermost highest
+-- `count` levels of a frame from a word on. The innermost level has the highest words.
 abbrev pub HasSaved : Memory → (at count : ℕ) → List Level → Type 0
 HasSaved memory at zero levels = Unit {0}
 HasSaved memory at (suc n) [] = ⊥
@@ -114,11 +115,12 @@ IsOutermost processors number (l ∷ []) = IsRoot processors number l
 IsOutermost processors number (l ∷ m ∷ levels) = ⊥
 
 module _ (places : Places) (nestings : Nestings) where
-  -- the first word of the levels of a frame, where so many calls wait for it
+  -- The first word of the levels of a frame, where `waiting` other calls wait.
   abbrev pub saved_at : (waiting index : ℕ) → ℕ
   saved_at waiting index = frame_start places waiting + 7 + nestings.behind index
 
-  -- the levels round the running one, by the indices where the calls go on, the running one's first
+  -- The levels around the running one, innermost first. The frame of each call has those that the
+  -- index where it goes on tells, the running call's frame first. At most the root's level remains.
   abbrev pub HasOuter : (processors number : ℕ) → Memory → (indices : List ℕ) → List Level → Type 0
   HasOuter processors number memory [] levels = IsOutermost processors number levels
   HasOuter processors number memory (i ∷ indices) levels =
@@ -126,8 +128,8 @@ module _ (places : Places) (nestings : Nestings) where
       × HasSaved memory (saved_at (length indices) i) (nestings.levels i) levels
       × HasOuter processors number memory indices (past_levels (nestings.levels i) levels)
 
-  -- the levels in the frame of a call that waits lie below its values and the word that
-  -- takes its result
+  -- The levels in the frame of a waiting call lie below its values and the word that takes its
+  -- result.
   abbrev pub LieBelow : (indices : List ℕ) → List Call → Type 0
   LieBelow [] [] = Unit {0}
   LieBelow (i ∷ indices) (c ∷ calls) =
@@ -135,15 +137,15 @@ module _ (places : Places) (nestings : Nestings) where
       ≤ frame_end (length calls)) × LieBelow indices calls
   LieBelow indices calls = ⊥
 
-  -- so the levels round a processor stand in the frames of its calls, where the running one goes on
-  -- at an index and these wait
+  -- The levels around a processor are in the frames of its calls. The running call is at an index,
+  -- and the others wait.
   abbrev pub HasNestings : (processors number : ℕ) → Memory → (at : ℕ) → (callers : List ℕ)
       → List Call → List Level → Type 0
   HasNestings processors number memory at callers calls levels =
       HasOuter processors number memory (at ∷ callers) levels × LieBelow callers calls
 
-  -- A hart stands in the node of its processor. Where that runs the body of an asynchronous node,
-  -- it is one of so many
+  -- A hart is in the node of its processor. If that processor runs the body of an asynchronous
+  -- node, a register of the hart has the number of members that run it.
   pub record StandsInNode (setting : Setting) (runs : Option ℕ) (p : Owner)
       (h : Hart) : Type 0 where
     pub node : h.registers node_register

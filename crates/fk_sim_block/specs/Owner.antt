@@ -1,5 +1,5 @@
--- Core runs as what the turns of harts stand for: each processor comes with its private heap, which
--- its hart alone has.
+-- Core runs as the turns of harts see them: each processor comes with its private heap, which
+-- belongs to its hart alone.
 use Rattle.std.specs.Prelude.{ℕ, false, List, None}
 use Rattle.fk_num.specs.Word.{Memory}
 use Rattle.fk_meaning_store.specs.Store.{Store}
@@ -10,7 +10,7 @@ use Rattle.fk_core.specs.declared.op.CoreOp.{CoreOp}
 use Rattle.fk_core.specs.Next.{Position, next}
 use Rattle.fk_sim_nodes.specs.Source as nodes
 
--- what all processors share of a store
+-- What all processors share of a store.
 pub record Commons : Type 0 where
   pub words : Memory
   pub top : ℕ
@@ -19,16 +19,16 @@ pub record Commons : Type 0 where
 abbrev pub commons_of : Store → Commons
 commons_of s = record { words = s.words; top = s.top; output = s.output }
 
--- the store as a processor with this private heap finds it
+-- The store as a processor with this private heap finds it.
 abbrev pub found : Commons → (heap : Memory) → Store
 found s heap = record { words = s.words; heaps = λ h. heap; top = s.top; output = s.output }
 
--- a processor with what it has left to do, and its private heap
+-- A processor: what it has, what it has left to do, and its private heap.
 pub record Owner : Type 0 where
   pub runner : Runner Position
   pub heap : Memory
 
--- one in a round
+-- A processor in a round.
 pub record Doing : Type 0 where
   pub acting : Acting Position
   pub heap : Memory
@@ -36,22 +36,23 @@ pub record Doing : Type 0 where
 abbrev pub number_of : Owner → ℕ
 number_of p = p.runner.has.number
 
--- who is not in the round; and who has done its operation
+-- A processor that is not in the round, and a processor as its part in a round leaves it.
 abbrev pub idle : Owner → Doing
 idle p = record { acting = taking p.runner None; heap = p.heap }
 
 abbrev pub owner_of : Doing → Owner
 owner_of d = record { runner = d.acting.runner; heap = d.heap }
 
--- one that takes part passes with what it has become, or its site faults
+-- The part of a processor in a round: it passes, with what the processor has become, or it faults
+-- at a site.
 abbrev pub as_part : (number : ℕ) → Phase Position → nodes.Part Commons Doing
 as_part number (Passes s a) =
     nodes.Passes (commons_of s) (record { acting = a; heap = s.heaps number })
 as_part number (Breaks site) = nodes.Breaks site
 
 module _ (core : List CoreOp) (setting : Setting) where
-  -- the phases of local operations and of requests, of a processor that has taken an
-  -- operation or none
+  -- The phases of local operations and of requests, for a processor that has taken an operation or
+  -- none.
   abbrev pub phases : Commons → (heap : Memory) → Acting Position → Phase Position
   phases s heap a = let b = local_phase (next core) setting a a.due in
       request_phase (found s heap) b b.due
@@ -60,7 +61,7 @@ module _ (core : List CoreOp) (setting : Setting) where
   part count s p =
       as_part (number_of p) (phases s p.heap (begin (next core) setting count p.runner))
 
-  -- data and output show what is shared. No control word does
+  -- The source that harts follow. Shared data and output show its stores, and no control word does.
   abbrev pub core_source : nodes.Source Commons Owner Doing
   core_source = record {
     words = λ s. s.words;

@@ -1,4 +1,4 @@
--- What is so of a processor that is about to do an operation.
+-- What holds of a processor that is about to do an operation.
 use Rattle.std.specs.Prelude.{◌≡◌, ℕ, ◌<◌, ◌≤◌, ◌^◌, [], length, Bool, true, false, All}
 use Rattle.fk_meaning_operation.specs.Kinds.{class_of}
 use Rattle.fk_meaning_operation.specs.declared.kinds.Class.{Class}
@@ -16,8 +16,8 @@ use Rattle.fk_meaning.specs.Round.{Runner}
 use Rattle.fk_core.specs.declared.op.CoreOp.{CoreOp}
 use Rattle.fk_core.specs.Next.{Position}
 
--- local operations and requests that processors without groups do: all but those of group frames,
--- and but `shmalloc`
+-- The local operations and requests that processors do without groups: all except those of group
+-- frames and `shmalloc`.
 abbrev pub is_no_step : Class → Bool
 is_no_step Local = true
 is_no_step Request = true
@@ -29,7 +29,8 @@ is_alone (Leave gives true) = false
 is_alone Heap = false
 is_alone operation = is_no_step (class_of operation)
 
--- an address was checked before it is used; `main` does not return to a call, and it alone halts
+-- A processor may do an operation: an address was checked before it is used, a return has a call to
+-- return to, and only `main` halts.
 abbrev pub MayDo : Operation → Runner Position → Type 0
 MayDo Read r = may_use false (last (values r.has)) ≡ true
 MayDo Write r = may_use false (address r.has) ≡ true
@@ -38,8 +39,8 @@ MayDo (Leave gives framed) r = 0 < length r.left.callers
 MayDo Halt r = r.left.callers ≡ []
 MayDo operation r = Unit {0}
 
--- its values and variables are words, it has taken no more of its heap than there is, and so many
--- calls wait at most
+-- The values and variables of a processor are words, it has taken no more of its private heap than
+-- there is, and fewer than 256 calls wait.
 pub record IsInRange (p : Processor) : Type 0 where
   pub values : All (λ v. v < 2 ^ 32) p.call.values
   pub privates : (i : ℕ) → p.call.privates i < 2 ^ 32
@@ -47,7 +48,7 @@ pub record IsInRange (p : Processor) : Type 0 where
   pub top : p.top ≤ private_words
   pub waiting : length p.callers < 256
 
--- it has as many values as the operation expects
+-- A processor may do an operation, has as many values as the operation expects, and is in range.
 pub record IsReady (op : CoreOp) (operation : Operation) (r : Runner Position) : Type 0 where
   pub depth : length (values r.has) ≡ op.depth
   pub may : MayDo operation r

@@ -1,8 +1,8 @@
--- When registers and local memory of a hart stand for a processor.
+-- When the registers and the local memory of a hart stand for a processor.
 --
 -- Calls have frames of 64 words on the 16,384 stack words, that of `main` lowest. A frame has a
--- header of 7 words, then the private words of its call; the value list stands at its end, the
--- first value highest. In the frame of `main` the private variables of file scope stand between the
+-- header of 7 words, then the private words of its call. Its values are at the frame's end, the
+-- first value highest. In the frame of `main` the private variables of file scope lie between the
 -- two, and the 7 words of its header are free for any use.
 use Rattle.std.specs.Prelude.{◌≡◌, ℕ, zero, suc, ◌+◌, ◌-◌, ◌*◌, ◌<◌, ◌≤◌, ◌==◌, List, [], ◌∷◌}
 use Rattle.std.specs.Prelude.{length, true, false, Bool}
@@ -11,32 +11,33 @@ use Rattle.fk_meaning.specs.Processor.{Call}
 use Rattle.fk_machine.specs.Hart.{Hart}
 use Rattle.fk_sim_block.specs.Owner.{Owner}
 
--- what stands in frames
+-- What the frames of calls have.
 pub record Frames : Type 0 where
-  -- whether a private word of the running call stands in its frame at an index of the list.
-  -- One that does not is written before it is read; those that do where a call begins are
-  -- its arguments or 0
+  -- Whether the frame of the running call keeps a private word at an index of the list. A word that
+  -- is not kept is written before it is read. Where a call begins, the kept words are its arguments
+  -- or 0.
   pub keeps : (index word : ℕ) → Bool
-  -- whether an index lies in `main`
+  -- Whether an index is in `main`.
   pub is_main : (index : ℕ) → Bool
-  -- how many private variables of file scope there are
+  -- The number of private variables of file scope.
   pub of_file : ℕ
 
--- the places of blocks and variables
+-- Where blocks and variables lie.
 pub record Places : Type 0 where
-  -- the word of the code where the block of each index of the list begins
+  -- The word of the code where the block of each index of the list begins.
   pub block : (index : ℕ) → ℕ
   pub frames : Frames
 
--- the address of a word of the local memory
+-- The address of a word of the local memory.
 abbrev pub local_address : (word : ℕ) → ℕ
 local_address word = 0x20000000 + 4 * word
 
--- registers: the addresses of the running call's frame and of the word behind it; `@`, `$` and the
--- size of the group; how many words of the private heap are taken; and six that never change: the
--- addresses of the local memory, of shared data, of the private heap and of the devices, and two
--- masks. An address with the mask of shared data is the address of shared data exactly where it is
--- that of one of its words, and so it is with the private heap
+-- The registers of a hart: the address of the running call's frame, and of the word after that
+-- frame; `@`, `$` and the size of the group; how many words of the private heap are taken; and six
+-- that never change: the addresses of the local memory, of shared data, of the private heap and of
+-- the devices, and two masks. An address is that of a word of shared data exactly if its bits under
+-- the mask of shared data are the address of shared data. The other mask does this for the private
+-- heap.
 abbrev pub frame_register : ℕ
 frame_register = 8
 
@@ -73,43 +74,46 @@ device_register = 26
 abbrev pub heap_mask_register : ℕ
 heap_mask_register = 27
 
--- the last value lowest
+-- Values lie below the word `behind`, the last value lowest.
 abbrev pub HasValues : Memory → (behind : ℕ) → List ℕ → Type 0
 HasValues memory behind [] = Unit {0}
 HasValues memory behind (v ∷ vs) = (memory (behind - suc (length vs)) ≡ v)
     × HasValues memory behind vs
 
--- the word behind the frame of a call that so many others wait for
+-- The word after the frame of a call for which `waiting` other calls wait.
 abbrev pub frame_end : (waiting : ℕ) → ℕ
 frame_end waiting = 64 * suc waiting
 
--- in the frame of `main` so many words stand between its header and its private words
+-- How many words lie between the header and the private words of a frame: in that of `main` the
+-- private variables of file scope, in others none.
 abbrev pub ahead : Frames → (is_main : Bool) → ℕ
 ahead frames true = frames.of_file
 ahead frames false = 0
 
--- a header and so many values have room in a frame, beside the words that stand in it at an index
+-- A frame has room for its header and this many values, beside the words that it keeps at an index.
 pub record HasRoom (frames : Frames) (index values : ℕ) : Type 0 where
   pub header : ahead frames (frames.is_main index) + 7 + values ≤ 64
   pub kept : (word : ℕ) → frames.keeps index word ≡ true
       → ahead frames (frames.is_main index) + 7 + word + values < 64
 
 module _ (places : Places) where
-  -- the first word of such a frame, but that the frame of `main` has its private variables of
-  -- file scope before it
+  -- The word 7 words before the private words of a call for which `waiting` other calls wait. It is
+  -- the first word of the frame, except in the frame of `main`, which has the private variables of
+  -- file scope before its private words.
   abbrev pub frame_start : (waiting : ℕ) → ℕ
   frame_start zero = places.frames.of_file
   frame_start (suc n) = 64 * suc n
 
-  -- the frame of a call that goes on at an index, and that so many others wait for
+  -- The frame of a call that goes on at an index, and for which `waiting` other calls wait.
   pub record HasFrame (memory : Memory) (waiting at : ℕ) (call : Call) : Type 0 where
     pub home : places.frames.is_main at ≡ (waiting == 0)
     pub values : HasValues memory (frame_end waiting) call.values
     pub privates : (i : ℕ) → places.frames.keeps at i ≡ true
         → memory (frame_start waiting + 7 + i) ≡ call.privates i
 
-  -- the header of a call: an address four words before the one that it returns to, the frame of the
-  -- call that waits there, and the word where that takes the result. There is room for it
+  -- The header of a call: an address four words before the one to which it returns, the frame of
+  -- the call that waits for it, and the word where that call takes the result. The waiting call's
+  -- frame has room for that word.
   pub record Returns (memory : Memory) (waiting back : ℕ) (call : Call) : Type 0 where
     pub code : memory (frame_start (suc waiting)) + 16 ≡ 4 * places.block back
     pub frame : memory (frame_start (suc waiting) + 1) ≡ local_address (frame_start waiting)
@@ -117,7 +121,8 @@ module _ (places : Places) where
         ≡ local_address (frame_end waiting - suc (length call.values))
     pub room : HasRoom places.frames back (suc (length call.values))
 
-  -- the calls that wait, the last one first, each with the index where it goes on
+  -- The frames and headers of the waiting calls, the last call first, each with the index where it
+  -- goes on.
   abbrev pub HasWaiting : Memory → (backs : List ℕ) → List Call → Type 0
   HasWaiting memory [] [] = Unit {0}
   HasWaiting memory (i ∷ backs) (c ∷ calls) =
@@ -125,8 +130,9 @@ module _ (places : Places) where
       × HasWaiting memory backs calls
   HasWaiting memory backs calls = ⊥
 
-  -- Nothing is said of the pc and of other registers, nor of what only steps of the tree give a
-  -- processor: the space of its group, its group frames, and the groups round it.
+  -- A hart stands for a processor. This says nothing of the pc and of other registers, nor of what
+  -- only steps of the tree give a processor: the space of its group, its group frames, and the
+  -- groups around it.
   pub record StandsFor (p : Owner) (h : Hart) : Type 0 where
     pub nought : h.registers 0 ≡ 0
     pub frame : h.registers frame_register
@@ -147,7 +153,8 @@ module _ (places : Places) where
     pub own : (i : ℕ) → i < places.frames.of_file → h.local (7 + i) ≡ p.runner.has.own i
     pub heap : (i : ℕ) → i < 16384 → h.local (16384 + i) ≡ p.heap i
 
-  -- and the hart stands at the beginning of the block where its processor goes on
+  -- The hart is at the beginning of the block where its processor goes on, and stands for that
+  -- processor.
   pub record StandsAt (p : Owner) (h : Hart) : Type 0 where
     pub live : h.ended ≡ false
     pub at : h.pc ≡ 4 * places.block p.runner.left.at

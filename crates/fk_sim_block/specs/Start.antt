@@ -1,5 +1,5 @@
--- The beginning of the group of `start`: all processors meet in the root, agree on the last value
--- of the highest, and those below it go into the group.
+-- The beginning of the group of `start`: all processors meet in the root and agree on the last
+-- value of the highest processor, and those with numbers below it go into the group.
 use Rattle.std.specs.Prelude.{◌≡◌, ℕ, ◌+◌, ◌≤◌, min, List, [], ◌∷◌, map, Bool, Option, Some, None}
 use Rattle.std.specs.Prelude.{if◌then◌else◌}
 use Rattle.fk_num.specs.Word.{Memory}
@@ -21,31 +21,33 @@ use Rattle.fk_sim_block.specs.Node.{closing_word, agreed_word}
 use Rattle.fk_sim_block.specs.Lockstep.{IsMember, NoneSaved, highest_value, is_due, stepped}
 use Rattle.fk_sim_block.specs.Joint.{Polls, KeepsPolling, StandsByPhase}
 
--- a processor in the root, whose group space is whole
+-- A processor in the root, whose group space is whole.
 pub record IsInRoot (nestings : Nestings) (setting : Setting) (p : Owner) : Type 0 where
   pub outer : p.runner.has.outer ≡ []
   pub level : IsRoot setting.processors (number_of p) p.runner.has.level
   pub space : p.runner.has.level.space ≡ group_space setting
   pub none : NoneSaved nestings (p.runner.left.at ∷ p.runner.left.callers)
 
--- from where all leave to their common commit there are fewer cycles than these
+-- The number of cycles from where all leave to their common commit is less than this.
 abbrev pub most_united : ℕ
 most_united = 40
 
--- so one takes so many steps fewer to its arrival than where leaving is the commit (most_to_meet)
+-- The most steps that a member takes to its arrival. It is `most_united` less than where leaving is
+-- the commit (`most_to_meet`).
 abbrev pub most_to_start : ℕ
 most_to_start = 27
 
--- how many go into the group, where the last value of the highest is known
+-- How many processors go into the group of `start`, given the last value of the highest processor.
 abbrev pub size_of_start : Setting → (highest : ℕ) → ℕ
 size_of_start setting highest = min (not_negative highest) setting.processors
 
--- who doesn't stays in the root, whose body all run
+-- How many run a body together with a processor after the beginning of `start`: a processor that
+-- goes into the group runs none, and one that stays in the root runs the root's, as all do.
 abbrev pub runs_behind_start : Setting → (goes : Bool) → Option ℕ
 runs_behind_start setting goes = if goes then None else Some setting.processors
 
--- one of n who meet at a word is in a phase. Leaving is an instruction of this count, and
--- then something holds
+-- One of n members that meet at a word is in a phase. It leaves by an instruction of this count,
+-- and then `Left` holds of its hart.
 pub record MeetsUntil (image : Image) (word n count : ℕ) (Left : Hart → Type 0) (t : MachineSetting)
     (f : Phase) (m : Member) : Type 0 where
   pub polling : Polling
@@ -56,8 +58,8 @@ pub record MeetsUntil (image : Image) (word n count : ℕ) (Left : Hart → Type
 
 module _ (core : List CoreOp) (image : Image) (places : Places) (nestings : Nestings) (i : ℕ)
     (op : CoreOp) where
-  -- a member that came to the block in some cycle, and has met all others: it stands there with
-  -- what its own lines made of its hart before it met
+  -- A member that came to the block in some cycle, and has met all others. Its hart polls with what
+  -- `coming` made of the hart that came.
   pub record HasMet (there : Polling) (coming : Hart → Hart) (setting : Setting) (m : Member)
       (p : Owner) : Type 0 where
     pub cycle : MachineSetting
@@ -75,8 +77,9 @@ module _ (core : List CoreOp) (image : Image) (places : Places) (nestings : Nest
       × AllHaveMet there coming setting ms ps
   AllHaveMet there coming setting ms ps = ⊥
 
-  -- behind the commit so many private instructions, by its way, lead it where its processor goes
-  -- on: to the body in the group of `start`, or to where those wait who are not in it
+  -- After the commit `behind` private instructions, by its branch, lead a member to where its
+  -- processor goes on: to the body in the group of `start`, or to where those wait who are not in
+  -- the group.
   pub record ComesToPart (setting : Setting) (t : MachineSetting) (behind : (onward : Bool) → ℕ)
       (highest lowest : ℕ) (m : Member) (p : Owner) : Type 0 where
     pub hart : Hart
@@ -95,16 +98,16 @@ module _ (core : List CoreOp) (image : Image) (places : Places) (nestings : Nest
       × AllComeToParts setting t behind highest lowest ms ps
   AllComeToParts setting t behind highest lowest ms ps = ⊥
 
-  -- all do so, and no word of the root has changed but that of what is agreed
+  -- All members come to their parts, and no word of the root has changed except the agreed value's.
   pub record HaveStarted (setting : Setting) (t : MachineSetting) (behind : (onward : Bool) → ℕ)
       (lowest : ℕ) (ps : List Owner) (before : Memory) (ms : List Member)
       (own : Memory) : Type 0 where
     pub parts : AllComeToParts setting t behind (highest_value ps) lowest ms ps
     pub others : (j : ℕ) → (j ≡ root_words + agreed_word → ⊥) → own j ≡ before j
 
-  -- The block. Each meets all others at the root's closing word, which it comes to after so
-  -- many private steps. Who have met, in one cycle, commit so many cycles later, and then go
-  -- each to its part
+  -- The block of the beginning of `start`. Each member comes to the root's closing word after at
+  -- most `most` private steps, and meets all others there. Those who have met in one cycle commit
+  -- together `before` cycles later, and then each goes to its part.
   pub record BlockStarts (there : Polling) (coming : Hart → Hart) (most before : ℕ)
       (behind : (onward : Bool) → ℕ) : Type 0 where
     pub meets : (setting : Setting) (t : MachineSetting) (mine : Words) (m : Member) (p : Owner)

@@ -20,7 +20,7 @@ use Rattle.fk_core.specs.Next.{is_jump, follows}
 use Rattle.fk_sim_block.specs.Next.{StandsOp}
 use Rattle.fk_sim_block.specs.Stands.{Frames, HasRoom, ahead}
 
--- how many values an operation looks at
+-- How many values an operation looks at.
 abbrev pub looks_at : Operation → ℕ
 looks_at (Set variable) = 1
 looks_at DropLast = 1
@@ -40,7 +40,7 @@ looks_at PrintByte = 1
 looks_at (Enter arguments) = arguments
 looks_at operation = 0
 
--- which private words of the call an operation writes
+-- Which private words of the call an operation writes.
 abbrev pub writes : Operation → (word : ℕ) → Bool
 writes (Set (Private i)) word = word == i
 writes operation word = false
@@ -49,16 +49,16 @@ abbrev pub nothing : (word : ℕ) → Bool
 nothing word = false
 
 module _ (core : List CoreOp) (frames : Frames) where
-  -- from an index the call goes on at another: what is kept there was kept before, or is
-  -- written meanwhile
+  -- The call goes on from index i at index j. What is kept at j was kept at i, or is written
+  -- meanwhile.
   pub record Flows (written : (word : ℕ) → Bool) (i j : ℕ) : Type 0 where
     pub main : frames.is_main j ≡ frames.is_main i
     pub kept : (word : ℕ) → frames.keeps j word ≡ true → written word ≡ false
         → frames.keeps i word ≡ true
 
-  -- a call, which begins at the next index, with a jump. A frame has room for the private words
-  -- that are kept there: its arguments, and others, which begin as 0. Behind the jump there is room
-  -- for a result in place of the arguments
+  -- A call begins with the jump at the next index. Its frame has room for the private words that
+  -- are kept there: its arguments, and others, which begin as 0. After the jump the caller's frame
+  -- has room for a result in place of the arguments.
   pub record Calls (arguments i depth : ℕ) : Type 0 where
     pub entry : CoreOp
     pub stands : slice_get core (suc i) ≡ Some entry
@@ -69,7 +69,7 @@ module _ (core : List CoreOp) (frames : Frames) where
     pub back : Flows nothing i (suc (suc i))
     pub room : HasRoom frames (suc (suc i)) (suc (depth - arguments))
 
-  -- where the call goes on behind an operation
+  -- Where the call goes on after an operation.
   abbrev pub GoesOn : Operation → (i target depth : ℕ) → Type 0
   GoesOn (Enter arguments) i target depth = Calls arguments i depth
   GoesOn (Leave gives framed) i target depth = frames.is_main i ≡ false
@@ -77,8 +77,8 @@ module _ (core : List CoreOp) (frames : Frames) where
   GoesOn operation i target depth = (onward : Bool)
       → Flows (writes operation) i (follows core operation i target [] onward).at
 
-  -- a word that is read is there, and one that is written lies below the values. There is room for
-  -- a value that is pushed
+  -- A word that is read is there. A word that is written lies below the values, and there is room
+  -- for a value that is pushed (`HasPlace`).
   abbrev pub IsThere : OwnValue → (i : ℕ) → Type 0
   IsThere (Value (Private word)) i = frames.keeps i word ≡ true
   IsThere (Value (OfFile word)) i = word < frames.of_file
@@ -99,7 +99,7 @@ module _ (core : List CoreOp) (frames : Frames) where
     pub place : HasPlace operation i op.depth
     pub goes_on : GoesOn operation i op.target op.depth
 
-  -- so it is with every jump and every operation of the list, from its beginning on
+  -- The list suits its frames: all its jumps and operations do, and `main` begins at this index.
   pub record Suits (main : ℕ) : Type 0 where
     pub begins : frames.is_main main ≡ true
     pub few : frames.of_file ≤ 56

@@ -1,4 +1,4 @@
--- What is known of a member that meets, and of members behind their commits.
+-- What is known of a member that meets others, and of members after their commits.
 use Rattle.std.specs.Prelude.{◌≡◌, ℕ, ◌+◌, ◌≤◌, List, [], ◌∷◌, length, map, Bool, true, Option}
 use Rattle.std.specs.Prelude.{Some, None, if◌then◌else◌, ◌⊎◌}
 use Rattle.fk_num.specs.Word.{Memory}
@@ -28,8 +28,8 @@ use Rattle.fk_sim_block.specs.Start as starts
 use Rattle.fk_sim_block.specs.Start.{IsInRoot, MeetsUntil, AllComeToParts}
 use Rattle.fk_sim_block.specs.Law.{HasDoneInNode, sets_apart, IsAskedOf, runs_behind}
 
--- how many run the body of a node beside a member that does: those who meet at the
--- node's first word
+-- How many members run the body of a node, as one that does sees it: those who meet at the node's
+-- first word.
 abbrev pub runs_of : Plan → (first number : ℕ) → Option ℕ
 runs_of plan first number = if plan.member (first + barrier_word) number
     then Some (plan.size (first + barrier_word)) else None
@@ -38,7 +38,8 @@ module _ (core : List CoreOp) (image : Image) (places : Places) (nestings : Nest
     (setting : Setting) where
   -- ---- one member
 
-  -- its processor is about to do an operation by meeting, and the hart is in a phase of that
+  -- A member's processor is about to do an operation by meeting, and its hart is in a phase of
+  -- that.
   pub record StandsInMeeting (runs : Option ℕ) (word n : ℕ) (t : MachineSetting) (f : Phase)
       (m : Member) (p : Owner) : Type 0 where
     pub i : ℕ
@@ -50,8 +51,8 @@ module _ (core : List CoreOp) (image : Image) (places : Places) (nestings : Nest
     pub word_is : word ≡ first_word p.runner.has.level p.runner.has.outer + word_of operation
     pub meets : MeetsAt image places nestings setting runs i word n t f m p
 
-  -- or it is about to begin the group of `start`: it came to that in some cycle, in the root, and
-  -- is in a phase of meeting all others
+  -- A member is about to begin the group of `start`. It came to that in some cycle, in the root,
+  -- and is in a phase of meeting all others.
   pub record StandsInStart (word n : ℕ) (t : MachineSetting) (f : Phase) (m : Member)
       (p : Owner) : Type 0 where
     pub i : ℕ
@@ -71,7 +72,7 @@ module _ (core : List CoreOp) (image : Image) (places : Places) (nestings : Nest
   StandsByEnding Commits runs word n t f m p = StandsInMeeting runs word n t f m p
   StandsByEnding Unites runs word n t f m p = StandsInStart word n t f m p
 
-  -- so it has met all of them
+  -- A member has met all others at the beginning of `start`.
   pub record HasJoined (m : Member) (p : Owner) : Type 0 where
     pub i : ℕ
     pub op : CoreOp
@@ -79,7 +80,7 @@ module _ (core : List CoreOp) (image : Image) (places : Places) (nestings : Nest
     pub met : starts.HasMet core image places nestings i op (nestings.start.there i)
         (nestings.start.coming i) setting m p
 
-  -- its commit has ended it, and its processor's run is to end
+  -- A member's commit has ended its hart, and its processor's run is to end.
   pub record HasEnded (m : Member) (d : Doing) : Type 0 where
     pub ended : m.hart.ended ≡ true
     pub step : Step Position
@@ -87,11 +88,12 @@ module _ (core : List CoreOp) (image : Image) (places : Places) (nestings : Nest
     pub halts : step.operation ≡ Halt
     pub ends : step.rest true ≡ position (length core) []
 
-  -- it has done a local operation or a request
+  -- A member has done a local operation or a request.
   pub record HasGone (runs : Option ℕ) (m : Member) (d : Doing) : Type 0 where
     pub done : HasDoneInNode core image places nestings setting runs d m.hart
 
-  -- it has left those it met, and stands behind the operation, which the tree does for all of them
+  -- A member has left those whom it met, and is after the operation, which the tree does for all of
+  -- them.
   pub record HasMet (runs : Option ℕ) (m : Member) (p : Owner) (d : Doing) : Type 0 where
     pub i : ℕ
     pub op : CoreOp
@@ -101,20 +103,21 @@ module _ (core : List CoreOp) (image : Image) (places : Places) (nestings : Nest
     pub due : d ≡ is_due core i op operation p
     pub left : StandsBehind image places nestings setting runs i p m.hart
 
-  -- who has ended, or has left those it met, is there at once
+  -- What holds of a member `behind` private instructions after its commit. One that has ended, or
+  -- has left those whom it met, is there at once.
   abbrev pub IsBehind : (runs : Option ℕ) → (behind : ℕ) → Member → Owner → Doing → Type 0
   IsBehind runs behind m p d = ((behind ≤ most_behind) × HasGone runs m d)
       ⊎ ((behind ≡ 0) × (HasEnded m d ⊎ HasMet runs m p d))
 
   -- ---- a group
 
-  -- all members have done local operations or requests
+  -- All members have done local operations or requests.
   abbrev pub AllHaveGone : List Member → List Doing → Type 0
   AllHaveGone [] [] = Unit {0}
   AllHaveGone (m ∷ ms) (d ∷ ds) = HasGone None m d × AllHaveGone ms ds
   AllHaveGone ms ds = ⊥
 
-  -- they agree, and stand at the next block
+  -- The members agree, and are at the next block.
   pub record HaveAgreed (first : ℕ) (ds : List Doing) (ms : List Member) : Type 0 where
     pub i : ℕ
     pub op : CoreOp
@@ -124,12 +127,12 @@ module _ (core : List CoreOp) (image : Image) (places : Places) (nestings : Nest
     pub members : AreMembers places nestings setting (λ p. None) first ms
         (map (stepped core i op Agree (highest_value ps) 0 0) ps)
 
-  -- nobody has arrived at a word of a group, and its members are behind their common commit
+  -- Nobody has arrived at a word of a group, and its members are after their common commit.
   abbrev pub IsGroupBehind : (first : ℕ) → List Doing → List Member → Memory → Type 0
   IsGroupBehind first ds ms own = IsAtRest first own × (AllHaveGone ms ds ⊎ HaveAgreed first ds ms)
 
-  -- they do a step behind which each comes by itself, after so many private instructions, to where
-  -- it goes on in their node
+  -- The members do a step after which each comes by itself, in `behind` private instructions, to
+  -- where it goes on in their node.
   pub record HaveParted (first : ℕ) (t : MachineSetting) (behind : ℕ) (ds : List Doing)
       (ms : List Member) (own : Memory) : Type 0 where
     pub i : ℕ
@@ -147,7 +150,7 @@ module _ (core : List CoreOp) (image : Image) (places : Places) (nestings : Nest
         (runs_behind operation lowest size) first ms
         (map (stepped core i op operation (highest_value ps) lowest size) ps)
 
-  -- the group of `start` ends, and each comes to the root
+  -- The group of `start` ends, and each member comes to the root.
   pub record HaveEnded (first : ℕ) (t : MachineSetting) (behind : ℕ) (ds : List Doing)
       (ms : List Member) (own : Memory) : Type 0 where
     pub i : ℕ
@@ -159,8 +162,8 @@ module _ (core : List CoreOp) (image : Image) (places : Places) (nestings : Nest
     pub come : AllComeAlone places nestings setting image t behind
         (λ p. Some setting.processors) root_words ms (map (stepped core i op End 0 0 0) ps)
 
-  -- the group of `start` begins: all are in the root, at whose words nobody has arrived, and each
-  -- comes to its part
+  -- The group of `start` begins: all are in the root, at whose words nobody has arrived, and each
+  -- comes to its part.
   pub record HaveBegun (t : MachineSetting) (ds : List Doing) (ms : List Member)
       (own : Memory) : Type 0 where
     pub i : ℕ
@@ -174,8 +177,8 @@ module _ (core : List CoreOp) (image : Image) (places : Places) (nestings : Nest
     pub parts : AllComeToParts core image places nestings i op setting t behind
         (highest_value ps) 0 ms ps
 
-  -- in this cycle their common commit lies behind them: a run of their node leads them on in
-  -- lockstep, or each goes on by itself
+  -- The common commit of a group's members is past. A run of their node leads them on in lockstep,
+  -- or each goes on by itself.
   abbrev pub HaveActed : Words → (first : ℕ) → MachineSetting → (behind : ℕ) → List Doing
       → List Member → Memory → Type 0
   HaveActed mine first t behind ds ms own =
@@ -183,8 +186,8 @@ module _ (core : List CoreOp) (image : Image) (places : Places) (nestings : Nest
       ⊎ (HaveParted first t behind ds ms own
       ⊎ (HaveEnded first t behind ds ms own ⊎ HaveBegun t ds ms own))
 
-  -- what the law of blocks says of members of the nodes of a plan, behind a cycle in which nobody
-  -- unites with others
+  -- What the law of blocks says of the members of a plan's nodes after a cycle in which nobody
+  -- unites with others.
   abbrev pub blocks_of : Plan → (first : ℕ → ℕ) → Blocks Owner Doing
   blocks_of plan first = record {
     lead = lead;
@@ -197,6 +200,6 @@ module _ (core : List CoreOp) (image : Image) (places : Places) (nestings : Nest
     Joins = λ t g m p. ⊥;
   }
 
-  -- and behind any cycle
+  -- What the law of blocks says of the members of a plan's nodes after any cycle.
   abbrev pub joining_blocks_of : Plan → (first : ℕ → ℕ) → Blocks Owner Doing
   joining_blocks_of plan first = record (blocks_of plan first) { Joins = λ t g m p. HasJoined m p }

@@ -1,4 +1,4 @@
--- What a tree that changes between two cycles owes to those who stand in it.
+-- What a tree that changes between two cycles must keep for its members.
 use Rattle.std.specs.Prelude.{◌≡◌, ℕ, ◌+◌, ◌%◌, ◌==◌, ◌^◌, ◌<◌, List, [], ◌∷◌, length, Option, Some}
 use Rattle.std.specs.Prelude.{None, true, false, ◌⊎◌}
 use Rattle.fk_num.specs.Word.{Memory}
@@ -13,35 +13,35 @@ use Rattle.fk_sim_match.specs.Plan.{Plan, IsOpen, phases, Blocks, Tests, told_by
 use Rattle.fk_sim_match.specs.Plan.{InLockstep, IsBound}
 use Rattle.fk_sim_match.specs.Cycle.{AllHaveCommitted, IsLeft}
 
--- a stage of one who has just committed: it has ended, is at some distance, or is on its way
--- to an arrival word
+-- A stage of a hart that has just committed: it has ended, is at some distance, or is on its way to
+-- an arrival word.
 abbrev pub IsFresh : Setting → Stage → Type 0
 IsFresh t Ended = Unit {0}
 IsFresh t (Acts d) = Unit {0}
 IsFresh t (Meets e w (Coming d)) = (t.finished + d) % 2 ≡ 0
 IsFresh t (Meets e w f) = ⊥
 
--- a node has the same members
+-- A node has the same members.
 abbrev pub HasSame : (g : ℕ) → (nodes nodes' : List ℕ) → Type 0
 HasSame g [] [] = Unit {0}
 HasSame g (n ∷ ns) (n' ∷ ns') = ((n == g) ≡ (n' == g)) × HasSame g ns ns'
 HasSame g ns ns' = ⊥
 
--- where a hart in a joint block stands, it is still a member
+-- A hart in a joint block is still a member at the arrival word.
 abbrev pub StaysMember : Plan → (g number : ℕ) → Stage → Type 0
 StaysMember plan' g number (Meets e w f) = IsOpen plan' g w × (plan'.member w number ≡ true)
 StaysMember plan' g number s = Unit {0}
 
--- whoever stands there now has just committed
+-- All harts that are now in a node have just committed.
 abbrev pub AllAreNew : (g : ℕ) → (nodes' : List ℕ) → List (Option Stage) → Type 0
 AllAreNew g [] [] = Unit {0}
 AllAreNew g (n' ∷ ns') (a ∷ afters) = ((n' == g) ≡ true → a ≡ None) × AllAreNew g ns' afters
 AllAreNew g ns' afters = ⊥
 
--- the plan and the blocks before the change and after it
+-- The plan and the blocks before the change, and those after it.
 module _ {S P D : Type 0} (source : Source S P D) (image : Image) (plan : Plan)
     (blocks : Blocks P D) (plan' : Plan) (blocks' : Blocks P D) where
-  -- to those who do nothing in it, each by itself, a node is what it was
+  -- A node is what it was for those who do nothing in the cycle, each by itself.
   pub record StaysOpen (g : ℕ) : Type 0 where
     pub alone : plan.in_lockstep g ≡ false
     pub after : (behind : ℕ) (m : Member) (p : P) (d : D) → blocks.AfterOne g behind m p d
@@ -49,9 +49,9 @@ module _ {S P D : Type 0} (source : Source S P D) (image : Image) (plan : Plan)
     pub stands : (t : Setting) (e : Ending) (w : ℕ) (f : Phase) (m : Member) (p : P)
         → IsOpen plan' g w → blocks.StandsIn g t e w f m p → blocks'.StandsIn g t e w f m p
 
-  -- One hart: whose stage is not over stands where it stood, with its stage and its processor. Who
-  -- has committed, or united with others, is at a fresh stage, and if its node is no group, it
-  -- stands there at that stage.
+  -- The change for one hart. If its stage isn't over, it keeps its node, stage and processor. If it
+  -- has committed, or united with others, its stage is fresh, and it is at that stage, unless its
+  -- node is a group.
   abbrev pub Changes : Setting → Member → (node node' : ℕ) → Option Stage → Stage → P → P → Type 0
   Changes t m n n' (Some s) s' p p' = (n' ≡ n) × (s' ≡ s) × (p' ≡ p)
       × StaysMember plan' n' m.number s × (plan'.in_lockstep n' ≡ false → StaysOpen n')
@@ -65,7 +65,7 @@ module _ {S P D : Type 0} (source : Source S P D) (image : Image) (plan : Plan)
       Changes t m n n' a s' p p' × AllChange t ms ns ns' afters stages' ps ps'
   AllChange t ms ns ns' afters stages' ps ps' = ⊥
 
-  -- a group that has not committed goes on: its members and its words are the same
+  -- A group that has not committed goes on: its members and its words are the same.
   pub record GroupStays (g : ℕ) (afters : List (Option Stage)) : Type 0 where
     pub grouped : plan.in_lockstep g ≡ true
     pub busy : AllHaveCommitted (of_node g plan.nodes afters) → ⊥
@@ -74,23 +74,23 @@ module _ {S P D : Type 0} (source : Source S P D) (image : Image) (plan : Plan)
     pub after : (t : Setting) (ms : List Member) (ds : List D) (own : Memory)
         → blocks.AfterAll t g ms ds own → blocks'.AfterAll t g ms ds own
 
-  -- those who meet at a word of a node do so as before
+  -- Those who meet at a word of a node do so as before.
   pub record MeetingStays (g w : ℕ) : Type 0 where
     pub alone : plan.in_lockstep g ≡ false
     pub was : IsOpen plan g w
     pub size : plan'.size w ≡ plan.size w
     pub same : (number : ℕ) → plan'.member w number ≡ plan.member w number
 
-  -- or they may meet there from now on: the word is 0, it has its members, and none of them
-  -- stood in the node
+  -- Members may meet at a word from now on: the word is 0, it has its members, and none of them was
+  -- in the node before.
   pub record MeetingOpens (g w : ℕ) (afters : List (Option Stage)) (stages' : List Stage)
       (control : Memory) : Type 0 where
     pub empty : control w ≡ 0
     pub size : members (phases plan' g w (kept stages')) ≡ plan'.size w
     pub new : AllAreNew g plan'.nodes afters
 
-  -- What the tree may do behind cycle t. A group goes on or begins, bound by the new plan; words by
-  -- which members meet stay so or open
+  -- What the tree may do after cycle t. A group goes on or begins, bound by the new plan. A word
+  -- where members meet stays as it was (`MeetingStays`), or opens.
   pub record TreeChanges (t : Setting) (hs : List Hart) (afters : List (Option Stage))
       (stages' : List Stage) (ps ps' : List P) (control : Memory) : Type 0 where
     pub as_many : AreAsMany plan'.nodes hs ps'
@@ -103,8 +103,8 @@ module _ {S P D : Type 0} (source : Source S P D) (image : Image) (plan : Plan)
     pub meetings : (g w : ℕ) → plan'.in_lockstep g ≡ false → IsOpen plan' g w
         → MeetingStays g w ⊎ MeetingOpens g w afters stages' control
 
-  -- so all are bound by the new plan before the next cycle, who had a distance is one cycle nearer,
-  -- and those who go on meeting move at their word
+  -- The new plan binds all harts before the next cycle, each hart that had a distance is one cycle
+  -- nearer, and those who go on meeting move at their word.
   pub record GoesOn (t : Setting) (stages stages' : List Stage) (hs : List Hart) (ps' : List P)
       (own : ℕ → Memory) (control : Memory) : Type 0 where
     pub bound : IsBound source image plan' blocks' (later t) stages' hs ps' (λ g. control)
@@ -126,7 +126,8 @@ PlansGoOn S P D =
     → GoesOn source image plan (told_by tests) plan'
     (told_by tests') t stages stages' hs' ps' own control
 
--- who comes in so many private instructions to where it would be at a distance is at a distance now
+-- A hart that comes in some number of private instructions to a place at a distance from its commit
+-- is now as far from it as both together.
 abbrev pub RunsLeadToStages : (S P D : Type 0) → Type 0
 RunsLeadToStages S P D =
     (source : Source S P D) (image : Image) (plan : Plan) (tests : Tests P D) (t : Setting)

@@ -18,7 +18,7 @@ use Rattle.fk_sim_match.specs.Plan.{Plan, IsOpen, phases, phases_of, Blocks, Tes
 use Rattle.fk_sim_match.specs.Plan.{HasCommitted, HasUnited, HasLeft, StandsAt, AllStandAt}
 use Rattle.fk_sim_match.specs.Plan.{JointBlocksTurn, IsBound}
 
--- the stages of all are over: all have committed, or united. Or all keep a stage
+-- The stages of all members are over (all have committed or united), or all keep a stage.
 abbrev pub AllHaveCommitted : List (Option Stage) → Type 0
 AllHaveCommitted [] = Unit {0}
 AllHaveCommitted (a ∷ afters) = (a ≡ None) × AllHaveCommitted afters
@@ -29,14 +29,14 @@ AllKeep s (a ∷ afters) = (a ≡ Some s) × AllKeep s afters
 
 module _ {S P D : Type 0} (source : Source S P D) (image : Image) (plan : Plan)
     (blocks : Blocks P D) where
-  -- what becomes of a member by itself in a cycle: it has committed, or united with others; or it
-  -- has done nothing and stands at a stage
+  -- What becomes of a member by itself in a cycle: it has committed or united with others, or it
+  -- has done nothing and is at a stage.
   abbrev pub Went : Setting → (g : ℕ) → Option Stage → Member → P → D → Type 0
   Went t g None m p d = HasCommitted source image plan blocks t g m p d
       ⊎ HasUnited source image plan blocks t g m p d
   Went t g (Some s) m p d = (d ≡ blocks.idle p) × StandsAt source image plan blocks t g s m p
 
-  -- whose stage is over leaves it as that tells
+  -- A member whose stage is over leaves it as the stage tells.
   abbrev pub Leaves : Setting → (g : ℕ) → Stage → Member → P → D → Type 0
   Leaves t g (Acts zero) m p d = HasCommitted source image plan blocks t g m p d
   Leaves t g (Meets e w (Leaving zero)) m p d = HasLeft source image plan blocks e t g m p d
@@ -48,7 +48,7 @@ module _ {S P D : Type 0} (source : Source S P D) (image : Image) (plan : Plan)
       × AllLeave t g stages ms ps ds
   AllLeave t g stages ms ps ds = ⊥
 
-  -- each member by itself
+  -- What becomes of the members of a node, each by itself.
   abbrev pub AllWent : Setting → (g : ℕ) → List Stage → List (Option Stage) → List Member → List P
       → List D → Type 0
   AllWent t g [] [] [] [] [] = Unit {0}
@@ -56,8 +56,8 @@ module _ {S P D : Type 0} (source : Source S P D) (image : Image) (plan : Plan)
       × AllWent t g stages afters ms ps ds
   AllWent t g stages afters ms ps ds = ⊥
 
-  -- they have moved at each arrival word, one after another, and no other word of the
-  -- node has changed
+  -- The members have moved at each arrival word, one after another, and no other word of the node
+  -- has changed.
   pub record HaveMoved (t : Setting) (g : ℕ) (stages : List Stage) (ps : List P) (own : Memory)
       (ms' : List Member) (ds : List D) (own' : Memory) : Type 0 where
     pub afters : List (Option Stage)
@@ -68,7 +68,7 @@ module _ {S P D : Type 0} (source : Source S P D) (image : Image) (plan : Plan)
         (phases_of plan w ms' afters) (own' w)
     pub others : (i : ℕ) → plan.arrivals i ≡ false → own' i ≡ own i
 
-  -- a group has committed, or has done nothing and is one cycle nearer to it
+  -- A group has committed, or it has done nothing and is one cycle nearer to its commit.
   abbrev pub GroupDone : Setting → (g d : ℕ) → List P → List Member → List D → Memory → Type 0
   GroupDone t g zero ps ms' ds own' = blocks.AfterAll t g ms' ds own'
   GroupDone t g (suc d) ps ms' ds own' =
@@ -79,22 +79,22 @@ module _ {S P D : Type 0} (source : Source S P D) (image : Image) (plan : Plan)
   AllActIn d [] = Unit {0}
   AllActIn d (s ∷ stages) = (s ≡ Acts d) × AllActIn d stages
 
-  -- what a cycle makes of a node
+  -- What a cycle makes of a node.
   abbrev pub Done : (in_lockstep : Bool) → Setting → (g : ℕ) → List Stage → List P → Memory
       → List Member → List D → Memory → Type 0
   Done true t g stages ps own ms' ds own' = (d : ℕ) × AllActIn d stages
       × GroupDone (later t) g d ps ms' ds own'
   Done false t g stages ps own ms' ds own' = HaveMoved t g stages ps own ms' ds own'
 
-  -- of all nodes
+  -- What a cycle makes of each node of the plan.
   abbrev pub DoneIn : Setting → List Stage → List P → (ℕ → Memory) → ℕ → List Member → List D
       → Memory → Type 0
   DoneIn t stages ps own g ms' ds own' =
       Done (plan.in_lockstep g) t g (of_node g plan.nodes stages) (of_node g plan.nodes ps)
       (own g) ms' ds own'
 
-  -- what a cycle without a fault leaves of a node, where each member has kept a stage or committed:
-  -- a group has committed, or has done nothing and is at a distance
+  -- What a cycle without a fault leaves of a node. Each member has kept a stage or committed. A
+  -- group has committed, or has done nothing and is at a distance.
   abbrev pub GroupIsLeft : Setting → (g : ℕ) → List (Option Stage) → List Member → List P → List D
       → Memory → Type 0
   GroupIsLeft t g afters ms ps ds own =
@@ -114,7 +114,7 @@ module _ {S P D : Type 0} (source : Source S P D) (image : Image) (plan : Plan)
   NodeIsLeft true t g afters ms ps ds own = GroupIsLeft t g afters ms ps ds own
   NodeIsLeft false t g afters ms ps ds own = AllAreLeft t g afters ms ps ds
 
-  -- at an arrival word of a node all harts have moved
+  -- At an arrival word of a node all harts have moved.
   abbrev pub HaveMovedAt : Setting → (g word : ℕ) → List Stage → List (Option Stage)
       → (own own' : Memory) → Type 0
   HaveMovedAt t g w stages afters own own' =
@@ -122,7 +122,7 @@ module _ {S P D : Type 0} (source : Source S P D) (image : Image) (plan : Plan)
       → AllMove t.finished (plan.size w) blocks.lead (phases plan g w (kept stages)) (own w)
       (phases plan g w afters) (own' w)
 
-  -- what it leaves of all harts and nodes
+  -- What a cycle without a fault leaves of all harts and nodes.
   pub record IsLeft (t : Setting) (stages : List Stage) (hs' : List Hart) (ps : List P)
       (ds : List D) (own own' : ℕ → Memory) : Type 0 where
     pub afters : List (Option Stage)
@@ -140,8 +140,8 @@ module _ {S P D : Type 0} (source : Source S P D) (image : Image) (plan : Plan)
     pub others : (g i : ℕ) → plan.in_lockstep g ≡ false → plan.arrivals i ≡ false
         → own' g i ≡ own g i
 
--- where all nodes are bound, the cycle is a round of the counts that the stages tell, or one up to
--- its first fault; and each node has done what binds it
+-- Where the plan binds all nodes, the cycle is a round of the counts that the stages tell, or one
+-- up to its first fault, and each node has done what binds it.
 pub record IsPlanned {S P D : Type 0} (source : Source S P D) (image : Image) (plan : Plan)
     (blocks : Blocks P D) (t : Setting) (earlier : List ℕ) (stages : List Stage) (hs : List Hart)
     (ps : List P) (own : ℕ → Memory) (sh : Shared) (s : S) : Type 0 where
@@ -160,8 +160,8 @@ CyclesArePlanned S P D =
     → IsBound source image plan (told_by tests) t stages hs ps own
     → IsPlanned source image plan (told_by tests) t earlier stages hs ps own sh s
 
--- a node whose members are each at a stage by themselves, some free and some in joint blocks, has a
--- chain in which they move at its arrival words
+-- A node whose members are each at a stage by themselves, some between joint operations and some in
+-- joint blocks, has a chain in which they move at its arrival words.
 abbrev pub StagesAreChains : (S P D : Type 0) → Type 0
 StagesAreChains S P D =
     (source : Source S P D) (image : Image) (plan : Plan) (tests : Tests P D) (t : Setting) (g : ℕ)
@@ -172,7 +172,7 @@ StagesAreChains S P D =
     → Chain source image (plan.words g) t ms ps own
     (HaveMoved source image plan (told_by tests) t g stages ps own)
 
--- what nodes have done in a whole cycle, by hart
+-- What nodes have done in a whole cycle, hart by hart.
 abbrev pub CyclesLeave : (S P D : Type 0) → Type 0
 CyclesLeave S P D =
     (source : Source S P D) (image : Image) (plan : Plan) (tests : Tests P D) (t : Setting)
@@ -183,7 +183,7 @@ CyclesLeave S P D =
     (of_node g plan.nodes (numbered 0 hs')) (of_node g plan.nodes ds) (own' g))
     → IsLeft source image plan (told_by tests) t stages hs' ps ds own own'
 
--- so the law of those who meet holds of each arrival word
+-- The law of meetings holds for each arrival word.
 abbrev pub MeetingsAreKept : (S P D : Type 0) → Type 0
 MeetingsAreKept S P D =
     (source : Source S P D) (image : Image) (plan : Plan) (tests : Tests P D) (t : Setting)

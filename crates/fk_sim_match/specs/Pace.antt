@@ -6,7 +6,7 @@ use Rattle.fk_sim_match.specs.Stage.{Ending, Unites, Stage, Meets, distance, cou
 use Rattle.fk_sim_match.specs.Stage.{counts_for, AllNear, kept}
 use Rattle.fk_sim_match.specs.Plan.{Plan, phases}
 
--- whoever commits in d cycles does so in the round d rounds later, whatever becomes of others
+-- A hart that commits in d cycles does so in the round d rounds later, whatever becomes of others.
 abbrev pub WhoIsNearActs : Type 0
 WhoIsNearActs =
     (stages : ℕ → List Stage) (h d t : ℕ) (s : Stage) → slice_get (stages t) h ≡ Some s
@@ -14,8 +14,8 @@ WhoIsNearActs =
     → ((i : ℕ) → i < d → AllNear (stages (t + i)) (stages (suc (t + i))))
     → slice_index (counts_for (stages (t + d))) h ≡ 1
 
--- For each cycle from t on there is a plan. As long as nobody has committed at an arrival word w of
--- node g, those who meet there move so, for so many cycles
+-- There is a plan for each of `cycles` cycles, from t on. Those who meet at word w of node g move
+-- there, as long as nobody has committed there.
 pub record MoveOn (plan : ℕ → Plan) (g w n lead t cycles : ℕ) (stages : ℕ → List Stage)
     (word : ℕ → ℕ) : Type 0 where
   pub few : length (phases (plan 0) g w (kept (stages 0))) < 2 ^ 31
@@ -25,16 +25,16 @@ pub record MoveOn (plan : ℕ → Plan) (g w n lead t cycles : ℕ) (stages : �
       → AllMove (t + i) n lead (phases (plan i) g w (kept (stages i))) (word i)
       (phases (plan (suc i)) g w (kept (stages (suc i)))) (word (suc i))
 
--- in this round all members of those who meet at a word commit, or unite. One who stands
--- there is not outside
+-- All members of those who meet at a word commit in this round, or unite, except one whose phase is
+-- `Outside`.
 abbrev pub AllActIn : Plan → (word : ℕ) → List Stage → Type 0
 AllActIn plan w stages =
     (h n : ℕ) (s : Stage) → plan.member w h ≡ true → slice_get plan.nodes h ≡ Some n
     → slice_get stages h ≡ Some s → ((e : Ending) → s ≢ Meets e w Outside)
     → (count_of_stage s ≡ 1) ⊎ (s ≡ Meets Unites w (Leaving 0))
 
--- once all members have entered a joint operation, and have time for it in k cycles, all are in one
--- round of the next k + 1
+-- Once all members have entered a joint operation, and have time for it in k cycles, all are in one
+-- round of the next k + 1.
 abbrev pub WhoMeetsActs : Type 0
 WhoMeetsActs =
     (plan : ℕ → Plan) (g w n lead k t : ℕ) (stages : ℕ → List Stage) (word : ℕ → ℕ)

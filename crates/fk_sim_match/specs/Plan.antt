@@ -1,5 +1,4 @@
--- The plan of a run at one time: where each hart stands in a tree of nodes, and what binds the
--- harts of a node.
+-- The plan of a run at one time: the node of each hart, and what binds the harts of a node.
 use Rattle.std.specs.Prelude.{◌≡◌, ◌≢◌, ℕ, zero, suc, ◌==◌, List, [], ◌∷◌, Option, Bool, true}
 use Rattle.std.specs.Prelude.{false}
 use Rattle.fk_num.specs.Word.{Memory}
@@ -14,26 +13,25 @@ use Rattle.fk_sim_nodes.specs.Phase.{Phase, Outside, Away, Leaving, word_after, 
 use Rattle.fk_sim_match.specs.Stage.{Ending, Commits, Unites, Stage, Ended, Acts, Meets}
 use Rattle.fk_sim_match.specs.Stage.{count_of_stage, kept, absent, phase_of}
 
--- a tree of nodes at one time, as the machine knows it
+-- A tree of nodes at one time, as the machine knows it.
 pub record Plan : Type 0 where
-  -- the node where each hart stands
+  -- The node of each hart.
   pub nodes : List ℕ
-  -- each node's own control words
+  -- Each node's own control words.
   pub words : ℕ → Words
-  -- whether the members of a node are a group in lockstep
+  -- Whether the members of a node are a group in lockstep.
   pub in_lockstep : ℕ → Bool
-  -- the control words by which members of nodes meet, each by those of the node that owns it; how
-  -- many they are, and whether a hart is one of them. One that stands elsewhere will come there
-  -- from a part of the node
+  -- The arrival words, where members of the node that owns the word meet; how many meet there; and
+  -- whether a hart is one of them. A member that is elsewhere comes back from a part of the node.
   pub arrivals : Words
   pub size : (word : ℕ) → ℕ
   pub member : (word number : ℕ) → Bool
 
--- members of a node meet at a word that is its own
+-- Members of a node meet at a word that the node owns.
 abbrev pub IsOpen : Plan → (g word : ℕ) → Type 0
 IsOpen plan g w = (plan.words g w ≡ true) × (plan.arrivals w ≡ true)
 
--- a hart's phase at an arrival word, by whether it stands in the word's node
+-- A hart's phase at an arrival word, by whether it is in the word's node.
 abbrev pub phase_at : (here member : Bool) → Phase → Phase
 phase_at true member f = f
 phase_at false member f = absent member
@@ -45,32 +43,32 @@ phases_from plan g w number (n ∷ ns) (a ∷ afters) =
     ∷ phases_from plan g w (suc number) ns afters
 phases_from plan g w number ns afters = []
 
--- the phases of all harts at an arrival word of a node
+-- The phases of all harts at an arrival word of a node.
 abbrev pub phases : Plan → (g word : ℕ) → List (Option Stage) → List Phase
 phases plan g w afters = phases_from plan g w 0 plan.nodes afters
 
--- those of members of the node
+-- The phases of the members of a node at an arrival word.
 abbrev pub phases_of : Plan → (word : ℕ) → List Member → List (Option Stage) → List Phase
 phases_of plan w (m ∷ ms) (a ∷ afters) =
     phase_of w (plan.member w m.number) a ∷ phases_of plan w ms afters
 phases_of plan w ms afters = []
 
--- what is known of blocks of code: how many steps there are from the poll to the commit of those
--- who meet, what becomes of a processor that does nothing, and three things that hold
+-- What is known of blocks of code: the number of steps from the poll of those who meet to their
+-- commit, what becomes of a processor that does nothing, and four conditions.
 pub record Blocks (P D : Type 0) : Type 1 where
   pub lead : ℕ
   pub idle : P → D
-  -- of a node before this cycle, after the common commit of its members in lockstep
+  -- What holds of the members of a node in lockstep, before this cycle, after their common commit.
   pub AfterAll : Setting → (g : ℕ) → List Member → List D → Memory → Type 0
-  -- of a member of a node, where so many private instructions have led it behind its commit by
-  -- itself, or with those it met
+  -- What holds of a member of a node that `behind` private instructions lead on after its commit,
+  -- by itself or with those whom it met.
   pub AfterOne : (g behind : ℕ) → Member → P → D → Type 0
-  -- of a member of a node in a phase of a joint block, at an arrival word
+  -- What holds of a member of a node in a phase of a joint block, at an arrival word.
   pub StandsIn : (g : ℕ) → Setting → Ending → (word : ℕ) → Phase → Member → P → Type 0
-  -- of one before this cycle that has just left those with whom it unites
+  -- What holds of a member, before this cycle, that has just left those with whom it unites.
   pub Joins : Setting → (g : ℕ) → Member → P → Type 0
 
--- the same, by tests
+-- The conditions of blocks, given by tests.
 pub record Tests (P D : Type 0) : Type 0 where
   pub lead : ℕ
   pub idle : P → D
@@ -89,25 +87,25 @@ told_by tests = record {
   Joins = λ t g m p. tests.joins t g m p ≡ true;
 }
 
--- a phase of one who is on its way to an arrival word, or there
+-- The phase of a hart that is on its way to an arrival word, or there.
 abbrev pub IsInside : Phase → Type 0
 IsInside Outside = ⊥
 IsInside Away = ⊥
 IsInside f = Unit {0}
 
--- who does nothing leaves every store as it is
+-- A processor that does nothing leaves every store as it is.
 abbrev pub IsIdle : {S P D : Type 0} → Source S P D → (P → D) → Type 0
 IsIdle {S = S} {P = P} source idle = (s : S) (p : P) → source.part 0 s p ≡ Passes s (idle p)
 
 module _ {S P D : Type 0} (source : Source S P D) (image : Image) (plan : Plan)
     (blocks : Blocks P D) where
-  -- a member has committed, and private instructions lead it to where this holds
+  -- A member has committed, and private instructions lead it to where `AfterOne` holds.
   abbrev pub HasCommitted : Setting → (g : ℕ) → Member → P → D → Type 0
   HasCommitted t g m p d =
       (behind : ℕ) × (hart : Hart) × RunsPrivately image t m.number behind m.hart hart
       × blocks.AfterOne g behind (record m { hart = hart }) p d
 
-  -- or it has done nothing, and goes on together with those it met
+  -- A member has done nothing, and goes on together with those whom it met.
   abbrev pub HasUnited : Setting → (g : ℕ) → Member → P → D → Type 0
   HasUnited t g m p d = (d ≡ blocks.idle p) × blocks.Joins t g m p
 
@@ -115,7 +113,7 @@ module _ {S P D : Type 0} (source : Source S P D) (image : Image) (plan : Plan)
   HasLeft Commits t g m p d = HasCommitted t g m p d
   HasLeft Unites t g m p d = HasUnited t g m p d
 
-  -- a member of a node at its stage
+  -- A member of a node is at its stage.
   abbrev pub StandsAt : Setting → (g : ℕ) → Stage → Member → P → Type 0
   StandsAt t g Ended m p = m.hart.ended ≡ true
   StandsAt t g (Acts d) m p = (behind : ℕ) × OneDoes source image t 1 d behind m p
@@ -128,7 +126,7 @@ module _ {S P D : Type 0} (source : Source S P D) (image : Image) (plan : Plan)
   AllStandAt t g (s ∷ stages) (m ∷ ms) (p ∷ ps) = StandsAt t g s m p × AllStandAt t g stages ms ps
   AllStandAt t g stages ms ps = ⊥
 
-  -- members in lockstep are all at one distance from their common commit
+  -- Members in lockstep are all at one distance from their common commit.
   abbrev pub AllAct : (d : ℕ) → List Stage → List Member → List P → Type 0
   AllAct d [] [] [] = Unit {0}
   AllAct d (s ∷ stages) (m ∷ ms) (p ∷ ps) = (s ≡ Acts d) × AllAct d stages ms ps
@@ -141,19 +139,19 @@ module _ {S P D : Type 0} (source : Source S P D) (image : Image) (plan : Plan)
     pub together : Together source image (plan.words g) t 1 distance ms ps own
         (blocks.AfterAll (later (in_cycles distance t)) g)
 
-  -- what binds the harts of a node: they are in lockstep, or each stands at its stage by itself
+  -- What binds the harts of a node: they are in lockstep, or each is at its stage by itself.
   abbrev pub Binds : (in_lockstep : Bool) → Setting → (g : ℕ) → List Stage → List Member → List P
       → Memory → Type 0
   Binds true t g stages ms ps own = InLockstep t g stages ms ps own
   Binds false t g stages ms ps own = AllStandAt t g stages ms ps
 
-  -- an arrival word of a node counts those who have arrived
+  -- An arrival word of a node counts those who have arrived.
   abbrev pub Counts : Setting → (g word : ℕ) → List Stage → Memory → Type 0
   Counts t g w stages own =
       plan.in_lockstep g ≡ false → IsOpen plan g w
       → Settled t.finished (plan.size w) (own w) (phases plan g w (kept stages))
 
-  -- before a cycle all nodes are bound by the plan
+  -- The plan binds all nodes before a cycle.
   pub record IsBound (t : Setting) (stages : List Stage) (hs : List Hart) (ps : List P)
       (own : ℕ → Memory) : Type 0 where
     pub as_many : AreAsMany plan.nodes hs ps
@@ -165,15 +163,14 @@ module _ {S P D : Type 0} (source : Source S P D) (image : Image) (plan : Plan)
 
   -- ---- the law of joint blocks
 
-  -- what becomes of a member in a phase: who leaves is away, and the others stand in
-  -- their next phase
+  -- What becomes of a member in a phase: one that leaves is away, and another is in its next phase.
   abbrev pub Follows : Setting → (g : ℕ) → Ending → (word : ℕ) → Phase → Phase → Member
       → P → D → Type 0
   Follows t g e w (Leaving zero) f' m p d = (f' ≡ Away) × HasLeft e t g m p d
   Follows t g e w f f' m p d = (d ≡ blocks.idle p) × blocks.StandsIn g t e w f' m p
 
-  -- the turn of a member in a phase, whatever its node's words are, is that of the phase, and
-  -- touches the arrival word alone
+  -- The turn of a member in a phase is that of the phase, whatever its node's words are, and
+  -- touches the arrival word alone.
   pub record Turn (t : Setting) (g : ℕ) (e : Ending) (w : ℕ) (f : Phase) (m : Member) (p : P)
       (own : Memory) : Type 0 where
     pub hart : Hart

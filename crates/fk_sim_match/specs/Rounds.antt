@@ -1,4 +1,4 @@
--- Rounds of those whose stages commit are allowed.
+-- The round of those whose stages commit is allowed.
 use Rattle.std.specs.Prelude.{◌≡◌, ℕ, zero, suc, ◌+◌, List, [], ◌∷◌, length, map, true, false}
 use Rattle.std.specs.Prelude.{Option, Some, None}
 use Rattle.fk_num.specs.Word.{Memory}
@@ -27,7 +27,7 @@ use Rattle.fk_sim_match.specs.Nodes.{first_of, HaveSpaces, is_arrival, is_lockst
 use Rattle.fk_sim_match.specs.Nodes.{plan_of}
 use Rattle.fk_sim_match.specs.Behind.{blocks_of}
 
--- what those who meet at a word of a node do together
+-- What the members who meet at a word of a node do together.
 abbrev pub closing_joint : (g : ℕ) → Option Kind → Joint
 closing_joint g (Some (Waiting first parts)) = Resuming
 closing_joint zero (Some (Asynchronous alone)) = Starting
@@ -39,19 +39,19 @@ joint_at_word g kind zero = AtBarrier
 joint_at_word g kind (suc zero) = closing_joint g kind
 joint_at_word g kind (suc (suc i)) = Alone
 
--- all but the beginning of `start` are committed by leaving
+-- How members leave a word. Only at the beginning of `start` is leaving not the commit.
 abbrev pub ending_of : Joint → Ending
 ending_of Starting = Unites
 ending_of joint = Commits
 
 module _ (core : List CoreOp) (tree : Tree) (spaces : ℕ → Space) where
-  -- a processor is about to do something by itself, or with its group in lockstep
+  -- A processor is about to do something by itself, or with its group in lockstep.
   pub record IsDue (g : ℕ) (r : Runner Position) : Type 0 where
     pub step : Step Position
     pub next_is : next core r.left ≡ Some step
     pub joint : is_lockstep (t.kind tree g) ≡ false → joint_of step.operation ≡ Alone
 
-  -- or with those who meet at this word of its node
+  -- A processor is about to do something with those who meet at this word of its node.
   pub record MeetsAtWord (ending : Ending) (g w : ℕ) (r : Runner Position) : Type 0 where
     pub offset : ℕ
     pub step : Step Position
@@ -66,20 +66,20 @@ module _ (core : List CoreOp) (tree : Tree) (spaces : ℕ → Space) where
   IsDueAt g (Acts d) r = IsDue g r
   IsDueAt g (Meets e w f) r = IsInside f × MeetsAtWord e g w r
 
-  -- so it is with all processors from a number on, at the nodes where they stand
+  -- All processors, from a number on, are about to do what their stages tell, at their nodes.
   abbrev pub AllDue : (number : ℕ) → List Stage → List (Runner Position) → Type 0
   AllDue number [] [] = Unit {0}
   AllDue number (x ∷ stages) (r ∷ rs) = (r.has.number ≡ number) × IsDueAt (tree.places number) x r
       × AllDue (suc number) stages rs
   AllDue number stages rs = ⊥
 
--- processors with their private heaps
+-- Processors with their private heaps.
 abbrev pub owners_of : (heaps : ℕ → Memory) → List (Runner Position) → List Owner
 owners_of heaps rs =
     map (λ r. let p : Owner = record { runner = r; heap = heaps r.has.number } in p) rs
 
--- where the plan of a state binds all harts, and each processor is about to do what its stage
--- tells, those who commit may be in a round together
+-- Where the plan of a state binds all harts, and each processor is about to do what its stage
+-- tells, those who commit may be in a round together.
 abbrev pub RoundsAreAllowed : Type 0
 RoundsAreAllowed =
     (core : List CoreOp) (image : Image) (places : Places) (nestings : Nestings) (setting : Setting)

@@ -1,23 +1,23 @@
--- How a hart stands before a cycle, and what that says of its count in the round.
+-- The stage of a hart before a cycle, and its count in the round.
 use Rattle.std.specs.Prelude.{◌==◌, Bool, true, false, cond, ◌≡◌, ℕ, zero, suc, List, [], ◌∷◌}
 use Rattle.std.specs.Prelude.{Option, Some, None, map}
 use Rattle.fk_sim_nodes.specs.Phase.{Phase, Outside, Away, Leaving}
 
--- how those who meet leave: it is the commit of each; or they unite, and go on together to a
--- commit behind it
+-- How those who meet leave: leaving is the commit of each; or they unite, and go on together to a
+-- common commit.
 pub data Ending : Type 0 where
   Commits : Ending
   Unites : Ending
 
--- a hart has ended; it commits in so many cycles, by itself or with its group; or it is in a phase
--- of a joint block, at an arrival word
+-- The stage of a hart: it has ended; it commits in this many cycles, by itself or with its group;
+-- or it is in a phase of a joint block, at an arrival word.
 pub data Stage : Type 0 where
   Ended : Stage
   Acts : (distance : ℕ) → Stage
   Meets : (ending : Ending) (word : ℕ) (phase : Phase) → Stage
 
--- in how many cycles it commits; none where it has ended, waits for others, or is
--- to unite with them
+-- In how many cycles a hart commits. There is no such number where it has ended, waits for others,
+-- or is to unite with them.
 abbrev pub commits_in : Ending → (distance : ℕ) → Option ℕ
 commits_in Commits d = Some d
 commits_in Unites d = None
@@ -31,7 +31,7 @@ distance Ended = None
 distance (Acts d) = Some d
 distance (Meets e w f) = distance_by e f
 
--- who commits now is in the round
+-- A hart that commits now is in the round.
 abbrev pub count_for : Option ℕ → ℕ
 count_for None = 0
 count_for (Some zero) = 1
@@ -43,12 +43,12 @@ count_of_stage s = count_for (distance s)
 abbrev pub counts_for : List Stage → List ℕ
 counts_for stages = map count_of_stage stages
 
--- a distance falls by one in a cycle. Who commits, waits or has ended may come to any
+-- A distance falls by one in a cycle. After a stage without one, or at 0, any distance may follow.
 abbrev pub Nears : Option ℕ → Option ℕ → Type 0
 Nears (Some (suc d)) d' = d' ≡ Some d
 Nears d d' = Unit {0}
 
--- elements of two lists are related, each with the one in its place
+-- Two lists are of one length, and their elements are related place by place.
 abbrev pub Pairwise : {A B : Type 0} → (A → B → Type 0) → List A → List B → Type 0
 Pairwise R [] [] = Unit {0}
 Pairwise R (x ∷ xs) (y ∷ ys) = R x y × Pairwise R xs ys
@@ -57,14 +57,14 @@ Pairwise R xs ys = ⊥
 abbrev pub AllNear : List Stage → List Stage → Type 0
 AllNear stages stages' = Pairwise (λ s s'. Nears (distance s) (distance s')) stages stages'
 
--- who does not commit stays at its operation
+-- A hart that does not commit stays at its operation.
 abbrev pub SameKind : Stage → Stage → Type 0
 SameKind Ended Ended = Unit {0}
 SameKind (Acts d) (Acts d') = Unit {0}
 SameKind (Meets e w f) (Meets e' v f') = (e' ≡ e) × (v ≡ w)
 SameKind s s' = ⊥
 
--- it is over with this cycle: the hart commits, or has met all those with whom it unites
+-- A stage is over with this cycle: the hart commits, or has met all those with whom it unites.
 abbrev pub IsOver : Stage → Type 0
 IsOver (Meets Unites w f) = f ≡ Leaving 0
 IsOver s = distance s ≡ Some 0
@@ -74,22 +74,23 @@ is_over (Acts zero) = true
 is_over (Meets e w (Leaving zero)) = true
 is_over s = false
 
--- what a cycle leaves of a stage, none where it is over
+-- What a cycle leaves of a stage: nothing where the stage is over.
 abbrev pub Remains : Stage → Option Stage → Type 0
 Remains s None = IsOver s
 Remains s (Some s') = (count_of_stage s ≡ 0) × Nears (distance s) (distance s') × SameKind s s'
     × (is_over s ≡ false)
 
--- stages that all keep
+-- Stages that all harts keep.
 abbrev pub kept : List Stage → List (Option Stage)
 kept stages = map (λ s. Some s) stages
 
--- one who is in no phase at an arrival word is away, if it is a member of those who meet there
+-- The phase of a hart that is in no phase at an arrival word: away if it is a member of those who
+-- meet there.
 abbrev pub absent : (member : Bool) → Phase
 absent true = Away
 absent false = Outside
 
--- the phase of a hart at an arrival word
+-- The phase of a hart at an arrival word.
 abbrev pub phase_of : (word : ℕ) → (member : Bool) → Option Stage → Phase
 phase_of w member (Some (Meets e v f)) = cond (v == w) f (absent member)
 phase_of w member a = absent member

@@ -1,4 +1,4 @@
--- Who stands at the beginning of a block is at a stage.
+-- A hart at the beginning of a block is at a stage.
 use Rattle.std.specs.Prelude.{◌≡◌, ℕ, ◌+◌, ◌≤◌, List, map, Bool, true, Some, None}
 use Rattle.fk_num.specs.Word.{Memory}
 use Rattle.fk_meaning_operation.specs.declared.operation.Operation.{Operation}
@@ -25,11 +25,11 @@ use Rattle.fk_sim_block.specs.Law.{Cycles, GroupLaw, is_shared_step, IsAskedOf}
 use Rattle.fk_sim_block.specs.Laws.{AllGo}
 use Rattle.fk_sim_match.specs.Behind.{runs_of, blocks_of}
 
--- all are at one distance
+-- All members are at one distance.
 abbrev pub all_act : (d : ℕ) → List Member → List Stage
 all_act d ms = map (λ m. Acts d) ms
 
--- by itself, at a local operation or a request
+-- A member by itself, at the block of a local operation or a request.
 abbrev pub MembersStandAtStages : Type 0
 MembersStandAtStages =
     (core : List CoreOp) (image : Image) (places : Places) (nestings : Nestings) (cycles : Cycles)
@@ -42,7 +42,7 @@ MembersStandAtStages =
     → StandsAt (core_source core setting) image plan
     (blocks_of core image places nestings setting plan first) t g (Acts (cycles.before i)) m p
 
--- at the end of `main`
+-- A member by itself, at the block of a halt.
 abbrev pub MembersHaltAtStages : Type 0
 MembersHaltAtStages =
     (core : List CoreOp) (image : Image) (places : Places) (nestings : Nestings) (cycles : Cycles)
@@ -53,7 +53,7 @@ MembersHaltAtStages =
     → (d : ℕ) × (d ≤ most_before) × StandsAt (core_source core setting) image plan
     (blocks_of core image places nestings setting plan first) t g (Acts d) m p
 
--- at an operation by meeting it is on its way
+-- A member at the block of a joint operation is on its way to the arrival word.
 abbrev pub MeetersSetOut : Type 0
 MeetersSetOut =
     (core : List CoreOp) (image : Image) (places : Places) (nestings : Nestings) (cycles : Cycles)
@@ -70,7 +70,8 @@ MeetersSetOut =
     × StandsAt (core_source core setting) image plan
     (blocks_of core image places nestings setting plan first) t g (Meets Commits w (Coming d)) m p
 
--- so it is at the beginning of `start`, in the root, where it meets all others
+-- A member at the beginning of `start`, in the root, is on its way to the word where it meets all
+-- others.
 abbrev pub StartersSetOut : Type 0
 StartersSetOut =
     (core : List CoreOp) (image : Image) (places : Places) (nestings : Nestings) (cycles : Cycles)
@@ -86,7 +87,8 @@ StartersSetOut =
     × StandsAt (core_source core setting) image plan
     (blocks_of core image places nestings setting plan first) t 0 (Meets Unites w (Coming d)) m p
 
--- members in lockstep at a local operation or a request, with nobody at the words of their node
+-- Members at a local operation or a request are in lockstep, with nobody at the words of their
+-- node.
 abbrev pub GroupsActTogether : Type 0
 GroupsActTogether =
     (core : List CoreOp) (image : Image) (places : Places) (nestings : Nestings) (cycles : Cycles)
@@ -101,7 +103,7 @@ GroupsActTogether =
     (blocks_of core image places nestings setting plan first) t g
     (all_act (cycles.before i) ms) ms ps own
 
--- at a step of the tree in which they keep their node
+-- Members at a step of the tree in which they keep their node are in lockstep.
 abbrev pub GroupsStepTogether : Type 0
 GroupsStepTogether =
     (core : List CoreOp) (image : Image) (places : Places) (nestings : Nestings) (cycles : Cycles)
@@ -117,7 +119,7 @@ GroupsStepTogether =
     (blocks_of core image places nestings setting plan first) t g
     (all_act (cycles.before i) ms) ms ps own
 
--- and at the end of the group of `start`
+-- Members at the end of the group of `start` are in lockstep.
 abbrev pub GroupsEndTogether : Type 0
 GroupsEndTogether =
     (core : List CoreOp) (image : Image) (places : Places) (nestings : Nestings) (cycles : Cycles)
@@ -129,7 +131,7 @@ GroupsEndTogether =
     → InLockstep (core_source core setting) image plan
     (blocks_of core image places nestings setting plan first) t g (all_act 0 ms) ms ps own
 
--- and at the beginning of it, where all who are in the root have met
+-- All who have met in the root at the beginning of `start` are in lockstep.
 abbrev pub GroupsStartTogether : Type 0
 GroupsStartTogether =
     (core : List CoreOp) (image : Image) (places : Places) (nestings : Nestings) (cycles : Cycles)

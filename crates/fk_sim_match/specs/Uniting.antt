@@ -1,4 +1,4 @@
--- Cycles in which somebody unites with others.
+-- Cycles in which harts unite with others.
 use Rattle.std.specs.Prelude.{◌≡◌, ℕ, zero, List, [], ◌∷◌, Bool, true, false, ◌⊎◌}
 use Rattle.fk_num.specs.Word.{Memory}
 use Rattle.fk_meaning.specs.Processor.{Setting}
@@ -14,7 +14,7 @@ use Rattle.fk_sim_block.specs.Stands.{Places}
 use Rattle.fk_sim_block.specs.Node.{Nestings}
 use Rattle.fk_sim_match.specs.Behind.{blocks_of, joining_blocks_of}
 
--- it leaves those with whom it unites, and so has met them
+-- A hart leaves those with whom it unites, and so has met them.
 abbrev pub unites_now : Stage → Bool
 unites_now (Meets Unites w (Leaving zero)) = true
 unites_now s = false
@@ -27,7 +27,7 @@ abbrev pub SomebodyUnites : List Stage → Type 0
 SomebodyUnites [] = ⊥
 SomebodyUnites (s ∷ stages) = (unites_now s ≡ true) ⊎ SomebodyUnites stages
 
--- who leaves its stage in another cycle has committed
+-- A hart that leaves its stage in a cycle in which nobody unites has committed.
 abbrev pub CyclesLeaveApart : Type 0
 CyclesLeaveApart =
     (core : List CoreOp) (image : Image) (places : Places) (nestings : Nestings) (setting : Setting)

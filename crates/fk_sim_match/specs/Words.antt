@@ -9,8 +9,8 @@ use Rattle.fk_sim_nodes.specs.Source.{Source, Shows}
 use Rattle.fk_sim_match.specs.Stage.{Stage}
 use Rattle.fk_sim_match.specs.Plan.{Plan, Tests, told_by, IsIdle, JointBlocksTurn, IsBound}
 
--- where all nodes are bound, a cycle without a fault leaves each of them as it was,
--- but for common ones
+-- Where the plan binds all nodes, a cycle without a fault leaves each control word that no node
+-- owns as it was, except common ones.
 abbrev pub WordsOfNobodyStay : (S P D : Type 0) → Type 0
 WordsOfNobodyStay S P D =
     (source : Source S P D) (image : Image) (plan : Plan) (tests : Tests P D) (t : Setting)

@@ -1,5 +1,5 @@
--- What a hart does alone, and what the members of a node do alone: cycles in which they touch
--- nothing that is shared but their node's own words.
+-- What a hart does alone, and what the members of a node do alone: cycles in which nothing shared
+-- changes except reservations and their node's own words.
 use Rattle.std.specs.Prelude.{◌≡◌, ℕ, zero, suc, ◌+◌, ◌*◌, ◌<◌, List, [], ◌∷◌, Some, Bool, true}
 use Rattle.std.specs.Prelude.{false, map, slice_get}
 use Rattle.fk_num.specs.Word.{Memory}
@@ -11,17 +11,17 @@ use Rattle.fk_machine.specs.Step.{step}
 use Rattle.fk_machine.specs.Run.{count_in}
 use Rattle.fk_sim_nodes.specs.Node.{Member, Words, Has}
 
--- a machine of this image
+-- The machine runs this image.
 abbrev pub Holds : Image → Setting → Type 0
 Holds image t = t.code ≡ map row image.code.items
 
--- word k of the code is this instruction, and its address has this count
+-- Word k of the code is this instruction, and its address has this count.
 pub record IsAt (image : Image) (k : ℕ) (i : Instruction) (count : ℕ) : Type 0 where
   pub within : k < 262144
   pub fetched : slice_get (map row image.code.items) k ≡ Some (Some i)
   pub counted : count_in image.commits.items (4 * k) ≡ count
 
--- the next cycle, and the one so many cycles later
+-- The next cycle, and the cycle that comes `d` cycles later.
 abbrev pub later : Setting → Setting
 later t = record t { finished = t.finished + 1 }
 
@@ -29,25 +29,25 @@ abbrev pub in_cycles : ℕ → Setting → Setting
 in_cycles zero t = t
 in_cycles (suc d) t = in_cycles d (later t)
 
--- a hart goes on, and of what is shared only reservations may change
+-- A hart goes on, and of what is shared only reservations may change.
 abbrev pub GoesAlone : Effect → Hart → Shared → Type 0
 GoesAlone effect h s = (reserved : Reservations)
     × (effect ≡ Goes h (record s { reserved = reserved }))
 
--- in this cycle the hart with a number runs an instruction that does not commit, and that touches
--- nothing but the hart. What it does may rest on the cycle and on the number
+-- In this cycle the hart with this number runs an instruction that does not commit, and that
+-- touches nothing but the hart. What it does may depend on the cycle and on the number.
 pub record IsPrivateIn (image : Image) (t : Setting) (number : ℕ) (h h' : Hart) : Type 0 where
   pub live : h.ended ≡ false
   pub counted : count_in image.commits.items h.pc ≡ 0
   pub goes : (s : Shared) → GoesAlone (step t number h s) h' s
 
--- so many of them, from this cycle on
+-- The hart runs this many such instructions, from this cycle on.
 abbrev pub RunsPrivately : Image → Setting → (number cycles : ℕ) → Hart → Hart → Type 0
 RunsPrivately image t number zero h h' = h ≡ h'
 RunsPrivately image t number (suc d) h h' =
     (h1 : Hart) × IsPrivateIn image t number h h1 × RunsPrivately image (later t) number d h1 h'
 
--- a hart goes on, and of what is shared only reservations and the node's own words may change
+-- A hart goes on, and of what is shared only reservations and the node's own words may change.
 pub record GoesWithin (mine : Words) (effect : Effect) (h : Hart) (sh : Shared)
     (own : Memory) : Type 0 where
   pub control : Memory
@@ -57,8 +57,8 @@ pub record GoesWithin (mine : Words) (effect : Effect) (h : Hart) (sh : Shared)
   pub keeps : (i : ℕ) → mine i ≡ false → control i ≡ sh.control i
 
 module _ (image : Image) (mine : Words) where
-  -- in this cycle a member runs an instruction, of count c, that touches nothing but its hart and
-  -- the node's own words
+  -- In this cycle a member runs an instruction, of count c, that touches nothing but its hart and
+  -- the node's own words.
   pub record Stays (t : Setting) (c : ℕ) (m : Member) (own : Memory) (h' : Hart)
       (own' : Memory) : Type 0 where
     pub live : m.hart.ended ≡ false
@@ -66,8 +66,8 @@ module _ (image : Image) (mine : Words) where
     pub goes : (sh : Shared) → Has mine sh.control own
         → GoesWithin mine (step t m.number m.hart sh) h' sh own'
 
-  -- all members run such an instruction, each from the words that those before it have left.
-  -- Then something holds
+  -- In this cycle all members run such an instruction, each on the words that those before it have
+  -- left. `Then` holds of the members and the words after that.
   abbrev pub NodeCycle : Setting → (c : ℕ) → List Member → (own : Memory)
       → (List Member → Memory → Type 0) → Type 0
   NodeCycle t c [] own Then = Then [] own
@@ -75,28 +75,28 @@ module _ (image : Image) (mine : Words) where
       (h' : Hart) × (own' : Memory) × Stays t c m own h' own'
       × NodeCycle t c ms own' (λ ms' own''. Then (record m { hart = h' } ∷ ms') own'')
 
-  -- so many cycles in which no member commits
+  -- This many cycles in which no member commits.
   abbrev pub NodeRun : Setting → (cycles : ℕ) → List Member → (own : Memory)
       → (List Member → Memory → Type 0) → Type 0
   NodeRun t zero ms own Then = Then ms own
   NodeRun t (suc d) ms own Then =
       NodeCycle t 0 ms own (λ ms' own'. NodeRun (later t) d ms' own' Then)
 
--- each member has so many private steps to go, to the hart in its place
+-- Each member has d private instructions to go, which lead to the hart in its place.
 abbrev pub AllRunPrivately : Image → Setting → (cycles : ℕ) → List Member → List Hart → Type 0
 AllRunPrivately image t d [] [] = Unit {0}
 AllRunPrivately image t d (m ∷ ms) (h' ∷ hs') =
     RunsPrivately image t m.number d m.hart h' × AllRunPrivately image t d ms hs'
 AllRunPrivately image t d ms hs' = ⊥
 
--- members with other harts
+-- Members with other harts.
 abbrev pub with_harts : List Member → List Hart → List Member
 with_harts (m ∷ ms) (h ∷ hs) = record m { hart = h } ∷ with_harts ms hs
 with_harts [] hs = []
 with_harts (m ∷ ms) [] = []
 
--- members at any places that have equally many private steps to go are a run of their node, which
--- leaves its words
+-- Members at any places that have equally many private instructions to go run them as a run of
+-- their node, and leave its words as they are.
 abbrev pub PrivateRunsAreNodeRuns : Type 0
 PrivateRunsAreNodeRuns =
     (image : Image) (mine : Words) (t : Setting) (d : ℕ) (ms : List Member)
@@ -104,7 +104,7 @@ PrivateRunsAreNodeRuns =
     → AllRunPrivately image t d ms hs'
     → NodeRun image mine t d ms own (λ ms' own'. (ms' ≡ with_harts ms hs') × (own' ≡ own))
 
--- a run and one from where it ends are one run
+-- A run of a node, and one from where it ends, are one run.
 abbrev pub NodeRunsJoin : Type 0
 NodeRunsJoin =
     (image : Image) (mine : Words) (t : Setting) (d e : ℕ) (ms : List Member) (own : Memory)

@@ -1,4 +1,4 @@
--- What the members of a node do in one cycle, each in its turn, told by the node's own words.
+-- What the members of a node do in one cycle, each in its turn, in terms of the node's own words.
 use Rattle.std.specs.Prelude.{◌≡◌, ℕ, List, [], ◌∷◌, Option, Some, None, false, cond, ◌⊎◌}
 use Rattle.fk_num.specs.Word.{Memory}
 use Rattle.fk_image.specs.declared.Image.{Image}
@@ -9,13 +9,13 @@ use Rattle.fk_machine.specs.Run.{count_of}
 use Rattle.fk_sim_nodes.specs.Node.{Member, Words, Has, KeepsOthers}
 use Rattle.fk_sim_nodes.specs.Source.{Source, Passes, Breaks, Shows}
 
--- the address that a hart runs in a cycle, if it has not ended
+-- The address that a hart runs in a cycle, if it has not ended.
 abbrev pub runs : Hart → Option ℕ
 runs h = cond h.ended None (Some h.pc)
 
 module _ {S P D : Type 0} (source : Source S P D) (image : Image) (mine : Words) (t : Setting) where
-  -- a member's turn is its processor's part. No control words change but the node's
-  -- own and common ones
+  -- A member's turn is its processor's part. No control words change but the node's own and common
+  -- ones.
   pub record Passing (m : Member) (p : P) (earlier : List ℕ) (sh : Shared) (s : S)
       (Then : Hart → D → Memory → Type 0) : Type 0 where
     pub hart : Hart
@@ -32,7 +32,7 @@ module _ {S P D : Type 0} (source : Source S P D) (image : Image) (mine : Words)
     pub keeps : KeepsOthers mine source.common sh.control shared.control
     pub follows : Then hart done own
 
-  -- or it ends the machine with its processor's fault
+  -- A member's turn ends the machine with its processor's fault.
   pub record Faulting (m : Member) (p : P) (sh : Shared) (s : S) : Type 0 where
     pub site : ℕ
     pub live : m.hart.ended ≡ false
@@ -41,8 +41,8 @@ module _ {S P D : Type 0} (source : Source S P D) (image : Image) (mine : Words)
         → turn m.hart.ended t m.number m.hart hs others sh
         ≡ after_effect m.hart hs others sh (Stops (Faulted site m.number))
 
-  -- These members have their turns in this order, from the node's own words on, whatever the store,
-  -- the other control words and what was printed are by then. In the end something holds of what
+  -- The members have their turns in this order, from the node's own words on, whatever the store,
+  -- the other control words and the earlier output are by then. In the end `Then` holds of what
   -- they have become and of the words.
   abbrev pub Chain : List Member → List P → (own : Memory)
       → (List Member → List D → Memory → Type 0) → Type 0

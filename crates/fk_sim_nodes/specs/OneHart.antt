@@ -1,5 +1,5 @@
--- What is so of one hart is so of a group: members that each do an operation by
--- themselves do it together.
+-- What holds of one hart holds of a group: members that each do an operation by themselves do it
+-- together.
 use Rattle.std.specs.Prelude.{◌≡◌, ℕ, List, [], ◌∷◌, Bool, true, false, ◌⊎◌}
 use Rattle.fk_num.specs.Word.{Memory}
 use Rattle.fk_image.specs.declared.Image.{Image}
@@ -13,8 +13,8 @@ use Rattle.fk_sim_nodes.specs.Alone.{later, in_cycles, RunsPrivately, NodeRun}
 use Rattle.fk_sim_nodes.specs.Together.{Together}
 
 module _ {S P D : Type 0} (source : Source S P D) (image : Image) where
-  -- on a store that is shown an instruction of a member is its processor's part with count c. No
-  -- control words change but common ones
+  -- On this store an instruction of a member is its processor's part with count c. No control words
+  -- change but common ones.
   pub record Serves (t : Setting) (c : ℕ) (m : Member) (p : P) (s : S)
       (Then : Hart → D → Type 0) : Type 0 where
     pub hart : Hart
@@ -27,21 +27,22 @@ module _ {S P D : Type 0} (source : Source S P D) (image : Image) where
         × ((i : ℕ) → source.common i ≡ false → sh'.control i ≡ sh.control i)
     pub follows : Then hart done
 
-  -- or it is the fault of this part
+  -- On this store the instruction is the fault of that part.
   pub record Faults (t : Setting) (c : ℕ) (m : Member) (p : P) (s : S) : Type 0 where
     pub site : ℕ
     pub part : source.part c s p ≡ Breaks site
     pub stops : (earlier : List ℕ) (sh : Shared) → Shows source earlier sh s
         → step t m.number m.hart sh ≡ Stops (Faulted site m.number)
 
-  -- a member runs an address of count c in this cycle, and so it is on every store
+  -- In this cycle a member runs an address of count c. On every store that is its processor's part
+  -- or fault.
   pub record OneCommits (t : Setting) (c : ℕ) (m : Member) (p : P)
       (Then : Hart → D → Type 0) : Type 0 where
     pub live : m.hart.ended ≡ false
     pub counted : count_in image.commits.items m.hart.pc ≡ c
     pub does : (s : S) → Serves t c m p s Then ⊎ Faults t c m p s
 
-  -- a member does so after so many private instructions, and then runs so many private ones
+  -- A member commits so after `before` private instructions, and then runs `after` private ones.
   pub record OneDoes (t : Setting) (c before after : ℕ) (m : Member) (p : P)
       (Then : Hart → D → Type 0) : Type 0 where
     pub committing : Hart
@@ -50,7 +51,7 @@ module _ {S P D : Type 0} (source : Source S P D) (image : Image) where
         (λ h d. (h' : Hart)
         × RunsPrivately image (later (in_cycles before t)) m.number after h h' × Then h' d)
 
-  -- each member does, to what is told of it by its number and its processor
+  -- Each member commits so, and comes to what `Goal` says of its number and its processor.
   abbrev pub EachDoes : Setting → (c before after : ℕ) → (ℕ → P → Hart → D → Type 0) → List Member
       → List P → Type 0
   EachDoes t c before after Goal [] [] = Unit {0}
@@ -58,16 +59,16 @@ module _ {S P D : Type 0} (source : Source S P D) (image : Image) where
       OneDoes t c before after m p (Goal m.number p) × EachDoes t c before after Goal ms ps
   EachDoes t c before after Goal ms ps = ⊥
 
--- what is told of members by their numbers and processors is so
+-- What `Goal` says of members, by their numbers and processors, holds.
 abbrev pub AllReach : {P D : Type 0} → (ℕ → P → Hart → D → Type 0) → List P → List Member
     → List D → Type 0
 AllReach Goal [] [] [] = Unit {0}
 AllReach Goal (p ∷ ps) (m ∷ ms) (d ∷ ds) = Goal m.number p m.hart d × AllReach Goal ps ms ds
 AllReach Goal ps ms ds = ⊥
 
--- members that each have so many private instructions before their commits, and so many
--- behind, commit together, each with its own request, and go on together; their node's words
--- stay as they are
+-- Members that each have `before` private instructions before their commits, and `after` after
+-- them, commit together, each with its own request, and go on together. Their node's words stay as
+-- they are.
 abbrev pub MembersDoAsEach : (S P D : Type 0) → Type 0
 MembersDoAsEach S P D =
     (source : Source S P D) (image : Image) (mine : Words) (t : Setting) (c before after : ℕ)

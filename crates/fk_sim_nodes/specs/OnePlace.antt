@@ -1,5 +1,5 @@
--- Members that stand at one place run the same instruction in one cycle, each on the words that
--- those before it have left.
+-- Members at one place run the same instruction in one cycle, each on the words that those before
+-- it have left.
 use Rattle.std.specs.Prelude.{◌≡◌, ℕ, suc, ◌*◌, ◌%◌, ◌==◌, List, [], ◌∷◌, ◌++◌, true, false}
 use Rattle.fk_num.specs.Word.{Memory, word_sum}
 use Rattle.fk_image.specs.declared.Image.{Image}
@@ -13,41 +13,41 @@ use Rattle.fk_machine.specs.Step.{perform}
 use Rattle.fk_sim_nodes.specs.Node.{Member, add, Words}
 use Rattle.fk_sim_nodes.specs.Alone.{Holds, IsAt, GoesAlone, NodeCycle}
 
--- all members live, and stand at word k of the code
+-- All members are live, and at word k of the code.
 abbrev pub AllStandAt : (k : ℕ) → List Member → Type 0
 AllStandAt k [] = Unit {0}
 AllStandAt k (m ∷ ms) = (m.hart.pc ≡ 4 * k) × (m.hart.ended ≡ false) × AllStandAt k ms
 
--- each member with what a function makes of its hart
+-- Each member with what a function makes of its hart.
 abbrev pub on_each : (Member → Hart) → List Member → List Member
 on_each f [] = []
 on_each f (m ∷ ms) = record m { hart = f m } ∷ on_each f ms
 
--- a hart at its next instruction, and with a value in a register
+-- A hart at its next instruction, and one that also has a value in a register.
 abbrev pub onward : Hart → Hart
 onward h = record h { pc = word_sum h.pc 4 }
 
 abbrev pub onward_with : (register value : ℕ) → Hart → Hart
 onward_with r v h = record h { registers = set_register h.registers r v; pc = word_sum h.pc 4 }
 
--- an address is that of a control word that is the node's own
+-- An address is that of a control word that the node owns.
 pub record IsOwnWord (mine : Words) (address word : ℕ) : Type 0 where
   pub aligned : address % 4 ≡ 0
   pub place : place_of address ≡ ControlWord word
   pub own : mine word ≡ true
 
--- each member's address is that of an own word, not always the same
+-- Each member's address is that of a word that the node owns. The words may differ.
 abbrev pub AllAtOwn : Words → (address : Hart → ℕ) → (word : Member → ℕ) → List Member → Type 0
 AllAtOwn mine address word [] = Unit {0}
 AllAtOwn mine address word (m ∷ ms) = IsOwnWord mine (address m.hart) (word m)
     × AllAtOwn mine address word ms
 
--- what is in a register of each of the members whose word is w
+-- The values in a register of those members whose word is w.
 abbrev pub values_for : (word : Member → ℕ) → (register w : ℕ) → List Member → List ℕ
 values_for word r w [] = []
 values_for word r w (m ∷ ms) = add (w == word m) (m.hart.registers r) (values_for word r w ms)
 
--- the last value, if there is one, and the sum of all
+-- The last value of a list, or v if the list is empty; and the sum of v and all values.
 abbrev pub last_or : ℕ → List ℕ → ℕ
 last_or v [] = v
 last_or v (x ∷ xs) = last_or x xs
@@ -56,7 +56,7 @@ abbrev pub sum_from : ℕ → List ℕ → ℕ
 sum_from v [] = v
 sum_from v (x ∷ xs) = sum_from (word_sum v x) xs
 
--- each member with its word, to which those before it have added, in a register
+-- Each member with its word's value in a register, to which those before it have added.
 abbrev pub each_finds : (word : Member → ℕ) → (rd rv : ℕ) → (own : Memory) → (before : List Member)
     → List Member → List Member
 each_finds word rd rv own before [] = []
@@ -65,7 +65,8 @@ each_finds word rd rv own before (m ∷ ms) =
     { hart = onward_with rd (sum_from (own (word m)) (values_for word rv (word m) before)) m.hart }
     ∷ each_finds word rd rv own (before ++ m ∷ []) ms
 
--- the instruction of all touches nothing but its hart: what it does may differ by hart and cycle
+-- The instruction of all members touches nothing but the hart. What it does may differ by hart and
+-- cycle.
 abbrev pub AllGoAlone : Setting → Instruction → (Member → Hart) → List Member → Type 0
 AllGoAlone t i f [] = Unit {0}
 AllGoAlone t i f (m ∷ ms) = ((s : Shared) → GoesAlone (perform t m.number i m.hart s) (f m) s)
@@ -78,7 +79,7 @@ PrivateOfAll =
     → Holds image t → IsAt image k i c → AllStandAt k ms → AllGoAlone t i f ms
     → NodeCycle image mine t c ms own (λ ms' own'. (ms' ≡ on_each f ms) × (own' ≡ own))
 
--- each loads its own word
+-- Each member loads its own word.
 abbrev pub LoadsOfAll : Type 0
 LoadsOfAll =
     (image : Image) (mine : Words) (t : Setting) (k c rd rs imm : ℕ) (word : Member → ℕ)
@@ -89,7 +90,7 @@ LoadsOfAll =
     (λ ms' own'. (ms' ≡ on_each (λ m. onward_with rd (own (word m)) m.hart) ms) × (own' ≡ own)
     × AllStandAt (suc k) ms')
 
--- the last value that is stored to a word stays
+-- The last value that is stored to a word stays.
 abbrev pub StoresOfAll : Type 0
 StoresOfAll =
     (image : Image) (mine : Words) (t : Setting) (k c rs rv imm : ℕ) (word : Member → ℕ)
@@ -100,7 +101,7 @@ StoresOfAll =
     (λ ms' own'. (ms' ≡ on_each (λ m. onward m.hart) ms)
     × ((w : ℕ) → own' w ≡ last_or (own w) (values_for word rv w ms)) × AllStandAt (suc k) ms')
 
--- a word becomes the sum of what is added to it, and each member finds the sum of those before it
+-- A word becomes the sum of what is added to it, and each member finds the sum of those before it.
 abbrev pub AddsOfAll : Type 0
 AddsOfAll =
     (image : Image) (mine : Words) (t : Setting) (k c rd rs rv : ℕ) (word : Member → ℕ)

@@ -1,12 +1,12 @@
--- The phases of a hart at an arrival word, by which the members of a node meet, and what a
--- cycle makes of them.
+-- The phases of a hart at an arrival word, where the members of a node meet, and what a cycle makes
+-- of them.
 use Rattle.std.specs.Prelude.{◌≡◌, ℕ, zero, suc, ◌+◌, ◌%◌, ◌==◌, ◌&&◌, ◌≤◌, List, [], ◌∷◌, Bool}
 use Rattle.std.specs.Prelude.{true, false, ◌⊎◌}
 use Rattle.fk_num.specs.Word.{word_sum}
 
--- where a hart stands towards an arrival word: it is no member; a member that is not on its way; so
--- many private steps before it arrives; it has arrived, and polls; it has seen that all are there,
--- so many private steps before its commit
+-- The phase of a hart at an arrival word: it is no member; it is a member that is not on its way;
+-- it arrives after `steps` private steps; it has arrived, and polls; or it has seen that all are
+-- there, and leaves after `steps` private steps.
 pub data Phase : Type 0 where
   Outside : Phase
   Away : Phase
@@ -14,7 +14,7 @@ pub data Phase : Type 0 where
   Waiting : Phase
   Leaving : (steps : ℕ) → Phase
 
--- harts arrive in even cycles and poll in odd ones: so who is on its way is in step with them
+-- Harts arrive in even cycles and poll in odd ones. A hart on its way keeps to that.
 abbrev pub is_odd : ℕ → Bool
 is_odd t = t % 2 == 1
 
@@ -22,25 +22,26 @@ abbrev pub InStep : (t : ℕ) → Phase → Type 0
 InStep t (Coming d) = (t + d) % 2 ≡ 0
 InStep t f = Unit {0}
 
--- a member that is not there, or on its way
+-- A member has not arrived: it is away, or on its way.
 abbrev pub IsFree : (t : ℕ) → Phase → Type 0
 IsFree t Away = Unit {0}
 IsFree t (Coming d) = (t + d) % 2 ≡ 0
 IsFree t f = ⊥
 
--- what the turn of a hart makes of the arrival word: who arrives adds 1, who commits stores 0
+-- What the turn of a hart makes of the arrival word: one that arrives adds 1, and one that leaves
+-- stores 0.
 abbrev pub word_after : Phase → ℕ → ℕ
 word_after (Coming zero) v = word_sum v 1
 word_after (Leaving zero) v = 0
 word_after f v = v
 
--- who polls goes on so, or has seen that all are there, and then has so many steps to its commit
+-- The phase after a poll: a hart that has seen that all are there leaves after `lead` steps, and
+-- another goes on polling.
 abbrev pub polled : (lead : ℕ) → Bool → Phase
 polled lead true = Leaving lead
 polled lead false = Waiting
 
--- what its turn in cycle t makes of a hart, where there are n members and its turn
--- finds v in the word
+-- What its turn in cycle t makes of a hart, where n members meet and its turn finds v in the word.
 abbrev pub Moves : (t n lead v : ℕ) → Phase → Phase → Type 0
 Moves t n lead v Outside f = f ≡ Outside
 Moves t n lead v Away f = IsFree (t + 1) f
@@ -50,15 +51,15 @@ Moves t n lead v Waiting f = f ≡ polled lead (is_odd t && v == n)
 Moves t n lead v (Leaving zero) f = IsFree (t + 1) f
 Moves t n lead v (Leaving (suc d)) f = f ≡ Leaving d
 
--- the turns of all harts in cycle t, in ascending number, each on the word that those
--- below it have left
+-- The turns of all harts in cycle t, in ascending number, each on the word that those below it have
+-- left.
 abbrev pub AllMove : (t n lead : ℕ) → List Phase → (v : ℕ) → List Phase → (v' : ℕ) → Type 0
 AllMove t n lead [] v [] v' = v' ≡ v
 AllMove t n lead (f ∷ fs) v (f' ∷ fs') v' = Moves t n lead v f f'
     × AllMove t n lead fs (word_after f v) fs' v'
 AllMove t n lead fs v fs' v' = ⊥
 
--- how many are members, and how many of them have arrived and not yet left
+-- How many are members, and how many of them have arrived and not yet left.
 abbrev pub and_member : Phase → ℕ → ℕ
 and_member Outside k = k
 and_member f k = suc k
@@ -80,29 +81,29 @@ abbrev pub Each : (Phase → Type 0) → List Phase → Type 0
 Each P [] = Unit {0}
 Each P (f ∷ fs) = P f × Each P fs
 
--- it has not seen that all are there
+-- A hart has not seen that all are there.
 abbrev pub Stays : Phase → Type 0
 Stays (Leaving d) = ⊥
 Stays f = Unit {0}
 
--- if it is a member, it is so many private steps before its commit
+-- A hart is no member, or is `d` private steps before it leaves.
 abbrev pub Leaves : (steps : ℕ) → Phase → Type 0
 Leaves d Outside = Unit {0}
 Leaves d (Leaving e) = e ≡ d
 Leaves d f = ⊥
 
--- nobody has seen it, or all have, and commit in the same cycle
+-- No member has seen that all are there, or all have, and leave in the same cycle.
 abbrev pub AreTogether : List Phase → Type 0
 AreTogether fs = Each Stays fs ⊎ ((d : ℕ) × Each (Leaves d) fs)
 
--- before cycle t: the word of n members counts those who have arrived, and they are together
+-- Before cycle t the word of n members counts those who have arrived, and they are together.
 pub record Settled (t n v : ℕ) (fs : List Phase) : Type 0 where
   pub size : members fs ≡ n
   pub count : arrived fs ≡ v
   pub in_step : Each (InStep t) fs
   pub together : AreTogether fs
 
--- some member commits in this cycle
+-- A member leaves in this cycle: it commits, or unites with the others.
 abbrev pub Commits : Phase → Type 0
 Commits (Leaving zero) = Unit {0}
 Commits f = ⊥
@@ -111,25 +112,25 @@ abbrev pub SomeCommits : List Phase → Type 0
 SomeCommits [] = ⊥
 SomeCommits (f ∷ fs) = Commits f ⊎ SomeCommits fs
 
--- a member has entered and not yet left, and k cycles are enough for it to arrive, to see that all
--- are there, and to commit
+-- A member has entered and not yet left, and k cycles are enough for it to arrive, to see that all
+-- are there, and to leave.
 abbrev pub HasTime : (lead k : ℕ) → Phase → Type 0
 HasTime lead k Away = ⊥
 HasTime lead k (Coming d) = d + lead + 2 ≤ k
 HasTime lead k (Leaving d) = d ≤ k
 HasTime lead k f = Unit {0}
 
--- the next poll but in this cycle, and then the commit, are at most k cycles from now; or
--- all leave by then
+-- The next poll but in this cycle, and then the leaving, are at most k cycles from now; or all
+-- leave by then.
 abbrev pub IsNear : (lead k t : ℕ) → List Phase → Type 0
 IsNear lead k t fs = (lead + 2 ≤ k + t % 2) ⊎ ((d : ℕ) × (d ≤ k) × Each (Leaves d) fs)
 
--- all commit after at most k cycles more
+-- All members leave after at most k cycles more.
 pub record IsDue (lead k t : ℕ) (fs : List Phase) : Type 0 where
   pub time : Each (HasTime lead k) fs
   pub near : IsNear lead k t fs
 
--- between two cycles a member that is away may set out
+-- Between two cycles, a member that is away may set out.
 abbrev pub SetsOut : (t : ℕ) → Phase → Phase → Type 0
 SetsOut t Away f = IsFree t f
 SetsOut t g f = f ≡ g
@@ -139,7 +140,7 @@ AllSetOut t [] [] = Unit {0}
 AllSetOut t (f ∷ fs) (f' ∷ fs') = SetsOut t f f' × AllSetOut t fs fs'
 AllSetOut t fs fs' = ⊥
 
--- if it is a member, it has not arrived
+-- A hart is no member, or has not arrived.
 abbrev pub IsIdle : (t : ℕ) → Phase → Type 0
 IsIdle t Waiting = ⊥
 IsIdle t (Leaving d) = ⊥

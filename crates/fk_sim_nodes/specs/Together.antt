@@ -12,13 +12,13 @@ use Rattle.fk_sim_nodes.specs.Source.{Source, Passes, Breaks, Shows}
 use Rattle.fk_sim_nodes.specs.Chain.{runs, Passing, Faulting, Chain}
 use Rattle.fk_sim_nodes.specs.Alone.{later, in_cycles, NodeCycle, NodeRun}
 
--- the addresses that members are about to run have this count
+-- The addresses that the members are about to run have this count.
 abbrev pub AllCount : Image → (c : ℕ) → List Member → Type 0
 AllCount image c [] = Unit {0}
 AllCount image c (m ∷ ms) = (count_of image (runs m.hart) ≡ c) × AllCount image c ms
 
--- processors' parts with count c leave every store as it is, and this becomes of the processors,
--- one for each member
+-- Processors' parts with count c leave every store as it is, and make these of the processors, one
+-- for each member.
 abbrev pub AllTake : {S P D : Type 0} → Source S P D → (c : ℕ) → List Member → List P
     → List D → Type 0
 AllTake source c [] [] [] = Unit {0}
@@ -26,8 +26,8 @@ AllTake {S = S} source c (m ∷ ms) (p ∷ ps) (d ∷ ds) = ((s : S) → source.
     × AllTake source c ms ps ds
 AllTake source c ms ps ds = ⊥
 
--- members' turns one after another, each as is told: from the words that it finds, to
--- those that it leaves
+-- Members' turns one after another, each as `Moves` says, from the words that it finds to those
+-- that it leaves.
 abbrev pub AllMove : {P D : Type 0} → (Memory → Member → P → Memory → Hart → D → Type 0)
     → (own : Memory) → List Member → List P → (own' : Memory) → List Member → List D → Type 0
 AllMove Moves own [] [] own' [] [] = own' ≡ own
@@ -37,20 +37,20 @@ AllMove Moves own (m ∷ ms) (p ∷ ps) own' (m' ∷ ms') (d ∷ ds) =
 AllMove Moves own ms ps own' ms' ds = ⊥
 
 module _ {S P D : Type 0} (source : Source S P D) (image : Image) (mine : Words) where
-  -- in this cycle all members take part with count c, by such a chain
+  -- In this cycle all members take part with count c, by such a chain.
   pub record Commits (t : Setting) (c : ℕ) (ms : List Member) (ps : List P) (own : Memory)
       (Then : List Member → List D → Memory → Type 0) : Type 0 where
     pub counted : AllCount image c ms
     pub chain : Chain source image mine t ms ps own Then
 
-  -- so many cycles from now they do, and till then the node runs alone
+  -- All members take part `cycles` cycles from now, and until then the node runs alone.
   abbrev pub Together : Setting → (c cycles : ℕ) → List Member → List P → (own : Memory)
       → (List Member → List D → Memory → Type 0) → Type 0
   Together t c zero ms ps own Then = Commits t c ms ps own Then
   Together t c (suc d) ms ps own Then =
       NodeCycle image mine t 0 ms own (λ ms' own'. Together (later t) c d ms' ps own' Then)
 
-  -- each member's turn is as is told, from whatever words of the node
+  -- Each member's turn is as `Moves` says, whatever words of the node it finds.
   abbrev pub EachMoves : Setting → (Memory → Member → P → Memory → Hart → D → Type 0) → List Member
       → List P → Type 0
   EachMoves t Moves [] [] = Unit {0}
@@ -62,8 +62,8 @@ module _ {S P D : Type 0} (source : Source S P D) (image : Image) (mine : Words)
       × EachMoves t Moves ms ps
   EachMoves t Moves ms ps = ⊥
 
--- a cycle of a node alone is a commit, with its count, of processors whose parts leave
--- every store as it is
+-- A cycle of a node alone is a commit, with its count, where the processors' parts leave every
+-- store as it is.
 abbrev pub NodeCyclesAreCommits : (S P D : Type 0) → Type 0
 NodeCyclesAreCommits S P D =
     (source : Source S P D) (image : Image) (mine : Words) (t : Setting) (c : ℕ) (ms : List Member)
@@ -73,7 +73,7 @@ NodeCyclesAreCommits S P D =
     → NodeCycle image mine t c ms own (λ ms' own'. test ms' own' ≡ true)
     → Commits source image mine t c ms ps own (λ ms' ds' own'. (ds' ≡ ds) × (test ms' own' ≡ true))
 
--- a cycle before their commit members are not in the round, and come one cycle nearer to it
+-- In a cycle before their commit members are not in the round, and come one cycle nearer to it.
 abbrev pub MembersComeNearer : (S P D : Type 0) → Type 0
 MembersComeNearer S P D =
     (source : Source S P D) (image : Image) (mine : Words) (t : Setting) (c d : ℕ) (idle : P → D)
@@ -86,8 +86,8 @@ MembersComeNearer S P D =
     (λ ms' ds own'. (ds ≡ map idle ps) × Together source image mine (later t) c d ms' ps own'
     (λ ms'' ds' own''. test ms'' ds' own'' ≡ true))
 
--- a run of a node after which its members are so many cycles before their commit is so many
--- cycles more before it
+-- A run of b cycles of a node, after which its members are `a` cycles before their commit, starts b
+-- + a cycles before it.
 abbrev pub RunsLeadToCommits : (S P D : Type 0) → Type 0
 RunsLeadToCommits S P D =
     (source : Source S P D) (image : Image) (mine : Words) (t : Setting) (c b a : ℕ)
@@ -97,7 +97,7 @@ RunsLeadToCommits S P D =
     (in_cycles b t) c a ms' ps own' (λ ms'' ds own''. test ms'' ds own'' ≡ true))
     → Together source image mine t c (b + a) ms ps own (λ ms'' ds own''. test ms'' ds own'' ≡ true)
 
--- what members do rests on their node's own words alone: others may be put beside them
+-- What members do depends on their node's own words alone: other words may be put beside these.
 abbrev pub MembersRestOnOwnWords : (S P D : Type 0) → Type 0
 MembersRestOnOwnWords S P D =
     (source : Source S P D) (image : Image) (mine : Words) (t : Setting) (c d : ℕ) (m : Member)
@@ -107,7 +107,7 @@ MembersRestOnOwnWords S P D =
     → Together source image mine t c d (m ∷ ms) ps own (λ ms' ds own'. test ms' ds own' ≡ true)
     → Together source image mine t c d (m ∷ ms) ps own2 (λ ms' ds own'. test ms' ds own' ≡ true)
 
--- members whose turns are as a test tells, on whatever words, have a chain of such turns
+-- Members whose turns are as a test says, on whatever words, have a chain of such turns.
 abbrev pub MovesAreChains : (S P D : Type 0) → Type 0
 MovesAreChains S P D =
     (source : Source S P D) (image : Image) (mine : Words) (t : Setting)
@@ -117,7 +117,8 @@ MovesAreChains S P D =
     → Chain source image mine t ms ps own (λ ms' ds own'.
     AllMove (λ before m p after h d. test before m p after h d ≡ true) own ms ps own' ms' ds)
 
--- a group whose lowest member faults, whatever the store, is cut there: no other member is served
+-- A cycle is cut at the lowest member of a group, where that faults, whatever the store: no other
+-- member is served.
 abbrev pub LowestFaultsForAll : (S P D : Type 0) → Type 0
 LowestFaultsForAll S P D =
     (source : Source S P D) (image : Image) (mine : Words) (t : Setting) (c site : ℕ) (m : Member)

@@ -11,22 +11,22 @@ use Rattle.fk_sim_nodes.specs.Node.{Member, numbered, of_node, AreAsMany, Words,
 use Rattle.fk_sim_nodes.specs.Source.{Source, Shows, AllPass, FaultsAfter}
 use Rattle.fk_sim_nodes.specs.Chain.{runs, Chain}
 
--- the counts of the addresses that harts are about to run, and of those that they have run
+-- The counts of the addresses that harts are about to run, and of those that they have run.
 abbrev pub planned : Image → List Hart → List ℕ
 planned image hs = map (λ h. count_of image (runs h)) hs
 
 abbrev pub counted : Image → Turns → List ℕ
 counted image done = map (count_of image) done.ran
 
--- so many first counts, and 0 in place of the others
+-- The first n counts, and 0 in place of the others.
 abbrev pub first_of : ℕ → List ℕ → List ℕ
 first_of n [] = []
 first_of zero (c ∷ counts) = 0 ∷ first_of zero counts
 first_of (suc n) (c ∷ counts) = c ∷ first_of n counts
 
 module _ {S P D : Type 0} (source : Source S P D) (image : Image) (words : ℕ → Words) where
-  -- all harts from a number on have had their turns, each as its processor's part, and each node
-  -- has come to what holds after its chain
+  -- All harts from a number on have had their turns, each as its processor's part, and each node
+  -- has come to what holds after its chain.
   pub record IsWhole (After : ℕ → List Member → List D → Memory → Type 0)
       (earlier : List ℕ) (number : ℕ) (nodes : List ℕ) (hs : List Hart) (ps : List P) (s : S)
       (done : Turns) : Type 0 where
@@ -42,8 +42,8 @@ module _ {S P D : Type 0} (source : Source S P D) (image : Image) (words : ℕ �
     pub after : (g : ℕ)
         → After g (of_node g nodes (numbered number done.harts)) (of_node g nodes did) (own g)
 
-  -- or one of them has ended the machine, with the first fault of the processors' parts, and nobody
-  -- above it was served
+  -- One of these harts has ended the machine, with the first fault of the processors' parts, and no
+  -- hart above it was served.
   pub record IsCut (earlier : List ℕ) (number : ℕ) (hs : List Hart) (ps : List P) (s : S)
       (done : Turns) : Type 0 where
     pub site : ℕ
@@ -59,8 +59,8 @@ module _ {S P D : Type 0} (source : Source S P D) (image : Image) (words : ℕ �
   IsRound After earlier number nodes hs ps s done =
       IsWhole After earlier number nodes hs ps s done ⊎ IsCut earlier number hs ps s done
 
--- nodes that own words apart, each with a chain from its own words on. What holds of each
--- afterwards is told by a test
+-- Nodes own words apart, and each has a chain from its own words on. A test tells what holds of
+-- each afterwards.
 abbrev pub ChainsAreTheCycle : (S P D : Type 0) → Type 0
 ChainsAreTheCycle S P D =
     (source : Source S P D) (image : Image) (words : ℕ → Words) (t : Setting)

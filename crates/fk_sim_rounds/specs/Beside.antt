@@ -1,5 +1,5 @@
--- A state of a core run, beside the processors of a machine, each of which is at the operation that
--- jumps lead it to.
+-- A state of a core run and the processors of a machine that match it. Each of those is at the
+-- operation to which jumps lead it.
 use Rattle.std.specs.Prelude.{◌≡◌, ℕ, suc, List, [], ◌∷◌, map, None}
 use Rattle.fk_num.specs.Word.{Memory}
 use Rattle.fk_meaning.specs.Processor.{Setting}
@@ -17,17 +17,17 @@ module _ (core : List CoreOp) where
   abbrev pub landed_state : State Position → State Position
   landed_state s = record s { runners = map landed_runner s.runners }
 
--- each has the heap of its number, from one on
+-- Each processor has the heap of its number, from a number on.
 abbrev pub HaveHeaps : (number : ℕ) → (heaps : ℕ → Memory) → List Owner → Type 0
 HaveHeaps number heaps [] = Unit {0}
 HaveHeaps number heaps (p ∷ ps) = (heaps number ≡ p.heap) × HaveHeaps (suc number) heaps ps
 
--- runners stand in the order of their numbers
+-- Runners are in the order of their numbers.
 abbrev pub AreInOrder : (number : ℕ) → List (Runner Position) → Type 0
 AreInOrder number [] = Unit {0}
 AreInOrder number (r ∷ rs) = (r.has.number ≡ number) × AreInOrder (suc number) rs
 
--- a run goes on, with these processors and what they share
+-- A run goes on, with these processors and with what they share.
 pub record IsBeside (core : List CoreOp) (s : State Position) (ps : List Owner)
     (shared : Commons) : Type 0 where
   pub going : s.fault ≡ None
@@ -35,7 +35,8 @@ pub record IsBeside (core : List CoreOp) (s : State Position) (ps : List Owner)
   pub heaps : HaveHeaps 0 s.store.heaps ps
   pub commons : commons_of s.store ≡ shared
 
--- whichever of both forms a round begins with, it leaves the same
+-- A round leaves the same, whether its processors are at jumps or at the operations to which these
+-- lead.
 abbrev pub LandedRunsAreRuns : Type 0
 LandedRunsAreRuns =
     (core : List CoreOp) (setting : Setting) (round : Round) (s : State Position) → JumpsLead core

@@ -1,5 +1,5 @@
--- Who has committed comes to the stage of its next operation, if private instructions lead it to
--- where its processor goes on.
+-- A hart that has committed comes to the stage of its next operation, if private instructions lead
+-- it to where its processor goes on.
 use Rattle.std.specs.Prelude.{◌≡◌, ℕ, ◌≤◌, ◌<◌, List, [], ◌∷◌, true, false, None, is_some}
 use Rattle.fk_num.specs.Word.{Memory}
 use Rattle.fk_space.specs.Space.{Space}
@@ -28,30 +28,32 @@ use Rattle.fk_sim_match.specs.Behind.{runs_of, blocks_of}
 use Rattle.fk_sim_match.specs.Rounds.{IsDueAt}
 use Rattle.fk_sim_rounds.specs.Next.{JumpsLead, landed, all_landed, IsHome, HasNext, HaveNext}
 
--- the most cycles from one commit to the next one: behind the one, a jump, and before the other. A
--- pace of 256 rounds leaves room for no more
+-- The most cycles from one commit to the next: those after the first, a jump, and those before the
+-- second. A pace of 256 rounds leaves room for no more.
 abbrev pub most_between : ℕ
 most_between = 254
 
--- so fewer to the arrival at a word. Behind that one polls, finds all there and leaves in three
--- cycles at most; and who unites with the others commits up to 40 cycles later (most_united)
+-- The most cycles from a commit to the arrival at a word. After that a hart polls, finds all there
+-- and leaves, in three cycles at most. One that unites with the others commits up to 40 cycles
+-- later (`most_united`).
 abbrev pub most_to_word : Ending → ℕ
 most_to_word Commits = 251
 most_to_word Unites = 211
 
--- who has just committed is so near its next commit, or the word where it meets others
+-- A hart that has just committed is this near to its next commit, or to the word where it meets
+-- others.
 abbrev pub IsSoon : Stage → Type 0
 IsSoon Ended = Unit {0}
 IsSoon (Acts d) = d ≤ most_between
 IsSoon (Meets e w (Coming d)) = d ≤ most_to_word e
 IsSoon s = ⊥
 
--- their numbers are those of processors
+-- All numbers are those of processors.
 abbrev pub AllBelow : (processors : ℕ) → List Owner → Type 0
 AllBelow n [] = Unit {0}
 AllBelow n (p ∷ ps) = (number_of p < n) × AllBelow n ps
 
--- a node that is there, in a tree whose nodes own words apart
+-- The node is in the tree, whose nodes own words apart.
 pub record IsNode (tree : Tree) (spaces : ℕ → Space) (g : ℕ) : Type 0 where
   pub spaced : HaveSpaces tree spaces
   pub there : is_some (tree.nodes g) ≡ true
@@ -59,8 +61,8 @@ pub record IsNode (tree : Tree) (spaces : ℕ → Space) (g : ℕ) : Type 0 wher
 
 module _ (core : List CoreOp) (image : Image) (places : Places) (nestings : Nestings)
     (setting : Setting) (tree : Tree) (spaces : ℕ → Space) (nodes : List ℕ) where
-  -- a member of a node is at a stage, fresh from its commit, and its processor is about to
-  -- do what that tells
+  -- A member of a node is at a stage, fresh from its commit, and its processor is about to do what
+  -- that stage tells.
   pub record ComesTo (t : MachineSetting) (g : ℕ) (m : Member) (p : Owner) : Type 0 where
     pub stage : Stage
     pub fresh : IsFresh t stage
@@ -70,7 +72,7 @@ module _ (core : List CoreOp) (image : Image) (places : Places) (nestings : Nest
     pub due : IsDueAt core tree spaces g stage p.runner
     pub soon : IsSoon stage
 
-  -- members of a node are at a distance from their common commit
+  -- Members of a node are at a distance from their common commit.
   pub record ComeTo (t : MachineSetting) (g : ℕ) (ms : List Member) (ps : List Owner)
       (own : Memory) : Type 0 where
     pub distance : ℕ
@@ -80,7 +82,8 @@ module _ (core : List CoreOp) (image : Image) (places : Places) (nestings : Nest
         ((blocks_of core image places nestings setting (plan_of tree spaces nodes)
         (first_of spaces)).AfterAll (later (in_cycles distance t)) g)
 
--- by itself: so many private instructions lead it to where its processor goes on, perhaps at a jump
+-- A member by itself comes to a stage, if b private instructions lead it to where its processor
+-- goes on, perhaps at a jump.
 abbrev pub MembersComeToStages : Type 0
 MembersComeToStages =
     (core : List CoreOp) (image : Image) (places : Places) (nestings : Nestings) (cycles : Cycles)
@@ -97,7 +100,8 @@ MembersComeToStages =
     → IsHome tree spaces m.number p → HasNext core nestings setting tree m.number (landed core p)
     → ComesTo core image places nestings setting tree spaces nodes t g m (landed core p)
 
--- in lockstep: a run of their node leads them there, and leaves its arrival words 0
+-- A group in lockstep comes to its next commit, if a run of its node leads the members to where
+-- their processors go on, and leaves the arrival words 0.
 abbrev pub GroupsComeToCommits : Type 0
 GroupsComeToCommits =
     (core : List CoreOp) (image : Image) (places : Places) (nestings : Nestings) (cycles : Cycles)

@@ -30,8 +30,8 @@ module _ (core : List CoreOp) (image : Image) (places : Places) (nestings : Nest
     (earlier : List ℕ)
     (stages : List Stage) (hs : List Hart) (ps : List Owner) (own : ℕ → Memory) (sh : Shared)
     (s : Commons) where
-  -- the cycle is a whole round. If it is one of the known rounds, and its processors go on as is
-  -- told, all are bound again
+  -- The cycle is a whole round. If it is a known round, and its processors go on, the plan of the
+  -- next tree binds all harts again.
   pub record IsWholeRound : Type 0 where
     pub whole : IsWhole (core_source core setting) image (plan_of tree spaces nodes).words
         (DoneIn (core_source core setting) image (plan_of tree spaces nodes)
@@ -53,8 +53,8 @@ module _ (core : List CoreOp) (image : Image) (places : Places) (nestings : Nest
         (all_landed core (owners_after tree (tree_after tree whole.did) whole.did)) own
         (turns t 0 hs sh).shared.control
 
--- where the plan binds all harts before a cycle in which nobody unites with others, it is a round
--- of the counts that the stages tell: a whole one, or one up to its first fault
+-- Where the plan binds all harts before a cycle in which none of them unites with others, the cycle
+-- is a round of the counts that the stages tell: a whole one, or one up to its first fault.
 abbrev pub CyclesBindAgain : Type 0
 CyclesBindAgain =
     (core : List CoreOp) (image : Image) (places : Places) (nestings : Nestings) (cycles : Cycles)

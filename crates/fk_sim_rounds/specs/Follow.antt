@@ -34,9 +34,9 @@ use Rattle.fk_sim_rounds.specs.Union.{AllLandAt, IsUnited}
 
 module _ (core : List CoreOp) (image : Image) (places : Places) (nestings : Nestings)
     (setting : Setting) (spaces : ℕ → Space) where
-  -- a state of a run that goes on stands beside the processors of harts, all of which the plan of
-  -- its tree binds, and each of which has of its group what the tree has; what the harts share
-  -- shows what the state has, with these bytes printed so far
+  -- A machine follows a state of a run that goes on. The state matches the processors of the harts.
+  -- The plan of its tree binds all harts, and each processor has of its group what the tree has.
+  -- What the harts share shows the state's store, with these bytes printed so far.
   pub record IsFollowed (s : State Position) (nodes : List ℕ) (t : MachineSetting)
       (printed : List ℕ) (stages : List Stage) (hs : List Hart) (sh : Shared) : Type 0 where
     pub ps : List Owner
@@ -55,12 +55,12 @@ module _ (core : List CoreOp) (image : Image) (places : Places) (nestings : Nest
     abbrev pub done : Turns
     done = turns t 0 hs sh
 
-    -- after the round of those whose stages commit
+    -- The state after the round of those whose stages commit.
     abbrev pub next_state : State Position
     next_state = result (next core) setting (counts_for stages) s
 
-    -- the cycle is that round, which is possible. Where it is a known one, and its processors go on
-    -- as is told, the state behind it is followed
+    -- The cycle is that round, which is possible. If it is a known round, and its processors go on,
+    -- the machine follows the state after it.
     pub record FollowsRound : Type 0 where
       pub going : done.stop ≡ None
       pub counts : counted image done ≡ counts_for stages
@@ -84,7 +84,7 @@ module _ (core : List CoreOp) (image : Image) (places : Places) (nestings : Nest
           (all_landed core (owners_after s.tree next_state.tree did))
           (λ g. sh.control) done.shared.control
 
-    -- or it is a stopped round
+    -- The cycle is a stopped round.
     pub record FollowsFault : Type 0 where
       pub site : ℕ
       pub place : ℕ
@@ -95,8 +95,8 @@ module _ (core : List CoreOp) (image : Image) (places : Places) (nestings : Nest
       pub shows : Shows (core_source core setting) printed done.shared shared
       pub fault : IsFault core setting stages s place site shared
 
-    -- or nobody is in the round, since all processors have met at the beginning of `start`. Where
-    -- jumps lead all to one index, the state behind it is one in which they are in lockstep
+    -- Nobody is in the round, because all processors have met at the beginning of `start`. If jumps
+    -- lead all of them to one index, they are in lockstep in the state after it.
     pub record FollowsUnion : Type 0 where
       pub going : done.stop ≡ None
       pub counts : counted image done ≡ counts_for stages
@@ -120,7 +120,7 @@ CyclesFollowRounds =
     ⊎ (FollowsFault core image places nestings setting spaces s nodes t printed stages hs sh
     ⊎ FollowsUnion core image places nestings setting spaces s nodes t printed stages hs sh))
 
--- all harts have ended exactly where all processors of the state have nothing left to do
+-- All harts have ended exactly where all processors of the state have nothing left to do.
 abbrev pub HartsEndWithProcessors : Type 0
 HartsEndWithProcessors =
     (core : List CoreOp) (image : Image) (places : Places) (nestings : Nestings) (setting : Setting)

@@ -1,5 +1,5 @@
--- What processors have of their groups is what the tree has of the nodes where they stand, and of
--- those round these.
+-- What processors have of their groups is what the tree has of their nodes, and of the nodes around
+-- these.
 use Rattle.std.specs.Prelude.{◌≡◌, ◌≢◌, ℕ, suc, ◌<◌, List, [], ◌∷◌, length, map, Bool, Option, Some}
 use Rattle.std.specs.Prelude.{None, false}
 use Rattle.fk_space.specs.Space.{Space}
@@ -19,21 +19,22 @@ use Rattle.fk_sim_rounds.specs.Next.{landed, HasNext}
 use Rattle.fk_sim_rounds.specs.After.{tree_after, owners_after, halts, AllGoOn}
 use Rattle.fk_sim_rounds.specs.Rounds.{IsKnownRound}
 
--- a level is that of a node, and those round it are those of its parents, up to the root's
+-- A level is that of a node, and the levels around it are those of the node's parents, up to the
+-- root's.
 abbrev pub IsLevelOf : Tree → (spaces : ℕ → Space) → (n : ℕ) → Level → (outer : List Level) → Type 0
 IsLevelOf tree spaces n l [] = (n ≡ 0) × (l.size ≡ length (trees.members tree n))
 IsLevelOf tree spaces n l (o ∷ outer) =
     (n ≢ 0) × (l.space.low ≡ (spaces n).low) × (l.size ≡ length (trees.members tree n))
     × IsLevelOf tree spaces (trees.parent tree n) o outer
 
--- so it is with all processors, from a number on
+-- All processors, from a number on, have the levels that the tree has at their nodes.
 abbrev pub AllHome : Tree → (spaces : ℕ → Space) → (number : ℕ) → List Owner → Type 0
 AllHome tree spaces number [] = Unit {0}
 AllHome tree spaces number (p ∷ ps) =
     (number_of p ≡ number) × IsLevelOf tree spaces
     (tree.places number) p.runner.has.level p.runner.has.outer × AllHome tree spaces (suc number) ps
 
--- who has committed anything but a halt is about to do another operation
+-- A processor that has committed anything but a halt is about to do another operation.
 abbrev pub AllNext : List CoreOp → Nestings → Setting → Tree → (number : ℕ)
     → (afters : List (Option Stage)) → List Doing → List Owner → Type 0
 AllNext core nestings setting tree number [] [] [] = Unit {0}
@@ -42,7 +43,8 @@ AllNext core nestings setting tree number (a ∷ afters) (d ∷ ds) (p ∷ ps) =
     × AllNext core nestings setting tree (suc number) afters ds ps
 AllNext core nestings setting tree number afters ds ps = ⊥
 
--- then that is all that is to be known of processors that go on
+-- Of processors that have the levels of the tree and go on, only their next operations have to be
+-- known.
 abbrev pub HomesGoOn : Type 0
 HomesGoOn =
     (core : List CoreOp) (nestings : Nestings) (setting : Setting) (tree : Tree)
@@ -50,7 +52,7 @@ HomesGoOn =
     → AllHome tree spaces 0 ps → AllNext core nestings setting tree 0 afters ds ps
     → AllGoOn core nestings setting tree spaces 0 afters ds ps
 
--- a known round leaves it so
+-- After a known round all processors have the levels of the tree, if they had them before.
 abbrev pub HomesStay : Type 0
 HomesStay =
     (core : List CoreOp) (setting : Setting) (tree : Tree) (spaces : ℕ → Space)
@@ -60,12 +62,13 @@ HomesStay =
     → IsKnownRound tree did
     → AllHome (tree_after tree did) spaces 0 (owners_after tree (tree_after tree did) did)
 
--- the group spaces of all begin here
+-- The group spaces of all processors begin at this word.
 abbrev pub AllFrom : (low : ℕ) → List Owner → Type 0
 AllFrom low [] = Unit {0}
 AllFrom low (p ∷ ps) = (p.runner.has.level.space.low ≡ low) × AllFrom low ps
 
--- and so does the beginning of the group of `start`, whose space is that of the root
+-- After the beginning of the group of `start`, which has the root's space, all processors have the
+-- levels of the tree, if they had them before.
 abbrev pub HomesBegin : Type 0
 HomesBegin =
     (core : List CoreOp) (setting : Setting) (tree : Tree) (spaces : ℕ → Space) (alone : Bool)

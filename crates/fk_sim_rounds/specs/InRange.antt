@@ -7,8 +7,8 @@ use Rattle.fk_core.specs.declared.op.CoreOp.{CoreOp}
 use Rattle.fk_core.specs.Next.{Position, next, list_opening}
 use Rattle.fk_sim_block.specs.Ready.{IsInRange}
 
--- what a machine is given: so many processors, and words, of which globals and input have room in
--- one half of shared data
+-- What a machine is given: at most 1,024 processors, and words. Globals and input have room in one
+-- half of shared data.
 pub record AreGiven (words firsts input : List ℕ) (p : ℕ) : Type 0 where
   pub few : p ≤ 1024
   pub room : length words + length input ≤ 2 ^ 19
@@ -16,7 +16,7 @@ pub record AreGiven (words firsts input : List ℕ) (p : ℕ) : Type 0 where
   pub firsts_are_words : All (λ w. w < 2 ^ 32) firsts
   pub input_are_words : All (λ w. w < 2 ^ 32) input
 
--- so it is after each schedule, of whatever operations the list is
+-- All processors are in range after each schedule, whatever operations the list has.
 abbrev pub ListsStayInRange : Type 0
 ListsStayInRange =
     (core : List CoreOp) (main : ℕ) (words firsts input : List ℕ) (p : ℕ) (schedule : Schedule)

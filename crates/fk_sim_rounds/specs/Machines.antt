@@ -29,14 +29,15 @@ use Rattle.fk_sim_rounds.specs.Follow.{IsFollowed}
 
 module _ (core : List CoreOp) (image : Image) (places : Places) (nestings : Nestings)
     (setting : Setting) (spaces : ℕ → Space) where
-  -- a machine that has printed these bytes follows a state, and has finished exactly where that has
+  -- A machine that has printed these bytes follows a state, and has finished exactly where that
+  -- has.
   pub record GoesWith (s : State Position) (nodes : List ℕ) (printed : List ℕ) (stages : List Stage)
       (m : Machine) : Type 0 where
     pub followed : IsFollowed core image places nestings setting spaces s nodes
         (setting_of m) printed stages m.harts (unprinted m.shared)
     pub stand : m.stand ≡ cond (all_done (next core) setting s.runners) Finished Running
 
-  -- it follows a state whose processors are in lockstep at the beginning of `start`
+  -- A machine follows a state whose processors are in lockstep at the beginning of `start`.
   pub record GoesToStart (s : State Position) (nodes : List ℕ) (printed : List ℕ)
       (stages : List Stage) (m : Machine) : Type 0 where
     pub followed : IsUnited core image places nestings setting spaces s nodes
@@ -48,8 +49,8 @@ module _ (core : List CoreOp) (image : Image) (places : Places) (nestings : Nest
     abbrev pub next_state : State Position
     next_state = result (next core) setting (counts_for stages) s
 
-    -- the round of its cycle is possible. Where it is a known one, and processors go on as is told,
-    -- the machine follows the state behind it
+    -- The round of the machine's cycle is possible. If it is a known round, and its processors go
+    -- on, the machine follows the state after it.
     pub record GoesOn : Type 0 where
       pub round : round_of image m ≡ counts_for stages
       pub possible : is_possible (next core) setting (round_of image m) s ≡ true
@@ -71,7 +72,7 @@ module _ (core : List CoreOp) (image : Image) (places : Places) (nestings : Nest
           (all_landed core (owners_after s.tree next_state.tree did)) (λ g. m.shared.control)
           (cycle m).shared.control
 
-    -- or it is a stopped round, whose fault ends the machine
+    -- The round is a stopped one, whose fault ends the machine.
     pub record StopsWith : Type 0 where
       pub site : ℕ
       pub place : ℕ
@@ -79,8 +80,8 @@ module _ (core : List CoreOp) (image : Image) (places : Places) (nestings : Nest
       pub round : round_of image m ≡ cut (suc place) (counts_for stages)
       pub stopped : IsStopped (next core) setting (round_of image m) s
 
-    -- or nobody is in it, since all processors have met at the beginning of `start`. Where jumps
-    -- lead all to one index, the machine follows a state in which they are in lockstep
+    -- Nobody is in the round, because all processors have met at the beginning of `start`. If jumps
+    -- lead all of them to one index, the machine follows a state in which they are in lockstep.
     pub record Unites : Type 0 where
       pub round : round_of image m ≡ counts_for stages
       pub possible : is_possible (next core) setting (round_of image m) s ≡ true
@@ -89,10 +90,10 @@ module _ (core : List CoreOp) (image : Image) (places : Places) (nestings : Nest
           → (stages' : List Stage) × AllNear stages stages'
           × GoesToStart next_state nodes (printed ++ (cycle m).shared.output) stages' (cycle m)
 
-    -- From a state whose processors are in lockstep at the beginning of `start`: nobody is in the
-    -- round, and all are nearer to their commit; or all are, and commit, and the group begins.
-    -- Where nobody is at its words, it has the whole group space, and all go on as is told, the
-    -- machine follows the state behind it
+    -- A cycle from a state whose processors are in lockstep at the beginning of `start`. Either
+    -- nobody is in its round, and all are nearer to their commit; or all commit, and the group
+    -- begins. The machine follows the state after that, if nobody is at the group's words, the
+    -- group has the whole group space, and all processors go on.
     pub record Starts : Type 0 where
       pub round : round_of image m ≡ counts_for stages
       pub possible : is_possible (next core) setting (round_of image m) s ≡ true
@@ -123,7 +124,7 @@ MachinesFollowRounds =
     ⊎ (StopsWith core image places nestings setting spaces s nodes printed stages m
     ⊎ Unites core image places nestings setting spaces s nodes printed stages m)
 
--- so it goes on to the beginning of the group
+-- A machine at the beginning of `start` comes to the beginning of the group, or stops with a fault.
 abbrev pub MachinesFollowStarts : Type 0
 MachinesFollowStarts =
     (core : List CoreOp) (image : Image) (places : Places) (nestings : Nestings) (cycles : Cycles)

@@ -1,5 +1,4 @@
--- What is known of processors that are about to do their next operations, in the nodes
--- where they stand.
+-- What is known of processors that are about to do their next operations, in their nodes.
 use Rattle.std.specs.Prelude.{◌≡◌, ℕ, List, [], ◌∷◌, length, slice_get, Bool, true, false, Some}
 use Rattle.std.specs.Prelude.{map, ◌⊎◌}
 use Rattle.fk_space.specs.Space.{Space}
@@ -26,13 +25,13 @@ use Rattle.fk_sim_block.specs.Laws.{AllGo}
 use Rattle.fk_sim_match.specs.Nodes.{first_of, meeters_at, is_lockstep}
 use Rattle.fk_sim_match.specs.Rounds.{joint_at_word}
 
--- a jump leads to an operation
+-- A jump leads to an operation.
 abbrev pub JumpsLead : List CoreOp → Type 0
 JumpsLead core = (i : ℕ) (op : CoreOp) → slice_get core i ≡ Some op → is_jump op ≡ true
     → IsOperation core op.target
 
--- a processor at the index of the operation to which jumps lead it. Jumps are no operations, so it
--- is in the same run
+-- A processor at the index of the operation to which jumps lead it. It is in the same run, because
+-- jumps are no operations.
 abbrev pub landed : List CoreOp → Owner → Owner
 landed core p = gone_to (landing core p.runner.left.at) p
 
@@ -41,20 +40,20 @@ all_landed core ps = map (landed core) ps
 
 -- ---- in its node
 
--- what a processor has of its group is that of the node where it stands
+-- What a processor has of its group is what its node has.
 pub record IsHome (tree : Tree) (spaces : ℕ → Space) (number : ℕ) (p : Owner) : Type 0 where
   pub number_is : number_of p ≡ number
   pub words : first_word p.runner.has.level p.runner.has.outer
       ≡ first_of spaces (tree.places number)
   pub size : p.runner.has.level.size ≡ length (trees.members tree (tree.places number))
 
--- one by itself meets others at a word of its node
+-- A processor by itself may meet others at an arrival word of its node.
 pub record MayMeet (tree : Tree) (g number : ℕ) (operation : Operation) : Type 0 where
   pub meeting : is_meeting operation ≡ true
   pub joint : joint_of operation ≡ joint_at_word g (trees.kind tree g) (word_of operation)
   pub member : is_member number (meeters_at tree g (word_of operation)) ≡ true
 
--- or all others in the root, to begin the group of `start`
+-- A processor by itself may meet all others in the root, to begin the group of `start`.
 pub record MayStart (nestings : Nestings) (setting : Setting) (tree : Tree) (g number : ℕ)
     (operation : Operation) (p : Owner) : Type 0 where
   pub begins : operation ≡ Begin
@@ -63,13 +62,14 @@ pub record MayStart (nestings : Nestings) (setting : Setting) (tree : Tree) (g n
   pub member : is_member number (trees.members tree 0) ≡ true
   pub in_root : IsInRoot nestings setting p
 
--- or does an operation alone, or ends
+-- What a processor may do by itself: an operation alone, a halt, a meeting in its node, or the
+-- beginning of the group of `start`.
 abbrev pub MayByItself : Nestings → Setting → Tree → (g number : ℕ) → Operation → Owner → Type 0
 MayByItself nestings setting tree g number operation p =
     (is_alone operation ≡ true) ⊎ ((operation ≡ Halt)
     ⊎ (MayMeet tree g number operation ⊎ MayStart nestings setting tree g number operation p))
 
--- a processor is about to do this
+-- A processor is about to do an operation. If its node isn't in lockstep, it may do that by itself.
 pub record HasNext (core : List CoreOp) (nestings : Nestings) (setting : Setting) (tree : Tree)
     (number : ℕ) (p : Owner) : Type 0 where
   pub op : CoreOp
@@ -81,19 +81,19 @@ pub record HasNext (core : List CoreOp) (nestings : Nestings) (setting : Setting
 
 -- ---- in a group
 
--- all are at one index
+-- All processors are at one index.
 abbrev pub AllAt : (i : ℕ) → List Owner → Type 0
 AllAt i [] = Unit {0}
 AllAt i (p ∷ ps) = (p.runner.left.at ≡ i) × AllAt i ps
 
--- all are about to do the same operation
+-- All processors are about to do the same operation.
 abbrev pub AllAbout : (i : ℕ) → CoreOp → Operation → List Owner → Type 0
 AllAbout i op operation [] = Unit {0}
 AllAbout i op operation (p ∷ ps) = (p.runner.left.at ≡ i) × IsReady op operation p.runner
     × AllAbout i op operation ps
 
--- a local operation or a request by which all go one way, a step of the tree in which they stay in
--- their node, or the end of the group of `start`
+-- What a group in lockstep may do: a local operation or a request by which all take the same
+-- branch, a step of the tree in which they keep their node, or the end of the group of `start`.
 pub record ActsAlike (operation : Operation) (ps : List Owner) : Type 0 where
   pub alone : is_alone operation ≡ true
   pub onward : Bool
@@ -109,7 +109,7 @@ abbrev pub MayInGroup : Nestings → Operation → List Owner → Type 0
 MayInGroup nestings operation ps = ActsAlike operation ps
     ⊎ (StepsAlike operation ps ⊎ ((operation ≡ End) × AreInStart nestings ps))
 
--- the members of a group, all of which have come to one index, are about to do this
+-- The members of a group, all of which have come to one index, are about to do one operation.
 pub record HaveNext (core : List CoreOp) (nestings : Nestings) (ps : List Owner) : Type 0 where
   pub at : ℕ
   pub all_at : AllAt at ps

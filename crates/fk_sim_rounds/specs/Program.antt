@@ -1,4 +1,4 @@
--- Members of a group that have one program are about to do one operation, and go one way.
+-- Members of a group that have one program are about to do one operation, and take the same branch.
 use Rattle.std.specs.Prelude.{◌≡◌, ℕ, suc, ◌≤◌, List, [], ◌∷◌, length, true, Some, ◌⊎◌}
 use Rattle.fk_tree.specs.declared.node.Kind.TheVariants.{Lockstep}
 use Rattle.fk_tree.specs.Tree as trees
@@ -19,12 +19,12 @@ use Rattle.fk_sim_block.specs.Law.{is_shared_step}
 use Rattle.fk_sim_rounds.specs.Next.{landed, HaveNext}
 use Rattle.fk_sim_rounds.specs.After.{ArePlaces, runners_of}
 
--- what a member of a group may do
+-- What a member of a group in lockstep may do.
 abbrev pub MayInStep : Nestings → Operation → Owner → Type 0
 MayInStep nestings operation p = (is_alone operation ≡ true)
     ⊎ ((is_shared_step operation ≡ true) ⊎ ((operation ≡ End) × IsInStart nestings p))
 
--- and is about to do
+-- A member of a group in lockstep is about to do an operation that it may do.
 pub record IsInStep (core : List CoreOp) (nestings : Nestings) (number : ℕ)
     (p : Owner) : Type 0 where
   pub number_is : number_of p ≡ number
@@ -34,7 +34,8 @@ pub record IsInStep (core : List CoreOp) (nestings : Nestings) (number : ℕ)
   pub ready : IsReady op operation p.runner
   pub may : MayInStep nestings operation p
 
--- so it is with those who stand in a node, from a number on
+-- Each processor of node g, from a number on, is about to do an operation that it may do, once
+-- jumps have led it there.
 abbrev pub AllInStep : List CoreOp → Nestings → (g number : ℕ) → (nodes : List ℕ)
     → List Owner → Type 0
 AllInStep core nestings g number [] [] = Unit {0}

@@ -1,4 +1,5 @@
--- What follows runs of a list follows the runs of a program whose code stands in it.
+-- A machine that follows the runs of a list follows the runs of a program whose code is in the
+-- list.
 use Rattle.std.specs.Prelude.{ℕ, List}
 use Rattle.fk_syntax.specs.Program.{ProgramTree}
 use Rattle.fk_meaning_forms.specs.Tables.{Tables}

@@ -1,4 +1,4 @@
--- The words of the group to come: as long as there is no group, nobody is at them.
+-- The control words of the group to come: while there is no group, nobody is at them.
 use Rattle.std.specs.Prelude.{◌≡◌, ◌≢◌, ℕ, ◌+◌, ◌^◌, ◌<◌, ◌≤◌, List, length, true, ◌⊎◌}
 use Rattle.fk_num.specs.Word.{Memory}
 use Rattle.fk_space.specs.Space.{Space}
@@ -22,23 +22,23 @@ use Rattle.fk_sim_rounds.specs.Rounds.{EndsGroup}
 use Rattle.fk_sim_rounds.specs.Rest.{HasNoGroup}
 use Rattle.fk_sim_rounds.specs.Machines.{GoesWith, GoesToStart}
 
--- the headers of all groups, which come one at a time, begin at one word, among
--- those of shared data
+-- The headers of all groups, of which there is one at a time, begin at one word, below those of the
+-- root.
 pub record HaveOneHeader (spaces : ℕ → Space) (first : ℕ) : Type 0 where
   pub same : (g : ℕ) → g ≢ 0 → first_of spaces g ≡ first
   pub within : first + 8 ≤ root_words
 
--- where there is no group, nobody is at the words of the one to come
+-- Where there is no group, nobody is at the words of the one to come.
 abbrev pub IsReadyForGroup : Tree → (first : ℕ) → (control : Memory) → Type 0
 IsReadyForGroup tree first control = HasNoGroup tree → IsAtRest first control
 
--- so it is at the beginning
+-- Nobody is at these words when the machine begins.
 abbrev pub OpeningsAreReady : Type 0
 OpeningsAreReady = (image : Image) (input : List ℕ) (p : ℕ) (tree : Tree) (first : ℕ)
     → IsReadyForGroup tree first (machine_opening image input p).shared.control
 
--- and behind each cycle of a machine that follows a state, where a group that is
--- there stays, or ends
+-- A cycle of a machine that follows a state keeps `IsReadyForGroup`, if each group stays or ends in
+-- its round.
 abbrev pub CyclesStayReady : Type 0
 CyclesStayReady =
     (core : List CoreOp) (image : Image) (places : Places) (nestings : Nestings) (cycles : Cycles)
@@ -57,8 +57,8 @@ CyclesStayReady =
     → IsReadyForGroup (result (next core) setting (counts_for stages) s).tree first
     (cycle m).shared.control
 
--- Where all processors have met at the beginning of `start` nobody comes to these words: nobody is
--- at them when the group begins
+-- Where all processors have met at the beginning of `start`, nobody comes to these words. So nobody
+-- is at them when the group begins.
 abbrev pub StartsStayReady : Type 0
 StartsStayReady =
     (core : List CoreOp) (image : Image) (places : Places) (nestings : Nestings) (setting : Setting)

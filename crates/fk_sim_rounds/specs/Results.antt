@@ -1,4 +1,4 @@
--- What a cycle of the machine is in the run beside it.
+-- What a cycle of the machine is in the run that it follows.
 use Rattle.std.specs.Prelude.{◌≡◌, ℕ, suc, List, Option, Some}
 use Rattle.fk_meaning.specs.Processor.{Setting}
 use Rattle.fk_meaning.specs.Round.{State, cut, result}
@@ -12,18 +12,18 @@ use Rattle.fk_sim_rounds.specs.After.{tree_after, owners_after}
 use Rattle.fk_sim_rounds.specs.Beside.{IsBeside, AreInOrder}
 
 module _ (core : List CoreOp) (setting : Setting) (stages : List Stage) (s : State Position) where
-  -- the state after the round of those whose stages commit
+  -- The state after the round of those whose stages commit.
   abbrev pub after : State Position
   after = result (next core) setting (counts_for stages) s
 
-  -- it has the tree behind their steps, and stands beside them
+  -- The state after the round has the tree after its steps, and matches its processors.
   pub record IsAfter (did : List Doing) (shared : Commons) : Type 0 where
     pub tree : after.tree ≡ tree_after s.tree did
     pub beside : IsBeside core after
         (all_landed core (owners_after s.tree (tree_after s.tree did) did)) shared
 
-  -- what the round makes of the processors that stand beside the state: one after another they do
-  -- their part in it, and who does not commit keeps a stage
+  -- What the round makes of the processors that match the state: they do their parts one after
+  -- another, and one that doesn't commit keeps a stage.
   pub record Makes (did : List Doing) (afters : List (Option Stage)) : Type 0 where
     pub ps : List Owner
     pub shared : Commons
@@ -33,8 +33,8 @@ module _ (core : List CoreOp) (setting : Setting) (stages : List Stage) (s : Sta
     pub passes : AllPass (core_source core setting) (counts_for stages) ps shared did store
     pub stay : Pairwise Remains stages afters
 
-  -- the processor of a number faults at a site, in the round, and in what is left of it without
-  -- those above that
+  -- The processor of this number faults at a site, both in the round and in the round without the
+  -- processors above it.
   pub record IsFault (place site : ℕ) (shared : Commons) : Type 0 where
     pub whole : after.fault ≡ Some (record { site = site; processor = place })
     pub stopped : (result (next core) setting (cut (suc place) (counts_for stages)) s).fault

@@ -1,4 +1,4 @@
--- After each kind of round all are bound again.
+-- After each kind of round the plan binds all harts again.
 use Rattle.std.specs.Prelude.{◌≡◌, ℕ, ◌^◌, ◌<◌, List, length, Bool, true, Option, Some, ◌⊎◌}
 use Rattle.fk_num.specs.Word.{Memory}
 use Rattle.fk_space.specs.Space.{Space}
@@ -30,8 +30,8 @@ use Rattle.fk_sim_rounds.specs.After.{runners_of, tree_after, owners_after, AllK
 use Rattle.fk_sim_rounds.specs.After.{ArePlaces, AllLanded, AllGoOn, GroupsGoOn, AllSoon}
 use Rattle.fk_sim_rounds.specs.After.{BindsAgain}
 
--- before a cycle: the machine runs, the tree is sound, its nodes own words apart, and each
--- processor stands at an operation, and is about to do what its stage tells
+-- What holds before a cycle: the machine runs the image, the tree is sound, its nodes own words
+-- apart, and each processor is at an operation and about to do what its stage tells.
 pub record IsBefore (core : List CoreOp) (image : Image) (setting : Setting)
     (tree : Tree) (spaces : ℕ → Space) (nodes : List ℕ) (t : MachineSetting) (stages : List Stage)
     (hs : List Hart) (ps : List Owner) : Type 0 where
@@ -44,7 +44,8 @@ pub record IsBefore (core : List CoreOp) (image : Image) (setting : Setting)
   pub landed : AllLanded core ps
   pub due : AllDue core tree spaces 0 stages (runners_of ps)
 
--- a round in which no step changes the tree: local operations, requests, agrees, barriers and halts
+-- A round in which no step changes the tree: one of local operations, requests, agrees, barriers
+-- and halts.
 abbrev pub RoundsKeepTrees : Type 0
 RoundsKeepTrees =
     (core : List CoreOp) (image : Image) (places : Places) (nestings : Nestings) (cycles : Cycles)
@@ -66,16 +67,16 @@ RoundsKeepTrees =
 
 -- ---- one step of the tree
 
--- the tree behind it: it is sound, and its nodes own words apart
+-- A tree after a step is sound, and its nodes own words apart.
 pub record IsTree (setting : Setting) (tree : Tree) (spaces : ℕ → Space) : Type 0 where
   pub sound : IsSound setting.processors tree
   pub spaced : HaveSpaces tree spaces
 
--- all members of a node stand there: no part of it is left
+-- All members of a node are in that node itself, and none in a part of it.
 abbrev pub AllStandIn : Tree → (g : ℕ) → Type 0
 AllStandIn tree g = (h : ℕ) → is_member h (trees.members tree g) ≡ true → tree.places h ≡ g
 
--- all processors, back from the group of `start`, go on by themselves
+-- The round in which all processors, back from the group of `start`, go on by themselves.
 abbrev pub RoundsResume : Type 0
 RoundsResume =
     (core : List CoreOp) (image : Image) (places : Places) (nestings : Nestings) (cycles : Cycles)
@@ -98,7 +99,7 @@ RoundsResume =
     → BindsAgain core image places nestings setting tree spaces nodes next spaces nodes t hs
     left.afters ps (all_landed core qs) control
 
--- those of a group whose body has ended are in lockstep again
+-- The round in which the body of a group ends, and its members are in lockstep again.
 abbrev pub RoundsClose : Type 0
 RoundsClose =
     (core : List CoreOp) (image : Image) (places : Places) (nestings : Nestings) (cycles : Cycles)
@@ -124,7 +125,8 @@ RoundsClose =
     → BindsAgain core image places nestings setting tree spaces nodes next spaces nodes t hs
     left.afters ps (all_landed core qs) control
 
--- the members of a group come to a body, which each runs by itself
+-- The round in which the members of a group come to the body of a `farm`, which each runs by
+-- itself.
 abbrev pub RoundsSetFree : Type 0
 RoundsSetFree =
     (core : List CoreOp) (image : Image) (places : Places) (nestings : Nestings) (cycles : Cycles)
@@ -146,7 +148,8 @@ RoundsSetFree =
     → BindsAgain core image places nestings setting tree spaces nodes next spaces nodes t hs
     left.afters ps (all_landed core qs) control
 
--- or which the lowest runs alone, while the others come to its end
+-- The round in which the members of a group come to a `seq`: the lowest runs its body alone, while
+-- the others come to its end.
 abbrev pub RoundsSendOne : Type 0
 RoundsSendOne =
     (core : List CoreOp) (image : Image) (places : Places) (nestings : Nestings) (cycles : Cycles)
@@ -168,7 +171,8 @@ RoundsSendOne =
     → BindsAgain core image places nestings setting tree spaces nodes next spaces nodes t hs
     left.afters ps (all_landed core qs) control
 
--- the group of `start` ends: its members come back to the root, in which nobody else moves
+-- The round in which the group of `start` ends: its members come back to the root, in which nobody
+-- else moves.
 abbrev pub RoundsEnd : Type 0
 RoundsEnd =
     (core : List CoreOp) (image : Image) (places : Places) (nestings : Nestings) (cycles : Cycles)
@@ -193,8 +197,8 @@ RoundsEnd =
 
 -- ---- all of these
 
--- nobody changes the tree; all go on in the root; a body begins or ends; or the group of `start`
--- ends. Its beginning, splits and shrinks are still to come
+-- The known rounds: nobody changes the tree; all go on in the root; a body ends or begins; or the
+-- group of `start` ends. Its beginning (`RoundsStart`), splits and shrinks aren't among them.
 pub record Resumes (tree : Tree) (ds : List Doing) : Type 0 where
   pub first : ℕ
   pub parts : ℕ
@@ -228,8 +232,8 @@ abbrev pub IsKnownRound : Tree → List Doing → Type 0
 IsKnownRound tree ds = AllKeep ds ⊎ (Resumes tree ds
     ⊎ (Closes tree ds ⊎ (SetsFree tree ds ⊎ (SendsOne tree ds ⊎ EndsGroup tree ds))))
 
--- behind cycle t another plan binds all harts: the tree has done no more than it may, who was at a
--- distance is nearer, and those who go on meeting have moved
+-- After cycle t another plan binds all harts: the tree has changed no more than it may, a hart that
+-- was at a distance is nearer, and those who go on meeting have moved.
 pub record PlanGoesOn (core : List CoreOp) (image : Image) (places : Places) (nestings : Nestings)
     (setting : Setting) (spaces : ℕ → Space) (plan plan' : Plan) (t : MachineSetting)
     (stages stages' : List Stage) (hs : List Hart) (afters : List (Option Stage))
@@ -243,8 +247,8 @@ pub record PlanGoesOn (core : List CoreOp) (image : Image) (places : Places) (ne
       (blocks_of core image places nestings setting plan' (first_of spaces)) t stages stages'
       hs ps' own control
 
--- so it is with the plan of the next tree: each is about to do what its stage tells, and who has
--- committed is near its next commit
+-- The plan of the next tree binds all harts. Each processor is about to do what its stage tells,
+-- and one that has committed is near its next commit.
 pub record AreBoundAgain (core : List CoreOp) (image : Image) (places : Places)
     (nestings : Nestings) (setting : Setting) (plan : Plan) (tree : Tree) (spaces : ℕ → Space)
     (nodes : List ℕ) (t : MachineSetting) (stages : List Stage) (hs : List Hart)

@@ -31,7 +31,7 @@ use Rattle.fk_sim_rounds.specs.After.{tree_after, owners_after, StepsAt, ArePlac
 use Rattle.fk_sim_rounds.specs.After.{GroupsGoOn}
 use Rattle.fk_sim_rounds.specs.Rounds.{IsTree, AreBoundAgain}
 
--- before it all processors are in the root, where each has run by itself
+-- Before the round all processors are in the root, where each has run by itself.
 pub record IsBeforeStart (image : Image) (setting : Setting) (tree : Tree) (spaces : ℕ → Space)
     (nodes : List ℕ) (t : MachineSetting) (hs : List Hart) (ps : List Owner) : Type 0 where
   pub running : IsRunning image setting t
@@ -44,9 +44,9 @@ pub record IsBeforeStart (image : Image) (setting : Setting) (tree : Tree) (spac
   pub kind : trees.kind tree 0 ≡ Some (Asynchronous alone)
   pub in_root : (h : ℕ) → h < setting.processors → tree.places h ≡ 0
 
--- Who have met there are in lockstep. Where the plan binds them so before a cycle that is a whole
--- round, nobody is in it, and they are one cycle nearer to their commit, at the stages that it has
--- left; or all are
+-- Those who have met in the root are in lockstep. Where the plan binds them so before a cycle that
+-- is a whole round, either nobody is in it, and they are one cycle nearer to their commit, at the
+-- stages that the cycle has left; or all are in it.
 module _ (core : List CoreOp) (image : Image) (places : Places) (nestings : Nestings)
     (setting : Setting) (tree : Tree) (spaces : ℕ → Space) (nodes : List ℕ) (t : MachineSetting)
     (earlier : List ℕ)
@@ -91,8 +91,8 @@ CyclesComeToStart =
     ⊎ IsCut (core_source core setting) image (plan_of tree spaces nodes).words earlier 0 hs ps s
     (turns t 0 hs sh))
 
--- Who have met there are in lockstep, till all commit. Behind that some are a group, at whose words
--- nobody has arrived, and the others wait in the root
+-- Those who have met in the root are in lockstep until all commit. After that some are a group, at
+-- whose words nobody has arrived, and the others wait in the root.
 abbrev pub RoundsStart : Type 0
 RoundsStart =
     (core : List CoreOp) (image : Image) (places : Places) (nestings : Nestings) (cycles : Cycles)

@@ -1,4 +1,4 @@
--- The cycles from where all have met at the beginning of `start` to the round in which
+-- The cycles from where all processors have met at the beginning of `start` to the round in which
 -- the group begins.
 use Rattle.std.specs.Prelude.{◌≡◌, ℕ, ◌^◌, ◌<◌, List, ◌++◌, length, true, Option, None, ◌⊎◌}
 use Rattle.fk_space.specs.Space.{Space}
@@ -36,15 +36,15 @@ module _ (core : List CoreOp) (image : Image) (places : Places) (nestings : Nest
   abbrev pub next_state : State Position
   next_state = result (next core) setting (counts_for stages) s
 
-  -- nobody is in the round, and all are nearer to their commit
+  -- Nobody is in the round, and all are nearer to their commit.
   abbrev pub StillUnited : Type 0
   StillUnited =
       (stages' : List Stage) × AllNear stages stages'
       × IsUnited core image places nestings setting spaces next_state nodes (later t)
       (printed ++ done.shared.output) stages' done.harts (unprinted done.shared)
 
-  -- or all are, and commit. Where nobody is at the words of the group, which has the whole group
-  -- space, and all go on as is told, the state behind it is followed
+  -- All commit in the round. Where nobody is at the words of the group, which has the whole group
+  -- space, and all go on, the machine follows the state after the round.
   abbrev pub BeginGroup : (did : List Doing) → (afters : List (Option Stage)) → Type 0
   BeginGroup did afters =
       (nodes' : List ℕ) → IsTree setting next_state.tree spaces → ArePlaces next_state.tree 0 nodes'

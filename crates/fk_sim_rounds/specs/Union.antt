@@ -1,4 +1,4 @@
--- A state of a core run beside harts that have met at the beginning of `start`.
+-- A state of a core run that matches harts which have met at the beginning of `start`.
 use Rattle.std.specs.Prelude.{◌≡◌, ℕ, ◌<◌, List, [], ◌∷◌}
 use Rattle.fk_space.specs.Space.{Space}
 use Rattle.fk_meaning_operation.specs.declared.operation.Operation.TheVariants.{Begin}
@@ -25,12 +25,12 @@ use Rattle.fk_sim_rounds.specs.Unite.{AreInRoot}
 use Rattle.fk_sim_rounds.specs.Beside.{AreInOrder, IsBeside}
 use Rattle.fk_sim_rounds.specs.Homes.{AllHome}
 
--- jumps lead all to one index
+-- Jumps lead all processors to one index.
 abbrev pub AllLandAt : List CoreOp → (i : ℕ) → List (Runner Position) → Type 0
 AllLandAt core i [] = Unit {0}
 AllLandAt core i (r ∷ rs) = (landing core r.left.at ≡ i) × AllLandAt core i rs
 
--- each is to commit within so many cycles as lie between the leaving and the common commit
+-- A hart is to commit within the number of cycles between leaving and the common commit.
 abbrev pub IsNearBegin : Stage → Type 0
 IsNearBegin (Acts d) = d < most_united
 IsNearBegin s = ⊥
@@ -39,8 +39,8 @@ abbrev pub AreNearBegin : List Stage → Type 0
 AreNearBegin [] = Unit {0}
 AreNearBegin (s ∷ stages) = IsNearBegin s × AreNearBegin stages
 
--- All its processors are about to begin the group of `start`, in the root, where their harts are in
--- lockstep, near their commit
+-- All processors of a state are about to begin the group of `start`, in the root. Their harts are
+-- in lockstep there, near their commit.
 pub record IsUnited (core : List CoreOp) (image : Image) (places : Places)
     (nestings : Nestings) (setting : Setting) (spaces : ℕ → Space) (s : State Position)
     (nodes : List ℕ) (t : MachineSetting) (printed : List ℕ) (stages : List Stage) (hs : List Hart)

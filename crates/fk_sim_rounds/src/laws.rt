@@ -20,8 +20,8 @@ ghost use Rattle.fk_sim_rounds.specs.RestInRuns.{StartsStayReady};
 ghost use Rattle.fk_sim_rounds.specs.Starts.{CyclesFollowStarts};
 ghost use Rattle.fk_sim_rounds.specs.Follow.{CyclesFollowRounds, HartsEndWithProcessors};
 
-/// A machine that follows the core runs of a list follows the runs of a program whose code stands
-/// in the list.
+/// A machine that follows the core runs of a list follows the runs of a program whose code is in
+/// the list.
 pub fn programs_are_followed()
     ensures { ProgramsAreFollowed }
 {
@@ -51,7 +51,7 @@ pub fn groups_come_to_commits()
 {}
 
 /// Members of a group that have one program (`fk_lockstep`) are about to do one operation, and take
-/// the same way at a branch.
+/// the same branch.
 pub fn groups_have_next()
     ensures { GroupsHaveNext }
 {}
@@ -99,25 +99,25 @@ pub fn cycles_unite()
     ensures { CyclesUnite }
 {}
 
-/// Where those who have met for a `start` in the root are bound in lockstep before a cycle, the
-/// cycle is a round of the counts that the stages tell, up to its first fault. Either nobody acts
-/// in it, and all are one cycle nearer to their commit, or all act.
+/// Where the plan binds those who have met for a `start` in the root, in lockstep, before a cycle,
+/// the cycle is a round of the counts that the stages tell, up to its first fault. Either nobody
+/// acts in it, and all are one cycle nearer to their commit, or all act.
 pub fn cycles_come_to_start()
     ensures { CyclesComeToStart }
 {}
 
-/// After the round in which the group of `start` begins from there the plan binds all harts again.
+/// After the round in which the group of `start` begins the plan binds all harts again.
 pub fn rounds_start()
     ensures { RoundsStart }
 {}
 
-/// Where the plan of a tree binds all harts before a cycle that is one of these rounds, the plan of
-/// the next tree binds them after it.
+/// Where the plan of a tree binds all harts before a cycle that is a known round, the plan of the
+/// next tree binds them after it.
 pub fn rounds_bind_again()
     ensures { RoundsBindAgain }
 {}
 
-/// A group stays after each of these rounds, unless it ends in that round.
+/// A group stays after a known round, unless it ends in that round.
 pub fn known_rounds_keep_groups()
     ensures { KnownRoundsKeepGroups }
 {}
@@ -127,9 +127,9 @@ pub fn ended_groups_rest()
     ensures { EndedGroupsRest }
 {}
 
-/// The invariant holds from one cycle of the machine to the next, where nobody unites with others:
-/// the cycle is a round of the counts that the stages tell, up to its first fault, and where it is
-/// one of these rounds, the plan binds all harts again.
+/// The invariant holds from one cycle of the machine to the next, where nobody unites with others.
+/// The cycle is a round of the counts that the stages tell, up to its first fault. If that is a
+/// known round, the plan binds all harts again.
 pub fn cycles_bind_again()
     ensures { CyclesBindAgain }
 {}
@@ -153,28 +153,29 @@ pub fn cuts_are_faults()
     ensures { CutsAreFaults }
 {}
 
-/// Where each processor has the size and space of its group, and of those round it, that the tree
-/// has at its node and at the parents of that node, this holds after a known round.
+/// After a known round each processor has the size and space of its group, and of the groups around
+/// it, that the tree has at its node and at that node's parents, if it had them before.
 pub fn homes_stay()
     ensures { HomesStay }
 {}
 
-/// Each processor has the sizes and spaces that the tree has also after the round in which the
-/// group of `start` begins, which has the space of the root.
+/// After the round in which the group of `start` begins each processor has the sizes and spaces
+/// that the tree has, if it had them before. That group has the root's space.
 pub fn homes_begin()
     ensures { HomesBegin }
 {}
 
-/// Of processors that go on, only their next operations have to be known.
+/// Of processors that have the sizes and spaces of the tree, and go on, only their next operations
+/// have to be known.
 pub fn homes_go_on()
     ensures { HomesGoOn }
 {}
 
 /// From one cycle to the next a machine follows a run. Where the plan of a state's tree binds the
-/// harts of the processors that match it, a cycle is the round of those whose stages commit, which
-/// is possible, or a stopped one. Where it is one of the rounds of these laws, and processors go on
-/// as they state, the machine follows the next state too. Otherwise nobody acts in the round, since
-/// all processors have met at the beginning of `start`, and after it they are in lockstep there.
+/// harts of the processors that match it, the cycle is the round of those whose stages commit. That
+/// round is possible, or a stopped one. If it is a known one, and the processors go on, the machine
+/// follows the next state too. Otherwise nobody acts in the round, because all processors have met
+/// at the beginning of `start`, and after it they are in lockstep there.
 pub fn cycles_follow_rounds()
     ensures { CyclesFollowRounds }
 {}

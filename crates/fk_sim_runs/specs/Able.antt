@@ -1,4 +1,5 @@
--- Who could act in a state is to commit in time, where the plan of its tree binds all harts.
+-- A processor that could act in a state is to commit in time, where the plan of the state's tree
+-- binds all harts.
 use Rattle.std.specs.Prelude.{◌≡◌, ℕ, List, Some, slice_get}
 use Rattle.fk_num.specs.Word.{Memory}
 use Rattle.fk_space.specs.Space.{Space}
@@ -24,7 +25,7 @@ use Rattle.fk_sim_rounds.specs.Union.{IsUnited}
 use Rattle.fk_sim_rounds.specs.Follow.{IsFollowed}
 use Rattle.fk_sim_runs.specs.Pace.{AreInTime, Sight, ActsWithin}
 
--- who waits for parts is about to go on behind them
+-- A processor that waits for parts is about to go on after them.
 abbrev pub WhoWaitsResumes : List CoreOp → State Position → Type 0
 WhoWaitsResumes core s =
     (h first parts : ℕ) (r : Runner Position) (step : Step Position)
@@ -32,7 +33,7 @@ WhoWaitsResumes core s =
     → slice_get s.runners h ≡ Some r → next core r.left ≡ Some step
     → joint_of step.operation ≡ Resuming
 
--- the harts of a state, before a cycle
+-- The view of a state's harts before a cycle.
 abbrev pub sight_of : Tree → (spaces : ℕ → Space) → (nodes : List ℕ) → List Stage
     → (control : Memory) → (finished : ℕ) → Sight
 sight_of tree spaces nodes stages control finished = record {
@@ -42,7 +43,7 @@ sight_of tree spaces nodes stages control finished = record {
   finished = finished;
 }
 
--- those who have met at the beginning of `start` are in lockstep in the root
+-- The same view where all have met at the beginning of `start`, and are in lockstep in the root.
 abbrev pub united_sight_of : Tree → (spaces : ℕ → Space) → (nodes : List ℕ) → List Stage
     → (control : Memory) → (finished : ℕ) → Sight
 united_sight_of tree spaces nodes stages control finished = record {

@@ -1,5 +1,5 @@
--- What is known in such a state of those who are about to begin the group of a `start`, and of
--- those who wait for it.
+-- What is known, in a reached state, of processors that are about to begin the group of a `start`,
+-- and of those that wait for it.
 use Rattle.std.specs.Prelude.{◌≡◌, ℕ, List, Some, slice_get}
 use Rattle.fk_space.specs.Space.{Space}
 use Rattle.fk_meaning_operation.specs.Kinds.{joint_of}
@@ -23,7 +23,8 @@ use Rattle.fk_sim_rounds.specs.Union.{AllLandAt}
 use Rattle.fk_sim_runs.specs.Lists.{IsOfOneGroup}
 use Rattle.fk_sim_runs.specs.Reached.{IsReached}
 
--- one is about to begin it. Such is who is at a stage in which it is to unite with others
+-- A processor is about to begin the group of a `start`. The law says this of each processor at a
+-- stage in which it is to unite with others.
 abbrev pub Begins : List CoreOp → Runner Position → Type 0
 Begins core r = (step : Step Position) × (next core r.left ≡ Some step) × (step.operation ≡ Begin)
 
@@ -32,7 +33,7 @@ UnitersBegin =
     (core : List CoreOp) (tree : Tree) (spaces : ℕ → Space) (g w : ℕ) (f : Phase)
     (r : Runner Position) → IsDueAt core tree spaces g (Meets Unites w f) r → Begins core r
 
--- who is, is in the root
+-- A processor that is about to begin that group is in the root.
 abbrev pub ReachedBeginnersAreInRoot : Type 0
 ReachedBeginnersAreInRoot =
     (core : List CoreOp) (nestings : Nestings) (main : ℕ) (setting : Setting) (s : State Position)
@@ -40,7 +41,7 @@ ReachedBeginnersAreInRoot =
     → IsOfOneGroup core nestings main → IsReached core setting s → slice_get s.runners h
     ≡ Some p.runner → Begins core p.runner → IsInRoot nestings setting (landed core p)
 
--- where all are about to do so, jumps lead all to one index
+-- Where all processors are about to begin that group, jumps lead all to one index.
 abbrev pub ReachedBeginnersLandAtOneIndex : Type 0
 ReachedBeginnersLandAtOneIndex =
     (core : List CoreOp) (setting : Setting) (s : State Position)
@@ -48,7 +49,7 @@ ReachedBeginnersLandAtOneIndex =
     → ((h : ℕ) (r : Runner Position) → slice_get s.runners h ≡ Some r → Begins core r)
     → (i : ℕ) × AllLandAt core i s.runners
 
--- who waits for the group is about to go on behind it
+-- A processor that waits for the group is about to go on after it.
 abbrev pub ReachedWaitersResume : Type 0
 ReachedWaitersResume =
     (core : List CoreOp) (setting : Setting) (s : State Position) (h first parts : ℕ)

@@ -1,4 +1,4 @@
--- What is known of such a state, as laws of machines that follow it ask it.
+-- What is known of a reached state, in the form that the laws of machines need.
 use Rattle.std.specs.Prelude.{◌≡◌, ◌≢◌, ℕ, ◌+◌, ◌^◌, ◌≤◌, List, length, Some, true, false}
 use Rattle.std.specs.Prelude.{slice_get, ◌⊎◌}
 use Rattle.fk_num.specs.Word.{Memory}
@@ -23,15 +23,15 @@ use Rattle.fk_sim_rounds.specs.Beside.{AreInOrder, IsBeside}
 use Rattle.fk_sim_runs.specs.Lists.{IsOfOneGroup}
 use Rattle.fk_sim_runs.specs.Reached.{the_end, IsReached}
 
--- each group has all of the group space
+-- Each group has all of the group space.
 abbrev pub spaces_of : Setting → (group : ℕ) → Space
 spaces_of setting g = group_space setting
 
--- the globals and the input have room in one half of the words of shared data
+-- The globals and the input have room in one half of the words of shared data.
 abbrev pub HasSpace : Setting → Type 0
 HasSpace setting = setting.globals + setting.inputs ≤ 2 ^ 19
 
--- the tree is sound, and its nodes own words apart
+-- The tree is sound, and its nodes own words apart.
 abbrev pub ReachedTreesHaveSpaces : Type 0
 ReachedTreesHaveSpaces =
     (core : List CoreOp) (setting : Setting) (s : State Position) → IsReached core setting s
@@ -39,8 +39,8 @@ ReachedTreesHaveSpaces =
 
 -- ---- one processor
 
--- who is not at its end is about to do something by itself, with those whom it meets,
--- or with its group
+-- A processor that isn't at its end is about to do something by itself, with those whom it meets,
+-- or with its group.
 abbrev pub ReachedProcessorsHaveNext : Type 0
 ReachedProcessorsHaveNext =
     (core : List CoreOp) (nestings : Nestings) (main : ℕ) (setting : Setting) (s : State Position)
@@ -52,7 +52,7 @@ ReachedProcessorsHaveNext =
 
 -- ---- a group
 
--- its members are about to do one operation, and go one way
+-- The members of a group in lockstep are about to do one operation, and take the same branch.
 abbrev pub ReachedGroupsHaveNext : Type 0
 ReachedGroupsHaveNext =
     (core : List CoreOp) (nestings : Nestings) (main : ℕ) (setting : Setting) (s : State Position)
@@ -64,13 +64,13 @@ ReachedGroupsHaveNext =
 
 -- ---- a round
 
--- all begin the group of a `start`
+-- All processors begin the group of a `start`.
 pub record BeginsGroup (tree : Tree) (ds : List Doing) : Type 0 where
   pub kind : trees.kind tree 0 ≡ Some (Asynchronous false)
   pub stand : (h : ℕ) → trees.is_member h (trees.members tree 0) ≡ true → tree.places h ≡ 0
   pub steps : StepsAt tree 0 0 Begin ds
 
--- what those in a possible round of a machine do is one of the known rounds
+-- A possible round of a machine is a known one, or the one in which the group of a `start` begins.
 abbrev pub ReachedRoundsAreKnown : Type 0
 ReachedRoundsAreKnown =
     (core : List CoreOp) (nestings : Nestings) (main : ℕ) (setting : Setting) (stages : List Stage)

@@ -10,7 +10,8 @@ use Rattle.fk_sim_block.specs.Node.{Nestings}
 use Rattle.fk_sim_block.specs.Law.{Cycles, GroupLaw}
 use Rattle.fk_sim_runs.specs.Lists.{IsOfOneGroup}
 
--- an image has the blocks of such a list, and these words at first
+-- An image has the blocks of a list with one group at a time. The first values and the globals are
+-- words.
 pub record CarriesGroups (core : List CoreOp) (main : ℕ) (firsts : List ℕ) (places : Places)
     (nestings : Nestings) (cycles : Cycles) (image : Image) : Type 0 where
   pub one_group : IsOfOneGroup core nestings main
@@ -18,7 +19,8 @@ pub record CarriesGroups (core : List CoreOp) (main : ℕ) (firsts : List ℕ) (
   pub firsts_are_words : All (λ w. w < 2 ^ 32) firsts
   pub globals_are_words : All (λ w. w < 2 ^ 32) image.globals.items
 
--- for every input, number of harts and number of cycles
+-- The machine of the image follows the list's core runs, for every input, number of harts and
+-- number of cycles.
 abbrev pub MachinesFollowGroups : Type 0
 MachinesFollowGroups =
     (core : List CoreOp) (main : ℕ) (firsts : List ℕ) (places : Places) (nestings : Nestings)

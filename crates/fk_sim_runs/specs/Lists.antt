@@ -11,26 +11,26 @@ use Rattle.fk_sim_block.specs.Ready.{is_no_step, is_alone}
 use Rattle.fk_sim_block.specs.Lists.{StaysInList, is_end, AlwaysMay}
 use Rattle.fk_sim_block.specs.Node.{Nestings}
 
--- What is asked of a list: of each index alone, of whatever ways its processors go, and of
--- all its lawful runs
+-- What a list needs to have one group at a time: conditions on each index, whatever branches its
+-- processors take, and conditions on all its lawful runs.
 pub record IsOfOneGroup (core : List CoreOp) (nestings : Nestings) (main : ℕ) : Type 0 where
   pub begins : main < length core
-  -- a jump leads to an operation
+  -- A jump leads to an operation.
   pub jumps : (i : ℕ) (op : CoreOp) → slice_get core i ≡ Some op → is_jump op ≡ true
       → IsOperation core op.target
-  -- no operation but an end goes on outside the list
+  -- Every operation that isn't an end goes on inside the list.
   pub within : (i : ℕ) (op : CoreOp) (operation : Operation) → StandsOp core i op operation
       → is_end operation ≡ false
       → (onward : Bool) → StaysInList core (follows core operation i op.target [] onward)
-  -- local operations and requests have nothing to do with frames of groups, nor with the
-  -- heap that all share
+  -- Local operations and requests have nothing to do with frames of groups, nor with the heap that
+  -- all share.
   pub alone : (i : ℕ) (op : CoreOp) (operation : Operation) → StandsOp core i op operation
       → is_no_step (class_of operation) ≡ true → is_alone operation ≡ true
-  -- no level stands in a frame: round a group there is the root alone
+  -- No frame has a saved level: around a group there is the root alone.
   pub levels : (i : ℕ) → nestings.levels i ≡ 0
-  -- in every lawful run the members of a group in lockstep are at one index, and so are those who
-  -- begin one; and there is one group at a time
+  -- In every lawful run the members of a group in lockstep are at one index, and so are those who
+  -- begin a group; and there is one group at a time.
   pub one_group : AlwaysOneGroup (next core) (λ w. landing core w.at) (position main [])
-  -- in every lawful run each has as many values as its operation expects, and may do it
+  -- In every lawful run each processor has as many values as its operation expects, and may do it.
   pub well_formed : IsWellFormed core main
   pub may : AlwaysMay core main

@@ -1,4 +1,4 @@
--- The beginning: before its first cycle a machine goes with the state before the first round.
+-- The beginning: before its first cycle a machine follows the state before the first round.
 use Rattle.std.specs.Prelude.{ℕ, ◌<◌, ◌≤◌, List, [], ◌∷◌, length, replicate, slice_index}
 use Rattle.fk_space.specs.Space.{Space}
 use Rattle.fk_tree.specs.Tree.{root}
@@ -16,12 +16,12 @@ use Rattle.fk_sim_rounds.specs.Next.{JumpsLead, landed, HasNext}
 use Rattle.fk_sim_rounds.specs.Comes.{IsSoon}
 use Rattle.fk_sim_rounds.specs.Machines.{GoesWith}
 
--- each is near its first commit, or near the word where it meets others
+-- Each hart is near its first commit, or near the word where it meets others.
 abbrev pub AreSoon : List Stage → Type 0
 AreSoon [] = Unit {0}
 AreSoon (s ∷ stages) = IsSoon s × AreSoon stages
 
--- so it is with so many harts, all of which are in the root
+-- A machine with p harts, all of them in the root, follows the first state before its first cycle.
 pub record OpensWith (core : List CoreOp) (image : Image) (places : Places) (nestings : Nestings)
     (spaces : ℕ → Space) (firsts : List ℕ) (main : ℕ) (input : List ℕ) (p : ℕ) : Type 0 where
   pub stages : List Stage
@@ -30,8 +30,8 @@ pub record OpensWith (core : List CoreOp) (image : Image) (places : Places) (nes
       (list_opening main image.globals.items firsts input p) (replicate p 0) [] stages
       (machine.machine_opening image input p)
 
--- where each processor is about to do an operation that it may do by itself, or by
--- meeting the others
+-- A machine follows the first state if each processor is about to do an operation that it may do by
+-- itself, or by meeting the others.
 abbrev pub OpeningsAreFollowed : Type 0
 OpeningsAreFollowed =
     (core : List CoreOp) (image : Image) (places : Places) (nestings : Nestings) (cycles : Cycles)

@@ -1,4 +1,4 @@
--- The pace: how soon one is in a round who could act.
+-- The pace: how soon a processor that could act is in a round.
 use Rattle.std.specs.Prelude.{◌≡◌, ◌≢◌, ℕ, ◌+◌, ◌^◌, ◌<◌, ◌≤◌, List, [], ◌∷◌, ◌++◌, length, take}
 use Rattle.std.specs.Prelude.{Some, true, slice_get, ◌⊎◌}
 use Rattle.fk_num.specs.Word.{Memory}
@@ -15,9 +15,10 @@ use Rattle.fk_sim_block.specs.Joint.{lead}
 use Rattle.fk_sim_block.specs.Start.{most_united}
 use Rattle.fk_sim_rounds.specs.Comes.{most_between, most_to_word}
 
--- ---- stages from which one commits in time
+-- ---- stages from which a hart commits in time
 
--- from where those who have met leave to their commit: it is that, or the common one behind it
+-- The most cycles from leaving the arrival word to the commit: leaving is the commit, or the common
+-- commit comes after it.
 abbrev pub behind_leaving : Ending → ℕ
 behind_leaving Commits = 0
 behind_leaving Unites = most_united
@@ -35,22 +36,22 @@ AreInTime (s ∷ stages) = IsInTime s × AreInTime stages
 
 -- ---- one cycle
 
--- harts before a cycle: the plan that binds them, their stages, the control words, and how many
--- cycles were finished before
+-- The view of harts before a cycle: the plan that binds them, their stages, the control words, and
+-- the number of cycles finished before.
 pub record Sight : Type 0 where
   pub plan : Plan
   pub stages : List Stage
   pub control : Memory
   pub finished : ℕ
 
--- a hart stands in a node, in a phase of those who meet at a word
+-- A hart of a node is in a phase of those who meet at a word.
 pub record StandsAtWord (v : Sight) (h : ℕ) (e : Ending) (g w : ℕ) (f : Phase) : Type 0 where
   pub here : slice_get v.plan.nodes h ≡ Some g
   pub at : slice_get v.stages h ≡ Some (Meets e w f)
   pub member : v.plan.member w h ≡ true
   pub inside : IsInside f
 
--- it goes on meeting there in a cycle, in which all who meet there have moved
+-- In a cycle the hart goes on meeting at that word, and all who meet there have moved.
 pub record MovesOn (v v' : Sight) (h : ℕ) (e : Ending) (g w : ℕ) : Type 0 where
   pub phase : Phase
   pub stands : StandsAtWord v' h e g w phase
@@ -58,14 +59,14 @@ pub record MovesOn (v v' : Sight) (h : ℕ) (e : Ending) (g w : ℕ) : Type 0 wh
   pub moves : AllMove v.finished (v.plan.size w) lead (phases v.plan g w (kept v.stages))
       (v.control w) (phases v'.plan g w (kept v'.stages)) (v'.control w)
 
--- it has met those with whom it unites, and is near their common commit
+-- The hart has met those with whom it unites, and is near their common commit.
 pub record HasUnited (v' : Sight) (h : ℕ) : Type 0 where
   pub left : ℕ
   pub at : slice_get v'.stages h ≡ Some (Acts left)
   pub few : left < most_united
 
--- so it is with all harts: who is at a distance is one cycle nearer, and who meets others and
--- doesn't leave goes on so
+-- From one view to the next each hart at a distance is one cycle nearer, and each that meets others
+-- and doesn't leave goes on meeting them.
 pub record Turns (v v' : Sight) : Type 0 where
   pub few : length v.stages < 2 ^ 31
   pub next : v'.finished ≡ v.finished + 1
@@ -74,9 +75,9 @@ pub record Turns (v v' : Sight) : Type 0 where
       → MovesOn v v' h e g w
   pub unite : (h w : ℕ) → slice_get v.stages h ≡ Some (Meets Unites w (Leaving 0)) → HasUnited v' h
 
--- ---- one who is to commit within so many cycles
+-- ---- a hart that is to commit within some number of cycles
 
--- it is at a distance
+-- The hart is at a distance from its commit.
 pub record IsNear (v : Sight) (h cycles : ℕ) : Type 0 where
   pub stage : Stage
   pub at : slice_get v.stages h ≡ Some stage
@@ -84,7 +85,7 @@ pub record IsNear (v : Sight) (h cycles : ℕ) : Type 0 where
   pub is : distance stage ≡ Some left
   pub in_time : left ≤ cycles
 
--- or all whom it meets have entered, and have time to leave
+-- All whom the hart meets have entered, and have time to leave.
 pub record MeetsAll (v : Sight) (h cycles : ℕ) : Type 0 where
   pub ending : Ending
   pub node : ℕ
@@ -100,7 +101,7 @@ ActsWithin v h cycles = IsNear v h cycles ⊎ MeetsAll v h cycles
 
 -- ---- rounds
 
--- in some round from one on
+-- The hart is in a round of the schedule, at this place or later.
 pub record IsInSince (h from : ℕ) (schedule : Schedule) : Type 0 where
   pub place : ℕ
   pub since : from ≤ place
@@ -108,26 +109,27 @@ pub record IsInSince (h from : ℕ) (schedule : Schedule) : Type 0 where
   pub at : slice_get schedule place ≡ Some round
   pub within : IsIn h round
 
--- with those before, it is to commit within 254 cycles more
+-- The hart is to commit within the cycles that, with the rounds since `from`, make 254.
 pub record IsToCommit (v : Sight) (h from : ℕ) (schedule : Schedule) : Type 0 where
   pub cycles : ℕ
   pub due : length schedule + cycles ≡ from + most_between
   pub acts : ActsWithin v h cycles
 
 module _ (core : List CoreOp) (setting : Setting) (first : State Position) where
-  -- it could act before each round from one on, and behind the last
+  -- The processor could act before each round from this one on, and after the last.
   abbrev pub CouldActSince : (h from : ℕ) → Schedule → Type 0
   CouldActSince h from schedule =
       (i : ℕ) → from ≤ i → i ≤ length schedule
       → CouldAct (next core) setting h (run (next core) setting (take i schedule) first)
 
-  -- then it is in one of them, or is to commit in time
+  -- A processor that could act so is in one of these rounds, or is to commit in time.
   abbrev pub AreWaiting : Schedule → Sight → Type 0
   AreWaiting schedule v =
       (h from : ℕ) → from ≤ length schedule → CouldActSince h from schedule
       → IsInSince h from schedule ⊎ IsToCommit v h from schedule
 
--- so it is behind one round more, where all who could act then are to commit within 254 cycles
+-- One round more keeps `AreWaiting`, if each processor that could act after it is to commit within
+-- 254 cycles.
 abbrev pub PacesGoOn : Type 0
 PacesGoOn =
     (core : List CoreOp) (setting : Setting) (first : State Position)
@@ -137,7 +139,7 @@ PacesGoOn =
     ++ counts_for v.stages ∷ []) first) → ActsWithin v' h most_between)
     → AreWaiting core setting first (schedule ++ counts_for v.stages ∷ []) v'
 
--- and the pace of 256 rounds is kept in one more, whatever that is
+-- The pace of 256 rounds is kept with one round more, whatever that round is.
 abbrev pub PacesAreKept : Type 0
 PacesAreKept =
     (core : List CoreOp) (setting : Setting) (first : State Position) (schedule : Schedule)

@@ -1,4 +1,4 @@
--- States that runs of lists with one group at a time come to.
+-- States that are reached in runs of lists with one group at a time.
 use Rattle.std.specs.Prelude.{◌≡◌, ℕ, ◌≤◌, List, [], length, Some, None, slice_get, ◌⊎◌}
 use Rattle.fk_meaning_operation.specs.declared.operation.Operation.{Operation}
 use Rattle.fk_tree.specs.Sound.{IsSound}
@@ -17,13 +17,13 @@ use Rattle.fk_sim_rounds.specs.InRange.{AreGiven}
 use Rattle.fk_sim_block.specs.Node.{Nestings}
 use Rattle.fk_sim_runs.specs.Lists.{IsOfOneGroup}
 
--- where nothing is left to do
+-- The position of a processor with nothing left to do.
 abbrev pub the_end : List CoreOp → Position
 the_end core = position (length core) []
 
--- what is known of a state: its groups have one program, and those who begin one are at one index;
--- there is one group at most, and each processor is in the list or at its end, has as many values
--- as its operation expects, may do it, and has words alone
+-- What is known of a reached state: its groups have one program, and processors that begin one are
+-- at one index. There is one group at most. Each processor is in the list or at its end, has as
+-- many values as its operation expects, may do it, and has words alone.
 pub record IsReached (core : List CoreOp) (setting : Setting) (s : State Position) : Type 0 where
   pub sound : IsSound setting.processors s.tree
   pub one_program : HaveOneProgram (next core) s
@@ -40,8 +40,8 @@ pub record IsReached (core : List CoreOp) (setting : Setting) (s : State Positio
       → operation_of op.kind op.number ≡ Some operation → MayDo operation r
   pub in_range : (h : ℕ) (r : Runner Position) → slice_get s.runners h ≡ Some r → IsInRange r.has
 
--- after each lawful schedule without a stopped last round, in whose rounds each processor does one
--- operation at most, of what a machine may be given
+-- A state is reached after each lawful schedule without a stopped last round, in whose rounds each
+-- processor does one operation at most, from what a machine may be given.
 abbrev pub RunsReach : Type 0
 RunsReach =
     (core : List CoreOp) (nestings : Nestings) (main : ℕ) → IsOfOneGroup core nestings main

@@ -1,5 +1,5 @@
--- The words of the group to come, in runs of lists with one group at a time: they are
--- 0 when it begins.
+-- The control words of the group to come, in runs of lists with one group at a time: they are 0
+-- when it begins.
 use Rattle.std.specs.Prelude.{◌≡◌, ℕ, ◌^◌, ◌<◌, List, length, true}
 use Rattle.fk_num.specs.Word.{Memory}
 use Rattle.fk_tree.specs.Tree.{Tree}
@@ -20,11 +20,11 @@ use Rattle.fk_sim_runs.specs.Lists.{IsOfOneGroup}
 use Rattle.fk_sim_runs.specs.Reached.{IsReached}
 use Rattle.fk_sim_runs.specs.Facts.{spaces_of, HasSpace}
 
--- a tree without a group is ready for one at the beginning of the group space
+-- A tree without a group is ready for one, at the beginning of the group space.
 abbrev pub IsReady : Setting → Tree → (control : Memory) → Type 0
 IsReady setting tree control = IsReadyForGroup tree (group_space setting).low control
 
--- a cycle of a machine that follows a state leaves it so
+-- A cycle of a machine that follows a state leaves the tree ready.
 abbrev pub ReachedCyclesStayReady : Type 0
 ReachedCyclesStayReady =
     (core : List CoreOp) (image : Image) (places : Places) (nestings : Nestings) (cycles : Cycles)
@@ -38,13 +38,13 @@ ReachedCyclesStayReady =
     → IsReady setting s.tree m.shared.control → IsReady setting
     (result (next core) setting (counts_for stages) s).tree (cycle m).shared.control
 
--- where the next group of a tree is to begin, all of the group space is its own, and
--- nobody is at its words
+-- The next group of a tree has all of the group space, and nobody is at its words.
 pub record FindsHeader (setting : Setting) (tree : Tree) (control : Memory) : Type 0 where
   pub rest : IsAtRest (first_of (spaces_of setting) tree.given) control
   pub low : (spaces_of setting tree.given).low ≡ (group_space setting).low
 
--- so it is behind each cycle from that in which all have met at the beginning of `start`
+-- After each cycle, from the one in which all have met at the beginning of `start`, the next group
+-- has all of the group space, and nobody is at its words.
 abbrev pub ReachedStartsFindHeaders : Type 0
 ReachedStartsFindHeaders =
     (core : List CoreOp) (image : Image) (places : Places) (nestings : Nestings) (main : ℕ)

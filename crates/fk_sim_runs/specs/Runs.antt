@@ -31,8 +31,8 @@ use Rattle.fk_sim_runs.specs.Opening.{OpensWith}
 use Rattle.fk_sim_runs.specs.Pace.{AreInTime, Sight, Turns}
 use Rattle.fk_sim_runs.specs.Able.{WhoWaitsResumes}
 
--- the plan that binds harts: that of the state's tree, or where all have met at the beginning of
--- `start`, with the root in lockstep
+-- The plan that binds harts: the plan of the state's tree, or, where all have met at the beginning
+-- of `start`, the plan with the root in lockstep.
 abbrev pub plan_in : (uniting : Bool) → Plan → Plan
 plan_in false plan = plan
 plan_in true plan = united plan
@@ -49,7 +49,7 @@ sight_in uniting tree spaces nodes stages control finished =
 
 module _ (core : List CoreOp) (image : Image) (places : Places) (nestings : Nestings)
     (setting : Setting) (spaces : ℕ → Space) where
-  -- a machine beside a state: it goes with that, or to the beginning of `start`
+  -- A machine follows a state, or has all processors in lockstep at the beginning of `start`.
   abbrev pub GoesBeside : (uniting : Bool) → State Position → (nodes : List ℕ) → (printed : List ℕ)
       → List Stage → Machine → Type 0
   GoesBeside false s nodes printed stages m =
@@ -57,15 +57,15 @@ module _ (core : List CoreOp) (image : Image) (places : Places) (nestings : Nest
   GoesBeside true s nodes printed stages m =
       GoesToStart core image places nestings setting spaces s nodes printed stages m
 
-  -- so that it may go further: all its harts are in time, and nobody is at the words of
-  -- the group to come
+  -- A machine that follows a state may go further: all its harts are in time, and nobody is at the
+  -- words of the group to come.
   pub record StandsBeside (uniting : Bool) (s : State Position) (nodes : List ℕ) (printed : List ℕ)
       (stages : List Stage) (m : Machine) : Type 0 where
     pub goes : GoesBeside uniting s nodes printed stages m
     pub in_time : AreInTime stages
     pub ready : IsReadyForGroup s.tree (first_of spaces 1) m.shared.control
 
-  -- its cycle is a possible round
+  -- The machine's cycle is a possible round.
   abbrev pub IsRound : (uniting : Bool) → State Position → (nodes : List ℕ) → (printed : List ℕ)
       → List Stage → Machine → Type 0
   IsRound false s nodes printed stages m =
@@ -74,7 +74,8 @@ module _ (core : List CoreOp) (image : Image) (places : Places) (nestings : Nest
   IsRound true s nodes printed stages m =
       Starts core image places nestings setting spaces s nodes printed stages m
 
-  -- after the cycle it is so beside the state behind the round, and those who meet have moved
+  -- After the cycle the machine follows the state after the round, may go further again, and those
+  -- who meet have moved.
   pub record GoesFurther (uniting : Bool) (s : State Position) (nodes : List ℕ) (printed : List ℕ)
       (stages : List Stage) (m : Machine) : Type 0 where
     pub uniting' : Bool
@@ -86,9 +87,9 @@ module _ (core : List CoreOp) (image : Image) (places : Places) (nestings : Nest
         (sight_in uniting' (result (next core) setting (counts_for stages) s).tree spaces nodes'
         stages' (cycle m).shared.control (cycle m).begun)
 
-  -- In the run that begins with a state, behind a lawful schedule of rounds of machines: so it is
-  -- with each cycle whose round is possible and keeps the schedule lawful, and who waits for parts
-  -- is to go on behind them
+  -- In the run from a state, after any lawful schedule of a machine's rounds, each cycle goes
+  -- further whose round is possible and keeps the schedule lawful; and a processor that waits for
+  -- parts is to go on after them.
   pub record AlwaysGoesFurther (first : State Position) : Type 0 where
     pub waits : (schedule : Schedule) → IsLawful (next core) setting schedule first
         → AreSingle schedule → (run (next core) setting schedule first).fault ≡ None
@@ -102,7 +103,8 @@ module _ (core : List CoreOp) (image : Image) (places : Places) (nestings : Nest
         → IsLawful (next core) setting (schedule ++ counts_for stages ∷ []) first
         → GoesFurther uniting (run (next core) setting schedule first) nodes printed stages m
 
--- so a machine with so many harts follows the run, for every input and every number of cycles
+-- A machine with p harts follows the run, for every input and every number of cycles, if each cycle
+-- goes further.
 abbrev pub MachinesFollowGroupRuns : Type 0
 MachinesFollowGroupRuns =
     (core : List CoreOp) (image : Image) (places : Places) (nestings : Nestings) (cycles : Cycles)
@@ -115,7 +117,7 @@ MachinesFollowGroupRuns =
 
 -- ---- what is to be known of the run
 
--- where so many processors stand in a tree, from a number on
+-- The nodes of `count` processors, from a number on.
 abbrev pub places_in : Tree → (number count : ℕ) → List ℕ
 places_in tree number zero = []
 places_in tree number (suc n) = tree.places number ∷ places_in tree (suc number) n
@@ -125,8 +127,8 @@ module _ (core : List CoreOp) (nestings : Nestings) (setting : Setting) (spaces 
   abbrev pub tree_behind : Tree
   tree_behind = (result (next core) setting (counts_for stages) s).tree
 
-  -- behind the round of a cycle the tree is sound, and its nodes own words apart; all processors go
-  -- on, and groups too; and nobody is at the words of the group to come
+  -- After the round of a cycle the tree is sound, and its nodes own words apart. All processors go
+  -- on, and groups too, and nobody is at the words of the group to come.
   pub record IsBehind (did : List Doing) (afters : List (Option Stage)) : Type 0 where
     pub tree : IsTree setting tree_behind spaces
     pub ahead : AllNext core nestings setting tree_behind 0 afters did
@@ -135,7 +137,7 @@ module _ (core : List CoreOp) (nestings : Nestings) (setting : Setting) (spaces 
         (places_in tree_behind 0 setting.processors) afters (owners_after s.tree tree_behind did)
     pub ready : IsReadyForGroup tree_behind (first_of spaces 1) (cycle m).shared.control
 
--- where it is so, and the round is a known one, the machine goes further
+-- A machine goes further after a known round, if `IsBehind` holds after it.
 abbrev pub OrderlyRoundsGoFurther : Type 0
 OrderlyRoundsGoFurther =
     (core : List CoreOp) (image : Image) (places : Places) (nestings : Nestings) (setting : Setting)
@@ -147,7 +149,8 @@ OrderlyRoundsGoFurther =
     → IsKnownRound s.tree r.did → IsBehind core nestings setting spaces s stages m r.did r.afters
     → GoesFurther core image places nestings setting spaces false s nodes printed stages m
 
--- so it does where all have met at the beginning of `start`, if jumps lead all to one index
+-- A machine in which all have met at the beginning of `start` goes further, if jumps lead all
+-- processors to one index.
 abbrev pub UnionsGoFurther : Type 0
 UnionsGoFurther =
     (core : List CoreOp) (image : Image) (places : Places) (nestings : Nestings) (setting : Setting)
@@ -162,7 +165,7 @@ UnionsGoFurther =
     (cycle m).shared.control
     → GoesFurther core image places nestings setting spaces false s nodes printed stages m
 
--- and from there on to where the group begins, which has the whole group space
+-- A machine goes further from there to where the group begins, if that has the whole group space.
 abbrev pub StartsGoFurther : Type 0
 StartsGoFurther =
     (core : List CoreOp) (image : Image) (places : Places) (nestings : Nestings) (setting : Setting)

@@ -1,4 +1,4 @@
--- What a cycle behind which the tree changes makes of harts and of those who meet.
+-- What a cycle after which the tree changes makes of harts and of those who meet.
 use Rattle.std.specs.Prelude.{◌≡◌, ℕ, ◌+◌, ◌^◌, ◌<◌, List, [], ◌∷◌, length, Option, Some, None}
 use Rattle.std.specs.Prelude.{slice_get}
 use Rattle.fk_num.specs.Word.{Memory}
@@ -14,18 +14,18 @@ use Rattle.fk_sim_rounds.specs.Unite.{AllUnite}
 use Rattle.fk_sim_rounds.specs.Union.{AreNearBegin}
 use Rattle.fk_sim_runs.specs.Pace.{IsInTime, AreInTime, Turns}
 
--- who has committed is at a stage in time
+-- A hart that has committed is at a stage in time.
 abbrev pub AreFreshInTime : List (Option Stage) → List Stage → Type 0
 AreFreshInTime [] [] = Unit {0}
 AreFreshInTime (a ∷ afters) (s ∷ stages) = (a ≡ None → IsInTime s) × AreFreshInTime afters stages
 AreFreshInTime afters stages = ⊥
 
--- nobody has met those with whom it unites
+-- No hart has met those with whom it unites.
 abbrev pub NobodyHasUnited : List Stage → Type 0
 NobodyHasUnited stages = (h w : ℕ) → slice_get stages h ≡ Some (Meets Unites w (Leaving 0)) → ⊥
 
--- Where a plan goes on behind a cycle, all are in time there, who is at a distance is nearer, and
--- those who meet have moved
+-- Where a plan goes on after a cycle, all harts are in time, each at a distance is nearer, and
+-- those who meet have moved.
 abbrev pub PlansTurn : (S P D : Type 0) → Type 0
 PlansTurn S P D =
     (source : Source S P D) (image : Image) (plan plan' : Plan) (tests tests' : Tests P D)
@@ -45,8 +45,8 @@ PlansTurn S P D =
 
 -- ---- where all have met at the beginning of `start`
 
--- behind the cycle in which they leave, near their common commit, all are in time, and
--- nobody meets others
+-- After the cycle in which all leave, near their common commit, all are in time, and nobody meets
+-- others.
 abbrev pub UnionsTurn : Type 0
 UnionsTurn =
     (plan plan' : Plan) (stages stages' : List Stage) (control control' : Memory) (finished : ℕ)
@@ -55,7 +55,7 @@ UnionsTurn =
     × Turns (record { plan = plan; stages = stages; control = control; finished = finished })
     (record { plan = plan'; stages = stages'; control = control'; finished = finished + 1 })
 
--- nor does anybody in the cycles from there on, in the last of which all commit
+-- Nobody meets others in the cycles from there on, in the last of which all commit.
 abbrev pub UnitedTurn : Type 0
 UnitedTurn =
     (plan plan' : Plan) (stages stages' : List Stage) (control control' : Memory) (finished : ℕ)

@@ -36,8 +36,7 @@ pub fn reached_processors_have_next()
     ensures { ReachedProcessorsHaveNext }
 {}
 
-/// The members of a group in lockstep are about to do one operation, and take the same way at a
-/// branch.
+/// The members of a group in lockstep are about to do one operation, and take the same branch.
 pub fn reached_groups_have_next()
     ensures { ReachedGroupsHaveNext }
 {}
@@ -112,8 +111,10 @@ pub fn openings_are_followed()
     ensures { OpeningsAreFollowed }
 {}
 
-/// Where each cycle goes from one view of the harts to the next, and a processor that could act is
-/// to commit within 254 cycles, with all whom it meets, this one acts in a round by then.
+/// A processor that could act since some round is in one of the rounds since, or is to commit, with
+/// all whom it meets, within 254 cycles of that round. One round more keeps this, if its cycle goes
+/// from one view of the harts to the next, and each processor that could act after it is to commit
+/// within 254 cycles.
 pub fn paces_go_on()
     ensures { PacesGoOn }
 {}
@@ -136,7 +137,8 @@ pub fn unions_turn()
     ensures { UnionsTurn }
 {}
 
-/// From that cycle to their commit nobody meets others.
+/// From the cycle in which all leave the word where they meet at the beginning of `start`, to their
+/// commit, nobody meets others.
 pub fn united_turn()
     ensures { UnitedTurn }
 {}
@@ -176,8 +178,9 @@ pub fn unions_go_further()
     ensures { UnionsGoFurther }
 {}
 
-/// Each cycle from that meeting to the one in which the group begins goes further, where nobody is
-/// at the group's words, and it has the whole group space.
+/// Each cycle, from the one in which all have met at the beginning of `start` to the one in which
+/// the group begins, goes further, if nobody is at the group's words, and the group has the whole
+/// group space.
 pub fn starts_go_further()
     ensures { StartsGoFurther }
 {}

@@ -1,14 +1,14 @@
--- What is so of every split of a space, and of every heap.
+-- Laws of every split of a space, and of every heap.
 use Rattle.std.specs.Prelude.{◌≡◌, ℕ, ◌+◌, ◌*◌, ◌≤◌, ◌<◌, Some, None}
 use Rattle.fk_space.specs.Space.{Space, IsSpace, share, child, heap}
 
--- a split of a space into k parts, each of so many words
+-- a split of a space into k parts with `words` words each
 pub record IsSplit (s : Space) (k words : ℕ) : Type 0 where
   pub space : IsSpace s
   pub some : 1 ≤ k
   pub fits : share s k ≡ Some words
 
--- a part is a space of its share, in the free words of the parent behind those kept back. The
+-- a part is a space with its share, in the free words of the parent after those kept back. The
 -- parent's own words lie below and above these
 pub record IsPart (s : Space) (k words : ℕ) (part : Space) : Type 0 where
   pub space : IsSpace part

@@ -4,8 +4,8 @@ ghost use Rattle.std.specs.Prelude.{◌≡◌, ◌≤◌};
 ghost use Rattle.fk_space.specs.Space.{heap as heap_after};
 
 /// Takes a block of `words` words from a heap whose next word is `top` and whose words end at
-/// `limit`: the new top, and the block's first word. Where the block doesn't fit there is none,
-/// and the heap is full from then on.
+/// `limit`. Returns the new top, and the block's first word. If the block doesn't fit, there is
+/// none, and the heap is full from then on.
 pub fn heap(top: u32, limit: u32, words: u32) -> (u32, Option<u32>)
     requires { top ≤ limit }
     ensures { result ≡ heap_after top limit words }

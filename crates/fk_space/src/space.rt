@@ -5,13 +5,13 @@ ghost use Rattle.fk_space.specs.Space.{IsSpace, whole, free, share, child, frame
 
 use std::marker::Model;
 
-/// The words of a header.
+/// The number of words of a header.
 const HEADER: u32 = 8;
 
-/// The words that a split keeps back for each part.
+/// The number of words that a split keeps back for each part.
 const KEPT: u32 = 4;
 
-/// The fewest words that a part gets.
+/// The smallest number of words of a part.
 const SMALLEST: u32 = 16;
 
 /// A group's range of the 2^20 shared words, with `low + 8 <= frames <= blocks <= high <= 2^20`.
@@ -58,7 +58,7 @@ impl Space {
         }
     }
 
-    /// How many words are free: those between the frames and the blocks.
+    /// The number of free words, which are those between the frames and the blocks.
     pub fn free(&self) -> u32
         ensures free { result ≡ free self.now }
         ensures space { IsSpace self.now }
@@ -66,9 +66,8 @@ impl Space {
         self.blocks - self.frames
     }
 
-    /// The words that each of `k` parts gets: an even share of the free words, less 4 for
-    /// each part, rounded down. `None` where these 4 `k` words are not free, or where the
-    /// share is below 16.
+    /// The number of words of each of `k` parts: an even share of the free words, less 4 for each
+    /// part, rounded down. `None` if these 4 `k` words aren't free, or if the share is below 16.
     pub fn share(&self, k: u32) -> Option<u32>
         requires { 1 ≤ k }
         ensures { result ≡ share self.now k }
@@ -79,7 +78,7 @@ impl Space {
         if words < SMALLEST { None } else { Some(words) }
     }
 
-    /// The space of part `i` of `k`. The parts follow each other behind the frames and the 4 `k`
+    /// The space of part `i` of `k`. The parts follow each other after the frames and the 4 `k`
     /// words that are kept back. Nothing is taken in it.
     #[tactic(auto, using(crate::proofs::Parts::parts))]
     pub fn child(&self, k: u32, i: u32) -> Space
@@ -93,7 +92,7 @@ impl Space {
         Space::whole(self.frames + kept + i * words, words)
     }
 
-    /// The space after a frame is taken at the end of the frames, where its words are free.
+    /// The space after taking a frame at the end of the frames; `None` if its words aren't free.
     pub fn frame(&self, words: u32) -> Option<Space>
         ensures { result ≡ frame self.now words }
     {
@@ -106,8 +105,8 @@ impl Space {
         })
     }
 
-    /// A block at the end of the free words, where its words are free: its first word, and the
-    /// space after it is taken.
+    /// The first word of a block at the end of the free words, and the space after taking it;
+    /// `None` if its words aren't free.
     pub fn block(&self, words: u32) -> Option<(u32, Space)>
         ensures { result ≡ block self.now words }
     {

@@ -1,4 +1,4 @@
--- The indices of tokens that a program holds, in the order in which the tokens stand in its text.
+-- The token indices that a program contains, in the order of the tokens in its text.
 use Rattle.std.specs.Prelude.{List, [], ◌∷◌, ◌++◌, Option, Some, None}
 use Rattle.fk_syntax.specs.declared.nodes.Index.{Index}
 use Rattle.fk_syntax.specs.declared.nodes.Index.TheVariants.{Node, StructName}
@@ -8,7 +8,7 @@ use Rattle.fk_syntax.specs.Program as p
 use Rattle.fk_syntax.specs.Program.{DeclaredTree, Statement, Statements, FunctionTree, ItemTree}
 use Rattle.fk_syntax.specs.Program.{ProgramTree}
 
--- the name of a struct in a type is no node
+-- the name of a struct in a type isn't a node
 abbrev pub base_indices : BaseType → List Index
 base_indices t.Int = []
 base_indices t.Unsigned = []
@@ -18,7 +18,7 @@ base_indices (t.Struct name) = StructName name.at ∷ []
 abbrev pub type_indices : TypeTree → List Index
 type_indices type = base_indices type.base
 
--- those of an expression and of all in it
+-- the indices of an expression and of everything in it
 abbrev mutual
   pub tree_indices : Tree → List Index
   tree_indices (t.Number spot value unsigned) = Node spot.at ∷ []
@@ -58,12 +58,12 @@ abbrev mutual
   suffixes_indices (t.up spot others) = Node spot.at ∷ suffixes_indices others
   suffixes_indices (t.down spot others) = Node spot.at ∷ suffixes_indices others
 
--- those of an expression where there is one
+-- the indices of an expression that may be absent
 abbrev pub optional_indices : Option Tree → List Index
 optional_indices None = []
 optional_indices (Some tree) = tree_indices tree
 
--- those of a variable, a member or a parameter
+-- the indices of a variable, a member or a parameter
 abbrev pub declared_indices : DeclaredTree → List Index
 declared_indices declared =
     type_indices declared.kind ++ (Node declared.name.at ∷ optional_indices declared.first)
@@ -72,7 +72,7 @@ abbrev pub declarations_indices : List DeclaredTree → List Index
 declarations_indices [] = []
 declarations_indices (x ∷ xs) = declared_indices x ++ declarations_indices xs
 
--- those of a statement and of all in it
+-- the indices of a statement and of everything in it
 abbrev mutual
   pub statement_indices : Statement → List Index
   statement_indices p.Empty = []
@@ -105,7 +105,7 @@ abbrev mutual
   statements_indices (p.statement first others) =
       statement_indices first ++ statements_indices others
 
--- those of a body where there is one
+-- the indices of a body, if there is one
 abbrev pub body_indices : Option Statements → List Index
 body_indices None = []
 body_indices (Some body) = statements_indices body

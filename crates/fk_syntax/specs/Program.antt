@@ -1,4 +1,4 @@
--- Statements and programs, without where they lie in memory.
+-- Statements and programs, as trees without memory locations.
 use Rattle.std.specs.Prelude.{ℕ, List, [], ◌∷◌, Option, Some, None, Bool}
 use Rattle.fk_syntax.specs.declared.place.Place.{Place}
 use Rattle.fk_syntax.specs.declared.place.Spot.{Spot}
@@ -43,12 +43,12 @@ abbrev pub statements_of : List Statement → Statements
 statements_of [] = no_statements
 statements_of (x ∷ xs) = statement x (statements_of xs)
 
--- an `if`, with its `else` where it has one
+-- an `if`, with its `else` if it has one
 abbrev pub branch : Spot → Tree → Statement → Option Statement → Statement
 branch spot condition then None = If spot condition then
 branch spot condition then (Some otherwise) = IfElse spot condition then otherwise
 
--- a function, with its body where it has one
+-- a function, with its body if it has one
 pub record FunctionTree : Type 0 where
   pub mode : Mode
   pub result : TypeTree
@@ -56,13 +56,13 @@ pub record FunctionTree : Type 0 where
   pub parameters : List DeclaredTree
   pub body : Option Statements
 
--- what stands in a text side by side
+-- an item: one of the declarations of which a text consists
 pub data ItemTree : Type 0 where
   StructItem : (name : Named) (members : List DeclaredTree) → ItemTree
   VariablesItem : (variables : List DeclaredTree) → ItemTree
   FunctionItem : (function : FunctionTree) → ItemTree
 
--- a text: its items, the place after its last token, and how many tokens it has
+-- a text: its items, the place after its last token, and the number of its tokens
 pub record ProgramTree : Type 0 where
   pub items : List ItemTree
   pub end : Place

@@ -26,7 +26,7 @@ declared_of declared = record {
   first = option_map tree_of declared.first;
 }
 
--- a statement, where those in it are trees
+-- a statement, given the trees of the statements in it
 abbrev pub statement_step : Stmt-F Statement → Statement
 statement_step s.Empty = p.Empty
 statement_step (s.Expression value) = p.Expression (tree_of value)

@@ -1,4 +1,4 @@
--- Syntax trees, without where they lie in memory.
+-- Syntax trees, without memory locations.
 use Rattle.std.specs.Prelude.{ℕ, List, [], ◌∷◌, Bool}
 use Rattle.fk_syntax.specs.declared.place.Place.{Place}
 use Rattle.fk_syntax.specs.declared.place.Spot.{Spot}
@@ -10,14 +10,14 @@ pub record Named : Type 0 where
   pub at : ℕ
   pub place : Place
 
--- the first words of a type
+-- the base of a type: the type without stars
 pub data BaseType : Type 0 where
   Int : BaseType
   Unsigned : BaseType
   Void : BaseType
   Struct : (name : Named) → BaseType
 
--- a type: its first words, and how many `*` follow
+-- a type: its base, and the number of `*` after it
 pub record TypeTree : Type 0 where
   pub base : BaseType
   pub stars : ℕ
@@ -55,13 +55,13 @@ mutual
     up : (spot : Spot) (others : Suffixes) → Suffixes
     down : (spot : Spot) (others : Suffixes) → Suffixes
 
--- an operator of a chain, and the operand on its right
+-- an operator of a chain, and its right operand
 pub record LinkTree : Type 0 where
   pub spot : Spot
   pub sign : Sign
   pub right : Tree
 
--- what stands after an expression
+-- a suffix of an expression
 pub data SuffixTree : Type 0 where
   Index : (spot : Spot) (by : Tree) → SuffixTree
   Call : (spot : Spot) (arguments : Trees) → SuffixTree

@@ -25,7 +25,7 @@ base_of (b.Struct name) = t.Struct (named name)
 abbrev pub type_of : TypeName → TypeTree
 type_of type = record { base = base_of type.base; stars = type.stars }
 
--- an expression, where those in it are trees
+-- an expression, given the trees of the expressions in it
 abbrev pub tree_step : Expr-F Tree SuffixTree LinkTree → Tree
 tree_step (e.Number spot value unsigned) = t.Number spot value unsigned
 tree_step (e.Puts spot text) = t.Puts spot text.now
@@ -41,7 +41,7 @@ tree_step (e.Assign spot sign target value) = t.Assign spot sign target.value va
 tree_step (e.Choose spot condition first second) =
     t.Choose spot condition.value first.value second.value
 
--- a suffix, where the expressions in it are trees
+-- a suffix, given the trees of the expressions in it
 abbrev pub suffix_step : Suffix-F Tree SuffixTree LinkTree → SuffixTree
 suffix_step (e.Index spot by) = t.Index spot by
 suffix_step (e.Call spot arguments) = t.Call spot (trees_of arguments.items)
@@ -50,7 +50,7 @@ suffix_step (e.Arrow spot member) = t.Arrow spot (named member)
 suffix_step (e.Up spot) = t.Up spot
 suffix_step (e.Down spot) = t.Down spot
 
--- a link, where its operand is a tree
+-- a link, given the tree of its operand
 abbrev pub link_step : Link-F Tree SuffixTree LinkTree → LinkTree
 link_step link = record { spot = link.spot; sign = link.sign; right = link.right }
 

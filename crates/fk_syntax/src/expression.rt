@@ -9,7 +9,7 @@ use crate::place::{Name, Spot};
 use crate::sign::Sign;
 use std::alloc::{AllocError, Global};
 
-/// The first words of a type.
+/// The base of a type: the type without stars.
 #[derive(Clone, Copy)]
 pub enum Base<'a> {
     /// `int`
@@ -18,18 +18,18 @@ pub enum Base<'a> {
     Unsigned,
     /// `void`
     Void,
-    /// `struct` and its name, which is no node of the tree
+    /// `struct` and its name, which isn't a node of the tree
     Struct(Name<'a>),
 }
 
-/// A type, as it is written: its first words, and how many `*` follow.
+/// A type as it is written: its base, and the number of `*` after it.
 #[derive(Clone, Copy)]
 pub struct TypeName<'a> {
     pub base: Base<'a>,
     pub stars: u32,
 }
 
-/// An expression. The parentheses that group one leave no trace in it.
+/// An expression. Parentheses that only group aren't kept.
 #[cycle(expression)]
 #[derive(Drop)]
 pub enum Expr<'a> {
@@ -39,7 +39,7 @@ pub enum Expr<'a> {
     Puts(Spot, &'a [u8]),
     /// `sizeof` of a type.
     Sizeof(Spot, TypeName<'a>),
-    /// A variable, or a function where it is called.
+    /// A variable, or the name of a called function.
     Named(Name<'a>),
     /// `@`
     GroupNumber(Spot),
@@ -47,20 +47,20 @@ pub enum Expr<'a> {
     GroupRank(Spot),
     /// A sign before its operand: `-`, `+`, `!`, `~`, `*`, `&`, `++` or `--`.
     Prefix(Spot, Sign, Box<Expr<'a>>),
-    /// A cast, by its opening parenthesis.
+    /// A cast, with the spot of its opening parenthesis.
     Cast(Spot, TypeName<'a>, Box<Expr<'a>>),
     /// One level of signs that group to the left, the comma among them: the first operand, and a
     /// link for each sign. In `a + b - c` both signs are links of one chain.
     Chain(Box<Expr<'a>>, Vec<Link<'a>>),
-    /// An expression and what stands after it, from the left.
+    /// An expression and the suffixes after it, from the left.
     Postfix(Box<Expr<'a>>, Vec<Suffix<'a>>),
     /// An assignment by `=` or a sign such as `+=`: the sign, the target and the value.
     Assign(Spot, Sign, Box<Expr<'a>>, Box<Expr<'a>>),
-    /// `condition ? first : second`, by its `?`.
+    /// `condition ? first : second`, with the spot of its `?`.
     Choose(Spot, Box<Expr<'a>>, Box<Expr<'a>>, Box<Expr<'a>>),
 }
 
-/// A sign of a chain, and the operand on its right.
+/// A sign of a chain, and its right operand.
 #[cycle(expression)]
 #[derive(Drop)]
 pub struct Link<'a> {
@@ -69,17 +69,17 @@ pub struct Link<'a> {
     pub right: Expr<'a>,
 }
 
-/// What stands after an expression.
+/// A suffix of an expression.
 #[cycle(expression)]
 #[derive(Drop)]
 pub enum Suffix<'a> {
-    /// An index, by its `[`.
+    /// An index, with the spot of its `[`.
     Index(Spot, Expr<'a>),
-    /// A call with its arguments, by its `(`.
+    /// A call with its arguments, with the spot of its `(`.
     Call(Spot, Vec<Expr<'a>>),
-    /// A member of a struct, by the `.` before it.
+    /// A member of a struct, with the spot of its `.`.
     Dot(Spot, Name<'a>),
-    /// A member of the struct that a pointer points to, by the `->` before it.
+    /// A member of the struct that a pointer points to, with the spot of its `->`.
     Arrow(Spot, Name<'a>),
     /// `++`
     Up(Spot),
@@ -87,7 +87,7 @@ pub enum Suffix<'a> {
     Down(Spot),
 }
 
-// An expression in memory of its own. Fails only for want of memory.
+// An expression in a box. It fails only if there isn't enough memory.
 fn boxed<'a>(alloc: Global, expression: Expr<'a>) -> Result<Box<Expr<'a>>, AllocError>
     ensures { IfOk result (λ b. b.value ≡ expression.entry) }
 {
@@ -95,7 +95,7 @@ fn boxed<'a>(alloc: Global, expression: Expr<'a>) -> Result<Box<Expr<'a>>, Alloc
 }
 
 impl<'a> Expr<'a> {
-    /// A sign before its operand. Fails only for want of memory.
+    /// A sign before its operand. It fails only if there isn't enough memory.
     pub fn prefix(
         alloc: Global,
         spot: Spot,
@@ -107,7 +107,7 @@ impl<'a> Expr<'a> {
         Ok(Expr::Prefix(spot, sign, boxed(alloc, operand)?))
     }
 
-    /// A cast of its operand to a type. Fails only for want of memory.
+    /// A cast of its operand to a type. It fails only if there isn't enough memory.
     pub fn cast(
         alloc: Global,
         spot: Spot,
@@ -121,7 +121,7 @@ impl<'a> Expr<'a> {
     }
 
     /// One level of operators that group to the left: the first operand, and a link for each
-    /// operator. Fails only for want of memory.
+    /// operator. It fails only if there isn't enough memory.
     pub fn chain(
         alloc: Global,
         first: Expr<'a>,
@@ -133,7 +133,7 @@ impl<'a> Expr<'a> {
         Ok(Expr::Chain(boxed(alloc, first)?, links))
     }
 
-    /// An expression, and what stands after it. Fails only for want of memory.
+    /// An expression and the suffixes after it. It fails only if there isn't enough memory.
     pub fn postfix(
         alloc: Global,
         whole: Expr<'a>,
@@ -145,7 +145,7 @@ impl<'a> Expr<'a> {
         Ok(Expr::Postfix(boxed(alloc, whole)?, suffixes))
     }
 
-    /// An assignment. Fails only for want of memory.
+    /// An assignment. It fails only if there isn't enough memory.
     pub fn assign(
         alloc: Global,
         spot: Spot,
@@ -160,7 +160,7 @@ impl<'a> Expr<'a> {
         Ok(Expr::Assign(spot, sign, target, boxed(alloc, value)?))
     }
 
-    /// `condition ? first : second`. Fails only for want of memory.
+    /// `condition ? first : second`. It fails only if there isn't enough memory.
     pub fn choose(
         alloc: Global,
         spot: Spot,
@@ -179,7 +179,7 @@ impl<'a> Expr<'a> {
 }
 
 impl<'a> Link<'a> {
-    /// An operator and the operand on its right.
+    /// An operator and its right operand.
     pub fn new(spot: Spot, sign: Sign, right: Expr<'a>) -> Link<'a>
         ensures spot { (link_of result).spot ≡ spot }
         ensures sign { (link_of result).sign ≡ sign }

@@ -1,4 +1,4 @@
-//! The syntax trees of Fork95, which the parts of its front end share.
+//! The syntax trees of Fork95, which all parts of its front end use.
 #![tactic(auto)]
 
 pub mod expression;

@@ -1,14 +1,14 @@
-//! The indices by which a program's nodes are known.
+//! The token indices that identify a program's nodes.
 
 ghost use Rattle.std.specs.Prelude.{◌≡◌};
 ghost use Rattle.fk_syntax.specs.WellFormed.{token};
 
-/// An index of a token that a program holds.
+/// The index of a token that a tree contains.
 #[derive(Clone, Copy)]
 pub enum Index {
-    /// That of a node.
+    /// The index of a node.
     Node(u32),
-    /// That of the name of a struct in a type, which is no node.
+    /// The index of the name of a struct in a type, which isn't a node.
     StructName(u32),
 }
 

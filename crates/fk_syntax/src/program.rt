@@ -15,14 +15,14 @@ pub enum Mode {
     Sync,
     /// `async`, or no word: each by itself.
     Async,
-    /// `straight`: in either way.
+    /// `straight`: in lockstep or each by itself.
     Straight,
 }
 
 /// A variable, a member of a struct or a parameter.
 #[derive(Drop)]
 pub struct Declared<'a> {
-    /// Whether `sh` stands before it.
+    /// Whether it has `sh`.
     pub shared: bool,
     pub kind: TypeName<'a>,
     pub name: Name<'a>,
@@ -32,7 +32,7 @@ pub struct Declared<'a> {
     pub first: Option<Expr<'a>>,
 }
 
-/// A statement, by its first keyword where it has one.
+/// A statement, with the spot of its first keyword if it has one.
 #[derive(Drop)]
 pub enum Stmt<'a> {
     /// A `;` alone.
@@ -42,7 +42,7 @@ pub enum Stmt<'a> {
     Block(Vec<Stmt<'a>>),
     /// A declaration, with a row for each variable.
     Declare(Vec<Declared<'a>>),
-    /// `if (condition) then`, and what follows its `else`.
+    /// `if (condition) then`, and the statement after its `else`, if it has one.
     If(Spot, Expr<'a>, Box<Stmt<'a>>, Option<Box<Stmt<'a>>>),
     /// `while (condition) body`
     While(Spot, Expr<'a>, Box<Stmt<'a>>),
@@ -68,7 +68,7 @@ pub enum Stmt<'a> {
     Return(Spot, Option<Expr<'a>>),
 }
 
-/// A function, with its body where it has one.
+/// A function, with its body if it has one.
 #[derive(Drop)]
 pub struct Function<'a> {
     pub mode: Mode,
@@ -78,7 +78,7 @@ pub struct Function<'a> {
     pub body: Option<Vec<Stmt<'a>>>,
 }
 
-/// One of the parts that a text is made of.
+/// An item: one of the declarations of which a text consists.
 #[derive(Drop)]
 pub enum Item<'a> {
     /// A struct, with its members in order.
@@ -88,8 +88,8 @@ pub enum Item<'a> {
     Function(Function<'a>),
 }
 
-/// A text: its items, the place directly after its last token (1:1 where there is none), and how
-/// many tokens it has.
+/// A text: its items, the place directly after its last token (1:1 if there are no tokens), and the
+/// number of its tokens.
 #[derive(Drop)]
 pub struct Program<'a> {
     pub items: Vec<Item<'a>>,

@@ -1,6 +1,7 @@
 //! Signs.
 
-/// The sign of an operator. Its place in the tree says what it does, where it has several meanings.
+/// The sign of an operator. If it has several meanings, its position in the tree tells which one
+/// applies.
 #[derive(Clone, Copy, PartialEq, Eq)]
 pub enum Sign {
     /// `+`

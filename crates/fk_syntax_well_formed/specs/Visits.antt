@@ -1,4 +1,4 @@
--- What is known of the indices in a tree, after another is looked at.
+-- The states of the visitors after they are shown an index.
 use Rattle.std.specs.Prelude.{ℕ, List, ◌+◌, ◌&&◌, nat_lt, nat_le, nat_eq, min, cond, count_by, ◌^◌}
 use Rattle.std.specs.Prelude.{◌-◌}
 use Rattle.fk_syntax.specs.declared.nodes.Index.{Index}
@@ -11,7 +11,7 @@ use Rattle.fk_syntax.specs.Nodes.{items_indices}
 use Rattle.fk_syntax.specs.ProgramView.{program_of}
 use Rattle.fk_syntax.specs.WellFormed.{token, nodes}
 
--- how often a number stands in a list
+-- the number of occurrences of a number in a list
 abbrev pub times_of : ℕ → List ℕ → ℕ
 times_of at xs = count_by (λ x. nat_eq x at) xs
 

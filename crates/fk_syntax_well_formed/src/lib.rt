@@ -1,4 +1,4 @@
-//! Whether the nodes of a Fork95 program are known by the indices of their tokens.
+//! Whether the nodes of a Fork95 program are identified by the indices of their tokens.
 #![tactic(auto)]
 
 mod nodes;

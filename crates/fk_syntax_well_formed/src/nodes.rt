@@ -1,4 +1,4 @@
-//! Whether a program's nodes are known by the indices of their tokens.
+//! Whether a program's nodes are identified by the indices of their tokens.
 
 ghost use Rattle.std.specs.Prelude.{◌≡◌, ◌↔◌, ◌<◌, ◌≢◌, IsTrue, All, AllPairs};
 ghost use Rattle.fk_syntax.specs.ProgramView.{program_of};
@@ -9,7 +9,7 @@ use crate::visitors::{Bound, Distinct, Rising};
 use crate::walk::visit_program;
 use fk_syntax::Program;
 
-// Whether all are indices of tokens.
+// Whether all indices in a program are indices of its tokens.
 fn are_below(program: &Program) -> bool
     ensures { IsTrue result ↔ All (λ index. token index < program.now.tokens)
         (items_indices (program_of program.now).items) }
@@ -22,7 +22,7 @@ fn are_below(program: &Program) -> bool
     bound.holds
 }
 
-// Whether those of nodes rise in the order of the text.
+// Whether the indices of nodes rise in the order of the text.
 fn are_rising(program: &Program) -> bool
     ensures { IsTrue result
         ↔ AllPairs (λ x y. x < y) (nodes (items_indices (program_of program.now).items)) }
@@ -35,7 +35,7 @@ fn are_rising(program: &Program) -> bool
     rising.holds
 }
 
-// Whether those of nodes differ. It walks over the program once for each node.
+// Whether the indices of nodes differ. It walks over the program once for each node.
 fn are_distinct(program: &Program) -> bool
     ensures { IsTrue result
         ↔ AllPairs (λ x y. x ≢ y) (nodes (items_indices (program_of program.now).items)) }
@@ -48,11 +48,11 @@ fn are_distinct(program: &Program) -> bool
     distinct.holds
 }
 
-/// Whether each index in a program is that of a token, and all but those of the names of structs
-/// in types differ: then a node of the program is known by its index.
+/// Whether each index in a program is that of a token, and all but those of the names of structs in
+/// types differ. Then the index identifies a node of the program.
 ///
-/// It takes no memory. Where the indices of the nodes rise in the order of the text, as in a tree
-/// that was parsed, its time is linear in the size of the tree, otherwise quadratic.
+/// It takes no memory. If the indices of the nodes rise in the order of the text, as in a tree that
+/// was parsed, it takes time linear in the size of the tree, otherwise quadratic time.
 pub fn well_formed(program: &Program) -> bool
     ensures { IsTrue result ↔ IsWellFormed (program_of program.now) }
 {

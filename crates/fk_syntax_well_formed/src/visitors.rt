@@ -1,4 +1,4 @@
-//! What is asked of the indices in a tree.
+//! Visitors that check the indices in a tree.
 
 ghost use Rattle.std.specs.Prelude.{◌≡◌, nat_le};
 ghost use Rattle.fk_syntax.specs.ProgramView.{program_of};
@@ -12,12 +12,12 @@ use fk_syntax::{Index, Program};
 /// Whether all indices so far are those of tokens.
 #[derive(Drop)]
 pub struct Bound {
-    /// How many tokens there are.
+    /// The number of tokens.
     pub tokens: u32,
     pub holds: bool,
 }
 
-/// Whether the indices of nodes rose so far.
+/// Whether the indices of nodes have risen so far.
 #[derive(Drop)]
 pub struct Rising {
     /// The least index that may follow.
@@ -25,7 +25,7 @@ pub struct Rising {
     pub holds: bool,
 }
 
-/// How many nodes so far have an index, up to 2^32 - 1.
+/// The number of nodes so far with one index, up to 2^32 - 1.
 #[derive(Drop)]
 pub struct Tally {
     /// The index.
@@ -33,7 +33,7 @@ pub struct Tally {
     pub count: u32,
 }
 
-/// Whether each node so far is the only one of a program that has its index.
+/// Whether each node so far is the only one of a program with its index.
 #[derive(Drop)]
 pub struct Distinct<'a, 'p> {
     pub program: &'p Program<'a>,

@@ -1,7 +1,7 @@
-//! A walk over the indices of tokens in a tree, in the order in which the tokens stand in the text.
+//! A walk over the token indices in a tree, in the order of the tokens in the text.
 //!
-//! The part of the tree is the first reference that a function takes: so its lifetimes have the
-//! numbers that they have in `Vec` and in its callees, and no proof compares its type with itself.
+//! Each function takes the part of the tree as its first reference. Its lifetimes thus have the
+//! same numbers as in `Vec` and in its callees, and no proof compares its type with itself.
 
 ghost use Rattle.std.specs.Prelude.{◌≡◌, ◌∷◌, ◌++◌, fold, map};
 ghost use Rattle.std.specs.Option.{option_map};
@@ -24,7 +24,7 @@ use fk_syntax::{
 
 /// What a walk shows each index to.
 pub trait Visitor {
-    /// The visitor after it was shown an index.
+    /// The state of the visitor after it was shown an index.
     ghost after: { Self → Index → Self };
 
     /// Takes note of an index.
@@ -145,7 +145,7 @@ fn visit_optional<V: Visitor>(expression: &Option<Expr>, visitor: &mut V)
     }
 }
 
-// A keyword, and a value where there is one, as of a `return`.
+// Visits a keyword, and the value after it if there is one, as for a `return`.
 fn visit_value<V: Visitor>(spot: Spot, value: &Option<Expr>, visitor: &mut V)
     ensures { visitor.new ≡ fold V.after visitor.old
         (Node spot.at ∷ optional_indices (option_map tree_of value.now)) }
@@ -154,7 +154,7 @@ fn visit_value<V: Visitor>(spot: Spot, value: &Option<Expr>, visitor: &mut V)
     visit_optional(value, visitor);
 }
 
-// A keyword and a condition, as of a `while`.
+// Visits a keyword and a condition, as for a `while`.
 fn visit_condition<V: Visitor>(spot: Spot, condition: &Expr, visitor: &mut V)
     ensures { visitor.new ≡ fold V.after visitor.old
         (Node spot.at ∷ tree_indices (tree_of condition.now)) }
@@ -163,7 +163,7 @@ fn visit_condition<V: Visitor>(spot: Spot, condition: &Expr, visitor: &mut V)
     visit_expression(condition, visitor);
 }
 
-// The head of a `for`.
+// Visits the head of a `for`.
 fn visit_for<'e, 'a, V: Visitor>(
     spot: Spot,
     before: &'e Option<Expr<'a>>,
@@ -182,7 +182,7 @@ fn visit_for<'e, 'a, V: Visitor>(
     visit_optional(after, visitor);
 }
 
-// The head of a `fork`.
+// Visits the head of a `fork`.
 fn visit_fork<'e, 'a, V: Visitor>(
     spot: Spot,
     parts: &'e Expr<'a>,

@@ -17,7 +17,7 @@ put_of file = record { name = file.name.now; bytes = file.bytes.items }
 abbrev pub shown_line : Shown → List ℕ
 shown_line shown = show_line shown.name.now shown.signed shown.words.items
 
--- the line of a variable behind the output, if one is shown
+-- The output, followed by the line of a variable, if one is shown.
 abbrev pub with_line : List ℕ → Option Shown → List ℕ
 with_line output None = output
 with_line output (Some shown) = output ++ shown_line shown

@@ -1,4 +1,4 @@
--- How refusals are reported.
+-- The reports of refusals.
 use Rattle.std.specs.Prelude.{◌≡◌, ℕ, List, Option, Some, None}
 use Rattle.fk_image.specs.declared.fault.ImageFault.{ImageFault}
 use Rattle.fk_image.specs.declared.fault.ImageFault.TheVariants as fault
@@ -12,7 +12,7 @@ use Rattle.fk_top.specs.declared.report.Report.{Report}
 use Rattle.fk_top.specs.declared.report.Report.TheVariants as reports
 use Rattle.fk_top.specs.Report.{line_of, frame_line}
 
--- the line that tells why a source is refused; want of memory refuses none, and has no line
+-- The line that reports why a source is refused. `Memory` is no refusal, and has no line.
 abbrev pub refusal_line : Refusal → Option (List ℕ)
 refusal_line (refusal.BadByte place) = Some (line_of (reports.BadByte place))
 refusal_line (refusal.OpenComment place) = Some (line_of (reports.OpenComment place))
@@ -29,7 +29,7 @@ refusal_line (refusal.SourceTooLong bytes) = Some (line_of (reports.SourceTooLon
 refusal_line refusal.NotBuilt = Some (line_of reports.NotBuilt)
 refusal_line (refusal.Memory e) = None
 
--- the report of why bytes are no image; want of memory has none
+-- The report of why bytes are no image. `Memory` has none.
 abbrev pub image_report_of : ImageFault → Option Report
 image_report_of fault.Magic = Some reports.Magic
 image_report_of (fault.Version version) = Some (reports.Version version)
@@ -39,20 +39,20 @@ image_report_of (fault.BadTable entry) = Some (reports.BadTable entry)
 image_report_of (fault.BadWord word) = Some (reports.BadWord word)
 image_report_of (fault.Memory e) = None
 
--- the same of an input text
+-- The report of why an input text is refused. `Memory` has none.
 abbrev pub input_report_of : InputFault → Option Report
 input_report_of (input.NotANumber word) = Some (reports.NotANumber word)
 input_report_of (input.OutOfRange word) = Some (reports.OutOfRange word)
 input_report_of (input.TooMany word) = Some (reports.TooMany word)
 input_report_of input.Memory = None
 
--- the source is refused, and the line says why
+-- The source is refused, and the line says why.
 pub record IsRefusedBy (source : List ℕ) (line : List ℕ) : Type 0 where
   pub refusal : Refusal
   pub refused : sources.IsRefusedText source refusal
   pub says : refusal_line refusal ≡ Some line
 
--- the bytes are no image, and the report says why
+-- The bytes are no image, and the report says why.
 pub record IsNoImageAs (bytes : List ℕ) (report : Report) : Type 0 where
   pub fault : ImageFault
   pub refused : images.IsRefusedImage bytes fault

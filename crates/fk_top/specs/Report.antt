@@ -20,7 +20,7 @@ use Rattle.fk_top.specs.declared.report.Report.TheVariants.{BadWord, NotANumber,
 use Rattle.fk_top.specs.declared.report.Report.TheVariants.{TooMany, NotBuilt, CommandLine}
 use Rattle.fk_top.specs.declared.report.Report.TheVariants.{ReadFault}
 
--- the fault of an operation, by its kind; most kinds have none
+-- The fault of an operation, by its kind. Most kinds have none.
 abbrev pub fault_kind : ℕ → FaultKind
 fault_kind kind =
     if kind == 12 then fault.BadAddress
@@ -29,14 +29,14 @@ fault_kind kind =
     else if kind == 27 then fault.GroupSpace
     else fault.Other
 
--- the name of a fault
+-- The name of a fault.
 abbrev pub fault_name : FaultKind → List ℕ
 fault_name fault.BadAddress = codes "BadAddress"
 fault_name fault.CallDepth = codes "CallDepth"
 fault_name fault.GroupSpace = codes "GroupSpace"
 fault_name fault.Other = codes "Fault"
 
--- the traps of the machine, which numbers them from 1 to 6
+-- The traps of the machine, numbered from 1 to 6.
 abbrev pub trap_kind : ℕ → TrapKind
 trap_kind number =
     if number == 1 then trap.Fetch
@@ -46,7 +46,7 @@ trap_kind number =
     else if number == 5 then trap.Ecall
     else trap.Ebreak
 
--- the name of a trap
+-- The name of a trap.
 abbrev pub trap_name : TrapKind → List ℕ
 trap_name trap.Fetch = codes "Fetch"
 trap_name trap.Unknown = codes "Unknown"
@@ -55,7 +55,7 @@ trap_name trap.Access = codes "Access"
 trap_name trap.Ecall = codes "Ecall"
 trap_name trap.Ebreak = codes "Ebreak"
 
--- a line and a column, with a colon between them
+-- A line and a column, with a colon between them.
 abbrev pub place_text : Place → List ℕ
 place_text place = decimal place.line ++ 58 ∷ decimal place.column
 
@@ -97,19 +97,19 @@ text_of NotBuilt = codes "refused 22 NotBuilt"
 text_of CommandLine = codes "refused command line"
 text_of ReadFault = codes "read fault"
 
--- each ends with a newline
+-- The line of a report ends with a newline.
 abbrev pub line_of : Report → List ℕ
 line_of report = text_of report ++ 10 ∷ []
 
--- the line where the private frame of a function has so many words, which are too many
+-- The line where the private frame of a function has this many words, which are too many.
 abbrev pub frame_line : List ℕ → ℕ → List ℕ
 frame_line name words = codes "refused 10 FrameTooLarge " ++ name ++ 32 ∷ decimal words ++ 10 ∷ []
 
--- the line where the source has no shared variable of a name
+-- The line where the source has no shared variable of a name.
 abbrev pub no_global_line : List ℕ → List ℕ
 no_global_line name = codes "refused 23 NoGlobal " ++ name ++ 10 ∷ []
 
--- a word as a signed or an unsigned number, with a blank before it
+-- A word as a signed or an unsigned number, with a blank before it.
 abbrev pub word_text : Bool → ℕ → List ℕ
 word_text true word = 32 ∷ signed_decimal (signed word)
 word_text false word = 32 ∷ decimal word
@@ -117,6 +117,6 @@ word_text false word = 32 ∷ decimal word
 abbrev pub words_text : Bool → List ℕ → List ℕ
 words_text are_signed words = flat_map (word_text are_signed) words
 
--- the line that shows a variable: its name, and its words as numbers
+-- The line that shows a variable: its name, and its words as numbers.
 abbrev pub show_line : List ℕ → Bool → List ℕ → List ℕ
 show_line name are_signed words = name ++ codes " =" ++ words_text are_signed words ++ 10 ∷ []

@@ -1,4 +1,4 @@
--- The codes of statuses.
+-- The exit codes of statuses.
 use Rattle.std.specs.Prelude.{ℕ}
 use Rattle.fk_top.specs.declared.status.Status.{Status}
 use Rattle.fk_top.specs.declared.status.Status.TheVariants.{Done, Refused, Usage, ReadFault}

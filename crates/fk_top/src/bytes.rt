@@ -1,4 +1,4 @@
-//! What a command comes to over the bytes of an image.
+//! The outcome of a command for the bytes of an image.
 
 ghost use Rattle.std.specs.Prelude.{◌≡◌, ◌⊎◌, ◌≤◌, length, IfOk};
 ghost use Rattle.fk_top.specs.Outcome.{ListsImage, RefusesImage, RunsImage, listing};
@@ -14,7 +14,7 @@ use fk_image::read_image;
 use fk_top_words::RunWords;
 use std::alloc::{AllocError, Global};
 
-/// Reads an image and runs it over an input text.
+/// Reads an image and runs it on an input text. Fails if there isn't enough memory.
 pub fn run_bytes<'a>(
     alloc: Global,
     bytes: &[u8],
@@ -30,7 +30,7 @@ pub fn run_bytes<'a>(
     }
 }
 
-/// Reads an image and lists its code.
+/// Reads an image and lists its code. Fails if there isn't enough memory.
 pub fn list_bytes<'a>(alloc: Global, bytes: &[u8]) -> Result<Ending<'a>, AllocError>
     ensures { IfOk result
         (λ e. RefusesImage bytes.now (outcome_of e) ⊎ ListsImage bytes.now (outcome_of e)) }
@@ -47,7 +47,7 @@ pub fn list_bytes<'a>(alloc: Global, bytes: &[u8]) -> Result<Ending<'a>, AllocEr
     }
 }
 
-/// The longest line of a listing.
+/// The length of the longest line of a listing.
 const LINE_SIZE: usize = 68;
 
 // The lines of code, one for each word.

@@ -17,16 +17,16 @@ use fk_num::{signed_text, unsigned_text};
 use fk_ports::{Failed, Sink, Source, Store, StoreFault, give_all};
 use std::alloc::{AllocError, Global};
 
-/// One call of the program: what these words, those after the program's name, ask for, over a store
-/// of files, standard input, standard output and standard error.
+/// One call of the program with these words, those after the program's name, a store of files,
+/// standard input, standard output and standard error.
 ///
-/// The commands are `run FILE --harts P --cycles N [--show NAME]`, `build FILE -o IMAGE`,
-/// `exec IMAGE --harts P --cycles N` and `list IMAGE`. `run` and `exec` take the input numbers from
-/// `input`, once the file is read. A file is put before anything is given, output is given when the
-/// run has ended, the line of a variable that is shown comes behind it, and the report is the last
-/// line that `err` gets.
+/// The commands are `run FILE --harts P --cycles N [--show NAME]`, `build FILE -o IMAGE`, `exec
+/// IMAGE --harts P --cycles N` and `list IMAGE`. `run` and `exec` take the input numbers from
+/// `input`, once the file is read. A file is put before anything is given. Output is given when the
+/// run has ended, followed by the line of the variable that is shown. The report is the last line
+/// that `err` gets.
 ///
-/// `IsAnswer` says fact by fact what holds of the words, the answer, and what the store and the
+/// `IsAnswer` says, fact by fact, what holds of the words, the status, and what the store and the
 /// sinks have before the call and after it.
 pub fn fork95<F: Store, S: Source, K: Sink, E: Sink>(
     alloc: Global,
@@ -63,7 +63,7 @@ fn give_ending<F: Store, K: Sink, E: Sink>(
         (request : Request) → Ends request (outcome_of ending.now)
         → HasCause (call_of request store printed reported) result }
 
-    // Only a write fault tells that a write failed, and only a put can want memory.
+    // Only `WriteFault` reports a failed write, and only a put can fail for lack of memory.
     ensures put { result ≢ Status.WriteFault → F.put_faults files.new ≡ F.put_faults files.old }
     ensures out { result ≢ Status.WriteFault → K.faults out.new ≡ K.faults out.old }
     ensures err { result ≢ Status.WriteFault → E.faults err.new ≡ E.faults err.old }
@@ -86,7 +86,7 @@ fn give_ending<F: Store, K: Sink, E: Sink>(
     ending.status
 }
 
-// Gives the output, and then the line of the variable that is shown, if one is.
+// Gives the output, followed by the line of the variable that is shown, if any.
 fn give_output<K: Sink>(out: &mut K, output: &[u8], shown: &Option<Shown>) -> Result<(), Failed>
     ensures all { OnOk result
         (K.taken out.new ≡ append_known (K.taken out.old) (with_line output.now shown.now)) }
@@ -167,7 +167,7 @@ fn give_line<E: Sink>(err: &mut E, line: &LastLine) -> Result<(), Failed>
     }
 }
 
-// Gives the line of a function whose private frame has so many words.
+// Gives the line of a function whose private frame has this many words.
 fn give_frame<E: Sink>(err: &mut E, name: &[u8], words: u32) -> Result<(), Failed>
     ensures all { OnOk result
         (E.taken err.new ≡ append_known (E.taken err.old) (frame_line name.now words)) }
@@ -189,7 +189,7 @@ fn give_frame<E: Sink>(err: &mut E, name: &[u8], words: u32) -> Result<(), Faile
     )
 }
 
-// Gives pieces, one after the other.
+// Gives pieces, one after another.
 fn give_pieces<K: Sink>(sink: &mut K, pieces: &[&[u8]]) -> Result<(), Failed>
     ensures all { OnOk result (K.taken sink.new ≡ append_known (K.taken sink.old)
         (flat_map (λ piece. piece.now) pieces.now)) }

@@ -1,4 +1,4 @@
-//! What a command reads.
+//! The file and the input of a command.
 
 ghost use Rattle.std.specs.Prelude.{◌≡◌};
 ghost use Rattle.fk_top_words.specs.Command.{command_of};
@@ -6,13 +6,13 @@ ghost use Rattle.fk_top.specs.Words.{file_of, most_bytes, most_input};
 
 use fk_top_words::CommandWords;
 
-/// A source has at most so many bytes. One more is fetched, to tell a longer one.
+/// The most bytes of a source. One more is fetched, to recognize a longer one.
 const SOURCE_LIMIT: usize = 1_048_576;
 
-/// An image has at most so many bytes. One more is fetched, to tell a longer one.
+/// The most bytes of an image. One more is fetched, to recognize a longer one.
 const IMAGE_LIMIT: usize = 5_434_904;
 
-/// An input text has at most so many bytes. One more is taken, to tell a longer one.
+/// The most bytes of an input text. One more is taken, to recognize a longer one.
 const INPUT_LIMIT: usize = 1_048_576;
 
 /// The name of the file that a command reads.
@@ -26,7 +26,7 @@ pub fn file_of<'a>(command: CommandWords<'a>) -> &'a str
     }
 }
 
-/// How many of its bytes are read at most.
+/// The most bytes of its file that a command reads.
 pub fn most_bytes(command: CommandWords) -> usize
     ensures { result ≡ most_bytes (command_of command.entry) }
 {
@@ -36,7 +36,7 @@ pub fn most_bytes(command: CommandWords) -> usize
     }
 }
 
-/// How many bytes of the input are taken at most: none by a command that doesn't run.
+/// The most bytes of the input that a command takes: none if it doesn't run.
 pub fn most_input(command: CommandWords) -> usize
     ensures { result ≡ most_input (command_of command.entry) }
 {

@@ -1,4 +1,4 @@
-//! What a call comes to.
+//! The ending of a call.
 
 ghost use Rattle.std.specs.Prelude.{◌≡◌, IsErr, IsOkAnd, MatchOption};
 ghost use Rattle.fk_top.specs.Ending.{last_line, outcome_of};
@@ -9,7 +9,7 @@ use crate::report::Report;
 use crate::status::Status;
 use std::alloc::{AllocError, Global};
 
-/// A file that is to be put.
+/// A file to be put.
 #[derive(Drop)]
 pub struct PutFile<'a> {
     pub name: &'a str,
@@ -20,7 +20,7 @@ pub struct PutFile<'a> {
 #[derive(Drop)]
 pub struct Shown<'a> {
     pub name: &'a str,
-    /// Its words at the end.
+    /// Its words when the run has ended.
     pub words: Vec<u32>,
     /// Whether they are shown as signed numbers.
     pub signed: bool,
@@ -29,16 +29,16 @@ pub struct Shown<'a> {
 /// The last line that a call writes, to standard error.
 #[derive(Drop)]
 pub enum LastLine<'a> {
-    /// That of a report.
+    /// The line of a report.
     Reported(Report),
-    /// The private frame of the function of this name has so many words, which are too many.
+    /// The private frame of the function of this name has this many words, which are too many.
     FrameTooLarge(Vec<u8>, u32),
     /// The source has no shared variable of this name, which was to be shown.
     NoGlobal(&'a str),
 }
 
-/// What a call comes to: its status, the file that it puts, if it puts one, the bytes for standard
-/// output, the variable that it shows behind them, if it shows one, and its last line.
+/// The ending of a call: its status, the file that it puts, if any, the bytes for standard output,
+/// the variable that it shows after them, if any, and its last line.
 #[derive(Drop)]
 pub struct Ending<'a> {
     pub status: Status,
@@ -61,7 +61,7 @@ pub fn silent<'a>(alloc: Global, status: Status, report: Report) -> Ending<'a>
     }
 }
 
-/// The ending where the source has no variable of a name.
+/// The ending where a source has no variable of a name.
 pub fn no_global<'a>(alloc: Global, name: &'a str) -> Ending<'a>
     ensures { outcome_of result ≡ silent Status.Refused (no_global_line name.now) }
 {
@@ -74,7 +74,8 @@ pub fn no_global<'a>(alloc: Global, name: &'a str) -> Ending<'a>
     }
 }
 
-/// The ending where a source is refused, which has a last line where it isn't want of memory.
+/// The ending where a source is refused. Without a line it is no refusal, but there isn't enough
+/// memory.
 pub fn refused_source<'a>(
     alloc: Global,
     line: Option<LastLine<'a>>,
@@ -94,7 +95,7 @@ pub fn refused_source<'a>(
     }
 }
 
-/// The ending of another refusal, which has a report where it isn't want of memory.
+/// The ending of another refusal. Without a report it is no refusal, but there isn't enough memory.
 pub fn refused<'a>(
     alloc: Global,
     status: Status,

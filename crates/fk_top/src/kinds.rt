@@ -1,15 +1,15 @@
 //! Kinds of faults and of traps.
 
-/// Why a program faults.
+/// The kind of a program's fault.
 #[derive(Clone, Copy, PartialEq, Eq, Debug)]
 pub enum FaultKind {
-    /// A check met an address that is none of shared data or of a private heap.
+    /// A check met an address that is neither in shared data nor in a private heap.
     BadAddress,
-    /// A call went too deep.
+    /// Too many calls would wait.
     CallDepth,
     /// A group's space was used up.
     GroupSpace,
-    /// An operation that has no fault, or none at all.
+    /// The operation has no fault of its own, or there is no such operation.
     Other,
 }
 
@@ -29,7 +29,7 @@ impl FaultKind {
         }
     }
 
-    /// Its name in a report.
+    /// The name of the fault in a report.
     pub fn name(self) -> &'static [u8]
         ensures name { result.now ≡ fault_name self }
         ensures short { length result.now ≤ 10 }
@@ -43,16 +43,17 @@ impl FaultKind {
     }
 }
 
-/// Why a machine traps (RISC-V Unprivileged ISA, "Exceptions, Traps, and Interrupts").
+/// The kind of a machine's trap (RISC-V Unprivileged ISA, "Exceptions, Traps, and Interrupts").
 #[derive(Clone, Copy, PartialEq, Eq, Debug)]
 pub enum TrapKind {
     /// The pc is outside the code.
     Fetch,
     /// The word is no instruction.
     Unknown,
-    /// An access not on its size, or a jump to no multiple of 4.
+    /// An access whose address isn't aligned to its size, or a jump to an address that is no
+    /// multiple of 4.
     Misaligned,
-    /// An address outside the map, or a use of a device that it doesn't take.
+    /// An address outside the map, or an access that a device doesn't take.
     Access,
     /// The instruction `ecall`.
     Ecall,
@@ -64,7 +65,7 @@ impl TrapKind {
     ghost use Rattle.std.specs.Prelude.{◌≡◌, ◌≤◌, length};
     ghost use Rattle.fk_top.specs.Report.{trap_kind, trap_name};
 
-    /// The trap of a number, by which machines name it: 1 to 6 in the order above.
+    /// The trap with this number: 1 to 6 in the order above.
     pub fn of_number(number: u8) -> TrapKind
         ensures { result ≡ trap_kind number }
     {
@@ -78,7 +79,7 @@ impl TrapKind {
         }
     }
 
-    /// Its name in a report.
+    /// The name of the trap in a report.
     pub fn name(self) -> &'static [u8]
         ensures name { result.now ≡ trap_name self }
         ensures short { length result.now ≤ 10 }

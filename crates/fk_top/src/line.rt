@@ -1,4 +1,4 @@
-//! The line of a report, as it grows.
+//! The line of a report while it is made.
 
 ghost use Rattle.std.specs.Prelude.{◌≡◌, ◌≤◌, ◌+◌, ◌++◌, length};
 ghost use Rattle.std.specs.Fmt.{decimal};

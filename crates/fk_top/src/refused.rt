@@ -1,4 +1,4 @@
-//! How refusals are reported.
+//! The reports of refusals.
 
 ghost use Rattle.std.specs.Prelude.{◌≡◌};
 ghost use Rattle.std.specs.Option.{option_map};
@@ -11,7 +11,7 @@ use fk_compile_text::Refusal;
 use fk_image::ImageFault;
 use fk_top_input::InputFault;
 
-/// The last line where a source is refused. Want of memory refuses none, and has no line.
+/// The last line where a source is refused. `Memory` is no refusal, and has no line.
 pub fn last_line_of<'a>(refusal: Refusal) -> Option<LastLine<'a>>
     ensures { option_map last_line result ≡ refusal_line refusal }
 {
@@ -34,7 +34,7 @@ pub fn last_line_of<'a>(refusal: Refusal) -> Option<LastLine<'a>>
     Some(LastLine::Reported(report))
 }
 
-/// The report of why bytes are no image. Want of memory has none.
+/// The report of why bytes are no image. `Memory` has none.
 pub fn image_report_of(fault: ImageFault) -> Option<Report>
     ensures { result ≡ image_report_of fault }
 {
@@ -49,7 +49,7 @@ pub fn image_report_of(fault: ImageFault) -> Option<Report>
     }
 }
 
-/// The report of why an input text is refused. Want of memory has none.
+/// The report of why an input text is refused. `Memory` has none.
 pub fn input_report_of(fault: InputFault) -> Option<Report>
     ensures { result ≡ input_report_of fault }
 {

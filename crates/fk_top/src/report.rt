@@ -15,23 +15,23 @@ use fk_syntax::Place;
 /// What a call reports.
 #[derive(Clone, Copy, PartialEq, Eq, Debug)]
 pub enum Report {
-    /// All harts ended: after so many cycles.
+    /// All harts ended, after this many cycles.
     Finished(u32),
-    /// An image was put: how many words of code it has.
+    /// An image with this many words of code was put.
     Built(u32),
-    /// The words of code were listed: how many.
+    /// This many words of code were listed.
     Listed(u32),
-    /// The program faulted: its operation's fault and place, the processor, and after
-    /// how many cycles.
+    /// The program faulted: the kind and the place of its operation's fault, the processor, and the
+    /// number of cycles.
     Fault {
         kind: FaultKind,
         place: Place,
         processor: u32,
         cycles: u32,
     },
-    /// The bound was reached: so many cycles.
+    /// The bound was reached, which is this many cycles.
     Stopped(u32),
-    /// The machine trapped: the trap, the pc and the hart, and after how many cycles.
+    /// The machine trapped: the kind of the trap, the pc, the hart, and the number of cycles.
     Trap {
         kind: TrapKind,
         pc: u32,
@@ -46,40 +46,39 @@ pub enum Report {
     OpenString(Place),
     /// A number is above 2^32 - 1.
     WideNumber(Place),
-    /// A token with which no program goes on.
+    /// No program goes on with this token.
     Unexpected(Place),
     /// The text ends before its program does.
     EndOfText,
-    /// A token that opens one level too many.
+    /// A token opens one level too many.
     Nesting(Place),
-    /// A rule of the language that the source breaks: its number, and where.
+    /// The source breaks a rule of the language: the place, and the number of the rule.
     Rule(Place, u8),
-    /// The source has more than 16,000 operations: how many.
+    /// The source has this many operations, more than 16,000.
     TooManySites(u64),
-    /// The shared variables of file scope have more than 524,288 words: how many.
+    /// The shared variables of file scope have this many words, more than 524,288.
     GlobalsTooLarge(u64),
-    /// The source has more than 1,048,576 bytes: how many were read.
+    /// The source has more than 1,048,576 bytes. This many were read.
     SourceTooLong(u64),
     /// The bytes of the image don't begin as those of one.
     Magic,
-    /// The image has another version: which.
+    /// The image has this version, which isn't known.
     Version(u32),
-    /// The image has so many bytes, fewer than it needs: how many those are.
+    /// The image has this many bytes, fewer than it needs, which is the second number.
     Short(u64, u64),
-    /// Bytes follow the image: how many it needs.
+    /// Bytes follow the image, which needs this many.
     LongTail(u64),
-    /// An entry of the image's tables is past its limits: which.
+    /// This entry of the image's tables is past its limits.
     BadTable(u32),
-    /// A word of the image's header is past its limits: which.
+    /// This word of the image's header is past its limits.
     BadWord(u32),
-    /// A word of the input isn't a number: which.
+    /// This word of the input isn't a number.
     NotANumber(u32),
-    /// A word of the input is no number of 32 bits: which.
+    /// This word of the input is no number of 32 bits.
     OutOfRange(u32),
-    /// The input has more words than it may have: which is one too many, or 0 where its
-    /// text is too long.
+    /// This word of the input is one too many; or, as 0, the input text is too long.
     TooMany(u32),
-    /// The source is not of the form that is built.
+    /// The source has a form that isn't built.
     NotBuilt,
     /// The words are no command.
     CommandLine,
@@ -88,7 +87,7 @@ pub enum Report {
 }
 
 impl Report {
-    /// The line, with its newline.
+    /// The line of the report, with its newline.
     pub fn line(&self) -> Line
         ensures { result.items ≡ line_of self.now }
     {
@@ -97,7 +96,7 @@ impl Report {
         line
     }
 
-    // The line without its newline.
+    // The line of the report without its newline.
     fn text(&self) -> Line
         ensures text { result.items ≡ text_of self.now }
         ensures short { array_vec_len result ≤ 159 }
@@ -157,7 +156,7 @@ fn plain(text: &[u8]) -> Line
     line
 }
 
-// A text that ends in a number.
+// A text followed by a number.
 fn numbered(before: &[u8], number: u64) -> Line
     requires { length before.now ≤ 30 }
     ensures text { result.items ≡ before.now ++ decimal number }
@@ -180,7 +179,7 @@ fn counted(before: &[u8], number: u32, after: &[u8]) -> Line
     line
 }
 
-// A text that ends in a place.
+// A text followed by a place.
 fn placed(before: &[u8], place: Place) -> Line
     requires { length before.now ≤ 30 }
     ensures text { result.items ≡ before.now ++ place_text place }
@@ -202,7 +201,7 @@ fn rule_text(place: Place, number: u8) -> Line
     line
 }
 
-// The text of an image of so many bytes, fewer than it needs.
+// The text of an image of this many bytes, fewer than it needs.
 fn short_text(bytes: u64, wanted: u64) -> Line
     ensures text { result.items ≡ text_of (reports.Short bytes wanted) }
     ensures short { array_vec_len result ≤ 71 }
@@ -243,7 +242,7 @@ fn trap_text(kind: TrapKind, pc: u32, hart: u32, cycles: u32) -> Line
     line
 }
 
-// Appends after how many cycles it was.
+// Appends the number of cycles.
 fn append_cycles(line: &mut Line, cycles: u32)
     requires room { array_vec_len line.old + 34 ≤ 159 }
     ensures items { line.new.items ≡ line.old.items ++ codes " after " ++ decimal cycles

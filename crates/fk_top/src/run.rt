@@ -18,20 +18,20 @@ use fk_top_input::read_input;
 use fk_top_words::RunWords;
 use std::alloc::{AllocError, Global};
 
-/// What a run came to.
+/// The result of a run.
 #[derive(Drop)]
 struct Ran<'a> {
-    /// What it printed.
+    /// The bytes that it printed.
     output: Vec<u8>,
-    /// The variable that is shown behind that.
+    /// The variable that is shown after these bytes.
     shown: Option<Shown<'a>>,
-    /// How the machine stands.
+    /// The status of the machine.
     stand: Stand,
-    /// How many cycles were begun.
+    /// The number of cycles that were begun.
     cycles: u32,
 }
 
-/// What a run of an image comes to over an input text.
+/// The ending of a run of an image on an input text. Fails if there isn't enough memory.
 pub fn run_ending<'a>(
     alloc: Global,
     image: &Image,
@@ -65,14 +65,14 @@ pub fn run_ending<'a>(
     })
 }
 
-/// An input text has at most so many numbers, and fewer where globals leave less room: they and the
-/// input have at most 524,288 words together.
+/// The most numbers of an input text. There are fewer where the globals leave less room: with the
+/// input they have at most 524,288 words.
 const MOST_NUMBERS: usize = 65_536;
 
-/// Globals and input have at most so many words.
+/// The most words of the globals and the input together.
 const MOST_WORDS: usize = 524_288;
 
-// How many numbers an input may have beside so many globals.
+// The most numbers of an input beside this many globals.
 fn most_numbers(globals: usize) -> u32
     requires { globals ≤ 524288 }
     ensures { result ≡ most_numbers globals }
@@ -80,8 +80,8 @@ fn most_numbers(globals: usize) -> u32
     MOST_NUMBERS.min(MOST_WORDS - globals) as u32
 }
 
-// Runs an image over input numbers on so many harts, until it ends or the bound on the
-// cycles is reached.
+// Runs an image on input numbers, with this many harts, until it ends or the bound on the cycles is
+// reached.
 fn run_image<'a>(
     alloc: Global,
     image: &Image,
@@ -114,7 +114,7 @@ fn run_image<'a>(
     })
 }
 
-// A variable, as the machine has it.
+// A variable, with its words in the machine.
 fn show<'a>(
     alloc: Global,
     machine: &Machine,
@@ -134,7 +134,7 @@ fn show<'a>(
     }))
 }
 
-// The words of a variable, as the machine has them.
+// The words of a variable in the machine.
 fn words_of(alloc: Global, machine: &Machine, variable: Variable) -> Result<Vec<u32>, AllocError>
     ensures { IfOk result
         (λ words. words.items ≡ words_in (machine_of machine.now) (variable_of variable.entry)) }

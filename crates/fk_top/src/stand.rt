@@ -1,4 +1,4 @@
-//! How the stand of a machine is answered and reported.
+//! The status and the report for a machine's status.
 
 ghost use Rattle.std.specs.Prelude.{◌≡◌, ℕ, Option};
 ghost use Rattle.fk_top.specs.Outcome.{fault_report, stand_report, status_of};
@@ -10,7 +10,7 @@ use fk_image::Image;
 use fk_machine::Stand;
 use fk_syntax::Place;
 
-/// The status, by how the machine stands.
+/// The status for the status of the machine.
 pub fn status_of(stand: Stand) -> Status
     ensures { result ≡ status_of stand }
 {
@@ -22,7 +22,7 @@ pub fn status_of(stand: Stand) -> Status
     }
 }
 
-/// The report, by how the machine of an image stands after so many cycles of at most `bound`.
+/// The report for the status of the machine of an image, after this many cycles of at most `bound`.
 pub fn stand_report(image: &Image, bound: u32, stand: Stand, cycles: u32) -> Report
     ensures { result ≡ stand_report image.now bound stand cycles }
 {
@@ -42,7 +42,7 @@ pub fn stand_report(image: &Image, bound: u32, stand: Stand, cycles: u32) -> Rep
     }
 }
 
-// The report of a fault at a site, its kind, line and column. Where the image has no such site
+// The report of a fault at a site, given its kind, line and column. If the image has no such site,
 // the place is 0:0.
 fn fault_report(site: Option<(u32, u32, u32)>, processor: u32, cycles: u32) -> Report
     ensures { result ≡ fault_report site processor cycles }

@@ -1,9 +1,9 @@
-//! How a call ends.
+//! The status of a call.
 
-/// How a call ends. Its code is the exit status of the process.
+/// The status of a call. Its code is the exit status of the process.
 #[derive(Clone, Copy, PartialEq, Eq, Debug)]
 pub enum Status {
-    /// The machine finished.
+    /// The command did what it should, and a machine that ran finished.
     Done,
     /// The source is refused.
     Refused,
@@ -11,9 +11,9 @@ pub enum Status {
     Usage,
     /// A file could not be read.
     ReadFault,
-    /// A sink failed.
+    /// A file could not be put, or a sink failed.
     WriteFault,
-    /// There was no memory.
+    /// There wasn't enough memory.
     Memory,
     /// The program faulted.
     SourceFault,

@@ -2,7 +2,7 @@
 
 ghost use Rattle.std.specs.Prelude.{◌≤◌, ◌+◌};
 
-/// A variable that is to be shown: its words stand in shared data from the first one on.
+/// A variable to be shown: its words in shared data are those from `first` on.
 #[derive(Clone, Copy)]
 pub struct Variable<'a> {
     pub name: &'a str,

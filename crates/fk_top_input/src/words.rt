@@ -10,21 +10,21 @@ fn is_blank(byte: u8) -> bool
     matches!(byte, b'\t' | b'\n' | b'\r' | b' ')
 }
 
-/// Where the first word of a text begins.
+/// The index where the first word of a text begins.
 fn word_start(text: &[u8]) -> Option<usize>
     ensures { result ≡ position (λ byte. not (is_blank byte)) text.now }
 {
     text.iter().position(|byte| !is_blank(*byte))
 }
 
-/// Where the word ends with which a text begins.
+/// The index where the word ends with which a text begins.
 fn word_end(text: &[u8]) -> usize
     ensures { result ≡ length (take_while (λ byte. not (is_blank byte)) text.now) }
 {
     text.iter().take_while(|byte| !is_blank(**byte)).count()
 }
 
-/// The first word of a text, and the text behind it.
+/// The first word of a text, and the text after it.
 pub(crate) fn first_word(text: &[u8]) -> Option<(&[u8], &[u8])>
     ensures word { MatchOption result (words text.now ≡ [])
         (λ p. words text.now ≡ p.0.now ∷ words p.1.now) }

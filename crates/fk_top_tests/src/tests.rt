@@ -1,5 +1,5 @@
-//! A whole call over objects that never fail. All other calls stand in `tools/commands.py`, those
-//! over files, inputs and outputs that fail among them.
+//! A whole call over objects that never fail. All other calls are in `tools/commands.py`, also
+//! those over files, inputs and outputs that fail.
 
 ghost use Rattle.std.specs.Prelude.{◌≢◌};
 
@@ -18,7 +18,7 @@ fn owned(alloc: Global, words: &[&str]) -> Result<Vec<String>, AllocError> {
     Ok(all)
 }
 
-// Over a store, a source and sinks that never fail no fault is answered.
+// Runs a call over a store, a source and sinks that never fail. It returns no fault of these.
 fn call_surely(
     alloc: Global,
     words: &[String],

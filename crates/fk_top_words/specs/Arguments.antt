@@ -1,11 +1,11 @@
--- How the words behind a command word spell what the command is given.
+-- The arguments of a command, as the words after its command word spell them.
 use Rattle.std.specs.Prelude.{◌≡◌, ◌≢◌, ℕ, Bool, true, false, ◌==◌, List, [], ◌∷◌, ◌++◌, Option}
 use Rattle.std.specs.Prelude.{Some, None, codes, filter, map}
 
 abbrev pub Text : Type 0
 Text = List ℕ
 
--- what a command may be given: the name of the file that it reads, and the values of its options
+-- The kinds of arguments: the name of the file that a command reads, and the values of its options.
 pub data Part : Type 0 where
   File : Part
   Harts : Part
@@ -20,7 +20,7 @@ pub record Argument : Type 0 where
 abbrev pub argument : Part → Text → Argument
 argument part value = record { part = part; value = value }
 
--- the word that names an option
+-- The word that names an option.
 abbrev pub option_word : Part → Option Text
 option_word File = None
 option_word Harts = Some (codes "--harts")
@@ -28,39 +28,39 @@ option_word Cycles = Some (codes "--cycles")
 option_word Show = Some (codes "--show")
 option_word Image = Some (codes "-o")
 
--- the word begins with `-`, and isn't `-` alone
+-- The word begins with `-`, and isn't `-` alone.
 abbrev pub is_dashed : Text → Bool
 is_dashed [] = false
 is_dashed (byte ∷ []) = false
 is_dashed (byte ∷ next ∷ rest) = byte == 45
 
--- the words spell the arguments, in their order
+-- The words spell these arguments, in their order.
 pub data Spells : List Text → List Argument → Type 0 where
   Nothing : Spells [] []
-  -- the name of a file
+  -- The name of a file.
   Plain : {words : List Text} {arguments : List Argument} (word : Text) → is_dashed word ≡ false
       → Spells words arguments → Spells (word ∷ words) (argument File word ∷ arguments)
-  -- an option and its value, as `--harts 4` and `-o IMAGE`
+  -- An option and its value as two words, such as `--harts 4` and `-o IMAGE`.
   Apart : {words : List Text} {arguments : List Argument} (part : Part) (option value : Text)
       → option_word part ≡ Some option
       → is_dashed value ≡ false
       → Spells words arguments → Spells (option ∷ value ∷ words) (argument part value ∷ arguments)
-  -- in one word, as `--harts=4` and `-o=IMAGE`
+  -- An option and its value in one word, such as `--harts=4` and `-o=IMAGE`.
   Joined : {words : List Text} {arguments : List Argument} (part : Part) (option value word : Text)
       → option_word part ≡ Some option
       → word ≡ option ++ codes "=" ++ value
       → Spells words arguments → Spells (word ∷ words) (argument part value ∷ arguments)
-  -- `-oIMAGE`
+  -- The option `-o` and its value in one word without `=`, such as `-oIMAGE`.
   Attached : {words : List Text} {arguments : List Argument} (first : ℕ)
       (rest word : Text) → first ≢ 61
       → word ≡ codes "-o" ++ first ∷ rest
       → Spells words arguments → Spells (word ∷ words) (argument Image (first ∷ rest) ∷ arguments)
-  -- `--`, behind which each word is the name of a file
+  -- `--`, after which each word is the name of a file.
   Ended : (words : List Text) (word : Text) (arguments : List Argument) → word ≡ codes "--"
       → arguments ≡ map (argument File) words
       → Spells (word ∷ words) arguments
 
--- ---- the values of each part
+-- ---- the values of each kind of argument
 
 abbrev pub is_part : Part → Part → Bool
 is_part File File = true
@@ -89,7 +89,7 @@ all_values arguments = record {
   image = values_of Image arguments;
 }
 
--- the words spell exactly these values, in any order
+-- The words spell exactly these values, in any order.
 pub record Gives (words : List Text) (values : Values) : Type 0 where
   pub arguments : List Argument
   pub spelled : Spells words arguments

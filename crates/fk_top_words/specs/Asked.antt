@@ -1,15 +1,15 @@
--- What the values that `clap` found for a command ask for.
+-- The command that the values which `clap` found stand for.
 use Rattle.std.specs.Prelude.{◌≡◌, ℕ, ◌≤◌, List, Option, Some, None, codes, option_and_then}
 use Rattle.fk_num.specs.Numeral.{read_word}
 use Rattle.clap.specs.Walk.{Row, first_of}
 use Rattle.fk_top_words.specs.Arguments.{Text}
 use Rattle.fk_top_words.specs.Command.{Command, Run, Build, Exec, ListCode}
 
--- the number that is found for an argument
+-- The number that is found for an argument.
 abbrev pub number_of : Text → List Row → Option ℕ
 number_of id rows = option_and_then read_word (first_of id rows)
 
--- numbers in range
+-- The numbers of a run are found, and in range.
 pub record RunsBy (rows : List Row) (harts cycles : ℕ) : Type 0 where
   pub harts_are : number_of (codes "harts") rows ≡ Some harts
   pub cycles_are : number_of (codes "cycles") rows ≡ Some cycles
@@ -28,7 +28,7 @@ AsksFor name rows (Exec image harts cycles) = (name ≡ codes "exec")
 AsksFor name rows (ListCode image) = (name ≡ codes "list")
     × (first_of (codes "file") rows ≡ Some image)
 
--- the same of the command that `clap` met, where it met one
+-- The command that the command word and the values which `clap` found stand for.
 abbrev pub AsksOf : Option (Text × List Row) → Command → Type 0
 AsksOf None command = ⊥
 AsksOf (Some (name, rows)) command = AsksFor name rows command

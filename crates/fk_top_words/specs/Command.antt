@@ -1,13 +1,13 @@
--- What a command line asks for.
+-- The command of a command line.
 use Rattle.std.specs.Prelude.{◌≡◌, ℕ, ◌≤◌, List, [], ◌∷◌, Option, Some, None, codes, option_map}
 use Rattle.fk_num.specs.Numeral.{read_word}
 use Rattle.fk_top_words.specs.Arguments.{Text, Values, Gives}
 use Rattle.fk_top_words.specs.declared.command.CommandWords.{CommandWords}
 use Rattle.fk_top_words.specs.declared.command.CommandWords.TheVariants as words
 
--- compile a file and run it, and then show a variable, if one is named; compile it into an
--- image; run an image; list an image's code. What is run is run by so many harts, for at
--- most so many cycles
+-- The commands: compile a file and run it, and then show a variable, if one is named; compile a
+-- file into an image; run an image; list an image's code. A run is by this many harts, for at most
+-- this many cycles.
 pub data Command : Type 0 where
   Run : (file : Text) (harts cycles : ℕ) (show : Option Text) → Command
   Build : (file image : Text) → Command
@@ -18,8 +18,8 @@ abbrev pub once_or_never : Option Text → List Text
 once_or_never None = []
 once_or_never (Some value) = value ∷ []
 
--- a file, `--harts P` and `--cycles N`, each once, with P from 1 to 1,024 and N below 2^32, and
--- `--show` once or never
+-- A file, `--harts P` and `--cycles N`, each once, with P from 1 to 1,024 and N below 2^32, and
+-- `--show` once or never.
 pub record ReadsRun (words : List Text) (file : Text) (harts cycles : ℕ)
     (show : Option Text) : Type 0 where
   pub harts_text : Text
@@ -39,7 +39,7 @@ pub record ReadsRun (words : List Text) (file : Text) (harts cycles : ℕ)
 abbrev pub only_file : Text → Values
 only_file file = record { file = file ∷ []; harts = []; cycles = []; show = []; image = [] }
 
--- the words behind the command word of each command
+-- The command word of each command, and the words after it.
 abbrev pub ReadsBehind : Text → List Text → Command → Type 0
 ReadsBehind word words (Run file harts cycles show) = (word ≡ codes "run")
     × ReadsRun words file harts cycles show
@@ -49,16 +49,16 @@ ReadsBehind word words (Exec image harts cycles) = (word ≡ codes "exec")
     × ReadsRun words image harts cycles None
 ReadsBehind word words (ListCode image) = (word ≡ codes "list") × Gives words (only_file image)
 
--- the words that each command has, those after the program's name
+-- The words of each command, those after the program's name.
 abbrev pub Reads : List Text → Command → Type 0
 Reads [] command = ⊥
 Reads (word ∷ words) command = ReadsBehind word words command
 
--- words are at most one command
+-- Words are at most one command.
 abbrev pub OneCommand : Type 0
 OneCommand = (words : List Text) (c d : Command) → Reads words c → Reads words d → c ≡ d
 
--- the command of words that were read
+-- The command of words that were read.
 abbrev pub command_of : CommandWords → Command
 command_of (words.Run r show) = Run r.file.now r.harts r.cycles (option_map (λ s. s.now) show)
 command_of (words.Build file image) = Build file.now image.now

@@ -1,4 +1,4 @@
--- The commands as `clap` has them: what is written down of each argument and each command.
+-- The arguments and commands as they are declared to `clap`.
 use Rattle.std.specs.Prelude.{◌≡◌, ℕ, Bool, true, false, List, [], ◌∷◌, Option, Some, None, codes}
 use Rattle.std.specs.Prelude.{map}
 use Rattle.clap.specs.declared.builder.action.ArgAction.TheVariants.{Set}
@@ -30,7 +30,7 @@ abbrev pub is_required : Part → Bool
 is_required Show = false
 is_required _ = true
 
--- an argument as it is written
+-- The declaration of an argument.
 abbrev pub written : Part → Rule
 written p = record (new_rule (id_of p)) {
   long = long_of_part p;
@@ -39,7 +39,7 @@ written p = record (new_rule (id_of p)) {
   required = is_required p;
 }
 
--- an option `--name` with a value
+-- The declaration of an option `--name` with a value.
 abbrev pub option_rule : Text → Bool → Rule
 option_rule name required =
     record (new_rule name) { long = Some name; action = Some Set; required = required }
@@ -56,15 +56,15 @@ exec_parts = File ∷ Harts ∷ Cycles ∷ []
 abbrev pub list_parts : List Part
 list_parts = File ∷ []
 
--- a command with these arguments
+-- The declaration of a command with these arguments.
 abbrev pub written_command : Text → List Part → Shape
 written_command name ps = record (new_shape name) { rules = map written ps }
 
--- a command without commands of its own
+-- A command without commands of its own.
 abbrev pub leaf : Text → List Part → App
 leaf name ps = record { top = written_command name ps; subs = [] }
 
--- the command is this one, and has no argument that those below it have too
+-- The command is this one, and has no argument that the commands below it have too.
 pub record IsLocal (app : App) (command : Command) : Type 0 where
   pub shape : app_of command ≡ app
   pub local : (out-Command command).has_globals ≡ false

@@ -2,14 +2,14 @@
 
 ghost use Rattle.std.specs.Prelude.{◌≤◌};
 
-/// A run: of a file, by so many harts, for at most so many cycles.
+/// A run: of a file, by this many harts, for at most this many cycles.
 #[derive(Clone, Copy)]
 pub struct RunWords<'a> {
     /// The name of the file.
     pub file: &'a str,
-    /// How many harts run: 1 to 1,024.
+    /// The number of harts, 1 to 1,024.
     pub harts: u32,
-    /// How many cycles they run at most.
+    /// The most cycles that they run.
     pub cycles: u32,
     ghost some_harts: { 1 ≤ harts },
     ghost few_harts: { harts ≤ 1024 },

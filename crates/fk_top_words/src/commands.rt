@@ -42,7 +42,7 @@ fn image<'a>(alloc: Global) -> Arg<'a>
         .required(true)
 }
 
-// A command with one argument more. Want of memory for the command is want of it here.
+// A command with one more argument. Fails if there isn't enough memory, or wasn't for the command.
 fn taking<'a>(
     command: Result<Command<'a>, AllocError>,
     arg: Arg<'a>,
@@ -55,7 +55,8 @@ fn taking<'a>(
     command?.arg(arg)
 }
 
-// A command with one command more below it. Want of memory for one of them is want of it here.
+// A command with one more command below it. Fails if there isn't enough memory, or wasn't for
+// either.
 fn holding<'a>(
     command: Result<Command<'a>, AllocError>,
     inner: Result<Command<'a>, AllocError>,
@@ -75,7 +76,7 @@ fn reading<'a>(alloc: Global, name: &'a str) -> Result<Command<'a>, AllocError>
     taking(Ok(Command::new(alloc, name)), file(alloc))
 }
 
-// A command that runs what it makes of a file.
+// A command that runs an image, or a source's image.
 fn running<'a>(alloc: Global, name: &'a str) -> Result<Command<'a>, AllocError>
     ensures { IfOk result (IsLocal (leaf name.now exec_parts)) }
 {
@@ -96,7 +97,7 @@ fn build<'a>(alloc: Global) -> Result<Command<'a>, AllocError>
     taking(reading(alloc, "build"), image(alloc))
 }
 
-// The program. It has no help: a call for it is no command.
+// The program. It has no help, so a request for help is no command.
 fn program<'a>(alloc: Global) -> Command<'a>
     ensures { app_of result ≡ record { top = written_top; subs = [] } }
 {

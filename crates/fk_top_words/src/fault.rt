@@ -1,17 +1,17 @@
-//! Why words are not read.
+//! The reasons why words are not read.
 
 ghost use Rattle.std.specs.Prelude.{◌≡◌, ◌↔◌};
 
 use std::alloc::AllocError;
 use thiserror::Error;
 
-/// Why words are not read.
+/// The reason why words are not read.
 #[derive(Clone, Copy, Debug, PartialEq, Eq, Error)]
 pub enum WordsFault {
     /// The words are no command.
     #[error("no command")]
     Usage,
-    /// Memory ran out, which says nothing of the words.
+    /// There isn't enough memory, which says nothing about the words.
     #[error("out of memory")]
     Memory,
 }

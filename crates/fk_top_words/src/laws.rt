@@ -1,4 +1,4 @@
-//! Laws of the definitions, which no code runs.
+//! Laws of the commands, which no code runs.
 
 ghost use Rattle.fk_top_words.specs.Command.{OneCommand};
 

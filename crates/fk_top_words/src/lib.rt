@@ -1,4 +1,4 @@
-//! The words of a command line: what they ask for.
+//! The words of a command line, and the command that they are.
 #![tactic(auto)]
 
 mod asked;

@@ -5,15 +5,15 @@ use Rattle.std.specs.Prelude.{filter, if◌then◌else◌}
 use Rattle.fk_tree.specs.declared.node.Kind.{Kind}
 use Rattle.fk_tree.specs.declared.node.Kind.TheVariants.{Lockstep, Waiting, Asynchronous}
 
--- a group: its members in ascending order, the node that it is a part of, and its kind. The members
--- of a node that waits are those of its parts, and those who wait
+-- a node: its members in ascending order, the node of which it is a part, and its kind. The members
+-- of a node that waits are those of its parts, and those that wait
 pub record Node : Type 0 where
   pub members : List ℕ
   pub parent : ℕ
   pub kind : Kind
 
--- the node of each number, how many numbers were given, and where each processor is: the leaf of
--- which it is a member, or the node at which it waits
+-- the node of each number, the number of node numbers given so far, and the place of each
+-- processor: the leaf of which it is a member, or the node at which it waits
 pub record Tree : Type 0 where
   pub nodes : ℕ → Option Node
   pub given : ℕ
@@ -44,12 +44,12 @@ abbrev pub is_member : ℕ → List ℕ → Bool
 is_member h [] = false
 is_member h (m ∷ ms) = (h == m) || is_member h ms
 
--- a node without members has ended, and is no more
+-- a node without members has ended, and no longer exists
 abbrev pub node_of : (members : List ℕ) (parent : ℕ) (kind : Kind) → Option Node
 node_of [] parent kind = None
 node_of (h ∷ hs) parent kind = Some (record { members = h ∷ hs; parent = parent; kind = kind })
 
--- another node, or none, in place of the one with a number
+-- the nodes with another node, or none, at one number
 abbrev pub with_node : ℕ → Option Node → (ℕ → Option Node) → ℕ → Option Node
 with_node n node nodes i = if i == n then node else nodes i
 
@@ -65,7 +65,7 @@ abbrev pub below : ℕ → List ℕ → List ℕ
 below zero more = more
 below (suc p) more = below p (p ∷ more)
 
--- the tree of the beginning: one node, in which all p processors run by themselves
+-- the tree at the beginning: one node, in which all p processors run by themselves
 abbrev pub root : ℕ → Tree
 root p = record {
   nodes = with_node 0 (node_of (below p []) 0 (Asynchronous false)) (λ i. None);
@@ -73,7 +73,7 @@ root p = record {
   places = λ h. 0;
 }
 
--- whether a member goes into a part, where the others wait
+-- whether a member goes into part i; `None` means that it waits
 abbrev pub is_in : ℕ → Option ℕ → Bool
 is_in i None = false
 is_in i (Some j) = i == j
@@ -85,8 +85,7 @@ place_in old first (Some i) = first + i
 abbrev pub is_from : (first count i : ℕ) → Bool
 is_from first count i = nat_le first i && nat_lt i (first + count)
 
--- a node waits for k parts of those of its members that go into one. The parts have
--- the next numbers
+-- a node waits for k parts of those of its members that enter one. The parts have the next numbers
 abbrev pub split : ℕ → (k : ℕ) → (part : ℕ → Option ℕ) → Tree → Tree
 split n k part tree =
     let first = tree.given in
@@ -99,14 +98,14 @@ split n k part tree =
           else tree.places h;
     }
 
--- the root waits for one group of the processors below a count
+-- the root waits for one group, of the processors with numbers below `count`
 abbrev pub first_part : ℕ → ℕ → Option ℕ
 first_part count h = if nat_lt h count then Some 0 else None
 
 abbrev pub begin : ℕ → Tree → Tree
 begin count tree = split 0 1 (first_part count) tree
 
--- those who don't stay leave a part, and wait at its parent
+-- the members that don't stay leave a part, and wait at its parent
 abbrev pub left_by : (ℕ → Bool) → Option Node → Option Node
 left_by stays None = None
 left_by stays (Some node) = node_of (filter stays node.members) node.parent node.kind
@@ -118,7 +117,7 @@ shrink n stays tree = record tree {
       else tree.places h;
 }
 
--- a part ends: all leave
+-- a part ends: all members leave
 abbrev pub finish : ℕ → Tree → Tree
 finish n tree = shrink n (λ h. false) tree
 
@@ -138,18 +137,19 @@ abbrev pub is_waiting : Option Kind → Bool
 is_waiting (Some (Waiting first parts)) = true
 is_waiting _ = false
 
--- a node with a body. The root is none
+-- a node with a body; the root doesn't count as one
 pub record HasBody (tree : Tree) (n : ℕ) : Type 0 where
   pub alone : Bool
   pub part : n ≢ 0
   pub body : kind tree n ≡ Some (Asynchronous alone)
 
--- those who run the body of an asynchronous node
+-- the members that run the body of an asynchronous node
 abbrev pub runs : Kind → List ℕ → List ℕ
 runs (Asynchronous true) (h ∷ hs) = h ∷ []
 runs kind hs = hs
 
--- a node that waits goes on, the root with its members by themselves and every other in lockstep
+-- a node that waits goes on; the members of the root run by themselves then, and every other node
+-- is in lockstep
 abbrev pub kind_after : ℕ → Kind
 kind_after zero = Asynchronous false
 kind_after (suc n) = Lockstep
@@ -164,7 +164,7 @@ abbrev pub have_ended : Tree → (first parts : ℕ) → Bool
 have_ended tree first zero = true
 have_ended tree first (suc k) = has_ended tree (first + k) && have_ended tree first k
 
--- a node is ready to go on where it waits and all its parts have ended
+-- a node is ready to go on if it waits and all its parts have ended
 abbrev pub is_ready : Tree → Option Kind → Bool
 is_ready tree (Some (Waiting first parts)) = have_ended tree first parts
 is_ready tree _ = false
@@ -172,17 +172,18 @@ is_ready tree _ = false
 abbrev pub ready : Tree → ℕ → Bool
 ready tree n = is_ready tree (kind tree n)
 
--- what a list tells of each member, in the order of the members
+-- the element that a list has for a member, in the order of the members
 abbrev pub told : {A : Type 0} → A → (members : List ℕ) → List A → ℕ → A
 told other [] xs h = other
 told other (m ∷ ms) [] h = other
 told other (m ∷ ms) (x ∷ xs) h = if h == m then x else told other ms xs h
 
--- the part that a number names, where it is one of k
+-- the part with a number, if it is one of k
 abbrev pub part_of : (k i : ℕ) → Option ℕ
 part_of k i = if nat_lt i k then Some i else None
 
--- the parts that a list names, which has a number for each member. A number of no part waits
+-- the part of each member, for a list with a number for each of them. A member whose number is no
+-- part waits
 abbrev pub parts_by : (k : ℕ) (members of : List ℕ) → ℕ → Option ℕ
 parts_by k members of h = part_of k (told k members of h)
 

@@ -7,6 +7,6 @@ use Rattle.fk_tree.specs.Seen.{tree_seen}
 abbrev pub tree_of : Tree → t.Tree
 tree_of tree = tree_seen tree.given tree.places.items tree.nodes
 
--- how many processors it has
+-- the number of processors of a tree
 abbrev pub processors : Tree → ℕ
 processors tree = vec_len tree.places

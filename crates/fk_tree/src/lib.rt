@@ -1,8 +1,8 @@
-//! The tree of groups: which processors act together, and who waits for whom.
+//! The tree of groups: which processors act together, and which ones wait for others.
 //!
-//! All processors begin at the root, each running by itself. A group in lockstep is split into
-//! parts, which end before it goes on, and gives its members or the lowest of them a body that they
-//! run by themselves. Nodes have numbers, which are never used again.
+//! All processors begin in the root, where each runs by itself. A group in lockstep can be split
+//! into parts, which end before it goes on. It can also have a body that its members, or the lowest
+//! of them, run by themselves. Nodes have numbers, which are never used again.
 #![tactic(auto)]
 
 mod node;

@@ -2,26 +2,28 @@
 
 ghost use Rattle.std.specs.Prelude.{◌≡◌};
 
-/// What a node does.
+/// What the members of a node do.
 #[derive(Clone, Copy)]
 pub enum Kind {
     /// A group: its members go on together.
     Lockstep,
-    /// It goes on when its parts have ended: so many, with the numbers from a first one on.
+    /// It goes on when its parts have ended. It has the number of its first part and the number of
+    /// parts, which have consecutive numbers.
     Waiting(u64, u32),
-    /// The root, or a body that its members run by themselves, or that the lowest runs alone.
+    /// The root, or a body that its members run by themselves; with `true` the lowest member runs
+    /// it alone.
     Asynchronous(bool),
 }
 
 /// A node that has not ended.
 #[derive(Drop)]
 pub(crate) struct LiveNode {
-    /// In ascending order. Those of a node that waits are among them.
+    /// The members in ascending order. Those that wait are among them.
     pub(crate) members: Vec<u32>,
-    /// The node that it is a part of.
+    /// The node of which it is a part.
     pub(crate) parent: u64,
     pub(crate) kind: Kind,
-    /// How many of its parts have not ended.
+    /// The number of its parts that haven't ended.
     pub(crate) living: u32,
 }
 

@@ -1,4 +1,4 @@
-//! Steps on the nodes that have not ended, by their numbers.
+//! Steps on the nodes that haven't ended, by their numbers.
 
 ghost use Rattle.std.specs.Prelude.{◌≡◌, ◌≢◌, ℕ, ◌+◌, ◌^◌, ◌<◌, ◌≤◌, ◌==◌, ◌-◌, nat_lt, true};
 ghost use Rattle.std.specs.Prelude.{length, vec_len, ◌↔◌, IsTrue, filter, slice_index, [], is_none};
@@ -13,10 +13,10 @@ use crate::node::{Kind, LiveNode};
 use std::alloc::{AllocError, Global};
 use std::collections::HashMap;
 
-/// The nodes that have not ended, by their numbers.
+/// The nodes that haven't ended, by their numbers.
 pub(crate) type Nodes = HashMap<u64, LiveNode>;
 
-// The processors below a number.
+// The processors with numbers below `count`.
 #[tactic(auto, using(crate::proofs::Lists::below_more))]
 fn processors_below(alloc: Global, count: u32) -> Result<Vec<u32>, AllocError>
     ensures { IfOk result (λ members. members.items ≡ below count []) }
@@ -28,7 +28,7 @@ fn processors_below(alloc: Global, count: u32) -> Result<Vec<u32>, AllocError>
     Ok(members)
 }
 
-/// The root alone, in which the processors below a number run by themselves.
+/// The root alone, in which the processors with numbers below `count` run by themselves.
 pub(crate) fn root_alone(alloc: Global, count: u32) -> Result<Nodes, AllocError>
     requires { 1 ≤ count }
     ensures nodes { IfOk result (λ nodes. (i : ℕ) → nodes_seen nodes i ≡ (root count).nodes i) }
@@ -45,7 +45,7 @@ pub(crate) fn root_alone(alloc: Global, count: u32) -> Result<Nodes, AllocError>
     Ok(nodes)
 }
 
-/// The kind of a node that goes on after it waited.
+/// The kind of a node after it has waited.
 pub(crate) fn kind_after(number: u64) -> Kind
     ensures { result ≡ going_on number }
 {
@@ -55,7 +55,7 @@ pub(crate) fn kind_after(number: u64) -> Kind
     }
 }
 
-/// Gives a node another kind, and so many parts that have not ended.
+/// Gives a node another kind, and the number of its parts that haven't ended.
 pub(crate) fn turn(nodes: &mut Nodes, number: u64, kind: Kind, living: u32)
     requires { nodes_seen nodes.old number ≢ None }
     ensures nodes { (i : ℕ) → nodes_seen nodes.new i
@@ -69,7 +69,8 @@ pub(crate) fn turn(nodes: &mut Nodes, number: u64, kind: Kind, living: u32)
     }
 }
 
-/// Lets a processor join a part, which is made where it isn't there yet. Says whether it was made.
+/// Lets a processor join a part, and makes the part if it doesn't exist yet. Returns whether the
+/// part was made.
 pub(crate) fn join(
     alloc: Global,
     nodes: &mut Nodes,
@@ -106,8 +107,9 @@ pub(crate) fn copy_of(alloc: Global, processors: &[u32]) -> Result<Vec<u32>, All
     Vec::from_slice(alloc, processors)
 }
 
-/// Makes the parts of a node: each member joins the one that `of` names, if there is such a one of
-/// so many from `first` on. The number of those that were made, which are those with members.
+/// Makes the parts of a node. Each member joins the part that `of` names for it, if there is such a
+/// part among the `parts` ones with numbers from `first` on. Returns the number of parts that were
+/// made, which are those with members.
 pub(crate) fn divide(
     alloc: Global,
     nodes: &mut Nodes,
@@ -142,7 +144,7 @@ pub(crate) fn divide(
     Ok(living)
 }
 
-/// Removes the nodes from a number on.
+/// Removes the nodes with numbers from `first` on.
 pub(crate) fn forget(nodes: &mut Nodes, first: u64)
     ensures before { (i : ℕ) → i < first → nodes_seen nodes.new i ≡ nodes_seen nodes.old i }
     ensures living { (i : ℕ) → i < first → living_seen nodes.new i ≡ living_seen nodes.old i }
@@ -152,7 +154,7 @@ pub(crate) fn forget(nodes: &mut Nodes, first: u64)
     nodes.retain(|number, _| *number < first);
 }
 
-/// Each member that joins a part is in it from now on.
+/// Sets the place of each member that joins a part to the node of that part.
 pub(crate) fn place(places: &mut [u64], first: u64, parts: u32, members: &[u32], of: &[u32])
     requires length { length of.now ≡ length members.now }
     requires ascending { is_ascending members.now ≡ true }
@@ -170,7 +172,7 @@ pub(crate) fn place(places: &mut [u64], first: u64, parts: u32, members: &[u32],
     }
 }
 
-/// For each of so many processors part 0 where it is below a count, and no part of one elsewhere.
+/// For each processor, part 0 if its number is below `count`, else 1, which names no part.
 pub(crate) fn below_count(
     alloc: Global,
     processors: u32,
@@ -187,7 +189,7 @@ pub(crate) fn below_count(
     Ok(of)
 }
 
-/// A part of a node has ended, which it counts.
+/// Notes at a node that one of its parts has ended.
 pub(crate) fn lose(nodes: &mut Nodes, number: u64)
     requires there { nodes_seen nodes.old number ≢ None }
     requires counted { 1 ≤ living_seen nodes.old number }
@@ -200,7 +202,7 @@ pub(crate) fn lose(nodes: &mut Nodes, number: u64)
     }
 }
 
-/// Processors wait at a node.
+/// Lets processors wait at a node.
 pub(crate) fn settle(places: &mut [u64], node: u64, processors: &[u32])
     requires { (h : ℕ) → is_member h processors.now ≡ true → h < length places.old }
     ensures { (h : ℕ) → slice_index places.new h
@@ -211,7 +213,7 @@ pub(crate) fn settle(places: &mut [u64], node: u64, processors: &[u32])
     }
 }
 
-// Members that don't stay leave a list, and wait at a node.
+// Removes the members that don't stay from a list, and lets them wait at a node.
 fn leave(members: &mut Vec<u32>, places: &mut [u64], node: u64, stay: &[bool])
     requires length { length stay.now ≡ length members.old.items }
     requires ascending { is_ascending members.old.items ≡ true }
@@ -235,7 +237,7 @@ fn leave(members: &mut Vec<u32>, places: &mut [u64], node: u64, stay: &[bool])
     members.truncate(kept);
 }
 
-/// Lets the members of a part that don't stay wait at its parent. Answers whether any stay.
+/// Lets the members of a part that don't stay wait at its parent. Returns whether any stay.
 pub(crate) fn shrink(nodes: &mut Nodes, places: &mut [u64], number: u64, stay: &[bool]) -> bool
     requires length { length stay.now ≡ length (members_of (nodes_seen nodes.old number)) }
     requires ascending { is_ascending (members_of (nodes_seen nodes.old number)) ≡ true }

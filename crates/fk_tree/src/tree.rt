@@ -11,7 +11,7 @@ use crate::nodes::{
 };
 use std::alloc::{AllocError, Global};
 
-/// The tree of groups of up to 1,024 processors. A node is named by its number, and the root by 0.
+/// The tree of groups of up to 1,024 processors. A node is identified by its number; the root is 0.
 ///
 /// Each processor is at exactly one node: the leaf in which it acts, or the node at which it waits.
 #[derive(Drop)]
@@ -31,7 +31,8 @@ impl Tree {
     ghost use Rattle.fk_tree.specs.declared.node.Kind.TheVariants.{Lockstep, Waiting, Asynchronous};
     ghost use Rattle.fk_tree.specs.View.{tree_of, processors};
 
-    /// The tree of `p` processors at the beginning: the root alone, in which each runs by itself.
+    /// The tree of `p` processors at the beginning: only the root, in which each of them runs by
+    /// itself.
     pub fn root(alloc: Global, p: u32) -> Result<Tree, AllocError>
         requires some { 1 ≤ p }
         requires few { p ≤ 1024 }
@@ -45,15 +46,15 @@ impl Tree {
         })
     }
 
-    /// How many numbers were given.
+    /// The number of node numbers given so far.
     pub fn given(&self) -> u64
         ensures { result ≡ (tree_of self.now).given }
     {
         self.given
     }
 
-    /// The members of a node in ascending order, those of its parts and its body among them. None
-    /// where it has ended or was never made.
+    /// The members of a node in ascending order, with those of its parts and its body. There are
+    /// none if the node has ended or was never made.
     pub fn members(&self, node: u64) -> &[u32]
         ensures members { result.now ≡ t.members (tree_of self.now) node }
         // In every tree each processor is at exactly one node.
@@ -83,7 +84,8 @@ impl Tree {
         self.places[processor as usize]
     }
 
-    // Makes a node without children wait for parts of its members.
+    // Makes a node without children wait for parts of its members. Returns the number of the first
+    // part.
     fn make_parts(
         &mut self,
         alloc: Global,
@@ -119,9 +121,9 @@ impl Tree {
         }
     }
 
-    /// Makes the root wait for one group in lockstep, that of the processors below a count, and
-    /// answers its number. With the count 0 it has ended at once. The tree is as before where there
-    /// is no memory.
+    /// Makes the root wait for one group in lockstep, with the processors whose numbers are below
+    /// `count`. Returns the number of the group. If `count` is 0, the group has ended at once. If
+    /// there isn't enough memory, the tree is as before.
     pub fn begin(&mut self, alloc: Global, count: u32) -> Result<u64, AllocError>
         requires idle { t.is_waiting (t.kind (tree_of self.old) 0) ≡ false }
         requires count { count ≤ processors self.old }
@@ -135,8 +137,8 @@ impl Tree {
         self.make_parts(alloc, 0, 1, of.as_slice())
     }
 
-    /// Lets the members of a part that don't stay wait at its parent. `stay` tells it of each
-    /// member, in their order. Where nobody stays, the part has ended.
+    /// Lets the members of a part that don't stay wait at its parent. `stay` has an element for
+    /// each member, in their order. If no member stays, the part has ended.
     pub fn shrink(&mut self, node: u64, stay: &[bool])
         requires lockstep { t.kind (tree_of self.old) node ≡ Some Lockstep }
         requires length { length stay.now ≡ length (t.members (tree_of self.old) node) }
@@ -165,12 +167,12 @@ impl Tree {
         }
     }
 
-    /// Splits a group in lockstep into so many parts, each of the members for which `of` has its
-    /// number, and answers the node of the first part. The others have the numbers after it. A
-    /// member with another number waits, and a part without members has ended.
+    /// Splits a group in lockstep into `parts` parts, and returns the node of the first part. The
+    /// others have the numbers after it. `of` has a number for each member, in their order: the
+    /// member joins the part with that number. A member whose number is no part waits, and a part
+    /// without members has ended.
     ///
-    /// `of` has a number for each member, in their order. The tree is as before where there is no
-    /// memory.
+    /// If there isn't enough memory, the tree is as before.
     pub fn split(
         &mut self,
         alloc: Global,
@@ -218,7 +220,7 @@ impl Tree {
         turn(&mut self.nodes, node, Kind::Lockstep, 0);
     }
 
-    /// Lets a node that waits go on, all of whose parts have ended.
+    /// Lets a node go on that waits and whose parts have all ended.
     pub fn resume(&mut self, node: u64)
         requires { t.ready (tree_of self.old) node ≡ true }
         ensures tree { tree_of self.new ≡ t.resume node (tree_of self.old) }

@@ -1,4 +1,4 @@
-//! What is known of a program that keeps the rules about names and types.
+//! The facts of a program that keeps the rules about names and types.
 
 ghost use Rattle.std.specs.Prelude.{◌≡◌, ◌^◌, ◌≤◌, length, IfOk};
 ghost use Rattle.fk_syntax.specs.ProgramView.{program_of};
@@ -19,8 +19,8 @@ use fk_types_operators::ExpressionType;
 use fk_types_structs::Structs;
 use std::alloc::{AllocError, Global};
 
-// The note of a token whose kind has this number, and which names this. Nothing is known yet of
-// regions and sharing.
+// The note of a token with this kind and binding. The facts of regions and sharing aren't known
+// yet.
 fn note_of(kind: u32, binding: u32) -> Note
     ensures { result ≡ note_of kind binding }
 {

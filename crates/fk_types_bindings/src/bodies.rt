@@ -10,7 +10,7 @@ ghost use Rattle.fk_types_bindings.specs.Bodies.{AreBodies, meant_by};
 use fk_types_names::{Declaration, Table};
 use std::alloc::{AllocError, Global};
 
-// The name of a function, where a declaration is its header with the body.
+// The name of a function, if a declaration is its header with the body.
 fn defined_name<'a>(declaration: &Declaration<'_, 'a>) -> Option<&'a [u8]>
     ensures some { IfSome result
         (λ name. DefinesHere name.now (Declares (declaration_of declaration.now))) }
@@ -23,7 +23,7 @@ fn defined_name<'a>(declaration: &Declaration<'_, 'a>) -> Option<&'a [u8]>
     }
 }
 
-/// The first header with a body of each function. Fails only for want of memory.
+/// The first header with a body of each function. It fails only if there isn't enough memory.
 pub(crate) fn bodies<'a>(
     alloc: Global,
     declared: &[Declaration<'_, 'a>],
@@ -38,8 +38,9 @@ pub(crate) fn bodies<'a>(
     Ok(bodies)
 }
 
-/// The number of what a declaration stands for, which has a number itself: of a function the header
-/// with the body, where there is one.
+/// The number that the name of a declaration has as its binding. `number` is that of the
+/// declaration itself. For a function it is the number of the header with the body, if there is
+/// one.
 pub(crate) fn meant(bodies: &Table, number: usize, declaration: &Declaration) -> usize
     ensures { result ≡ meant_by (shown bodies.now) number (declaration_of declaration.now) }
 {

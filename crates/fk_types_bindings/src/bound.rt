@@ -1,4 +1,4 @@
-//! What the tokens of a program name.
+//! The bindings of the tokens of a program.
 
 ghost use Rattle.std.specs.Prelude.{◌≡◌, ◌<◌, ◌^◌, ℕ, length, map, replicate, IfOk};
 ghost use Rattle.fk_syntax.specs.Program.{ProgramTree};
@@ -28,7 +28,7 @@ use fk_types_references::Reference;
 use fk_types_structs::Structs;
 use std::alloc::{AllocError, Global};
 
-// The most declarations that are counted.
+// The greatest number of declarations that can be counted.
 const MOST: usize = 4_294_967_295;
 
 // The index of the token of a reference.
@@ -52,7 +52,7 @@ fn name_token(declaration: &Declaration) -> u32
     }
 }
 
-// Sets the number of a token, where one is told.
+// Sets the number of a token, if there is one for it.
 fn set(numbers: &mut [u32], at: u32, told: Option<u32>)
     ensures { numbers.new ≡ with_told numbers.old at told }
 {
@@ -64,7 +64,7 @@ fn set(numbers: &mut [u32], at: u32, told: Option<u32>)
     }
 }
 
-// Sets the numbers of what declarations stand for, at their names.
+// Sets the bindings of declarations, at their names.
 fn set_declared(numbers: &mut [u32], bodies: &Table, declared: &[Declaration])
     requires bodies { AreBodies (map declaration_of declared.now) (shown bodies.now) }
     requires few { length declared.now < 2 ^ 32 }
@@ -77,7 +77,7 @@ fn set_declared(numbers: &mut [u32], bodies: &Table, declared: &[Declaration])
     }
 }
 
-// Sets what references refer to, at their tokens.
+// Sets the bindings of references, at their tokens.
 fn set_referred(numbers: &mut [u32], known: &TypedProgram, references: &[Reference])
     requires { IsSound known.now.structs.now }
     ensures { (env : Env) (program : ProgramTree) → IsKnown env program known.now
@@ -88,7 +88,7 @@ fn set_referred(numbers: &mut [u32], known: &TypedProgram, references: &[Referen
     }
 }
 
-// Sets what the tokens of a program name, where nothing is set yet.
+// Sets the bindings of all tokens of a program, none of which is set yet.
 fn set_all(numbers: &mut [u32], known: &TypedProgram, bodies: &Table, references: &[Reference])
     requires sound { IsSound known.now.structs.now }
     requires bodies { AreBodies
@@ -106,18 +106,18 @@ fn set_all(numbers: &mut [u32], known: &TypedProgram, bodies: &Table, references
     set_referred(numbers, known, references);
 }
 
-/// What each token of a program names, as a number, by the index of the token:
+/// The binding of each token of a program, which is a number, by the index of the token:
 /// - for the name of a variable, a parameter or a function, where it is declared or in an
-///   expression, the number of the declaration that it means, from 0 in the order in which their
-///   names stand in the text, or 2^32 - 1 for a name that is declared before each text. The name of
-///   a function means the header that has the body, at its other headers too;
-/// - for a member after `.` or `->`, the words that lie before it in its struct;
-/// - for `sizeof`, the bytes that it gives;
+///   expression, the number of the declaration that it denotes, from 0 in the order of the names in
+///   the text, or 2^32 - 1 for a predeclared name. The name of a function denotes the header that
+///   has the body, also at its other headers;
+/// - for a member after `.` or `->`, the number of words before it in its struct;
+/// - for `sizeof`, the number of bytes that it gives;
 /// - for every other token 0.
 ///
-/// The types of the tokens tell the structs whose members are named. It takes time linear in the
-/// text, and fails only for want of memory: where there are too many declarations to be counted,
-/// there is none for them.
+/// The types of the tokens determine the structs of the named members. It takes time linear in the
+/// text. It fails only if there isn't enough memory, which includes a text with more declarations
+/// than can be counted.
 pub fn bindings<'k, 'p, 'a>(
     alloc: Global,
     structs: &'k Structs<'p, 'a>,

@@ -1,4 +1,4 @@
-//! What the pieces of a text name.
+//! The references in the pieces of a text.
 
 ghost use Rattle.std.specs.Prelude.{◌≡◌, ◌++◌, map, IfOk, OnOk};
 ghost use Rattle.fk_types_obligations.specs.View.{piece_of};
@@ -9,7 +9,7 @@ use fk_types_obligations::Piece;
 use fk_types_references::References;
 use std::alloc::{AllocError, Global};
 
-// Adds what the expressions of a piece name.
+// Adds the references in the expressions of a piece.
 fn add_piece<'a>(references: &mut References<'a>, piece: &Piece<'_, 'a>) -> Result<(), AllocError>
     ensures { OnOk result (found_in references.new
         ≡ found_in references.old ++ piece_references (piece_of piece.now)) }
@@ -26,7 +26,8 @@ fn add_piece<'a>(references: &mut References<'a>, piece: &Piece<'_, 'a>) -> Resu
     }
 }
 
-/// What the expressions of pieces name, in their order. Fails only for want of memory.
+/// The references in the expressions of pieces, in their order. It fails only if there isn't enough
+/// memory.
 pub(crate) fn references_in<'a>(
     alloc: Global,
     pieces: &[Piece<'_, 'a>],

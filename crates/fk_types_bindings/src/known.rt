@@ -1,4 +1,4 @@
-//! The number of what is named.
+//! The numbers of references.
 
 ghost use Rattle.std.specs.Prelude.{◌≡◌, ℕ, IfSome, Some};
 ghost use Rattle.fk_syntax.specs.declared.place.Spot.{Spot};
@@ -23,19 +23,19 @@ use fk_types_operators::ExpressionType;
 use fk_types_references::Reference;
 use fk_types_structs::Structs;
 
-// The number of a name that is declared before each text.
+// The number of a predeclared name.
 const PREDECLARED: u32 = 4_294_967_295;
 
-/// What is known of a program.
+/// The facts about a program that determine the numbers of references.
 #[derive(Drop)]
 pub(crate) struct TypedProgram<'k, 'p, 'a> {
     pub(crate) structs: &'k Structs<'p, 'a>,
     pub(crate) names: &'k Names<'p, 'a>,
-    /// The types of its tokens.
+    /// The types of the program's tokens.
     pub(crate) types: &'k [Option<ExpressionType>],
 }
 
-// The number of what a name means.
+// The number of what a name denotes.
 fn number_meant(meaning: Option<Meaning>) -> Option<u32>
     ensures { result ≡ number_meant meaning }
 {
@@ -46,7 +46,7 @@ fn number_meant(meaning: Option<Meaning>) -> Option<u32>
     }
 }
 
-// The struct whose member is named after an expression of a type.
+// The struct whose member is named after an expression with this type.
 fn struct_before(is_arrow: bool, kind: ExpressionType) -> Option<usize>
     ensures { result ≡ b.struct_before is_arrow kind }
 {
@@ -58,21 +58,21 @@ fn struct_before(is_arrow: bool, kind: ExpressionType) -> Option<usize>
 }
 
 impl TypedProgram<'_, '_, '_> {
-    // What the token of an index means.
+    // The meaning of the token with this index.
     fn meaning(&self, at: u32) -> Option<Meaning>
         ensures { result ≡ meaning_in self.now.names.now at }
     {
         self.names.meanings.get(at as usize).copied().flatten()
     }
 
-    // The type of the token of an index.
+    // The type of the token with this index.
     fn type_at(&self, at: u32) -> Option<ExpressionType>
         ensures { result ≡ noted.type_at self.now.types.now at }
     {
         self.types.get(at as usize).copied().flatten()
     }
 
-    // The number of what a name means.
+    // The number of what a name denotes.
     fn meant(&self, name: &Name) -> Option<u32>
         ensures { (env : Env) (program : ProgramTree) → IsKnown env program self.now
             → IsTold env program (r.Name (named name.now)) result }
@@ -80,7 +80,7 @@ impl TypedProgram<'_, '_, '_> {
         number_meant(self.meaning(name.at))
     }
 
-    // The words before a member of a struct.
+    // The number of words before a member of a struct.
     fn offset(&self, index: usize, member: &[u8]) -> Option<u32>
         requires { IsSound self.now.structs.now }
         ensures found { (place words : ℕ)
@@ -94,7 +94,7 @@ impl TypedProgram<'_, '_, '_> {
         self.structs.offset(index, place)
     }
 
-    // The words before a member of the expression with this main token.
+    // The number of words before a member of the expression with this main token.
     fn words_before(&self, whole: u32, is_arrow: bool, member: &Name) -> Option<u32>
         requires { IsSound self.now.structs.now }
         ensures { (env : Env) (program : ProgramTree) → IsKnown env program self.now
@@ -105,7 +105,7 @@ impl TypedProgram<'_, '_, '_> {
         self.offset(index, member.bytes)
     }
 
-    // The bytes of a type.
+    // The number of bytes of a type.
     fn size(&self, kind: &TypeName) -> Option<u32>
         requires { IsSound self.now.structs.now }
         ensures { (env : Env) (program : ProgramTree) (spot : Spot) → IsKnown env program self.now
@@ -116,7 +116,7 @@ impl TypedProgram<'_, '_, '_> {
         Some(4 * words)
     }
 
-    /// The number of what a reference refers to.
+    /// The number of a reference.
     pub(crate) fn number(&self, reference: &Reference) -> Option<u32>
         requires { IsSound self.now.structs.now }
         ensures { (env : Env) (program : ProgramTree) → IsKnown env program self.now

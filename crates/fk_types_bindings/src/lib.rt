@@ -1,5 +1,5 @@
-//! What each token of a Fork95 program names, as a number: declarations, members of structs, and
-//! types by their size.
+//! The binding of each token of a Fork95 program, which is a number. Bindings are for names of
+//! declarations, members of structs, and `sizeof`.
 #![tactic(auto)]
 
 mod bodies;

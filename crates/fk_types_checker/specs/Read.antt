@@ -1,4 +1,4 @@
--- What is known after a piece was read.
+-- The state after reading a piece.
 use Rattle.std.specs.Prelude.{◌≡◌, List, Option, fold}
 use Rattle.fk_check_rules.specs.declared.fault.Fault.{Fault}
 use Rattle.fk_check_rules.specs.Least.{IsLeast}
@@ -9,7 +9,7 @@ use Rattle.fk_types_obligations.specs.Pieces.{PieceTree}
 use Rattle.fk_types_rules.specs.Pieces.{PieceBreaks}
 use Rattle.fk_types_rules.specs.Noted.{piece_noted}
 
--- the first that a piece breaks is told, and the types in it are noted by token
+-- the first fault of a piece is returned, and the types in it are noted by token
 pub record IsPieceRead (env : Env) (piece : PieceTree) (before after : List (Option ExpressionType))
     (fault : Option Fault) : Type 0 where
   pub least : IsLeast (PieceBreaks env piece) fault

@@ -1,4 +1,4 @@
-//! What a program breaks, and the types of its tokens.
+//! The rules that a program breaks, and the types of its tokens.
 
 ghost use Rattle.std.specs.Prelude.{◌≡◌, fold, IfOk, OnOk, OnErr};
 ghost use Rattle.fk_syntax.specs.ProgramView.{program_of};
@@ -23,7 +23,7 @@ use fk_types_struct_rules::structs_fault;
 use fk_types_structs::Structs;
 use std::alloc::{AllocError, Global};
 
-// The first that a program breaks by its structs and its names.
+// The first fault in a program's structs and names.
 fn declared_fault(
     alloc: Global,
     program: &Program,
@@ -39,13 +39,13 @@ fn declared_fault(
 }
 
 /// The first rule about names and types that a program breaks, by its place and then by its number,
-/// where this is known of its names. The types of its tokens are noted in a table: those of
-/// expressions at their signs, names and numbers, that of a variable or parameter at its name, and
-/// that of the calls of a function at the function's. It takes linear time.
+/// given the scope of its names. The types of its tokens are noted in a table: those of expressions
+/// at their signs, names and numbers, that of a variable or parameter at its name, and that of the
+/// calls of a function at its name. It takes linear time.
 ///
 /// # Errors
 ///
-/// Want of memory; then nothing is noted.
+/// There isn't enough memory; then nothing is noted.
 pub fn program_fault(
     alloc: Global,
     program: &Program,

@@ -1,4 +1,4 @@
-//! What the pieces of a text break, and the types of its tokens.
+//! The rules that the pieces of a text break, and the types of its tokens.
 
 ghost use Rattle.std.specs.Prelude.{◌≡◌, fold, map};
 ghost use Rattle.std.specs.Option.{option_map};
@@ -126,7 +126,7 @@ fn return_fault(
     }
 }
 
-// The first that a piece breaks. The types in it are noted by token.
+// The first fault in a piece. Notes the types in it by token.
 fn piece_fault(scope: &Scope, types: &mut [Option<ExpressionType>], piece: Piece) -> Option<Fault>
     requires { IsSound scope.now.structs.now }
     ensures { IsPieceRead (env_in scope.now) (piece_of piece.entry) types.old types.new result }
@@ -141,13 +141,13 @@ fn piece_fault(scope: &Scope, types: &mut [Option<ExpressionType>], piece: Piece
     }
 }
 
-/// The first rule that pieces of a text break, by its place and then by its number: what
-/// declarations break by their types, what expressions break by the types of their parts and by
-/// their use, and initial values and `return` by what they are stored in or given as.
+/// The first rule that pieces of a text break, by its place and then by its number. Declarations
+/// break rules by their types, expressions by the types of their parts and by their use, and
+/// initial values and `return` by the type that they must have.
 ///
 /// The types in the pieces are noted in a table by token: those of expressions at their signs,
 /// names and numbers, that of a variable or parameter at its name, and that of the calls of a
-/// function at the function's. It takes no memory, and time linear in the pieces.
+/// function at its name. It takes no memory, and time linear in the pieces.
 pub fn pieces_fault(
     scope: &Scope,
     types: &mut [Option<ExpressionType>],

@@ -1,4 +1,4 @@
-//! The types of what is declared, by token.
+//! The types of declared names, by token.
 
 ghost use Rattle.std.specs.Prelude.{◌≡◌, fold, slice_set};
 ghost use Rattle.std.specs.Option.{option_map};
@@ -26,7 +26,7 @@ fn note(types: &mut [Option<ExpressionType>], at: u32, kind: Option<ExpressionTy
     }
 }
 
-// The type of what is stored.
+// The type of a stored value.
 fn stored(kind: Option<DataType>) -> Option<ExpressionType>
     ensures { result ≡ option_map Stored kind }
 {
@@ -36,7 +36,7 @@ fn stored(kind: Option<DataType>) -> Option<ExpressionType>
     }
 }
 
-// The type of the calls of a function, by that of its result.
+// The type of the calls of a function, by the type of its result.
 fn call_type(kind: Option<DataType>) -> Option<ExpressionType>
     ensures { result ≡ option_map result_of kind }
 {

@@ -1,4 +1,4 @@
-//! What values break by what they are stored in or given as.
+//! The rules that values break by the type that they must have.
 
 ghost use Rattle.std.specs.Prelude.{◌≡◌, ◌⊎◌, ◌↔◌, Some, None, IsSome, IsTrue};
 ghost use Rattle.fk_syntax.specs.Tree.{Tree};
@@ -25,7 +25,7 @@ use fk_types_operators::{ExpressionType, Operand, Value, converts};
 use fk_types_struct_rules::{is_struct, is_void};
 use fk_types_structs::DataType;
 
-// What is stored, as a value, where it is neither an array nor a struct.
+// The value type of a stored value that is neither an array nor a struct.
 fn scalar(kind: Option<DataType>) -> Option<Value>
     ensures { result ≡ b.scalar kind }
 {
@@ -36,7 +36,7 @@ fn scalar(kind: Option<DataType>) -> Option<Value>
     ExpressionType::Stored(kind).value()
 }
 
-// Whether there are two values, and the one doesn't convert to the other.
+// Whether there are two types, and the first doesn't convert to the second.
 fn is_not_converted(from: Option<Operand>, to: Option<Value>) -> bool
     ensures { result ≡ b.is_not_converted from to }
 {
@@ -46,7 +46,7 @@ fn is_not_converted(from: Option<Operand>, to: Option<Value>) -> bool
     }
 }
 
-// A value that doesn't convert to a type.
+// The fault of a value that doesn't convert to a type.
 fn conversion_fault(part: &Part, kind: Option<DataType>, place: Place) -> Option<Fault>
     ensures { (env : Env) (term : Term) → IsPart env term part.now
         → IsLeast (ConversionBreaks env place kind term) result }
@@ -63,14 +63,14 @@ fn is_whole(variable: &Declared) -> bool
     variable.length.is_some() || is_struct(&variable.kind)
 }
 
-// An initial value of an array or a struct.
+// The fault of an initial value of an array or a struct.
 fn whole_fault(variable: &Declared) -> Option<Fault>
     ensures { IsLeast (b.WholeInitialBreaks (declared_of variable.now)) result }
 {
     fault_if(Rule::WholeAssigned, variable.name.place, is_whole(variable))
 }
 
-/// What a variable breaks by its initial value, of which this is known.
+/// The fault in a variable's initial value, whose part is `part`.
 pub(crate) fn initial_fault(scope: &Scope, variable: &Declared, part: &Part) -> Option<Fault>
     requires { IsSound scope.now.structs.now }
     ensures { (term : Term) → IsPart (env_in scope.now) term part.now
@@ -82,7 +82,7 @@ pub(crate) fn initial_fault(scope: &Scope, variable: &Declared, part: &Part) -> 
     first_of(part.as_value(), stored)
 }
 
-// An initial value that holds more than may stand outside functions.
+// The fault of an initial value that isn't allowed outside functions.
 fn constant_fault(scope: &Scope, value: &Expr, part: &Part) -> Option<Fault>
     ensures { IsPart (env_in scope.now) (term_of (tree_of value.now)) part.now
         → IsLeast (ConstantBreaks (env_in scope.now) (term_of (tree_of value.now))) result }
@@ -90,7 +90,7 @@ fn constant_fault(scope: &Scope, value: &Expr, part: &Part) -> Option<Fault>
     fault_if(Rule::NotConstant, part.first, is_more(scope, value))
 }
 
-/// What a variable of file scope breaks by its initial value, of which this is known.
+/// The fault in the initial value of a variable of file scope. `part` is the part of that value.
 pub(crate) fn file_initial_fault(
     scope: &Scope,
     variable: &Declared,
@@ -106,7 +106,7 @@ pub(crate) fn file_initial_fault(
     first_of(initial, constant_fault(scope, value, part))
 }
 
-/// What an expression breaks as it is used.
+/// The fault of an expression by its use.
 pub(crate) fn role_fault(role: Role, part: &Part) -> Option<Fault>
     ensures { (env : Env) (term : Term) → IsPart env term part.now
         → IsLeast (UsedBreaks env role term) result }
@@ -118,7 +118,7 @@ pub(crate) fn role_fault(role: Role, part: &Part) -> Option<Fault>
     }
 }
 
-/// What a `return` with a value breaks in a function of a result.
+/// The fault of a `return` with a value, in a function whose result has this type.
 pub(crate) fn given_fault(scope: &Scope, gives: &TypeName, spot: Spot, part: &Part) -> Option<Fault>
     requires { IsSound scope.now.structs.now }
     ensures { (value : Tree) → IsPart (env_in scope.now) (term_of value) part.now
@@ -131,7 +131,7 @@ pub(crate) fn given_fault(scope: &Scope, gives: &TypeName, spot: Spot, part: &Pa
     first_of(part.as_value(), given)
 }
 
-/// What a `return` without a value breaks in a function of a result.
+/// The fault of a `return` without a value, in a function whose result has this type.
 pub(crate) fn lacking_fault(gives: &TypeName, spot: Spot) -> Option<Fault>
     ensures { (env : Env)
         → IsLeast (ReturnBreaks env (type_of gives.now) spot None) result }

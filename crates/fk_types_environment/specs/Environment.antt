@@ -1,4 +1,4 @@
--- What is known of a program before its expressions are read.
+-- The facts about a program that are known before its expressions are read.
 use Rattle.std.specs.Prelude.{◌≡◌}
 use Rattle.fk_syntax.specs.Program.{ProgramTree}
 use Rattle.fk_types_structs.specs.declared.structs.Structs.{Structs}
@@ -10,7 +10,7 @@ use Rattle.fk_types_judgments.specs.Names.{Env, IsEnv}
 use Rattle.fk_types_forms.specs.Scope.{meant_by, member_in}
 use Rattle.fk_types_environment.specs.declared.environment.Environment.{Environment}
 
--- what is known, with the structs and names that it is known of
+-- the environment of expressions, with the structs and names of the program
 abbrev pub env_of : Structs → Names → Environment → Env
 env_of structs names environment = record {
   structs = structs_in structs;
@@ -18,7 +18,7 @@ env_of structs names environment = record {
   member_type = member_in environment.members.items;
 }
 
--- it is right about each program that has these structs and names
+-- the environment is right about each program that has these structs and names
 abbrev pub IsRight : Structs → Names → Environment → Type 0
 IsRight structs names environment = (program : ProgramTree)
     → structs_in structs ≡ structs_of program.items → AreNames program names

@@ -11,13 +11,13 @@ use Rattle.fk_types_forms.specs.declared.names.Signature.{Signature}
 use Rattle.fk_types_forms.specs.declared.names.Entity.{Entity}
 use Rattle.fk_types_forms.specs.Scope.{known_meant}
 
--- what is kept of the parameters and the result of a function is right
+-- a signature has the types of the parameters and the result of a function
 pub record HasSignature (structs : List StructTree) (function : FunctionTree)
     (signature : Signature) : Type 0 where
   pub type : Option DataType
   pub right : IsSignature structs function signature.parameters.items type
   pub gives : signature.result ≡ option_map result_of type
 
--- what is kept of a declaration is what it declares
+-- an entity is what a declaration declares
 abbrev pub IsKnown : List StructTree → DeclarationTree → Entity → Type 0
 IsKnown structs declaration known = IsDeclared structs declaration (known_meant (Some known))

@@ -1,4 +1,4 @@
--- The types of what is declared. There are none where a declaration is broken.
+-- The types of declared names. There is none if the declaration breaks a rule.
 use Rattle.std.specs.Prelude.{List, Option, None, Vec}
 use Rattle.std.specs.List.{AllZip}
 use Rattle.std.specs.declared.alloc.Global.{Global}
@@ -9,7 +9,7 @@ use Rattle.fk_types_struct_rules.specs.Declarations.{DeclarationBreaks, Paramete
 use Rattle.fk_types_struct_rules.specs.Declarations.{ResultBreaks}
 use Rattle.fk_types_judgments.specs.Names.{HasDeclaredType}
 
--- a variable or a member
+-- the type of a variable or a member
 abbrev pub HasVariableType : List StructTree → DeclaredTree → Option DataType → Type 0
 HasVariableType structs declared type = HasDeclaredType structs (DeclarationBreaks structs declared)
     (type_declared structs declared) type

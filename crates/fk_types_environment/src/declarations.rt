@@ -19,7 +19,7 @@ use fk_types_operators::ExpressionType;
 use fk_types_structs::{DataType, Structs};
 use std::alloc::{AllocError, Global};
 
-// What the calls of a function give whose result has this type.
+// The type of the calls of a function, by the type of its result.
 fn given(kind: Option<DataType>) -> Option<ExpressionType>
     ensures { result ≡ option_map result_of kind }
 {
@@ -42,7 +42,7 @@ fn signature(alloc: Global, structs: &Structs, function: &Function) -> Result<Si
     })
 }
 
-// Whether a function is called `main`.
+// Whether the name of a function is `main`.
 fn is_main(function: &Function) -> bool
     ensures { result ≡ is_text (function_of function.now).name.bytes (codes "main") }
 {

@@ -1,4 +1,4 @@
-//! What is known of a program before its expressions are read.
+//! The facts about a program that are known before its expressions are read.
 
 ghost use Rattle.std.specs.Prelude.{◌≡◌, IfOk};
 ghost use Rattle.fk_types_structs.specs.Whole.{IsSound};
@@ -12,20 +12,20 @@ use fk_types_names::Names;
 use fk_types_structs::{DataType, Structs};
 use std::alloc::{AllocError, Global};
 
-/// What is known of a program before its expressions are read, beside its structs and names: what
-/// each declaration declares, and the types of the members of structs. What is declared has no type
-/// where its declaration is broken.
+/// The facts about a program that are known before its expressions are read, besides its structs
+/// and names: what each declaration declares, and the types of the members of structs. A name has
+/// no type if its declaration breaks a rule.
 #[derive(Drop)]
 pub struct Environment {
-    // By the numbers of declarations.
+    // What each declaration declares, by its number.
     known: Vec<Entity>,
-    // By the indices of structs and the places of their members.
+    // The types of members, by the index of the struct and the position of the member in it.
     members: Vec<Vec<Option<DataType>>>,
 }
 
 impl Environment {
-    /// What is known of the program of these structs and names, in time linear in its declarations.
-    /// Fails only for want of memory.
+    /// The environment of the program with these structs and names, in time linear in its
+    /// declarations. It fails only if there isn't enough memory.
     pub fn of(alloc: Global, structs: &Structs, names: &Names) -> Result<Self, AllocError>
         requires { IsSound structs.now }
         ensures { IfOk result (IsRight structs.now names.now) }
@@ -35,7 +35,7 @@ impl Environment {
         Ok(Environment { known, members })
     }
 
-    /// What is known where an expression of the program stands.
+    /// The scope of the expressions of the program.
     pub fn scope<'c, 'p, 'a>(
         &'c self,
         structs: &'c Structs<'p, 'a>,

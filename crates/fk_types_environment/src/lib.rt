@@ -1,5 +1,5 @@
-//! What is known of a program before its expressions are read: what each declaration declares, and
-//! the types of the members of structs.
+//! The facts about a program that are known before its expressions are read: what each declaration
+//! declares, and the types of the members of structs.
 #![tactic(auto)]
 
 mod declarations;

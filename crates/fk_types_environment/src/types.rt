@@ -1,4 +1,4 @@
-//! The types of what is declared, where the declaration isn't broken.
+//! The types of declared names, unless the declaration breaks a rule.
 
 ghost use Rattle.std.specs.Prelude.{map, IfOk};
 ghost use Rattle.std.specs.List.{AllZip};

@@ -1,4 +1,4 @@
--- What is known after an expression was read.
+-- The state after reading an expression.
 use Rattle.std.specs.Prelude.{◌≡◌, List, Option, fold, slice_set}
 use Rattle.fk_types_operators.specs.declared.values.ExpressionType.{ExpressionType}
 use Rattle.fk_types_judgments.specs.Term.{Term, Terms}
@@ -8,7 +8,7 @@ use Rattle.fk_types_forms.specs.declared.parts.Part.{Part}
 use Rattle.fk_types_forms.specs.declared.parts.Arguments.{Arguments}
 use Rattle.fk_types_forms.specs.Parts.{IsPart, AreArguments}
 
--- types by token, with one more that is noted
+-- the types by token, after noting one more
 abbrev pub with_note : List (Option ExpressionType) → Noted → List (Option ExpressionType)
 with_note types n = slice_set types n.at n.type
 
@@ -18,7 +18,7 @@ pub record IsRead (env : Env) (term : Term) (before after : List (Option Express
   pub is : IsPart env term part
   pub types : after ≡ fold with_note before (noted env term)
 
--- and arguments were
+-- arguments were read, and their types were noted
 pub record AreRead (env : Env) (parameters : List Parameter) (terms : Terms)
     (before after : List (Option ExpressionType)) (known : Arguments) : Type 0 where
   pub are : AreArguments env parameters terms known

@@ -34,10 +34,10 @@ fn keep<'a>(types: &mut [Option<ExpressionType>], at: u32, part: Part<'a>) -> Pa
     part
 }
 
-/// What is known of an expression: its type, and the first that it breaks. The types of it and of
-/// all in it are noted in a table by token, each at its sign, name or number: at the `(` of a call,
-/// the `[` of an index, and the `.` or `->` of a member. It takes no memory, and time linear in the
-/// expression.
+/// The part of an expression: its type, and the first fault in it. The types of it and of all
+/// expressions in it are noted in a table by token, each at its sign, name or number: at the `(` of
+/// a call, the `[` of an index, and the `.` or `->` of a member. It takes no memory, and time
+/// linear in the expression.
 #[cycle(expression)]
 pub fn expression<'a>(
     scope: &Scope,
@@ -86,7 +86,7 @@ pub fn expression<'a>(
     }
 }
 
-// What stands before a sign, with the sign and what stands after it.
+// The expression before a sign, joined with the sign and its right operand.
 #[cycle(expression)]
 fn with_link<'a>(
     scope: &Scope,
@@ -108,7 +108,7 @@ fn with_link<'a>(
     )
 }
 
-// What stands before signs that group to the left, with them.
+// The expression before signs that group to the left, joined with all of them.
 #[cycle(expression)]
 fn chain<'a>(
     scope: &Scope,
@@ -129,7 +129,7 @@ fn chain<'a>(
     before
 }
 
-// Arguments, with one more.
+// The arguments of a call with one more.
 #[cycle(expression)]
 fn with_argument<'a>(
     scope: &Scope,
@@ -170,7 +170,7 @@ fn arguments<'a>(
     known
 }
 
-// What stands before a suffix, with it.
+// The expression before a suffix, together with it.
 #[cycle(expression)]
 fn with_suffix<'a>(
     scope: &Scope,
@@ -205,7 +205,7 @@ fn with_suffix<'a>(
     }
 }
 
-// What stands before suffixes, with them.
+// The expression before suffixes, together with them.
 #[cycle(expression)]
 fn postfix<'a>(
     scope: &Scope,

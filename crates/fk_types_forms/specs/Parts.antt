@@ -1,4 +1,4 @@
--- What is known of expressions and of arguments that were read.
+-- The properties of expressions and arguments that have been read.
 use Rattle.std.specs.Prelude.{◌≡◌, List, Option, Some, None}
 use Rattle.std.specs.Option.{option_map}
 use Rattle.fk_syntax.specs.Tree.{Named}
@@ -11,12 +11,12 @@ use Rattle.fk_types_judgments.specs.Broken.{Broken, ArgumentsBreak}
 use Rattle.fk_types_forms.specs.declared.parts.Part.{Part}
 use Rattle.fk_types_forms.specs.declared.parts.Arguments.{Arguments}
 
--- the name that an expression is
+-- the name that an expression is, if it is one
 abbrev pub name_in : Term → Option Named
 name_in (Use name) = Some name
 name_in _ = None
 
--- a part is right about an expression
+-- a part has the properties of an expression
 pub record IsPart (env : Env) (term : Term) (part : Part) : Type 0 where
   pub type : part.kind ≡ type_of env term
   pub first : part.first ≡ first_place term
@@ -25,7 +25,7 @@ pub record IsPart (env : Env) (term : Term) (part : Part) : Type 0 where
   pub name : option_map named part.name ≡ name_in term
   pub fault : IsLeast (Broken env term) part.fault
 
--- and what is known of arguments about them
+-- the collected properties are those of these arguments
 pub record AreArguments (env : Env) (parameters : List Parameter) (terms : Terms)
     (known : Arguments) : Type 0 where
   pub fit : known.do_fit ≡ do_all_fit env parameters terms

@@ -1,4 +1,4 @@
--- What the code knows where an expression stands, as the definitions have it.
+-- The facts that the code has about the scope of expressions, in the form of the definitions.
 use Rattle.std.specs.Prelude.{ℕ, Bool, true, false, List, [], ◌∷◌, map, Option, Some, None}
 use Rattle.std.specs.Prelude.{slice_get, Vec}
 use Rattle.std.specs.Option.{option_and_then}
@@ -33,7 +33,7 @@ abbrev pub signature_meant : Signature → Meant
 signature_meant signature =
     n.Called (map n.Typed signature.parameters.items) (n.Always signature.result)
 
--- what a name is
+-- what a name denotes
 abbrev pub meant_of : Thing → Meant
 meant_of (t.Kept type) = n.Kept type
 meant_of (t.Constant value) = n.Constant value
@@ -45,7 +45,7 @@ meant_of t.GroupSize = n.Called [] (n.Always (Some (Computed Int)))
 meant_of t.Main = n.Main
 meant_of t.Undeclared = n.Undeclared
 
--- what a name is, if it is a function other than `main`
+-- whether a name denotes a function other than `main`
 abbrev pub is_called : Meant → Bool
 is_called (n.Kept type) = false
 is_called (n.Constant value) = false
@@ -53,7 +53,7 @@ is_called (n.Called parameters result) = true
 is_called n.Main = false
 is_called n.Undeclared = false
 
--- what a call of it gives
+-- the type of a call
 abbrev pub given_by : Meant → Option Value → Option ExpressionType
 given_by (n.Kept type) first = None
 given_by (n.Constant value) first = None
@@ -61,7 +61,7 @@ given_by (n.Called parameters result) first = result_in result first
 given_by n.Main first = None
 given_by n.Undeclared first = None
 
--- what is declared
+-- what a declaration declares
 abbrev pub known_meant : Option Entity → Meant
 known_meant None = n.Kept None
 known_meant (Some (k.Variable type)) = n.Kept type

@@ -1,4 +1,4 @@
-//! Calls: what is called, and whether it takes its arguments.
+//! Calls: the called function, and whether it takes its arguments.
 
 ghost use Rattle.std.specs.Prelude.{◌≡◌, length, slice_get};
 ghost use Rattle.std.specs.Option.{option_map};
@@ -12,12 +12,12 @@ use crate::operands::{computed, does_convert, word_at};
 use fk_types_operators::{ExpressionType, Operand, Value};
 use fk_types_structs::{DataType, Root};
 
-/// What a parameter takes.
+/// The arguments that a parameter takes.
 #[derive(Clone, Copy)]
 pub enum Parameter {
-    /// What converts to its type. There is none where its declaration is broken.
+    /// Arguments that convert to its type. There is no type if its declaration breaks a rule.
     Typed(Option<DataType>),
-    /// A pointer to integers, as it is.
+    /// A pointer to integers, without a conversion.
     Words,
 }
 
@@ -43,7 +43,7 @@ fn does_take(parameter: Parameter, from: Operand) -> bool
     }
 }
 
-/// Whether an argument has a value, and its parameter takes it.
+/// Whether an argument has a value that its parameter takes.
 pub fn does_fit(parameter: Option<Parameter>, from: Option<Operand>) -> bool
     ensures { result ≡ y.does_fit (option_map parameter_of parameter) from }
 {
@@ -54,7 +54,7 @@ pub fn does_fit(parameter: Option<Parameter>, from: Option<Operand>) -> bool
     }
 }
 
-/// Whether an argument has a value, and its parameter doesn't take it.
+/// Whether an argument has a value that its parameter doesn't take.
 pub fn is_not_taken(parameter: Option<Parameter>, from: Option<Operand>) -> bool
     ensures { result ≡ b.is_not_taken (option_map parameter_of parameter) from }
 {
@@ -65,7 +65,7 @@ pub fn is_not_taken(parameter: Option<Parameter>, from: Option<Operand>) -> bool
 }
 
 impl Thing<'_> {
-    /// How many parameters it has.
+    /// The number of its parameters.
     pub fn count(&self) -> usize
         ensures { result ≡ length (parameters_of (meant_of self.now)) }
     {
@@ -77,7 +77,7 @@ impl Thing<'_> {
         }
     }
 
-    /// Its parameter at an index.
+    /// The parameter at an index.
     pub fn parameter(&self, index: usize) -> Option<Parameter>
         ensures { option_map parameter_of result
             ≡ slice_get (parameters_of (meant_of self.now)) index }
@@ -94,7 +94,7 @@ impl Thing<'_> {
         }
     }
 
-    // What a call of it gives, by the value of the first argument.
+    // The type of a call of it, where `first` is the value type of the first argument.
     fn result(&self, first: Option<Value>) -> Option<ExpressionType>
         ensures { result ≡ given_by (meant_of self.now) first }
     {
@@ -111,8 +111,8 @@ impl Thing<'_> {
         }
     }
 
-    /// The type of a call, by the number of arguments, whether each fits, and the value of the
-    /// first.
+    /// The type of a call of it, by the number of arguments, by whether each fits, and by the value
+    /// type of the first one.
     pub fn call_type(
         &self,
         count: usize,
@@ -133,7 +133,7 @@ impl Thing<'_> {
         self.result(first)
     }
 
-    /// The type of a name that stands without a call.
+    /// The type of a name that isn't called.
     pub fn name_type(&self) -> Option<ExpressionType>
         ensures { result ≡ y.name_type (meant_of self.now) }
     {
@@ -144,7 +144,7 @@ impl Thing<'_> {
         }
     }
 
-    /// Whether it is a value that is declared before each text.
+    /// Whether it is a predeclared value.
     pub fn is_constant(&self) -> bool
         ensures { result ≡ y.is_constant (meant_of self.now) }
     {
@@ -184,7 +184,7 @@ impl Thing<'_> {
         self.is_main() || self.is_function()
     }
 
-    /// Whether it has a type and is no function.
+    /// Whether it has a type and isn't a function.
     pub fn is_no_function(&self) -> bool
         ensures { result ≡ b.is_no_function (meant_of self.now) }
     {
@@ -195,7 +195,7 @@ impl Thing<'_> {
         }
     }
 
-    /// Whether it has another number of parameters.
+    /// Whether it has a number of parameters other than `count`.
     pub fn is_wrong_count(&self, count: usize) -> bool
         ensures { result ≡ b.is_wrong_count (meant_of self.now) count }
     {

@@ -1,4 +1,4 @@
-//! The forms of expressions, by their parts.
+//! The forms of expressions, made of their parts.
 
 ghost use Rattle.std.specs.Prelude.{◌≡◌, ◌&&◌, true, false, is_none, List, slice_get};
 ghost use Rattle.std.specs.Option.{option_map};
@@ -73,7 +73,7 @@ pub fn size<'a>(scope: &Scope, spot: Spot, kind: &TypeName) -> Part<'a>
     )
 }
 
-// What a name breaks that isn't called.
+// The fault of a name that isn't called.
 fn name_fault(thing: Thing, place: Place) -> Option<Fault>
     ensures { IsLeast (b.NameBreaks (meant_of thing.entry) place) result }
 {
@@ -84,7 +84,7 @@ fn name_fault(thing: Thing, place: Place) -> Option<Fault>
     )
 }
 
-// What a name breaks that is called.
+// The fault of a name that is called.
 fn called_name_fault(thing: Thing, place: Place) -> Option<Fault>
     ensures { IsLeast (b.CalledNameBreaks (meant_of thing.entry) place) result }
 {
@@ -181,7 +181,7 @@ pub fn counted_after<'a>(spot: Spot, place: Part) -> Part<'a>
     )
 }
 
-/// A sign before an expression.
+/// An expression with a sign in front.
 pub fn prefix<'a>(spot: Spot, sign: Sign, operand: Part) -> Part<'a>
     ensures { (env : Env) (t : Term) → IsPart env t operand.entry →
         IsPart env (m.prefix_term spot sign t) result }
@@ -253,7 +253,7 @@ pub fn index<'a>(spot: Spot, whole: Part, by: Part) -> Part<'a>
     stored(element(whole.value(), by.value()), whole.first, fault)
 }
 
-// The place of a member of a struct.
+// The position of a member in its struct.
 fn member_place(scope: &Scope, index: Option<usize>, member: Name) -> Option<usize>
     requires { IsSound scope.now.structs.now }
     ensures { result ≡ y.member_place (env_in scope.now) index (named member.entry) }
@@ -272,7 +272,7 @@ fn member_type(scope: &Scope, index: Option<usize>, place: Option<usize>) -> Opt
     }
 }
 
-// Whether there is a type and no member.
+// Whether there is a type but no member.
 fn is_missing(is_typed: bool, place: Option<usize>) -> bool
     ensures { result ≡ (is_typed && is_none place) }
 {
@@ -376,7 +376,7 @@ fn are_both(first: bool, second: bool) -> bool
     first && second
 }
 
-// The first of two values.
+// The first one of two values that exists.
 fn either_value(first: Option<Value>, second: Option<Value>) -> Option<Value>
     ensures { result ≡ y.either_value first second }
 {
@@ -386,7 +386,7 @@ fn either_value(first: Option<Value>, second: Option<Value>) -> Option<Value>
     }
 }
 
-/// One more argument, for a parameter.
+/// The arguments of a call with one more, for a parameter.
 pub fn also(before: Arguments, parameter: Option<Parameter>, last: Part) -> Arguments
     ensures { (env : Env) (parameters : List n.Parameter) (ts : Terms) (t : Term)
         → AreArguments env parameters ts before → IsPart env t last.entry
@@ -406,7 +406,7 @@ pub fn also(before: Arguments, parameter: Option<Parameter>, last: Part) -> Argu
     }
 }
 
-/// What is called: a name what it is, any other expression no function.
+/// What is called: for a name what it denotes; any other expression isn't a function.
 pub fn called<'c>(scope: &Scope<'c, '_, '_>, callee: &Part) -> Thing<'c>
     ensures { (t : Term) → IsPart (env_in scope.now) t callee.now
         → meant_of result ≡ y.called_as (env_in scope.now) t (y.type_of (env_in scope.now) t) }
@@ -418,7 +418,7 @@ pub fn called<'c>(scope: &Scope<'c, '_, '_>, callee: &Part) -> Thing<'c>
     }
 }
 
-// What is called breaks.
+// The fault of the called expression.
 fn callee_fault(thing: Thing, callee: &Part) -> Option<Fault>
     ensures { (env : Env) (t : Term) → IsPart env t callee.now
         → meant_of thing.entry ≡ y.called_as env t (y.type_of env t)

@@ -1,5 +1,5 @@
-//! The expressions of Fork95 by their parts: the type of each form, and the first rule that it
-//! breaks, where those of its parts are known.
+//! The forms of Fork95's expressions: the type of each form, and the first rule that it breaks,
+//! given the types and faults of its parts.
 #![tactic(auto)]
 
 mod calls;

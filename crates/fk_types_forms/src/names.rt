@@ -1,4 +1,4 @@
-//! What names are.
+//! What names denote.
 
 ghost use Rattle.std.specs.Prelude.{◌≡◌, slice_get};
 ghost use Rattle.fk_syntax.specs.View.{named};
@@ -11,7 +11,8 @@ use fk_types_names::{Meaning, Names};
 use fk_types_operators::{ExpressionType, Value};
 use fk_types_structs::{DataType, Root, Structs};
 
-/// The parameters and the result of a function, each where its declaration isn't broken.
+/// The types of the parameters and the result of a function. There is none if its declaration
+/// breaks a rule.
 #[derive(Drop)]
 pub struct Signature {
     pub parameters: Vec<Option<DataType>>,
@@ -21,7 +22,7 @@ pub struct Signature {
 /// What a declaration declares.
 #[derive(Drop)]
 pub enum Entity {
-    /// A variable or parameter, with its type where its declaration isn't broken.
+    /// A variable or parameter, with its type unless its declaration breaks a rule.
     Variable(Option<DataType>),
     /// A function other than `main`.
     Function(Signature),
@@ -29,30 +30,30 @@ pub enum Entity {
     Main,
 }
 
-/// What is known where an expression stands.
+/// The facts about a program that its expressions need.
 #[derive(Drop)]
 pub struct Scope<'c, 'p, 'a> {
     pub structs: &'c Structs<'p, 'a>,
     pub names: &'c Names<'p, 'a>,
-    /// What is declared, by the numbers of declarations.
+    /// What each declaration declares, by its number.
     pub known: &'c [Entity],
-    /// The types of the members of structs, by the places of the members, where the declaration
-    /// isn't broken.
+    /// The types of members, by the index of the struct and the position of the member in it. There
+    /// is none if the declaration breaks a rule.
     pub members: &'c [Vec<Option<DataType>>],
 }
 
-/// What a name is.
+/// What a name denotes.
 #[derive(Clone, Copy)]
 pub enum Thing<'c> {
-    /// A variable, with its type where its declaration isn't broken.
+    /// A variable, with its type unless its declaration breaks a rule.
     Kept(Option<DataType>),
-    /// A value that is declared before each text.
+    /// A predeclared value.
     Constant(Value),
-    /// A function of the text.
+    /// A function that the text declares.
     Function(&'c Signature),
-    /// `mpadd` and its kin.
+    /// `mpadd`, `mpmax`, `mpand` or `mpor`.
     Multiprefix,
-    /// `malloc` and its kin.
+    /// `malloc`, `shmalloc` or `shalloc`.
     Request,
     /// `putint` and `putchar`.
     Output,
@@ -68,7 +69,7 @@ const INPUT: DataType = DataType {
     length: Some(65_536),
 };
 
-// `mpadd` and its kin
+// Whether a name is that of a multiprefix.
 fn is_multiprefix(name: &[u8]) -> bool
     ensures { result ≡ n.is_multiprefix name.now }
 {
@@ -78,7 +79,7 @@ fn is_multiprefix(name: &[u8]) -> bool
         || name == b"mpor".as_slice()
 }
 
-// `malloc` and its kin
+// Whether a name is that of a function that allocates memory.
 fn is_request(name: &[u8]) -> bool
     ensures { result ≡ n.is_request name.now }
 {
@@ -91,7 +92,7 @@ fn is_output(name: &[u8]) -> bool
     name == b"putint".as_slice() || name == b"putchar".as_slice()
 }
 
-// What a name is that is declared before each text.
+// What a predeclared name denotes.
 fn predeclared(name: &[u8]) -> Thing<'static>
     ensures { meant_of result ≡ predeclared_meant name.now }
 {
@@ -114,7 +115,7 @@ fn predeclared(name: &[u8]) -> Thing<'static>
 }
 
 impl<'c, 'p, 'a> Scope<'c, 'p, 'a> {
-    // What the declaration of a number declares.
+    // What the declaration with this number declares.
     fn declared(&self, number: u32) -> Thing<'c>
         ensures { meant_of result ≡ known_meant (slice_get self.now.known.now number) }
     {
@@ -126,7 +127,7 @@ impl<'c, 'p, 'a> Scope<'c, 'p, 'a> {
         }
     }
 
-    /// What a name in an expression is.
+    /// What a name in an expression denotes.
     pub fn look_up(&self, name: &Name) -> Thing<'c>
         ensures { meant_of result ≡ (env_in self.now).meant (named name.now) }
     {
@@ -138,7 +139,7 @@ impl<'c, 'p, 'a> Scope<'c, 'p, 'a> {
         }
     }
 
-    /// The type of the member at a place of a struct.
+    /// The type of the member at this position of a struct.
     pub fn member_type(&self, index: usize, place: usize) -> Option<DataType>
         ensures { result ≡ (env_in self.now).member_type index place }
     {

@@ -1,4 +1,4 @@
-//! What values give together, and what they break.
+//! The types that operands give together, and the rules that they break.
 
 ghost use Rattle.std.specs.Prelude.{◌≡◌, None, is_none, if◌then◌else◌};
 ghost use Rattle.std.specs.Option.{option_and_then};
@@ -17,7 +17,7 @@ use fk_types_operators::{
 };
 use fk_types_structs::{DataType, Root};
 
-/// An expression of a type, as a value.
+/// The value type of an expression with this type.
 pub(crate) fn value_in(kind: Option<ExpressionType>) -> Option<Value>
     ensures { result ≡ y.value_in kind }
 {
@@ -27,7 +27,7 @@ pub(crate) fn value_in(kind: Option<ExpressionType>) -> Option<Value>
     }
 }
 
-/// An expression of a type, as the operand of a sign.
+/// The operand that an expression with this type is.
 pub(crate) fn operand_in(is_zero: bool, kind: Option<ExpressionType>) -> Option<Operand>
     ensures { result ≡ y.operand_in is_zero kind }
 {
@@ -37,7 +37,7 @@ pub(crate) fn operand_in(is_zero: bool, kind: Option<ExpressionType>) -> Option<
     }
 }
 
-/// The type of what is computed.
+/// The type of a computed value.
 pub(crate) fn computed(value: Option<Value>) -> Option<ExpressionType>
     ensures { result ≡ y.computed value }
 {
@@ -47,7 +47,7 @@ pub(crate) fn computed(value: Option<Value>) -> Option<ExpressionType>
     }
 }
 
-/// Whether there is a type, and no value of it.
+/// Whether there is a type, but it has no value.
 pub(crate) fn is_no_value(kind: Option<ExpressionType>) -> bool
     ensures { result ≡ b.is_such b.is_no_value kind }
 {
@@ -57,7 +57,7 @@ pub(crate) fn is_no_value(kind: Option<ExpressionType>) -> bool
     }
 }
 
-/// What a statement leaves: a value or nothing, but no struct.
+/// The type that a statement leaves: that of a value or of nothing, but not that of a struct.
 pub(crate) fn left_of(kind: ExpressionType) -> Option<ExpressionType>
     ensures { result ≡ y.left_of kind }
 {
@@ -68,7 +68,7 @@ pub(crate) fn left_of(kind: ExpressionType) -> Option<ExpressionType>
     }
 }
 
-/// Whether there is a type, and it is a struct.
+/// Whether there is a type, which is a struct.
 pub(crate) fn is_struct(kind: Option<ExpressionType>) -> bool
     ensures { result ≡ b.is_such b.is_struct kind }
 {
@@ -78,7 +78,7 @@ pub(crate) fn is_struct(kind: Option<ExpressionType>) -> bool
     }
 }
 
-/// Whether there is a type, and it is an array.
+/// Whether there is a type, which is an array.
 pub(crate) fn is_array(kind: Option<ExpressionType>) -> bool
     ensures { result ≡ b.is_such v.is_array kind }
 {
@@ -88,7 +88,7 @@ pub(crate) fn is_array(kind: Option<ExpressionType>) -> bool
     }
 }
 
-/// The type of a comma, by those on its sides.
+/// The type of a comma expression, by the types of its sides.
 pub(crate) fn last_of(
     left: Option<ExpressionType>,
     right: Option<ExpressionType>,
@@ -107,7 +107,7 @@ pub(crate) fn last_of(
     }
 }
 
-/// What a sign before a value gives.
+/// The type of a sign before a value.
 pub(crate) fn with_prefix(sign: Sign, value: Option<Value>) -> Option<Value>
     ensures { result ≡ option_and_then (prefixed sign) value }
 {
@@ -117,7 +117,7 @@ pub(crate) fn with_prefix(sign: Sign, value: Option<Value>) -> Option<Value>
     }
 }
 
-/// Whether there is a value, and the sign before it doesn't take it.
+/// Whether there is a value that the sign before it doesn't take.
 pub(crate) fn is_not_prefixed(sign: Sign, value: Option<Value>) -> bool
     ensures { result ≡ b.is_such (λ v. is_none (prefixed sign v)) value }
 {
@@ -127,7 +127,7 @@ pub(crate) fn is_not_prefixed(sign: Sign, value: Option<Value>) -> bool
     }
 }
 
-/// What a sign between two operands gives.
+/// The type of a sign between two operands.
 pub(crate) fn joined(sign: Sign, left: Option<Operand>, right: Option<Operand>) -> Option<Value>
     ensures { result ≡ y.of_both (binary sign) left right }
 {
@@ -137,7 +137,7 @@ pub(crate) fn joined(sign: Sign, left: Option<Operand>, right: Option<Operand>) 
     }
 }
 
-/// Whether there are two operands, and the sign between them doesn't take them.
+/// Whether there are two operands that the sign between them doesn't take.
 pub(crate) fn are_not_joined(sign: Sign, left: Option<Operand>, right: Option<Operand>) -> bool
     ensures { result ≡ b.are_refused (binary sign) left right }
 {
@@ -147,7 +147,7 @@ pub(crate) fn are_not_joined(sign: Sign, left: Option<Operand>, right: Option<Op
     }
 }
 
-/// The value of one of two branches, where the condition has a value.
+/// The type of a `?:`, if its condition has a value.
 pub(crate) fn branched(
     condition: Option<Value>,
     first: Option<Operand>,
@@ -161,7 +161,7 @@ pub(crate) fn branched(
     }
 }
 
-/// Whether there are two branches, and they have no type together.
+/// Whether there are two branches, but they have no common type.
 pub(crate) fn are_not_chosen(first: Option<Operand>, second: Option<Operand>) -> bool
     ensures { result ≡ b.are_refused chosen first second }
 {
@@ -171,7 +171,7 @@ pub(crate) fn are_not_chosen(first: Option<Operand>, second: Option<Operand>) ->
     }
 }
 
-// What a pointer to this points to.
+// The type of what a pointer with this target points to.
 fn stored_at(target: Target) -> Option<ExpressionType>
     ensures { result ≡ y.pointed (Pointer target) }
 {
@@ -185,7 +185,7 @@ fn stored_at(target: Target) -> Option<ExpressionType>
     }))
 }
 
-// What a pointer points to. Nothing is known of what a `void *` points to.
+// The type of what a pointer points to. There is none for a `void *`.
 fn pointed(value: Value) -> Option<ExpressionType>
     ensures { result ≡ y.pointed value }
 {
@@ -195,7 +195,7 @@ fn pointed(value: Value) -> Option<ExpressionType>
     }
 }
 
-/// What a pointer points to, where there is one.
+/// The type of what a pointer points to, if there is a pointer.
 pub(crate) fn pointed_by(value: Option<Value>) -> Option<ExpressionType>
     ensures { result ≡ option_and_then y.pointed value }
 {
@@ -205,7 +205,7 @@ pub(crate) fn pointed_by(value: Option<Value>) -> Option<ExpressionType>
     }
 }
 
-/// Whether there is a value, and nothing that it points to.
+/// Whether there is a value that doesn't point to a type.
 pub(crate) fn is_no_pointer(value: Option<Value>) -> bool
     ensures { result ≡ b.is_such b.is_no_pointer value }
 {
@@ -215,7 +215,7 @@ pub(crate) fn is_no_pointer(value: Option<Value>) -> bool
     }
 }
 
-/// Whether there is a value, and it is no integer.
+/// Whether there is a value that isn't an integer.
 pub(crate) fn is_no_integer(value: Option<Value>) -> bool
     ensures { result ≡ b.is_such b.is_no_integer value }
 {
@@ -225,7 +225,7 @@ pub(crate) fn is_no_integer(value: Option<Value>) -> bool
     }
 }
 
-/// The element of an array.
+/// The type of an element of an array.
 pub(crate) fn element(whole: Option<Value>, by: Option<Value>) -> Option<ExpressionType>
     ensures { result ≡ y.element whole by }
 {
@@ -241,7 +241,7 @@ pub(crate) fn element(whole: Option<Value>, by: Option<Value>) -> Option<Express
     }
 }
 
-// A struct, by its index.
+// The index of the struct that a root with this number of stars is.
 fn struct_of_root(root: Root, stars: u64) -> Option<usize>
     ensures { result ≡ y.struct_of_root root stars }
 {
@@ -254,7 +254,7 @@ fn struct_of_root(root: Root, stars: u64) -> Option<usize>
     }
 }
 
-/// The struct that an expression of a type is.
+/// The index of the struct that an expression with this type is.
 pub fn struct_in(kind: Option<ExpressionType>) -> Option<usize>
     ensures { result ≡ option_and_then y.struct_of kind }
 {
@@ -269,7 +269,7 @@ pub fn struct_in(kind: Option<ExpressionType>) -> Option<usize>
     }
 }
 
-/// The struct that a value points to.
+/// The index of the struct that a value points to.
 pub fn struct_at(value: Option<Value>) -> Option<usize>
     ensures { result ≡ option_and_then y.struct_at value }
 {
@@ -279,7 +279,7 @@ pub fn struct_at(value: Option<Value>) -> Option<usize>
     }
 }
 
-/// The pointer to what is stored, and not `no_target`.
+/// The type of the pointer to a stored value; `None` if the value is `no_target`.
 pub(crate) fn address(is_no_target: bool, kind: Option<ExpressionType>) -> Option<ExpressionType>
     ensures { result
         ≡ (if is_no_target then None else y.computed (option_and_then address_of kind)) }
@@ -290,7 +290,7 @@ pub(crate) fn address(is_no_target: bool, kind: Option<ExpressionType>) -> Optio
     }
 }
 
-// What `++` and `--` count.
+// The type of a value after `++` or `--`.
 fn count_of(value: Option<Value>) -> Option<Value>
     ensures { result ≡ option_and_then counted value }
 {
@@ -300,7 +300,7 @@ fn count_of(value: Option<Value>) -> Option<Value>
     }
 }
 
-/// The type of a `++` or `--`.
+/// The type of a `++` or `--` expression.
 pub(crate) fn counted_type(
     is_no_target: bool,
     kind: Option<ExpressionType>,
@@ -313,7 +313,7 @@ pub(crate) fn counted_type(
     }
 }
 
-/// Whether there is a type, and `++` and `--` don't count it, though it is no array.
+/// Whether there is a type that isn't an array, but `++` and `--` don't count it.
 pub(crate) fn is_not_counted(kind: Option<ExpressionType>) -> bool
     ensures { result ≡ b.is_such b.is_not_counted kind }
 {
@@ -323,7 +323,7 @@ pub(crate) fn is_not_counted(kind: Option<ExpressionType>) -> bool
     }
 }
 
-/// Whether a value converts to a type.
+/// Whether a value converts to a type, if that is a value type.
 pub(crate) fn does_convert(from: Operand, to: Option<Value>) -> bool
     ensures { result ≡ y.does_convert from to }
 {
@@ -333,7 +333,7 @@ pub(crate) fn does_convert(from: Operand, to: Option<Value>) -> bool
     }
 }
 
-// Whether the sign in an assignment takes two operands.
+// Whether the operator of a compound assignment takes the two operands.
 fn does_sign_take(sign: Sign, to: Option<Value>, from: Operand) -> bool
     ensures { result ≡ y.does_sign_take sign to from }
 {
@@ -349,7 +349,7 @@ fn does_sign_take(sign: Sign, to: Option<Value>, from: Operand) -> bool
     }
 }
 
-// Whether an assignment takes a value: `=` what converts, another what its sign takes.
+// Whether an assignment takes a value: for `=` if it converts, else if the operator takes it.
 fn does_assign(sign: Sign, to: Option<Value>, from: Operand) -> bool
     ensures { result ≡ y.does_assign sign to from }
 {
@@ -381,8 +381,8 @@ pub(crate) fn assigned(
     }
 }
 
-/// Whether there are a target and a value, and the assignment doesn't take them, though the target
-/// is no array.
+/// Whether there are a target that isn't an array and a value, but the assignment doesn't take the
+/// value.
 pub(crate) fn is_not_assigned(
     sign: Sign,
     place: Option<ExpressionType>,
@@ -398,7 +398,7 @@ pub(crate) fn is_not_assigned(
     }
 }
 
-/// Whether a type that is written is neither an integer nor a pointer.
+/// Whether a written type is neither an integer nor a pointer.
 pub(crate) fn is_no_value_type(kind: &TypeName) -> bool
     ensures { result ≡ y.is_no_value_type (type_of kind.now) }
 {
@@ -419,7 +419,7 @@ pub(crate) fn sizeof_type(kind: Option<DataType>) -> Option<ExpressionType>
     Some(ExpressionType::Computed(Value::Unsigned))
 }
 
-/// What a cast gives.
+/// The type of a cast.
 pub(crate) fn cast_type(kind: Option<DataType>, value: Option<Value>) -> Option<ExpressionType>
     ensures { result ≡ y.cast_type kind value }
 {
@@ -429,7 +429,7 @@ pub(crate) fn cast_type(kind: Option<DataType>, value: Option<Value>) -> Option<
     }
 }
 
-// The integer that a pointer to one points to.
+// The integer type that a root with this number of stars is.
 fn integer_under(root: Root, stars: u64) -> Option<Value>
     ensures { result ≡ y.integer_under root stars }
 {
@@ -443,7 +443,7 @@ fn integer_under(root: Root, stars: u64) -> Option<Value>
     }
 }
 
-/// The integer that a value points to.
+/// The integer type that a value points to.
 pub(crate) fn word_at(value: Value) -> Option<Value>
     ensures { result ≡ y.word_at value }
 {

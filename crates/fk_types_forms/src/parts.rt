@@ -1,4 +1,4 @@
-//! What is known of expressions.
+//! The properties of expressions.
 
 ghost use Rattle.std.specs.Prelude.{◌≡◌, true, false, None};
 ghost use Rattle.fk_check_rules.specs.Least.{IsLeast};
@@ -13,39 +13,39 @@ use fk_check_rules::{Fault, Rule, fault_if, first_of};
 use fk_syntax::{Name, Place};
 use fk_types_operators::{ExpressionType, Operand, Value};
 
-/// What is known of an expression.
+/// The properties of an expression that its context needs.
 #[derive(Clone, Copy)]
 pub struct Part<'a> {
-    /// Its type. There is none where it breaks a rule, or holds what does.
+    /// Its type. There is none if the expression or one of its parts breaks a rule.
     pub kind: Option<ExpressionType>,
     /// The place of its first token.
     pub first: Place,
     // Whether it is the number 0, written as one token.
     pub(crate) is_zero: bool,
-    // Whether it is no variable, member, element or dereference.
+    // Whether it isn't a variable, member, element or dereference.
     pub(crate) is_no_target: bool,
-    // The name that it is.
+    // The name that it is, if it is one.
     pub(crate) name: Option<Name<'a>>,
-    /// The first that it breaks, however it is used.
+    /// Its first fault that doesn't depend on its use.
     pub fault: Option<Fault>,
 }
 
 impl<'a> Part<'a> {
-    /// It as a value.
+    /// Its value type.
     pub fn value(&self) -> Option<Value>
         ensures { result ≡ value_in self.now.kind }
     {
         value_in(self.kind)
     }
 
-    /// It as what a sign works on.
+    /// The operand that it is for a sign.
     pub fn operand(&self) -> Option<Operand>
         ensures { result ≡ operand_in self.now.is_zero self.now.kind }
     {
         operand_in(self.is_zero, self.kind)
     }
 
-    /// The first that it breaks where it is used as a value.
+    /// Its first fault if it is used as a value.
     pub fn as_value(&self) -> Option<Fault>
         ensures { (env : Env) (term : Term) → IsPart env term self.now
             → IsLeast (as_value env term (Broken env term)) result }
@@ -54,7 +54,7 @@ impl<'a> Part<'a> {
         first_of(self.fault, own)
     }
 
-    /// The first that it breaks where it is a condition.
+    /// Its first fault if it is used as a condition.
     pub fn as_condition(&self) -> Option<Fault>
         ensures { (env : Env) (term : Term) → IsPart env term self.now
             → IsLeast (as_condition env term (Broken env term)) result }
@@ -63,7 +63,7 @@ impl<'a> Part<'a> {
         first_of(self.fault, own)
     }
 
-    /// The first that it breaks as a statement of its own.
+    /// Its first fault if it is used as a statement.
     pub fn as_statement(&self) -> Option<Fault>
         ensures { (env : Env) (term : Term) → IsPart env term self.now
             → IsLeast (as_statement env term (Broken env term)) result }
@@ -73,7 +73,7 @@ impl<'a> Part<'a> {
     }
 }
 
-// A value that is made of others, or of none.
+// The part of a computed value.
 pub(crate) fn made<'a>(kind: Option<ExpressionType>, first: Place, fault: Option<Fault>) -> Part<'a>
     ensures { result ≡ record {
       kind = kind;
@@ -94,7 +94,7 @@ pub(crate) fn made<'a>(kind: Option<ExpressionType>, first: Place, fault: Option
     }
 }
 
-// What is stored and may be assigned to.
+// The part of a stored value that may be assigned to.
 pub(crate) fn stored<'a>(
     kind: Option<ExpressionType>,
     first: Place,
@@ -119,13 +119,13 @@ pub(crate) fn stored<'a>(
     }
 }
 
-/// What is known of the first arguments of a call.
+/// The properties of the first arguments of a call.
 #[derive(Clone, Copy)]
 pub struct Arguments {
-    // Whether each fits.
+    // Whether each of them fits its parameter.
     pub(crate) do_fit: bool,
-    // The value of the first that has one.
+    // The value type of the first one that has one.
     pub(crate) first: Option<Value>,
-    // The first that they break.
+    // Their first fault.
     pub(crate) fault: Option<Fault>,
 }

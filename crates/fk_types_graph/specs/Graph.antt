@@ -1,4 +1,4 @@
--- Graphs: for each vertex, known by its index, the vertices that edges lead to from it.
+-- Directed graphs: for each vertex, which is an index, the ends of its edges.
 use Rattle.std.specs.Prelude.{◌≡◌, ℕ, zero, suc, List, Some, Vec, slice_get, Contains}
 use Rattle.std.specs.declared.alloc.Global.{Global}
 
@@ -7,12 +7,12 @@ abbrev pub HasEdge : List (Vec ℕ Global) → ℕ → ℕ → Type 0
 HasEdge graph from to = (row : Vec ℕ Global) × (slice_get graph from ≡ Some row)
     × Contains row.items to
 
--- a walk of so many steps, where a relation says what one step is
+-- a walk of this many steps, where a relation tells what one step is
 abbrev pub Walk : (ℕ → ℕ → Type 0) → ℕ → ℕ → ℕ → Type 0
 Walk Step zero from to = from ≡ to
 Walk Step (suc steps) from to = (between : ℕ) × Step from between × Walk Step steps between to
 
--- a walk of some steps leads from one to another
+-- a walk of at least one step leads from one vertex to another
 abbrev pub LeadsTo : (ℕ → ℕ → Type 0) → ℕ → ℕ → Type 0
 LeadsTo Step from to = (more : ℕ) × Walk Step (suc more) from to
 

@@ -1,4 +1,4 @@
--- Marked vertices, and a search that marks what is reached.
+-- Marked vertices, and a search that marks the vertices that are reached.
 use Rattle.std.specs.Prelude.{◌≡◌, ℕ, ◌+◌, ◌<◌, ◌⊎◌, Bool, true, not, List, Some, Vec, length}
 use Rattle.std.specs.Prelude.{slice_get, count_by, Contains}
 use Rattle.std.specs.declared.alloc.Global.{Global}
@@ -7,7 +7,7 @@ use Rattle.fk_types_graph.specs.Graph.{HasEdge, LeadsTo}
 abbrev pub IsMarked : List Bool → ℕ → Type 0
 IsMarked marks vertex = slice_get marks vertex ≡ Some true
 
--- some vertices are marked, and those that weren't before wait
+-- some vertices are marked, and those that weren't marked before wait
 pub record Marks (vertices : List ℕ) (before after : List Bool)
     (waited waiting : List ℕ) : Type 0 where
   pub same_length : length after ≡ length before
@@ -19,11 +19,11 @@ pub record Marks (vertices : List ℕ) (before after : List Bool)
   pub marked : (v : ℕ) → Contains waiting v → Contains waited v ⊎ IsMarked after v
   pub fewer : length waiting + count_by not after ≡ length waited + count_by not before
 
--- all that edges lead to from a vertex is marked
+-- the ends of all edges of a vertex are marked
 abbrev pub IsDone : List (Vec ℕ Global) → List Bool → ℕ → Type 0
 IsDone graph marks v = (w : ℕ) → HasEdge graph v w → w < length marks → IsMarked marks w
 
--- a search from a vertex: what is marked is reached, and is done or waits
+-- a search from a vertex: a marked vertex is reached, and is done or waits
 pub record IsSearch (graph : List (Vec ℕ Global)) (from : ℕ) (marks : List Bool)
     (waiting : List ℕ) : Type 0 where
   pub same_length : length marks ≡ length graph

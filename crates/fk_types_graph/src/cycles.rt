@@ -1,4 +1,4 @@
-//! Which vertices may lie on cycles.
+//! The vertices that may lie on cycles.
 
 ghost use Rattle.std.specs.Prelude.{◌≡◌, ℕ, true, unwrap_or, map, slice_get, length, IfOk};
 ghost use Rattle.fk_types_graph.specs.Graph.{IsOnCycle};
@@ -8,7 +8,7 @@ ghost use Rattle.fk_types_graph.specs.Ranks.{Covers, Keeps, CoversAll, CoversFir
 use crate::ranks::ranks;
 use std::alloc::{AllocError, Global};
 
-// Marks the ranks from one to another, if it is no lower.
+// Marks the ranks from `low` to `high`.
 fn cover(covered: &mut [bool], low: usize, high: usize)
     ensures kept { Keeps covered.old covered.new }
     ensures all { Covers covered.new low high }
@@ -21,7 +21,7 @@ fn cover(covered: &mut [bool], low: usize, high: usize)
     }
 }
 
-// Marks the ranks from one to those of some vertices.
+// Marks the ranks from `low` to those of some vertices.
 fn cover_all(covered: &mut [bool], ranks: &[usize], low: usize, vertices: &[usize])
     ensures kept { Keeps covered.old covered.new }
     ensures all { CoversAll covered.new ranks.now low vertices.now }
@@ -33,8 +33,8 @@ fn cover_all(covered: &mut [bool], ranks: &[usize], low: usize, vertices: &[usiz
     }
 }
 
-// Marks each rank that an edge passes without falling: a walk that comes back to its beginning
-// rises past the rank of each of its vertices, or keeps it.
+// Marks the ranks from the beginning of each edge to its end, unless the edge falls. A walk that
+// comes back to its beginning rises past the rank of each of its vertices, or keeps it.
 fn cover_edges(covered: &mut [bool], graph: &[Vec<usize>], ranks: &[usize])
     requires { length ranks.now ≡ length graph.now }
     ensures length { length covered.new ≡ length covered.old }
@@ -45,7 +45,7 @@ fn cover_edges(covered: &mut [bool], graph: &[Vec<usize>], ranks: &[usize])
     }
 }
 
-// The ranks that an edge passes without falling.
+// The ranks that are passed by edges that don't fall.
 fn covered(alloc: Global, graph: &[Vec<usize>], ranks: &[usize]) -> Result<Vec<bool>, AllocError>
     requires { length ranks.now ≡ length graph.now }
     ensures { IfOk result
@@ -56,7 +56,7 @@ fn covered(alloc: Global, graph: &[Vec<usize>], ranks: &[usize]) -> Result<Vec<b
     Ok(covered)
 }
 
-// Whether a rank is covered, as one is of which nothing is told.
+// Whether a rank is covered. A rank that isn't in the list counts as covered.
 fn is_covered(covered: &[bool], rank: usize) -> bool
     ensures { result ≡ unwrap_or (slice_get covered.now rank) true }
 {
@@ -78,8 +78,9 @@ fn told(alloc: Global, covered: &[bool], ranks: &[usize]) -> Result<Vec<bool>, A
     Ok(suspects)
 }
 
-/// Marks every vertex that lies on a cycle. Others may be marked too, so that `is_on_cycle` has to
-/// decide; that they are few makes it fast. Fails only for want of memory.
+/// Marks every vertex that lies on a cycle. Other vertices may be marked too, and `is_on_cycle` has
+/// to decide. That there are few of them makes this fast. It fails only if there isn't enough
+/// memory.
 pub fn suspects(alloc: Global, graph: &[Vec<usize>]) -> Result<Vec<bool>, AllocError>
     ensures length { IfOk result (λ suspects. length suspects.items ≡ length graph.now) }
     ensures marked { IfOk result

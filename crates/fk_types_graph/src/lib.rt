@@ -1,4 +1,4 @@
-//! Graphs, as for each vertex those that edges lead to from it: which vertices lie on cycles.
+//! Directed graphs, which have for each vertex the ends of its edges. Finds the vertices on cycles.
 #![tactic(auto)]
 
 mod cycles;

@@ -1,4 +1,4 @@
-//! What is reached from a vertex.
+//! The vertices that are reached from a vertex.
 
 ghost use Rattle.std.specs.Prelude.{◌≡◌, ◌↔◌, ℕ, ◌+◌, ◌<◌, [], ◌∷◌, Some, false, not, Vec, length};
 ghost use Rattle.std.specs.Prelude.{slice_get, count_by, IsTrue, IfOk, OnOk};
@@ -9,7 +9,7 @@ ghost use Rattle.fk_types_graph.specs.Marks.{IsMarked, Marks};
 
 use std::alloc::{AllocError, Global};
 
-// Whether a vertex is none that is marked.
+// Whether a vertex is in the list and isn't marked.
 fn is_unmarked(marks: &[bool], vertex: usize) -> bool
     ensures yes { OnTrue result (slice_get marks.now vertex ≡ Some false) }
     ensures no { OnFalse result (vertex < length marks.now → IsMarked marks.now vertex) }
@@ -20,7 +20,7 @@ fn is_unmarked(marks: &[bool], vertex: usize) -> bool
     }
 }
 
-/// Marks a vertex. If it wasn't marked, it waits.
+/// Marks a vertex. If it wasn't marked before, it is added to those that wait.
 pub(crate) fn mark(
     marks: &mut [bool],
     waiting: &mut Vec<usize>,
@@ -36,7 +36,7 @@ pub(crate) fn mark(
     Ok(())
 }
 
-/// Marks vertices. Those that weren't marked wait.
+/// Marks vertices. Those that weren't marked before are added to those that wait.
 pub(crate) fn mark_all(
     marks: &mut [bool],
     waiting: &mut Vec<usize>,
@@ -51,7 +51,8 @@ pub(crate) fn mark_all(
     Ok(())
 }
 
-/// Marks what edges lead to from a vertex. What wasn't marked waits.
+/// Marks the ends of a vertex's edges. Those that weren't marked before are added to those that
+/// wait.
 pub(crate) fn mark_next(
     graph: &[Vec<usize>],
     marks: &mut [bool],
@@ -70,7 +71,7 @@ pub(crate) fn mark_next(
     }
 }
 
-// Marks all that walks lead to from a vertex.
+// Marks all vertices to which walks lead from a vertex.
 fn search(
     alloc: Global,
     graph: &[Vec<usize>],
@@ -90,8 +91,8 @@ fn search(
     Ok(())
 }
 
-/// Whether a vertex lies on a cycle, in the time of going once along the edges that it leads to.
-/// Fails only for want of memory.
+/// Whether a vertex lies on a cycle. It passes each edge that is reached from the vertex once. It
+/// fails only if there isn't enough memory.
 pub fn is_on_cycle(alloc: Global, graph: &[Vec<usize>], vertex: usize) -> Result<bool, AllocError>
     requires { vertex < length graph.now }
     ensures { IfOk result (λ yes. IsTrue yes ↔ IsOnCycle graph.now vertex) }

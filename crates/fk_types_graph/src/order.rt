@@ -1,24 +1,24 @@
-//! An order of vertices in which each stands after those that it leads to, but for cycles.
+//! An order in which each vertex comes after those to which its edges lead, except on cycles.
 
 ghost use Rattle.std.specs.Prelude.{◌≡◌, length, IfOk};
 
 use std::alloc::{AllocError, Global};
 
-// A vertex that is gone through, and the next of its edges.
+// A vertex that is being visited, and the next of its edges.
 #[derive(Clone, Copy)]
 struct Visit {
     vertex: usize,
     next: usize,
 }
 
-/// The graph with each edge turned round.
+/// The graph with each edge reversed.
 pub(crate) fn turned(alloc: Global, graph: &[Vec<usize>]) -> Result<Vec<Vec<usize>>, AllocError> {
     let mut turned = without_edges(alloc, graph.len())?;
     add_turned(&mut turned, graph)?;
     Ok(turned)
 }
 
-// A graph of so many vertices without edges.
+// A graph with this number of vertices and no edges.
 fn without_edges(alloc: Global, vertices: usize) -> Result<Vec<Vec<usize>>, AllocError> {
     let mut graph = Vec::new(alloc);
     for _ in 0..vertices {
@@ -27,7 +27,7 @@ fn without_edges(alloc: Global, vertices: usize) -> Result<Vec<Vec<usize>>, Allo
     Ok(graph)
 }
 
-// The edges of another graph, turned round.
+// Adds the edges of another graph, reversed.
 fn add_turned(turned: &mut [Vec<usize>], graph: &[Vec<usize>]) -> Result<(), AllocError> {
     for (from, row) in graph.iter().enumerate() {
         add_all(turned, row, from)?;
@@ -35,7 +35,7 @@ fn add_turned(turned: &mut [Vec<usize>], graph: &[Vec<usize>]) -> Result<(), All
     Ok(())
 }
 
-// An edge more from each of these vertices to one.
+// Adds an edge from each of these vertices to `to`.
 fn add_all(graph: &mut [Vec<usize>], vertices: &[usize], to: usize) -> Result<(), AllocError> {
     for from in vertices {
         add(graph, *from, to)?;
@@ -43,7 +43,7 @@ fn add_all(graph: &mut [Vec<usize>], vertices: &[usize], to: usize) -> Result<()
     Ok(())
 }
 
-// An edge more.
+// Adds an edge.
 fn add(graph: &mut [Vec<usize>], from: usize, to: usize) -> Result<(), AllocError> {
     if let Some(row) = graph.get_mut(from) {
         row.push(to)?;
@@ -51,8 +51,8 @@ fn add(graph: &mut [Vec<usize>], from: usize, to: usize) -> Result<(), AllocErro
     Ok(())
 }
 
-// Goes on in the vertex that was begun last: along its next edge, to a vertex that was not seen
-// yet, or to its end.
+// Goes on with the vertex that was begun last: along its next edge, to a vertex that hasn't been
+// seen yet, or to its end. Returns the vertex if it has ended.
 fn step(
     graph: &[Vec<usize>],
     seen: &mut [bool],
@@ -73,7 +73,7 @@ fn step(
     Ok(None)
 }
 
-// Begins a vertex that was not seen yet.
+// Begins a vertex, unless it has been seen.
 fn begin(seen: &mut [bool], visits: &mut Vec<Visit>, vertex: usize) -> Result<(), AllocError> {
     if vertex < seen.len() && !seen[vertex] {
         seen[vertex] = true;
@@ -82,7 +82,7 @@ fn begin(seen: &mut [bool], visits: &mut Vec<Visit>, vertex: usize) -> Result<()
     Ok(())
 }
 
-// Adds the vertices that one leads to, each after those that it leads to itself.
+// Adds the vertices that are reached from the begun ones, each after those to which its edges lead.
 fn go_through(
     graph: &[Vec<usize>],
     seen: &mut [bool],
@@ -100,7 +100,7 @@ fn go_through(
     Ok(())
 }
 
-// Adds all vertices that were not seen yet, each after those that it leads to itself.
+// Adds all vertices that haven't been seen yet, each after those to which its edges lead.
 fn go_through_all(
     alloc: Global,
     graph: &[Vec<usize>],
@@ -115,7 +115,7 @@ fn go_through_all(
     Ok(())
 }
 
-/// The vertices, each after those that it leads to, but where it lies on a cycle.
+/// The vertices, each after those to which its edges lead, except on cycles.
 pub(crate) fn order(alloc: Global, graph: &[Vec<usize>]) -> Result<Vec<usize>, AllocError> {
     let mut seen = vec![in alloc; false; graph.len()]?;
     let mut order = Vec::new(alloc);

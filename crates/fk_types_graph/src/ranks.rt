@@ -1,5 +1,5 @@
-//! A rank for each vertex, such that no edge rises and an edge keeps its rank exactly where it lies
-//! on a cycle. That it is so makes the search for cycles fast; nothing else rests on it.
+//! A rank for each vertex. No edge rises, and an edge keeps its rank exactly if it lies on a cycle.
+//! This makes the search for cycles fast; nothing else depends on it.
 
 ghost use Rattle.std.specs.Prelude.{◌≡◌, length, IfOk};
 
@@ -7,7 +7,7 @@ use crate::marks::{mark, mark_next};
 use crate::order::{order, turned};
 use std::alloc::{AllocError, Global};
 
-// Gives a rank to the vertices that wait, and to all that they lead to and that aren't marked.
+// Gives a rank to the vertices that wait, and to the unmarked ones that are reached from them.
 fn rank_waiting(
     graph: &[Vec<usize>],
     marks: &mut [bool],
@@ -24,7 +24,8 @@ fn rank_waiting(
     Ok(())
 }
 
-// Gives a rank to each vertex of an order, from its end on, and to all that it leads to.
+// Gives a rank to each vertex of an order, from its end on, and to the unmarked ones reached from
+// it.
 fn rank_all(
     alloc: Global,
     graph: &[Vec<usize>],
@@ -40,14 +41,14 @@ fn rank_all(
     Ok(())
 }
 
-// The order of the graph with each edge turned round.
+// The order of the reversed graph.
 fn turned_order(alloc: Global, graph: &[Vec<usize>]) -> Result<Vec<usize>, AllocError> {
     let turned = turned(alloc, graph)?;
     order(alloc, &turned)
 }
 
-/// The ranks of the vertices. Those of one rank are gone through from the one that the turned graph
-/// ends last.
+/// The ranks of the vertices. The search for the vertices of each rank begins at the one that the
+/// reversed graph ends last.
 pub(crate) fn ranks(alloc: Global, graph: &[Vec<usize>]) -> Result<Vec<usize>, AllocError>
     ensures { IfOk result (λ ranks. length ranks.items ≡ length graph.now) }
 {

@@ -1,5 +1,5 @@
--- What expressions break: what one of their parts breaks, as the part is used, and what they break
--- themselves by the types of their parts.
+-- The rules that expressions break: those that one of their parts breaks by its use, and those that
+-- they break themselves by the types of their parts.
 use Rattle.std.specs.Prelude.{ℕ, Bool, true, false, not, ◌&&◌, List, length, nat_eq, Option, Some}
 use Rattle.std.specs.Prelude.{None, is_some, is_none, slice_get, IsTrue}
 use Rattle.std.specs.Option.{option_and_then}
@@ -28,19 +28,19 @@ use Rattle.fk_types_judgments.specs.Typing.{is_no_value_type, pointed, struct_of
 use Rattle.fk_types_judgments.specs.Typing.{member_place, does_assign, called_as, parameters_of}
 use Rattle.fk_types_judgments.specs.Typing.{does_take, type_of}
 
--- a rule that is broken at a place where a test holds
+-- a rule is broken at a place if a test holds
 abbrev pub where_so : Rule → Place → Bool → Breaks
 where_so rule place holds = only rule (At place (IsTrue holds))
 
 abbrev pub nothing : Breaks
 nothing place rule = ⊥
 
--- there is a value, and something holds of it
+-- there is a value, and a test holds for it
 abbrev pub is_such : {X : Type 0} → (X → Bool) → Option X → Bool
 is_such test None = false
 is_such test (Some x) = test x
 
--- a struct or nothing at all, used as a value
+-- the expression is a struct or has no value, and is used as a value
 abbrev pub is_no_value : ExpressionType → Bool
 is_no_value type = is_none (value_of type)
 
@@ -48,12 +48,12 @@ abbrev pub ValueBreaks : Env → Term → Breaks
 ValueBreaks env term =
     where_so rules.NoValue (first_place term) (is_such is_no_value (type_of env term))
 
--- a condition that is no number and no pointer
+-- the expression is a condition, but is neither a number nor a pointer
 abbrev pub ConditionBreaks : Env → Term → Breaks
 ConditionBreaks env term =
     where_so rules.NoCondition (first_place term) (is_such is_no_value (type_of env term))
 
--- a struct as a statement of its own, or before or after a comma
+-- the expression is a struct, and is a statement or is before or after a comma
 abbrev pub is_struct : ExpressionType → Bool
 is_struct type = is_none (left_of type)
 
@@ -61,7 +61,7 @@ abbrev pub StatementBreaks : Env → Term → Breaks
 StatementBreaks env term =
     where_so rules.NoValue (first_place term) (is_such is_struct (type_of env term))
 
--- a name that isn't declared, and a function that isn't called
+-- a name isn't declared, or denotes a function that isn't called
 abbrev pub is_undeclared : Meant → Bool
 is_undeclared (Kept type) = false
 is_undeclared (Constant value) = false
@@ -87,53 +87,53 @@ abbrev pub NameBreaks : Meant → Place → Breaks
 NameBreaks meant place = either (where_so rules.Undeclared place (is_undeclared meant))
     (where_so rules.NoFunction place (is_function meant))
 
--- a name that is called: it isn't declared, or it is `main`
+-- a called name isn't declared, or it is `main`
 abbrev pub CalledNameBreaks : Meant → Place → Breaks
 CalledNameBreaks meant place = either (where_so rules.Undeclared place (is_undeclared meant))
     (where_so rules.MainCalled place (is_main meant))
 
--- operands that a sign doesn't take
+-- a sign doesn't take its operands
 abbrev pub are_refused : (Operand → Operand → Option Value) → Option Operand → Option Operand → Bool
 are_refused f (Some a) (Some b) = is_none (f a b)
 are_refused f _ _ = false
 
--- an assignment to what is no variable
+-- the target of an assignment isn't a variable
 abbrev pub TargetBreaks : Env → Spot → Term → Breaks
 TargetBreaks env spot place = where_so rules.NoTarget spot.place (is_no_target env place)
 
--- an assignment to an array
+-- the target of an assignment is an array
 abbrev pub WholeBreaks : Env → Spot → Term → Breaks
 WholeBreaks env spot place =
     where_so rules.WholeAssigned spot.place (is_such is_array (type_of env place))
 
--- `++` or `--` on what they don't count
+-- `++` or `--` doesn't count its operand
 abbrev pub is_not_counted : ExpressionType → Bool
 is_not_counted type = not (is_array type) && is_none (option_and_then counted (value_of type))
 
--- an assignment of what its sign doesn't take to what is no array
+-- the target of an assignment isn't an array, but the assignment doesn't take the value
 abbrev pub is_not_assigned : Sign → Option ExpressionType → Option Operand → Bool
 is_not_assigned sign (Some target) (Some from) =
     not (is_array target) && not (does_assign sign (value_of target) from)
 is_not_assigned sign _ _ = false
 
--- the rule that it breaks then
+-- the rule that such an assignment breaks
 abbrev pub assign_rule : Sign → Rule
 assign_rule s.Assign = rules.NoConversion
 assign_rule sign = rules.WrongOperands
 
--- a dereference of what is no pointer
+-- the operand of a dereference isn't a pointer, or is a `void *`
 abbrev pub is_no_pointer : Value → Bool
 is_no_pointer value = is_none (pointed value)
 
 abbrev pub is_no_integer : Value → Bool
 is_no_integer value = not (is_integer value)
 
--- a member that the struct hasn't, or of what is no struct
+-- the struct doesn't have the member, or there is no struct
 abbrev pub MemberBreaks : Env → Spot → Bool → Option ℕ → Named → Breaks
 MemberBreaks env spot is_typed index member =
     where_so rules.NoMember spot.place (is_typed && is_none (member_place env index member))
 
--- a call of what is no function
+-- the called expression isn't a function
 abbrev pub is_no_function : Meant → Bool
 is_no_function (Kept type) = is_some type
 is_no_function (Constant value) = true
@@ -141,7 +141,7 @@ is_no_function (Called parameters result) = false
 is_no_function Main = false
 is_no_function Undeclared = false
 
--- a call with another number of arguments
+-- a call has another number of arguments than the function has parameters
 abbrev pub is_wrong_count : Meant → ℕ → Bool
 is_wrong_count (Called parameters result) count = not (nat_eq count (length parameters))
 is_wrong_count (Kept type) count = false
@@ -149,17 +149,17 @@ is_wrong_count (Constant value) count = false
 is_wrong_count Main count = false
 is_wrong_count Undeclared count = false
 
--- an argument that doesn't convert
+-- an argument doesn't convert to the type of its parameter
 abbrev pub is_not_taken : Option Parameter → Option Operand → Bool
 is_not_taken (Some parameter) (Some from) = not (does_take parameter from)
 is_not_taken parameter _ = false
 
--- a cast: its struct isn't declared, or it is neither to an integer nor to a pointer
+-- the struct of a cast isn't declared, or the cast is neither to an integer nor to a pointer
 abbrev pub CastBreaks : Env → Spot → TypeTree → Breaks
 CastBreaks env spot type = either (only rules.NoStruct (NamesNoStruct env.structs type))
     (where_so rules.WrongOperands spot.place (is_no_value_type type))
 
--- what a part breaks where it is used as a value, as a condition, or as a statement of its own
+-- the rules that a part breaks when it is used as a value, as a condition, or as a statement
 abbrev pub as_value : Env → Term → Breaks → Breaks
 as_value env term inner = either inner (ValueBreaks env term)
 
@@ -169,12 +169,12 @@ as_condition env term inner = either inner (ConditionBreaks env term)
 abbrev pub as_statement : Env → Term → Breaks → Breaks
 as_statement env term inner = either inner (StatementBreaks env term)
 
--- what is called breaks as it is, if it is no name
+-- the rules that a called expression breaks, which are its own if it isn't a name
 abbrev pub as_called : Env → Term → Breaks → Breaks
 as_called env (Use name) inner = CalledNameBreaks (env.meant name) name.place
 as_called env _ inner = inner
 
--- what an expression breaks, however it is used
+-- the rules that an expression breaks, whatever its use
 abbrev mutual
   pub Broken : Env → Term → Breaks
   Broken env (Number spot value unsigned) = nothing

@@ -1,4 +1,4 @@
--- What the names in expressions are.
+-- What the names in expressions denote.
 use Rattle.std.specs.Prelude.{◌≡◌, ℕ, Bool, ◌||◌, List, [], ◌∷◌, length, map, codes, nat_eq, Option}
 use Rattle.std.specs.Prelude.{Some, None, slice_get, if◌then◌else◌}
 use Rattle.std.specs.Option.{option_map}
@@ -23,18 +23,18 @@ use Rattle.fk_types_operators.specs.declared.values.ExpressionType.{ExpressionTy
 use Rattle.fk_types_operators.specs.declared.values.ExpressionType.TheVariants.{Computed, Nothing}
 use Rattle.fk_types_operators.specs.Values.{result_of}
 
--- what a parameter takes: what converts to its type, or a pointer to integers as it is. There is no
--- type where its declaration is broken
+-- the arguments that a parameter takes: those that convert to its type, or a pointer to integers
+-- without a conversion. There is no type if its declaration breaks a rule
 pub data Parameter : Type 0 where
   Typed : (type : Option DataType) → Parameter
   Words : Parameter
 
--- what a call gives: always the same, or what the first argument points to
+-- the type of a call: always the same one, or that of what the first argument points to
 pub data Result : Type 0 where
   Always : (type : Option ExpressionType) → Result
   Pointed : Result
 
--- what a name is. A variable has no type where its declaration is broken
+-- what a name denotes. A variable has no type if its declaration breaks a rule
 pub data Meant : Type 0 where
   Kept : (type : Option DataType) → Meant
   Constant : (value : Value) → Meant
@@ -51,11 +51,11 @@ void_pointer = record { root = r.Void; stars = 1; length = None }
 abbrev pub is_text : List ℕ → List ℕ → Bool
 is_text = pointwise nat_eq
 
--- the numbers of the input, of which there are at most 65,536
+-- the type of the input numbers, of which there are at most 65,536
 abbrev pub input : DataType
 input = record { root = r.Int; stars = 0; length = Some 65536 }
 
--- the names that are declared before each text
+-- the predeclared names
 abbrev pub is_multiprefix : List ℕ → Bool
 is_multiprefix name = is_text name (codes "mpadd") || is_text name (codes "mpmax")
     || is_text name (codes "mpand") || is_text name (codes "mpor")
@@ -77,20 +77,20 @@ predeclared_meant name =
     else (if is_text name (codes "__input") then Kept (Some input)
     else Constant Int))))
 
--- what is known where an expression stands: the structs, what each name is, and the types of the
--- members of structs, by their places. A member whose declaration is broken has none
+-- the facts that expressions need: the structs, what each name denotes, and the types of the
+-- members of structs, by their positions. A member has none if its declaration breaks a rule
 pub record Env : Type 0 where
   pub structs : List StructTree
   pub meant : Named → Meant
   pub member_type : ℕ → ℕ → Option DataType
 
--- what is declared has this type, and none where its declaration is broken
+-- a declared name has this type, and none if its declaration breaks a rule
 abbrev pub HasDeclaredType : List StructTree → Breaks → Option DataType → Option DataType → Type 0
 HasDeclaredType structs broken spelled None = (place : Place) × (rule : Rule) × broken place rule
 HasDeclaredType structs broken spelled (Some type) = (spelled ≡ Some type)
     × ((place : Place) (rule : Rule) → ¬ broken place rule)
 
--- the parameters and the result of a function
+-- the types of the parameters and the result of a function
 pub record IsSignature (structs : List StructTree) (function : FunctionTree)
     (parameters : List (Option DataType)) (result : Option DataType) : Type 0 where
   pub same : length parameters ≡ length function.parameters
@@ -100,7 +100,7 @@ pub record IsSignature (structs : List StructTree) (function : FunctionTree)
   pub gives : HasDeclaredType structs (ResultBreaks structs function.result function.name.place)
       (type_spelled structs function.result None) result
 
--- what is declared is this
+-- a declaration declares this
 abbrev pub IsDeclared : List StructTree → DeclarationTree → Meant → Type 0
 IsDeclared structs (Variable variable) meant = (type : Option DataType)
     × HasDeclaredType structs (DeclarationBreaks structs variable)
@@ -111,7 +111,7 @@ IsDeclared structs (Header function) meant = (parameters : List (Option DataType
     × (meant ≡ (if is_text function.name.bytes (codes "main") then Main
     else Called (map Typed parameters) (Always (option_map result_of result))))
 
--- what a name of a meaning is
+-- a name with this meaning denotes this
 abbrev pub IsMeant : ProgramTree → List ℕ → Meaning → Meant → Type 0
 IsMeant program name (m.Declared number) meant = (d : DeclarationTree)
     × (slice_get (declarations program) number ≡ Some d)
@@ -119,7 +119,7 @@ IsMeant program name (m.Declared number) meant = (d : DeclarationTree)
 IsMeant program name m.Predeclared meant = meant ≡ predeclared_meant name
 IsMeant program name m.Undeclared meant = meant ≡ Undeclared
 
--- what is known is right about a program
+-- the facts are right about a program
 pub record IsEnv (program : ProgramTree) (env : Env) : Type 0 where
   pub structs : env.structs ≡ structs_of program.items
   pub meant : (name : Named) (meaning : Meaning) → Means program name.at meaning

@@ -1,5 +1,5 @@
--- Expressions with each sign as a node of its own: signs that group to the left, and what stands
--- after an expression, are folded to the left.
+-- Expressions in which each sign is a node of its own. Signs that group to the left and suffixes
+-- are folded to the left.
 use Rattle.std.specs.Prelude.{ℕ, ◌+◌, Bool, true, false}
 use Rattle.fk_syntax.specs.declared.place.Place.{Place}
 use Rattle.fk_syntax.specs.declared.place.Spot.{Spot}
@@ -13,7 +13,7 @@ mutual
     Number : (spot : Spot) (value : ℕ) (unsigned : Bool) → Term
     Puts : (spot : Spot) → Term
     Sizeof : (spot : Spot) (type : TypeTree) → Term
-    -- a name, be it called or not
+    -- a name, whether it is called or not
     Use : (name : Named) → Term
     GroupNumber : (spot : Spot) → Term
     GroupRank : (spot : Spot) → Term
@@ -21,9 +21,9 @@ mutual
     Prefix : (spot : Spot) (sign : Sign) (operand : Term) → Term
     -- `*` before a pointer
     Dereference : (spot : Spot) (pointer : Term) → Term
-    -- `&` before what is stored
+    -- `&` before a stored value
     Address : (spot : Spot) (place : Term) → Term
-    -- `++` or `--`, before or after what is stored
+    -- `++` or `--`, before or after a stored value
     Count : (spot : Spot) (is_before : Bool) (place : Term) → Term
     Cast : (spot : Spot) (type : TypeTree) (operand : Term) → Term
     -- a sign between two values
@@ -38,12 +38,12 @@ mutual
     Assign : (spot : Spot) (sign : Sign) (place value : Term) → Term
     Choose : (spot : Spot) (condition first second : Term) → Term
 
-  -- arguments, the last one after all others
+  -- arguments, where the last one comes after all others
   pub data Terms : Type 0 where
     no_terms : Terms
     also : (before : Terms) (last : Term) → Terms
 
--- a sign before an expression
+-- an expression with a sign in front
 abbrev pub prefix_term : Spot → Sign → Term → Term
 prefix_term spot s.Star operand = Dereference spot operand
 prefix_term spot s.Ampersand operand = Address spot operand
@@ -51,12 +51,12 @@ prefix_term spot s.Increment operand = Count spot true operand
 prefix_term spot s.Decrement operand = Count spot true operand
 prefix_term spot sign operand = Prefix spot sign operand
 
--- a sign between two expressions
+-- two expressions with a sign between them
 abbrev pub joined_term : Spot → Sign → Term → Term → Term
 joined_term spot s.Comma left right = Comma spot left right
 joined_term spot sign left right = Binary spot sign left right
 
--- an expression as it is parsed
+-- the term of a parsed expression
 abbrev mutual
   pub term_of : Tree → Term
   term_of (t.Number spot value unsigned) = Number spot value unsigned
@@ -73,7 +73,7 @@ abbrev mutual
   term_of (t.Choose spot condition first second) =
       Choose spot (term_of condition) (term_of first) (term_of second)
 
-  -- what stands before signs that group to the left, with them
+  -- the expression before signs that group to the left, joined with all of them
   pub with_links : Term → Links → Term
   with_links before t.no_links = before
   with_links before (t.link spot sign right others) =
@@ -83,7 +83,7 @@ abbrev mutual
   with_arguments before t.no_trees = before
   with_arguments before (t.tree first others) = with_arguments (also before (term_of first)) others
 
-  -- what stands before suffixes, with them
+  -- the expression before suffixes, together with them
   pub with_suffixes : Term → Suffixes → Term
   with_suffixes before t.no_suffixes = before
   with_suffixes before (t.index spot by others) =

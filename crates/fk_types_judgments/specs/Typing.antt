@@ -1,5 +1,5 @@
--- The types of expressions, by equations over the table of signs. An expression that breaks a rule
--- has none, and neither has one that holds such a part.
+-- The types of expressions, given by equations over the table of signs. An expression has no type
+-- if it or one of its parts breaks a rule.
 use Rattle.std.specs.Prelude.{◌≡◌, ℕ, zero, Bool, true, false, not, ◌&&◌, List, [], ◌∷◌, ◌++◌}
 use Rattle.std.specs.Prelude.{length, nat_eq, Option, Some, None, is_some, slice_get, if◌then◌else◌}
 use Rattle.std.specs.Option.{option_map, option_and_then}
@@ -27,7 +27,7 @@ use Rattle.fk_types_judgments.specs.Term.{Choose, no_terms, also, count_of}
 use Rattle.fk_types_judgments.specs.Names.{Parameter, Typed, Words, Result, Always, Pointed, Meant}
 use Rattle.fk_types_judgments.specs.Names.{Kept, Constant, Called, Main, Undeclared, Env}
 
--- an expression of a type as a value, and as what a sign works on
+-- the value type of an expression with this type, and the operand that it is for a sign
 abbrev pub value_in : Option ExpressionType → Option Value
 value_in type = option_and_then value_of type
 
@@ -38,24 +38,25 @@ operand_in is_zero type =
 abbrev pub computed : Option Value → Option ExpressionType
 computed value = option_map Computed value
 
--- what two operands give together, where both are there
+-- the type that two operands give together, if both exist
 abbrev pub of_both : (Operand → Operand → Option Value) → Option Operand
     → Option Operand → Option Value
 of_both f (Some a) (Some b) = f a b
 of_both f _ _ = None
 
--- the number 0 is one token
+-- whether an expression is the number 0, written as one token
 abbrev pub is_zero : Term → Bool
 is_zero (Number spot value unsigned) = nat_eq value 0
 is_zero _ = false
 
--- what a statement leaves, and what stands round a comma: a value or nothing, but no struct
+-- the type that a statement or a side of a comma leaves: that of a value or of nothing, but not
+-- that of a struct
 abbrev pub left_of : ExpressionType → Option ExpressionType
 left_of Nothing = Some Nothing
 left_of (Computed value) = Some (Computed value)
 left_of (Stored type) = computed (value_stored type)
 
--- the type of a name that stands without a call
+-- the type of a name that isn't called
 abbrev pub name_type : Meant → Option ExpressionType
 name_type (Kept type) = option_map Stored type
 name_type (Constant value) = Some (Computed value)
@@ -63,7 +64,7 @@ name_type (Called parameters result) = None
 name_type Main = None
 name_type Undeclared = None
 
--- a name is no variable, though a declared one without a call
+-- a name denotes a value that is not a variable
 abbrev pub is_constant : Meant → Bool
 is_constant (Kept type) = false
 is_constant (Constant value) = true
@@ -71,7 +72,7 @@ is_constant (Called parameters result) = false
 is_constant Main = false
 is_constant Undeclared = false
 
--- an expression is no variable, member, element or dereference
+-- an expression isn't a variable, member, element or dereference
 abbrev pub is_no_target : Env → Term → Bool
 is_no_target env (Use name) = is_constant (env.meant name)
 is_no_target env (Dereference spot pointer) = false
@@ -80,7 +81,7 @@ is_no_target env (Member spot whole member) = false
 is_no_target env (Through spot pointer member) = false
 is_no_target env _ = true
 
--- a type that is written is neither an integer nor a pointer
+-- a written type is neither an integer nor a pointer
 abbrev pub is_no_value_base : BaseType → Bool
 is_no_value_base t.Int = false
 is_no_value_base t.Unsigned = false
@@ -96,29 +97,30 @@ sizeof_type None = None
 sizeof_type (Some type) = if is_void (target type.root type.stars) then None
     else Some (Computed Unsigned)
 
--- what a cast gives
+-- the type of a cast
 abbrev pub cast_type : Option DataType → Option Value → Option ExpressionType
 cast_type (Some type) (Some value) = computed (value_stored type)
 cast_type _ _ = None
 
--- what a pointer points to. Nothing is known of what a `void *` points to
+-- the type of what a pointer points to; there is none for a `void *`
 abbrev pub pointed : Value → Option ExpressionType
 pointed (Pointer t) = if is_void t then None
     else Some (Stored (record { root = t.root; stars = t.stars; length = None }))
 pointed Int = None
 pointed Unsigned = None
 
--- the element of an array
+-- the type of an element of an array
 abbrev pub element : Option Value → Option Value → Option ExpressionType
 element (Some whole) (Some by) = if is_integer by then pointed whole else None
 element _ _ = None
 
--- a struct, by its index
+-- the index of the struct that a root with this number of stars is
 abbrev pub struct_of_root : Root → ℕ → Option ℕ
 struct_of_root (r.Struct index) zero = Some index
 struct_of_root _ _ = None
 
--- the struct that an expression of a type is, and the one that a value points to
+-- the index of the struct that an expression with this type is, and of the one that a value points
+-- to
 abbrev pub struct_of : ExpressionType → Option ℕ
 struct_of (Stored type) = if is_some type.length then None else struct_of_root type.root type.stars
 struct_of (Computed value) = None
@@ -129,7 +131,7 @@ struct_at (Pointer t) = struct_of_root t.root t.stars
 struct_at Int = None
 struct_at Unsigned = None
 
--- the place of a member of a struct
+-- the position of a member in its struct, and the type of the member
 abbrev pub member_place : Env → Option ℕ → Named → Option ℕ
 member_place env index member = option_and_then (λ i. member_named env.structs i member.bytes) index
 
@@ -137,13 +139,13 @@ abbrev pub member_type : Env → Option ℕ → Named → Option ExpressionType
 member_type env index member = option_and_then (λ i. option_and_then (λ place.
     option_map Stored (env.member_type i place)) (member_named env.structs i member.bytes)) index
 
--- a value converts to a type, which a struct or an array as it is isn't
+-- a value converts to a type; a struct or a whole array isn't such a type
 abbrev pub does_convert : Operand → Option Value → Bool
 does_convert from None = false
 does_convert from (Some to) = converts from to
 
--- what an assignment by a sign takes: `=` what converts to the target's type, another what its sign
--- takes
+-- whether an assignment takes a value: for `=` if it converts to the type of the target, else if
+-- the operator takes it
 abbrev pub does_sign_take : Sign → Option Value → Operand → Bool
 does_sign_take sign None from = false
 does_sign_take sign (Some to) from = is_some (option_and_then
@@ -158,22 +160,22 @@ assigned sign (Some target) (Some from) = if not (is_array target)
     && does_assign sign (value_of target) from then computed (value_of target) else None
 assigned sign _ _ = None
 
--- `++` and `--` on what is stored
+-- the type of `++` and `--` on a stored value
 abbrev pub counted_type : ExpressionType → Option ExpressionType
 counted_type type = if is_array type then None
     else computed (option_and_then counted (value_of type))
 
--- what stands on both sides of a comma
+-- the type of a comma expression
 abbrev pub last_of : Option ExpressionType → Option ExpressionType → Option ExpressionType
 last_of (Some left) (Some right) = if is_some (left_of left) then left_of right else None
 last_of _ _ = None
 
--- a condition, and the value of one of two branches
+-- the type of a `?:`, which requires a condition with a value
 abbrev pub branched : Option Value → Option Operand → Option Operand → Option ExpressionType
 branched (Some condition) first second = computed (of_both chosen first second)
 branched None first second = None
 
--- the integer that a pointer to one points to
+-- the integer type that a root with this number of stars is
 abbrev pub integer_under : Root → ℕ → Option Value
 integer_under r.Int zero = Some Int
 integer_under r.Unsigned zero = Some Unsigned
@@ -184,20 +186,20 @@ word_at (Pointer t) = integer_under t.root t.stars
 word_at Int = None
 word_at Unsigned = None
 
--- a parameter takes an operand
+-- whether a parameter takes an operand
 abbrev pub does_take : Parameter → Operand → Bool
 does_take Words from = is_some (word_at from.value)
 does_take (Typed None) from = true
 does_take (Typed (Some type)) from = does_convert from (value_stored type)
 
--- an argument fits: it has a value, which its parameter takes. More arguments than parameters are
--- told by their count
+-- whether an argument fits: it has a value, which its parameter takes. Arguments without a
+-- parameter are detected by their count
 abbrev pub does_fit : Option Parameter → Option Operand → Bool
 does_fit (Some parameter) (Some from) = does_take parameter from
 does_fit None (Some from) = true
 does_fit parameter None = false
 
--- what is called takes and gives
+-- the parameters of what a name denotes, and the type of its calls
 abbrev pub parameters_of : Meant → List Parameter
 parameters_of (Called parameters result) = parameters
 parameters_of (Kept type) = []
@@ -217,13 +219,13 @@ call_type (Constant value) count do_fit first = None
 call_type Main count do_fit first = None
 call_type Undeclared count do_fit first = None
 
--- what is called: a name is what it is. Any other expression that has a type is no function
+-- what is called: for a name what it denotes. Any other expression that has a type isn't a function
 abbrev pub called_as : Env → Term → Option ExpressionType → Meant
 called_as env (Use name) type = env.meant name
 called_as env _ None = Kept None
 called_as env _ (Some type) = Constant Int
 
--- the first of two values
+-- the first one of two values that exists
 abbrev pub either_value : Option Value → Option Value → Option Value
 either_value None second = second
 either_value (Some first) second = Some first
@@ -270,14 +272,14 @@ abbrev mutual
       (operand_in (is_zero first) (type_of env first))
       (operand_in (is_zero second) (type_of env second))
 
-  -- each argument fits its parameter
+  -- whether each argument fits its parameter
   pub do_all_fit : Env → List Parameter → Terms → Bool
   do_all_fit env parameters no_terms = true
   do_all_fit env parameters (also before last) = do_all_fit env parameters before
       && does_fit (slice_get parameters (count_of before))
       (operand_in (is_zero last) (type_of env last))
 
-  -- the value of the first argument that has one
+  -- the value type of the first argument that has one
   pub first_value : Env → Terms → Option Value
   first_value env no_terms = None
   first_value env (also before last) =
@@ -287,7 +289,7 @@ abbrev mutual
 abbrev pub HasType : Env → Term → ExpressionType → Type 0
 HasType env term type = type_of env term ≡ Some type
 
--- what is known of the type of a part, by its main token
+-- the type of a part, with its main token
 pub record Noted : Type 0 where
   pub at : ℕ
   pub type : Option ExpressionType
@@ -295,7 +297,7 @@ pub record Noted : Type 0 where
 abbrev pub note : ℕ → Option ExpressionType → List Noted
 note at type = record { at = at; type = type } ∷ []
 
--- the types of an expression and of all in it, each at its main token: the sign, name or number
+-- the types of an expression and of all its parts, each at its main token: its sign, name or number
 abbrev mutual
   pub noted : Env → Term → List Noted
   noted env (Number spot value unsigned) = note spot.at (type_of env (Number spot value unsigned))

@@ -1,4 +1,4 @@
--- The kinds of types, as they are met from token to token.
+-- The kinds of types, in the order of their first occurrence among the tokens.
 use Rattle.std.specs.Prelude.{◌≡◌, ◌⊎◌, ℕ, ◌<◌, List, [], ◌∷◌, ◌++◌, Option, Some, None, length}
 use Rattle.std.specs.Prelude.{slice_get}
 use Rattle.fk_syntax.specs.declared.facts.Kind.{Kind}
@@ -7,7 +7,7 @@ use Rattle.fk_types_operators.specs.declared.values.ExpressionType.{ExpressionTy
 use Rattle.fk_types_rules.specs.Kinds.{IsKind}
 use Rattle.fk_types_rules.specs.Noted.{type_at}
 
--- a kind is first met at a token: all tokens before it that have a type have lesser numbers
+-- a kind first occurs at a token: all tokens before it that have a type have lesser numbers
 pub record IsFirstMet (types : List (Option ExpressionType)) (numbers : List ℕ)
     (number at : ℕ) : Type 0 where
   pub has_type : (type : ExpressionType) × (type_at types at ≡ Some type)
@@ -16,7 +16,7 @@ pub record IsFirstMet (types : List (Option ExpressionType)) (numbers : List ℕ
       → type_at types before ≡ Some type → slice_get numbers before ≡ Some other → other < number
 
 -- the kinds of the types of tokens: each token that has a type has the number of its kind, and each
--- other one 0; no two kinds are the same, and each is first met at a token
+-- other one has 0; no two kinds are the same, and each one first occurs at some token
 pub record AreMet (structs : List StructTree) (types : List (Option ExpressionType))
     (kinds : List Kind) (numbers : List ℕ) : Type 0 where
   pub same_length : length numbers ≡ length types
@@ -29,13 +29,13 @@ pub record AreMet (structs : List StructTree) (types : List (Option ExpressionTy
       → slice_get kinds j ≡ Some kind → i ≡ j
   pub first : (number : ℕ) → number < length kinds → (at : ℕ) × IsFirstMet types numbers number at
 
--- a kind has its number among others; one that isn't among them comes last
+-- the number of a kind among others; a kind that isn't among them comes last
 abbrev pub IsNumbered : List Kind → Kind → List Kind → ℕ → Type 0
 IsNumbered before kind after number = ((after ≡ before) × (slice_get before number ≡ Some kind))
     ⊎ ((after ≡ before ++ kind ∷ []) × (number ≡ length before)
     × ((i : ℕ) → ¬ (slice_get before i ≡ Some kind)))
 
--- what one more token is: the kind of its type is numbered, where it has one
+-- the number of one more token is that of the kind of its type, if it has one
 abbrev pub IsNext : List StructTree → Option ExpressionType → List Kind → List Kind → ℕ → Type 0
 IsNext structs None before after number = (after ≡ before) × (number ≡ 0)
 IsNext structs (Some type) before after number = (kind : Kind) × IsKind structs type kind

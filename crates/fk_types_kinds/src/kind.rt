@@ -1,4 +1,4 @@
-//! Types, as far as code is made by them.
+//! Types, as far as code generation depends on them.
 
 ghost use Rattle.std.specs.Prelude.{◌≡◌, ◌≤◌, false};
 ghost use Rattle.fk_types_structs.specs.Whole.{structs_in, IsSound};
@@ -9,7 +9,7 @@ use fk_syntax::Kind;
 use fk_types_operators::{ExpressionType, Target, Value};
 use fk_types_structs::{DataType, Structs};
 
-// The words of a type: none of `void`.
+// The words of a type, and 0 where it has no number of words.
 fn words(structs: &Structs, kind: &DataType) -> u32
     requires { IsSound structs.now }
     ensures words { IsWords (structs_in structs.now) kind.now result }
@@ -21,7 +21,7 @@ fn words(structs: &Structs, kind: &DataType) -> u32
     }
 }
 
-// The bytes of what a pointer points to: 0 for `void *`.
+// The size in bytes of what a pointer points to; 0 for `void *`.
 fn step(structs: &Structs, target: Target) -> u32
     requires { IsSound structs.now }
     ensures { IsStep (structs_in structs.now) target result }
@@ -34,7 +34,7 @@ fn step(structs: &Structs, target: Target) -> u32
     4 * words(structs, &pointed)
 }
 
-// A number, or a pointer with the step by which it moves.
+// The kind of a number, or of a pointer that moves by this step.
 fn word(is_unsigned: bool, step: u32) -> Kind
     ensures { result ≡ record { words = 1; unsigned = is_unsigned; array = false; step = step } }
 {
@@ -46,7 +46,7 @@ fn word(is_unsigned: bool, step: u32) -> Kind
     }
 }
 
-// The kind of this many words that are neither a number nor a pointer.
+// The kind of a value with this many words that is neither a number nor a pointer.
 fn plain(words: u32) -> Kind
     ensures { result ≡ record { words = words; unsigned = false; array = false; step = 0 } }
 {
@@ -85,7 +85,7 @@ fn kind_of_array(structs: &Structs, array: &DataType) -> Kind
     }
 }
 
-// The kind of what is stored and is no array, by what it is as a value.
+// The kind of a stored value that isn't an array, by its value type.
 fn kind_of_plain(structs: &Structs, stored: &DataType, value: Option<Value>) -> Kind
     requires { IsSound structs.now }
     ensures { IsPlainKind (structs_in structs.now) stored.now value result }
@@ -106,9 +106,10 @@ fn kind_of_stored(structs: &Structs, stored: &DataType) -> Kind
     }
 }
 
-/// What code needs to know of a type. A pointer is unsigned and has the bytes of what it points to
-/// as its step, an array those of an element, and `void *` has 0. Of a struct the words are known,
-/// and of the call of a `void` function that it gives none.
+/// The kind of a type, which is what code generation needs to know of it. A pointer is unsigned,
+/// and its step is the size in bytes of what it points to. The step of an array is the size of an
+/// element, and that of `void *` is 0. For a struct only the words are known, and the call of a
+/// `void` function has none.
 pub fn kind_of(structs: &Structs, kind: &ExpressionType) -> Kind
     requires { IsSound structs.now }
     ensures { IsKind (structs_in structs.now) kind.now result }

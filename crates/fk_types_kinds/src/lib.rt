@@ -1,5 +1,5 @@
-//! The kinds of types: what code needs to know of them, and the numbers of those that occur in a
-//! text, in the order in which they are first met.
+//! The kinds of types, which are what code generation needs to know of them. The kinds that occur
+//! in a text are numbered in the order of their first occurrence.
 #![tactic(auto)]
 
 mod kind;

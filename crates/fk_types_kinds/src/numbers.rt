@@ -45,7 +45,7 @@ impl Row {
     }
 }
 
-// The number of a kind among those that were met. A new one comes last.
+// The number of a kind among those that have occurred. A new one comes last.
 fn number_of(met: &mut IndexSet<Row>, kind: Kind) -> Result<usize, AllocError>
     ensures numbered { IfOk result
         (λ number. IsNumbered (kinds_in met.old.keys) kind (kinds_in met.new.keys) number) }
@@ -56,7 +56,7 @@ fn number_of(met: &mut IndexSet<Row>, kind: Kind) -> Result<usize, AllocError>
     Ok(number)
 }
 
-// The number of the kind of one more token: 0 where it has no type.
+// The number of the kind of one more token: 0 if it has no type.
 fn meet(
     met: &mut IndexSet<Row>,
     structs: &Structs,
@@ -90,15 +90,16 @@ fn list_of(alloc: Global, rows: &[Row]) -> Result<Vec<Kind>, AllocError>
 /// The kinds of the types of tokens.
 #[derive(Drop)]
 pub struct Kinds {
-    /// For each token the number of the kind of its type, which is its index in `list`: 0 where the
+    /// For each token the number of the kind of its type, which is its index in `list`; 0 if the
     /// token has no type.
     pub numbers: Vec<u32>,
-    /// Each kind once, in the order in which they are first met from token to token.
+    /// Each kind once, in the order of the first occurrences among the tokens.
     pub list: Vec<Kind>,
 }
 
 impl Kinds {
-    /// The kinds of the types of tokens, in linear time. Fails only for want of memory.
+    /// The kinds of the types of tokens, in linear time. It fails only if there isn't enough
+    /// memory.
     pub fn of(
         alloc: Global,
         structs: &Structs,

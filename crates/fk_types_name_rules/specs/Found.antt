@@ -1,4 +1,4 @@
--- What one mark or one item breaks.
+-- The rules that one mark or one item breaks.
 use Rattle.std.specs.Prelude.{◌⊎◌, ℕ, List}
 use Rattle.fk_syntax.specs.Program.{ItemTree, StructItem, VariablesItem, FunctionItem}
 use Rattle.fk_check_rules.specs.declared.rule.Rule.TheVariants as r
@@ -10,7 +10,7 @@ use Rattle.fk_types_names.specs.Means.{MeansAt}
 use Rattle.fk_types_name_rules.specs.Named.{IsAgain, IsTaken}
 use Rattle.fk_types_name_rules.specs.Headers.{IsWrongHeader, IsWrongMain}
 
--- nothing is broken
+-- no rule is broken
 abbrev pub nothing : Breaks
 nothing place rule = ⊥
 

@@ -8,7 +8,7 @@ use Rattle.fk_syntax.specs.Tree as t
 use Rattle.fk_syntax.specs.Program.{DeclaredTree, FunctionTree, ItemTree, ProgramTree, StructItem}
 use Rattle.fk_syntax.specs.Program.{VariablesItem, FunctionItem}
 
--- types begin with the same words
+-- two types have the same base
 abbrev pub IsSameBase : BaseType → BaseType → Type 0
 IsSameBase t.Int other = other ≡ t.Int
 IsSameBase t.Unsigned other = other ≡ t.Unsigned
@@ -19,7 +19,7 @@ IsSameBase (t.Struct name) other = (same : Named) × (other ≡ t.Struct same)
 abbrev pub IsSameType : TypeTree → TypeTree → Type 0
 IsSameType type other = IsSameBase type.base other.base × (other.stars ≡ type.stars)
 
--- parameters have the same type and sharing, whatever their names are
+-- two parameters have the same type and sharing; their names may differ
 abbrev pub IsSameParameter : DeclaredTree → DeclaredTree → Type 0
 IsSameParameter parameter other = (other.shared ≡ parameter.shared)
     × IsSameType parameter.kind other.kind × (other.length ≡ parameter.length)
@@ -30,18 +30,18 @@ AreSameParameters [] (y ∷ ys) = ⊥
 AreSameParameters (x ∷ xs) [] = ⊥
 AreSameParameters (x ∷ xs) (y ∷ ys) = IsSameParameter x y × AreSameParameters xs ys
 
--- headers agree in mode, result and parameters
+-- two headers agree in mode, result and parameters
 abbrev pub Agree : FunctionTree → FunctionTree → Type 0
 Agree header other = (other.mode ≡ header.mode) × IsSameType header.result other.result
     × AreSameParameters header.parameters other.parameters
 
--- an item is a header of the function of this name
+-- an item is a header of the function with this name
 abbrev pub HeaderHere : List ℕ → ItemTree → Type 0
 HeaderHere bytes (StructItem name members) = ⊥
 HeaderHere bytes (VariablesItem variables) = ⊥
 HeaderHere bytes (FunctionItem function) = function.name.bytes ≡ bytes
 
--- and has its body
+-- an item is a header of the function with this name, and has its body
 abbrev pub BodyHere : List ℕ → ItemTree → Type 0
 BodyHere bytes (StructItem name members) = ⊥
 BodyHere bytes (VariablesItem variables) = ⊥
@@ -53,12 +53,12 @@ HasHeaderAt items bytes at = IsSomeAnd (slice_get items at) (HeaderHere bytes)
 abbrev pub HasBodyAt : List ItemTree → List ℕ → ℕ → Type 0
 HasBodyAt items bytes at = IsSomeAnd (slice_get items at) (BodyHere bytes)
 
--- a header of a function that has another one before it
+-- the item at this index is a header of a function that has an earlier one
 abbrev pub HasLaterAt : List ItemTree → List ℕ → ℕ → Type 0
 HasLaterAt items bytes at = HasHeaderAt items bytes at × (k : ℕ) × (k < at)
     × HasHeaderAt items bytes k
 
--- the least number of which something holds
+-- the least number for which a predicate holds
 abbrev pub IsFirst : (ℕ → Type 0) → ℕ → Type 0
 IsFirst P at = P at × ((k : ℕ) → P k → at ≤ k)
 
@@ -68,7 +68,7 @@ Differs items function = (first : ℕ)
     × (header : FunctionTree) × IsFirst (HasHeaderAt items function.name.bytes) first
     × (slice_get items first ≡ Some (FunctionItem header)) × (¬ Agree header function)
 
--- a header has a body, and an earlier one of its function has one too
+-- a header has a body, and so does an earlier one of its function
 abbrev pub RepeatsBody : List ItemTree → ℕ → FunctionTree → Type 0
 RepeatsBody items at function = IsSome function.body × (k : ℕ) × (k < at)
     × HasBodyAt items function.name.bytes k
@@ -89,16 +89,16 @@ HasWrongHeader items place = (at : ℕ) × (function : FunctionTree)
     × (slice_get items at ≡ Some (FunctionItem function)) × IsWrongHeader items at function
     × (place ≡ function.name.place)
 
--- no function is called `main`
+-- no function has the name `main`
 abbrev pub HasNoMain : List ItemTree → Type 0
 HasNoMain items = (k : ℕ) → ¬ HasHeaderAt items (codes "main") k
 
--- a header of `main` has parameters, or another mode than `async`
+-- a header of `main` has parameters, or a mode other than `async`
 abbrev pub IsWrongMain : FunctionTree → Type 0
 IsWrongMain function = (function.name.bytes ≡ codes "main")
     × (¬ ((function.parameters ≡ []) × (function.mode ≡ Async)))
 
--- there is no `main`, told at the end of the text, or one of another form
+-- there is no `main`, which is reported at the end of the text, or a header of it has a wrong form
 abbrev pub LacksMain : ProgramTree → Place → Type 0
 LacksMain program place = (HasNoMain program.items × (place ≡ program.end))
     ⊎ ((at : ℕ) × (function : FunctionTree) × (slice_get program.items at

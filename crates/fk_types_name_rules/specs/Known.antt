@@ -1,4 +1,4 @@
--- What the code knows of the headers of functions.
+-- The tables that the code has of the headers of functions.
 use Rattle.std.specs.Prelude.{ℕ, List}
 use Rattle.fk_syntax.specs.Program.{ItemTree}
 use Rattle.fk_types_names.specs.Locals.{IsFirstOf}

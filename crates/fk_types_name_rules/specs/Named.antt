@@ -1,4 +1,4 @@
--- The rules about the names of variables and functions: where they are used, and where declared.
+-- The rules about the names of variables and functions, where they are used and declared.
 use Rattle.std.specs.Prelude.{◌≡◌, ◌⊎◌, ℕ, ◌<◌, ◌≤◌, Bool, true, false, List, Some, slice_get}
 use Rattle.std.specs.Prelude.{Contains}
 use Rattle.fk_syntax.specs.declared.place.Place.{Place}
@@ -9,18 +9,18 @@ use Rattle.fk_types_names.specs.Outline.{Declares, Uses, name_of}
 use Rattle.fk_types_names.specs.Visible.{depth, DeclaresAt}
 use Rattle.fk_types_names.specs.Means.{predeclared, UsesAt, MeansAt}
 
--- a name in an expression means nothing
+-- a name in an expression denotes nothing
 abbrev pub UsesUndeclared : List MarkTree → Place → Type 0
 UsesUndeclared marks place = (at : ℕ) × (name : Named) × UsesAt marks name at
     × MeansAt marks name.bytes at Undeclared × (place ≡ name.place)
 
--- what stands at one index stands before another in one scope, which doesn't end between the two
+-- the first index is before the second one in the same scope, which doesn't end between the two
 pub record IsBefore (marks : List MarkTree) (first second : ℕ) : Type 0 where
   pub before : first < second
   pub level : depth marks first ≡ depth marks second
   pub within : (k : ℕ) → first < k → k ≤ second → depth marks first ≤ depth marks k
 
--- the first declaration of a name in the scope of an index, before it
+-- the first declaration of a name in the scope of an index, before that index
 pub record IsFirstBefore (marks : List MarkTree) (bytes : List ℕ) (at earlier : ℕ) : Type 0 where
   pub declares : DeclaresAt marks bytes earlier
   pub before : IsBefore marks earlier at
@@ -35,13 +35,12 @@ are_headers (Declares (Variable variable)) d = false
 are_headers (Declares (Header function)) (Variable variable) = false
 are_headers (Declares (Header function)) (Header other) = true
 
--- a declaration has the name of an earlier one of its scope, and they are not
--- headers of one function
+-- a declaration has the name of an earlier one in its scope, and they aren't both headers
 abbrev pub IsAgain : List MarkTree → ℕ → DeclarationTree → Type 0
 IsAgain marks at d = (first : ℕ) × (mark : MarkTree) × IsFirstBefore marks
     (name_of d).bytes at first × (slice_get marks first ≡ Some mark) × (are_headers mark d ≡ false)
 
--- a declaration of file scope has a name that is declared before each text
+-- a declaration at file scope has a predeclared name
 abbrev pub IsTaken : List MarkTree → ℕ → DeclarationTree → Type 0
 IsTaken marks at d = (depth marks at ≡ 0) × Contains predeclared (name_of d).bytes
 

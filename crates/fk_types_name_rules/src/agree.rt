@@ -1,4 +1,4 @@
-//! Which headers of a function agree.
+//! Whether the headers of a function agree.
 
 ghost use Rattle.std.specs.Prelude.{◌↔◌, IsTrue, map};
 ghost use Rattle.fk_syntax.specs.View.{base_of, type_of};
@@ -8,7 +8,7 @@ ghost use Rattle.fk_types_name_rules.specs.Headers.{AreSameParameters, Agree};
 
 use fk_syntax::{Base, Declared, Function, TypeName};
 
-// Whether types begin with the same words.
+// Whether two types have the same base.
 fn is_same_base<'i, 't>(base: &'i Base<'t>, other: &'i Base<'t>) -> bool
     ensures { IsTrue result ↔ IsSameBase (base_of base.now) (base_of other.now) }
 {
@@ -23,14 +23,14 @@ fn is_same_base<'i, 't>(base: &'i Base<'t>, other: &'i Base<'t>) -> bool
     }
 }
 
-// Whether types are spelled alike.
+// Whether two types are spelled alike.
 fn is_same_type<'i, 't>(kind: &'i TypeName<'t>, other: &'i TypeName<'t>) -> bool
     ensures { IsTrue result ↔ IsSameType (type_of kind.now) (type_of other.now) }
 {
     is_same_base(&kind.base, &other.base) && other.stars == kind.stars
 }
 
-// Whether parameters have the same type and sharing.
+// Whether two parameters have the same type and sharing.
 fn is_same_parameter<'i, 't>(parameter: &'i Declared<'t>, other: &'i Declared<'t>) -> bool
     ensures { IsTrue result
         ↔ IsSameParameter (declared_of parameter.now) (declared_of other.now) }
@@ -40,7 +40,7 @@ fn is_same_parameter<'i, 't>(parameter: &'i Declared<'t>, other: &'i Declared<'t
         && other.length == parameter.length
 }
 
-// Whether there are as many parameters, each with the same type and sharing.
+// Whether there are equally many parameters, with the same types and sharing.
 fn are_same_parameters<'i, 't>(parameters: &'i [Declared<'t>], others: &'i [Declared<'t>]) -> bool
     ensures { IsTrue result
         ↔ AreSameParameters (map declared_of parameters.now) (map declared_of others.now) }
@@ -56,7 +56,7 @@ fn are_same_parameters<'i, 't>(parameters: &'i [Declared<'t>], others: &'i [Decl
     true
 }
 
-/// Whether headers agree in mode, result and parameters.
+/// Whether two headers agree in mode, result and parameters.
 pub(crate) fn agree<'i, 't>(header: &'i Function<'t>, other: &'i Function<'t>) -> bool
     ensures { IsTrue result ↔ Agree (function_of header.now) (function_of other.now) }
 {

@@ -21,8 +21,7 @@ use fk_syntax::{Item, Place, Program};
 use fk_types_names::{Mark, Outline, Reader};
 use std::alloc::{AllocError, Global};
 
-// The first that names break where they are used and where they are declared, by a reader
-// before the first mark.
+// The first fault at a mark, for a reader that is before the first mark.
 fn fault_from<'m, 'p, 't>(
     reader: &mut Reader<'m, 'p, 't>,
     marks: &'m [Mark<'p, 't>],
@@ -40,7 +39,7 @@ fn fault_from<'m, 'p, 't>(
     Ok(fault)
 }
 
-// The first that the names in an outline break where they are used and where they are declared.
+// The first fault of the names in an outline, where they are used or declared.
 fn marks_fault(alloc: Global, outline: &Outline) -> Result<Option<Fault>, AllocError>
     ensures { IfOk result
         (IsLeast (among (MarkBreaks (marks_in outline.now)) (marks_in outline.now))) }
@@ -50,7 +49,7 @@ fn marks_fault(alloc: Global, outline: &Outline) -> Result<Option<Fault>, AllocE
     fault_from(&mut reader, marks)
 }
 
-// The first that headers break.
+// The first fault of the headers.
 fn headers_fault(items: &[Item], headers: &Headers) -> Option<Fault>
     requires { AreHeaders (map item_of items.now) headers.now }
     ensures { IsLeast (among (ItemBreaks (map item_of items.now)) (map item_of items.now)) result }
@@ -62,7 +61,7 @@ fn headers_fault(items: &[Item], headers: &Headers) -> Option<Fault>
     fault
 }
 
-// The first that the names in items break where they are used and where they are declared.
+// The first fault of the names in items, where they are used or declared.
 fn named_fault(alloc: Global, items: &[Item]) -> Result<Option<Fault>, AllocError>
     ensures { IfOk result (IsLeast (among (MarkBreaks (items_marks (map item_of items.now)))
         (items_marks (map item_of items.now)))) }
@@ -71,7 +70,7 @@ fn named_fault(alloc: Global, items: &[Item]) -> Result<Option<Fault>, AllocErro
     marks_fault(alloc, &outline)
 }
 
-// The first that the known headers of functions break, where a text ends at a place.
+// The first fault of the collected headers of functions, in a text that ends at this place.
 fn known_fault(items: &[Item], end: Place, headers: &Headers) -> Option<Fault>
     requires { AreHeaders (map item_of items.now) headers.now }
     ensures { IsLeast (either (told NoMain end (HasNoMain (map item_of items.now)))
@@ -81,7 +80,7 @@ fn known_fault(items: &[Item], end: Place, headers: &Headers) -> Option<Fault>
     first_of(main, headers_fault(items, headers))
 }
 
-// The first that the headers of functions break, where a text ends at a place.
+// The first fault of the headers of functions, in a text that ends at this place.
 fn functions_fault(alloc: Global, items: &[Item], end: Place) -> Result<Option<Fault>, AllocError>
     ensures { IfOk result (IsLeast (either (told NoMain end (HasNoMain (map item_of items.now)))
         (among (ItemBreaks (map item_of items.now)) (map item_of items.now)))) }
@@ -91,10 +90,11 @@ fn functions_fault(alloc: Global, items: &[Item], end: Place) -> Result<Option<F
 }
 
 /// The first rule about the names of variables and functions that a program breaks, by its place
-/// and then by its number: a name in an expression that means nothing; a name that is declared
-/// twice in one scope, or at file scope before each text; headers of one function that differ, or a
-/// function without a body or with two; no `main`, or one with parameters, `sync` or `straight`. It
-/// takes linear time, and fails only for want of memory.
+/// and then by its number. The rules forbid: a name in an expression that denotes nothing; a name
+/// that is declared twice in one scope, or that is predeclared and declared at file scope; headers
+/// of one function that differ, or a function without a body or with two; no `main`, or one with
+/// parameters, `sync` or `straight`. It takes linear time, and fails only if there isn't enough
+/// memory.
 pub fn name_fault(alloc: Global, program: &Program) -> Result<Option<Fault>, AllocError>
     ensures { IfOk result (IsLeast (NamesBreak (program_of program.now))) }
 {

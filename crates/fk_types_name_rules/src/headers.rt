@@ -1,4 +1,4 @@
-//! The headers of functions, and what they break.
+//! The headers of functions, and the rules that they break.
 
 ghost use Rattle.std.specs.Prelude.{◌≡◌, ◌≢◌, ◌↔◌, ℕ, List, Some, IsTrue, IfOk, IfSome, IsNone};
 ghost use Rattle.std.specs.Prelude.{map, slice_get};
@@ -20,7 +20,7 @@ use fk_syntax::{Function, Item, Mode};
 use fk_types_names::Table;
 use std::alloc::{AllocError, Global};
 
-// The name of the function whose header an item is.
+// The name of a function, if the item is a header of it.
 fn header_name<'a>(item: &Item<'a>) -> Option<&'a [u8]>
     ensures some { IfSome result (λ name. HeaderHere name.now (item_of item.now)) }
     ensures none { IsNone result → (name : List ℕ) → ¬ HeaderHere name (item_of item.now) }
@@ -31,7 +31,7 @@ fn header_name<'a>(item: &Item<'a>) -> Option<&'a [u8]>
     }
 }
 
-// The name of the function whose header with the body an item is.
+// The name of a function, if the item is its header with the body.
 fn defined_name<'a>(item: &Item<'a>) -> Option<&'a [u8]>
     ensures some { IfSome result (λ name. BodyHere name.now (item_of item.now)) }
     ensures none { IsNone result → (name : List ℕ) → ¬ BodyHere name (item_of item.now) }
@@ -42,7 +42,7 @@ fn defined_name<'a>(item: &Item<'a>) -> Option<&'a [u8]>
     }
 }
 
-// The name of the function of which an item is a header, though not the first.
+// The name of a function, if the item is a header of it, but not the first.
 fn later_name<'a>(item: &Item<'a>, at: usize, firsts: &Table) -> Option<&'a [u8]>
     ensures some { IfSome result (λ name. HeaderHere name.now (item_of item.now)
         × (shown firsts.now name.now ≢ Some at)) }
@@ -98,7 +98,7 @@ fn second_headers<'a>(
     Ok(seconds)
 }
 
-// Whether a header is one of `main` in another form than it has.
+// Whether a header of `main` has parameters or a mode other than `async`.
 fn is_wrong_main(function: &Function) -> bool
     ensures { IsTrue result ↔ IsWrongMain (function_of function.now) }
 {
@@ -106,19 +106,19 @@ fn is_wrong_main(function: &Function) -> bool
     function.name.bytes == b"main".as_slice() && !is_plain
 }
 
-/// The items that are the headers of each function, by their indices.
+/// The indices of the items that are the headers of each function.
 #[derive(Drop)]
 pub(crate) struct Headers<'a> {
-    // The first one.
+    // The first header of each function.
     firsts: Table<'a>,
-    // The second one.
+    // The second header of each function.
     seconds: Table<'a>,
-    // The first one with a body.
+    // The first header with a body of each function.
     bodies: Table<'a>,
 }
 
 impl<'a> Headers<'a> {
-    /// The headers in some items. Fails only for want of memory.
+    /// The headers in some items. It fails only if there isn't enough memory.
     pub(crate) fn of(alloc: Global, items: &[Item<'a>]) -> Result<Self, AllocError>
         ensures { IfOk result (AreHeaders (map item_of items.now)) }
     {
@@ -146,7 +146,7 @@ impl<'a> Headers<'a> {
         }
     }
 
-    // Whether the header of an index has a body, and an earlier one of its function has one too.
+    // Whether the header at this index has a body, and so does an earlier one of its function.
     fn repeats_body<'i, 't>(
         items: &'i [Item<'t>],
         at: usize,
@@ -164,7 +164,8 @@ impl<'a> Headers<'a> {
         }
     }
 
-    // Whether a function has no body, and the header of an index is its second one or the only one.
+    // Whether a function has no body, and the header at this index is its second one or the only
+    // one.
     fn lacks_body<'i, 't>(
         items: &'i [Item<'t>],
         at: usize,
@@ -187,7 +188,7 @@ impl<'a> Headers<'a> {
         }
     }
 
-    // Whether the header of an index is wrong beside the others of its function.
+    // Whether the header at this index conflicts with the others of its function.
     fn is_wrong<'i, 't>(
         items: &'i [Item<'t>],
         at: usize,
@@ -204,7 +205,7 @@ impl<'a> Headers<'a> {
             || Self::lacks_body(items, at, function, body, headers)
     }
 
-    /// The first that the item of an index breaks, where it is a header.
+    /// The first fault of the item at this index, if it is a header.
     pub(crate) fn fault<'i, 't>(
         items: &'i [Item<'t>],
         at: usize,
@@ -228,7 +229,7 @@ impl<'a> Headers<'a> {
         }
     }
 
-    /// Whether no function is called `main`.
+    /// Whether no function has the name `main`.
     pub(crate) fn has_no_main(items: &[Item], headers: &Self) -> bool
         requires { AreHeaders (map item_of items.now) headers.now }
         ensures { IsTrue result ↔ HasNoMain (map item_of items.now) }

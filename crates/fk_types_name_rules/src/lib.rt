@@ -1,4 +1,4 @@
-//! The rules of Fork95 that names decide: names that mean nothing, names that are declared twice,
+//! The rules of Fork95 about names: names that denote nothing, names that are declared twice,
 //! headers of functions, and `main`.
 #![tactic(auto)]
 

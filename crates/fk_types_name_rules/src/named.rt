@@ -1,4 +1,4 @@
-//! What names break where they are used, and where they are declared.
+//! The faults of names, where they are used and where they are declared.
 
 ghost use Rattle.std.specs.Prelude.{◌≡◌, ◌⊎◌, ◌↔◌, ℕ, ◌<◌, Some, IsTrue, map, length, slice_get};
 ghost use Rattle.fk_check_rules.specs.Least.{IsLeast};
@@ -34,7 +34,7 @@ fn are_headers<'m, 'p, 't>(mark: &'m Mark<'p, 't>, declaration: &'m Declaration<
     }
 }
 
-// Whether a name that is used where the reader is means nothing.
+// Whether a name that is used at the reader's mark denotes nothing.
 fn is_undeclared(reader: &Reader, name: &[u8]) -> bool
     ensures { (at : ℕ) → IsAt reader.now at
         → IsTrue result ↔ MeansAt (marks_of reader.now) name.now at Undeclared }
@@ -45,8 +45,8 @@ fn is_undeclared(reader: &Reader, name: &[u8]) -> bool
     }
 }
 
-// Whether a declaration where the reader is has the name of an earlier one of its scope, other than
-// by another header of its function.
+// Whether a declaration at the reader's mark has the name of an earlier one in its scope, and they
+// aren't both headers.
 fn is_again<'m, 'p, 't>(
     reader: &Reader<'m, 'p, 't>,
     marks: &'m [Mark<'p, 't>],
@@ -67,8 +67,7 @@ fn is_again<'m, 'p, 't>(
     }
 }
 
-// Whether a declaration where the reader is has, at file scope, a name that is declared before each
-// text.
+// Whether a declaration at the reader's mark is at file scope and has a predeclared name.
 fn is_taken<'m, 'p, 't>(
     reader: &Reader<'m, 'p, 't>,
     marks: &'m [Mark<'p, 't>],
@@ -84,7 +83,7 @@ fn is_taken<'m, 'p, 't>(
     reader.depth(at) == 0 && is_predeclared(declaration.name())
 }
 
-// Whether a declaration where the reader is has a name that is declared already.
+// Whether a declaration at the reader's mark has a name that is declared already.
 fn is_twice<'m, 'p, 't>(
     reader: &Reader<'m, 'p, 't>,
     marks: &'m [Mark<'p, 't>],
@@ -100,7 +99,7 @@ fn is_twice<'m, 'p, 't>(
     is_again(reader, marks, at, declaration) || is_taken(reader, marks, at, declaration)
 }
 
-/// What the mark of an index breaks, where the reader is at it.
+/// The fault at the mark with this index, at which the reader is.
 pub(crate) fn mark_fault<'m, 'p, 't>(
     reader: &Reader<'m, 'p, 't>,
     marks: &'m [Mark<'p, 't>],

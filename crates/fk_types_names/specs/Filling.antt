@@ -1,4 +1,4 @@
--- How the meanings of names are found, from mark to mark.
+-- Finding what names denote, from mark to mark.
 use Rattle.std.specs.Prelude.{◌≡◌, ◌≢◌, ℕ, ◌<◌, List, Bool, true, false, Option, Some, length}
 use Rattle.std.specs.Prelude.{slice_get, slice_index}
 use Rattle.fk_syntax.specs.Tree.{Named}
@@ -21,14 +21,14 @@ is_header (Declares (Variable variable)) = false
 is_header (Declares (Header function)) = true
 is_header (Uses name) = false
 
--- a survey is right about some marks
+-- the tables of a survey are those of these marks
 pub record IsSurvey (marks : List MarkTree) (survey : Survey) : Type 0 where
   pub size : length survey.numbers.items ≡ length marks
   pub numbers : (k : ℕ) → k < length marks → slice_index survey.numbers.items k ≡ binding marks k
   pub definitions : (name : List ℕ)
       → IsFirstOf (HasBodyAt marks name) (shown survey.definitions name)
 
--- the meanings of the names before an index are found, and no others
+-- the meanings of the names before an index have been found, and no others
 pub record AreFound (marks : List MarkTree) (tokens : ℕ) (meanings : List (Option Meaning))
     (upto : ℕ) : Type 0 where
   pub size : length meanings ≡ tokens

@@ -1,4 +1,4 @@
--- Laws of what names mean.
+-- Laws of what names denote.
 use Rattle.std.specs.Prelude.{◌≡◌, ℕ}
 use Rattle.fk_syntax.specs.Program.{ProgramTree}
 use Rattle.fk_syntax.specs.WellFormed.{IsWellFormed}

@@ -1,4 +1,4 @@
--- What a name means.
+-- What a name denotes.
 use Rattle.std.specs.Prelude.{◌≡◌, ◌⊎◌, ℕ, ◌<◌, List, [], ◌∷◌, length, take, Some, slice_get}
 use Rattle.std.specs.Prelude.{Contains, codes, IsSome, IsSomeAnd}
 use Rattle.fk_syntax.specs.Tree.{Named}
@@ -9,7 +9,7 @@ use Rattle.fk_types_names.specs.Outline.{DeclarationTree, MarkTree, Variable, He
 use Rattle.fk_types_names.specs.Outline.{Declares, Uses, outline, declared_in}
 use Rattle.fk_types_names.specs.Visible.{IsInnermost, IsHidden}
 
--- names that are declared before each text
+-- the predeclared names
 abbrev pub predeclared : List (List ℕ)
 predeclared = codes "mpadd" ∷ codes "mpmax" ∷ codes "mpand" ∷ codes "mpor"
     ∷ codes "shmalloc" ∷ codes "shalloc" ∷ codes "malloc"
@@ -20,7 +20,7 @@ predeclared = codes "mpadd" ∷ codes "mpmax" ∷ codes "mpand" ∷ codes "mpor"
 abbrev pub binding : List MarkTree → ℕ → ℕ
 binding marks at = length (declared_in (take at marks))
 
--- a mark is the header of this function that has the body
+-- a mark is the header of the function with this name that has the body
 abbrev pub DefinesHere : List ℕ → MarkTree → Type 0
 DefinesHere bytes Opens = ⊥
 DefinesHere bytes Closes = ⊥
@@ -29,23 +29,23 @@ DefinesHere bytes (Declares (Header function)) = (function.name.bytes ≡ bytes)
     × IsSome function.body
 DefinesHere bytes (Uses name) = ⊥
 
--- and the mark stands at an index
+-- the mark with this index is such a header
 abbrev pub HasBodyAt : List MarkTree → List ℕ → ℕ → Type 0
 HasBodyAt marks bytes at = IsSomeAnd (slice_get marks at) (DefinesHere bytes)
 
--- and it is the first one with a body
+-- the mark with this index is the first such header
 pub record IsDefinition (marks : List MarkTree) (bytes : List ℕ) (at : ℕ) : Type 0 where
   pub body : HasBodyAt marks bytes at
   pub first : (k : ℕ) → k < at → ¬ HasBodyAt marks bytes k
 
--- what a name stands for whose innermost declaration this is: of a function the header that has
--- the body, where there is one
+-- the declaration that a name denotes, whose innermost declaration is this one: for a function the
+-- header that has the body, if there is one
 abbrev pub StandsFor : List MarkTree → List ℕ → ℕ → DeclarationTree → ℕ → Type 0
 StandsFor marks bytes at (Variable variable) meant = meant ≡ at
 StandsFor marks bytes at (Header function) meant = IsDefinition marks bytes meant
     ⊎ ((meant ≡ at) × ((k : ℕ) → ¬ HasBodyAt marks bytes k))
 
--- what a name means that is used at an index
+-- what a name that is used at an index denotes
 abbrev pub MeansAt : List MarkTree → List ℕ → ℕ → Meaning → Type 0
 MeansAt marks bytes from (m.Declared number) = (at : ℕ) × (d : DeclarationTree) × (meant : ℕ)
     × IsInnermost marks bytes from at × (slice_get marks at ≡ Some (Declares d))
@@ -53,11 +53,11 @@ MeansAt marks bytes from (m.Declared number) = (at : ℕ) × (d : DeclarationTre
 MeansAt marks bytes from m.Predeclared = IsHidden marks bytes from × Contains predeclared bytes
 MeansAt marks bytes from m.Undeclared = IsHidden marks bytes from × (¬ Contains predeclared bytes)
 
--- a name stands in an expression at an index of the outline
+-- an index of the outline is a name in an expression
 abbrev pub UsesAt : List MarkTree → Named → ℕ → Type 0
 UsesAt marks name from = slice_get marks from ≡ Some (Uses name)
 
--- what the token of an index means, where it is a name in an expression
+-- what the token with this index denotes, if it is a name in an expression
 pub record MeansIn (marks : List MarkTree) (token : ℕ) (meaning : Meaning) : Type 0 where
   pub name : Named
   pub from : ℕ

@@ -1,4 +1,4 @@
--- The scopes and names of a text, in the order in which it is read.
+-- The scopes and names of a text, in the order in which they are read.
 use Rattle.std.specs.Prelude.{List, [], ◌∷◌, ◌++◌, Option, Some, None}
 use Rattle.fk_syntax.specs.Tree as t
 use Rattle.fk_syntax.specs.Tree.{Named, Tree, Links, Trees, Suffixes}
@@ -6,7 +6,7 @@ use Rattle.fk_syntax.specs.Program as p
 use Rattle.fk_syntax.specs.Program.{DeclaredTree, Statement, Statements, FunctionTree, ItemTree}
 use Rattle.fk_syntax.specs.Program.{ProgramTree}
 
--- what has a name of its own, structs and their members apart; each header of a function is one
+-- a declaration other than that of a struct or a member; each header of a function is one
 pub data DeclarationTree : Type 0 where
   Variable : (variable : DeclaredTree) → DeclarationTree
   Header : (function : FunctionTree) → DeclarationTree
@@ -15,14 +15,14 @@ abbrev pub name_of : DeclarationTree → Named
 name_of (Variable variable) = variable.name
 name_of (Header function) = function.name
 
--- a scope begins or ends, a declaration has its name here, a name is used in an expression
+-- a scope begins or ends, a declaration has its name here, or a name is used in an expression
 pub data MarkTree : Type 0 where
   Opens : MarkTree
   Closes : MarkTree
   Declares : (declaration : DeclarationTree) → MarkTree
   Uses : (name : Named) → MarkTree
 
--- those of an expression
+-- the marks of an expression
 abbrev mutual
   pub tree_marks : Tree → List MarkTree
   tree_marks (t.Number spot value unsigned) = []
@@ -68,11 +68,11 @@ abbrev pub variables_marks : List DeclaredTree → List MarkTree
 variables_marks [] = []
 variables_marks (x ∷ xs) = variable_marks x ++ variables_marks xs
 
--- a scope round what stands in it
+-- the marks inside a scope, with its beginning and its end
 abbrev pub scope : List MarkTree → List MarkTree
 scope inner = Opens ∷ inner ++ Closes ∷ []
 
--- a block is a scope, and so is a statement that is the body of another
+-- a block is a scope, and so is a statement that is the body of another one
 abbrev mutual
   pub statement_marks : Statement → List MarkTree
   statement_marks p.Empty = []
@@ -106,7 +106,7 @@ abbrev pub body_marks : Option Statements → List MarkTree
 body_marks None = []
 body_marks (Some body) = statements_marks body
 
--- parameters and the body's outermost block are one scope
+-- the parameters and the outermost block of a function are one scope
 abbrev pub function_marks : FunctionTree → List MarkTree
 function_marks function = Declares (Header function)
     ∷ scope (variables_marks function.parameters ++ body_marks function.body)
@@ -123,7 +123,7 @@ items_marks (x ∷ xs) = item_marks x ++ items_marks xs
 abbrev pub outline : ProgramTree → List MarkTree
 outline program = items_marks program.items
 
--- what a mark declares, and what marks declare in their order
+-- the declaration at a mark, and the declarations at marks in their order
 abbrev pub declared_by : MarkTree → List DeclarationTree
 declared_by Opens = []
 declared_by Closes = []

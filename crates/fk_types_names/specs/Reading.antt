@@ -26,12 +26,12 @@ pub record Knows (reader : Reader) (among all : ℕ → Type 0) : Type 0 where
   pub holds : Holds (DeclaresAt (marks_of reader))
       (depth (marks_of reader)) among all file (shown reader.visible) reader.locals.items
 
--- what is visible at an index
+-- the reader knows what is visible at an index
 abbrev pub IsAt : Reader → ℕ → Type 0
 IsAt reader at =
     Knows reader (λ i. IsVisible (marks_of reader) i at) (λ i. IsVisible (marks_of reader) i at)
 
--- and what is declared there
+-- the reader also knows the declaration at that index
 abbrev pub IsPast : Reader → ℕ → Type 0
 IsPast reader at = Knows reader (λ i. IsVisible (marks_of reader) i at ⊎ (i ≡ at))
     (λ i. IsVisible (marks_of reader) i at ⊎ (i ≡ at))

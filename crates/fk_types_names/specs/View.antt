@@ -1,4 +1,4 @@
--- The declarations and marks of the code as those of the definitions.
+-- The declarations and marks of the code in the form of the definitions.
 use Rattle.fk_syntax.specs.View.{named}
 use Rattle.fk_syntax.specs.ProgramView.{declared_of, function_of}
 use Rattle.fk_types_names.specs.declared.outline.Declaration.{Declaration}

@@ -1,4 +1,4 @@
--- Which declarations are visible where.
+-- Which declarations are visible at an index.
 use Rattle.std.specs.Prelude.{◌≡◌, ◌⊎◌, ℕ, ◌-◌, ◌<◌, ◌≤◌, Bool, true, false, List, count_by, take}
 use Rattle.std.specs.Prelude.{IsSomeAnd, slice_get}
 use Rattle.fk_types_names.specs.Outline.{MarkTree, Opens, Closes, Declares, Uses, name_of}
@@ -15,7 +15,7 @@ is_closing Closes = true
 is_closing (Declares declaration) = false
 is_closing (Uses name) = false
 
--- how many scopes lie round the mark of an index: 0 at file scope
+-- the number of scopes around the mark with this index: 0 at file scope
 abbrev pub depth : List MarkTree → ℕ → ℕ
 depth marks at = count_by is_opening (take at marks) - count_by is_closing (take at marks)
 
@@ -26,18 +26,18 @@ DeclaresHere bytes Closes = ⊥
 DeclaresHere bytes (Declares d) = (name_of d).bytes ≡ bytes
 DeclaresHere bytes (Uses name) = ⊥
 
--- and the mark stands at an index
+-- the mark with this index declares this name
 abbrev pub DeclaresAt : List MarkTree → List ℕ → ℕ → Type 0
 DeclaresAt marks bytes at = IsSomeAnd (slice_get marks at) (DeclaresHere bytes)
 
--- what is declared at one index is visible at another: it stands before, unless it is of file
--- scope, and its scope does not end between the two
+-- a declaration is visible at an index: it comes before that index, unless it is at file scope, and
+-- its scope doesn't end between the two
 pub record IsVisible (marks : List MarkTree) (at from : ℕ) : Type 0 where
   pub before : 0 < depth marks at → at < from
   pub within : (k : ℕ) → at < k → k ≤ from → depth marks at ≤ depth marks k
 
--- of the declarations of a name that are visible at an index, this is the one of the innermost
--- scope, and the first there
+-- of the declarations of a name that are visible at an index, this is the first one in the
+-- innermost scope
 pub record IsInnermost (marks : List MarkTree) (bytes : List ℕ) (from at : ℕ) : Type 0 where
   pub declares : DeclaresAt marks bytes at
   pub visible : IsVisible marks at from

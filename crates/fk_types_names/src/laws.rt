@@ -1,4 +1,4 @@
-//! Laws of what names mean.
+//! Laws of what names denote.
 
 ghost use Rattle.fk_types_names.specs.Laws.{MeansOnce};
 

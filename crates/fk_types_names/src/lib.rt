@@ -1,4 +1,4 @@
-//! The names of a program: what declares them, where each is visible, and what one means.
+//! The names of a program: what declares them, where each is visible, and what each denotes.
 #![tactic(auto)]
 
 pub mod laws;

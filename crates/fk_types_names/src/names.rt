@@ -1,4 +1,4 @@
-//! What names mean.
+//! What names denote.
 
 ghost use Rattle.std.specs.Prelude.{◌≡◌, ℕ, ◌+◌, ◌<◌, Some, IfOk, OnOk, MatchOption, map, length};
 ghost use Rattle.std.specs.Prelude.{IsTrue, ◌↔◌, Contains, slice_get};
@@ -21,12 +21,12 @@ use crate::table::Table;
 use fk_syntax::Program;
 use std::alloc::{AllocError, Global};
 
-/// What a name means.
+/// What a name denotes.
 #[derive(Clone, Copy, PartialEq, Eq)]
 pub enum Meaning {
-    /// The declaration of this number: its index in `Names::declarations`.
+    /// The declaration with this number, which is its index in `Names::declarations`.
     Declared(u32),
-    /// What is declared before each text.
+    /// A predeclared value or function.
     Predeclared,
     /// Nothing.
     Undeclared,
@@ -35,10 +35,10 @@ pub enum Meaning {
 /// The names of a program.
 #[derive(Drop)]
 pub struct Names<'p, 'a> {
-    /// The variables, parameters and functions of the text, in the order in which their names stand
-    /// in it. Each header of a function is one.
+    /// The variables, parameters and functions of the text, in the order of their names in it. Each
+    /// header of a function counts.
     pub declarations: Vec<Declaration<'p, 'a>>,
-    /// What the token of an index means, where it is a name in an expression.
+    /// What the token with this index denotes, if it is a name in an expression.
     pub meanings: Vec<Option<Meaning>>,
 }
 
@@ -68,17 +68,17 @@ const PREDECLARED: [&[u8]; 14] = [
     b"__inputs",
 ];
 
-/// Whether a name is declared before each text.
+/// Whether a name is predeclared.
 pub fn is_predeclared(name: &[u8]) -> bool
     ensures { IsTrue result ↔ Contains predeclared name.now }
 {
     PREDECLARED.contains(&name)
 }
 
-// What is known of the declarations of an outline by themselves.
+// Tables of the declarations in an outline.
 #[derive(Drop)]
 struct Survey<'a> {
-    // How many declarations stand before each mark.
+    // The number of declarations before each mark.
     numbers: Vec<u32>,
     // The mark of the first header with a body of each function.
     definitions: Table<'a>,
@@ -94,7 +94,7 @@ impl<'a> Survey<'a> {
         })
     }
 
-    // The mark that a name stands for whose innermost declaration has this mark.
+    // The mark of the declaration that a name denotes, whose innermost declaration is at `at`.
     fn meant(reader: &Reader, at: usize, name: &[u8], survey: &Self) -> usize
         requires known { IsSurvey (marks_of reader.now) survey.now }
         requires within { at < length (marks_of reader.now) }
@@ -112,7 +112,7 @@ impl<'a> Survey<'a> {
         }
     }
 
-    // What a name means whose innermost declaration has this mark.
+    // What a name denotes, where `innermost` is the mark of its innermost declaration.
     fn meaning(reader: &Reader, innermost: Option<usize>, name: &[u8], survey: &Self) -> Meaning
         requires known { IsSurvey (marks_of reader.now) survey.now }
         requires within { (o : ℕ) → innermost ≡ Some o → o < length (marks_of reader.now) }
@@ -129,7 +129,7 @@ impl<'a> Survey<'a> {
     }
 }
 
-// Finds what the mark of an index means, where it is a name in an expression.
+// Finds what the mark with this index denotes, if it is a name in an expression.
 fn find_at(reader: &Reader, at: usize, survey: &Survey, meanings: &mut [Option<Meaning>])
     requires here { IsAt reader.now at }
     requires within { at < length (marks_of reader.now) }
@@ -145,7 +145,7 @@ fn find_at(reader: &Reader, at: usize, survey: &Survey, meanings: &mut [Option<M
     }
 }
 
-// Finds what each name in an expression means, by a reader before the first mark.
+// Finds what each name in an expression denotes, with a reader that is before the first mark.
 fn find_from(
     reader: &mut Reader,
     survey: &Survey,
@@ -165,7 +165,7 @@ fn find_from(
     Ok(())
 }
 
-// Finds what each name in an expression means.
+// Finds what each name in an expression denotes.
 fn find_all(
     alloc: Global,
     marks: &[Mark],
@@ -182,7 +182,7 @@ fn find_all(
     find_from(&mut reader, survey, meanings)
 }
 
-// What each name in an expression means, by the index of its token.
+// What each name in an expression denotes, by the index of its token.
 fn meanings(alloc: Global, marks: &[Mark], tokens: u32) -> Result<Vec<Option<Meaning>>, AllocError>
     requires { AreApart (map mark_of marks.now) tokens }
     ensures { IfOk result
@@ -194,7 +194,7 @@ fn meanings(alloc: Global, marks: &[Mark], tokens: u32) -> Result<Vec<Option<Mea
     Ok(meanings)
 }
 
-// The names of the program that has this outline, and so many tokens.
+// The names of the program that has this outline and this number of tokens.
 fn names_of<'p, 'a>(
     alloc: Global,
     outline: &Outline<'p, 'a>,
@@ -211,8 +211,8 @@ fn names_of<'p, 'a>(
     })
 }
 
-/// The declarations of a program, and what each name in its expressions means, in linear time.
-/// Fails only for want of memory.
+/// The declarations of a program, and what each name in its expressions denotes, in linear time. It
+/// fails only if there isn't enough memory.
 pub fn resolve<'p, 'a>(alloc: Global, program: &'p Program<'a>) -> Result<Names<'p, 'a>, AllocError>
     requires { IsWellFormed (program_of program.now) }
     ensures { IfOk result (AreNames (program_of program.now)) }

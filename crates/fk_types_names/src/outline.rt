@@ -1,4 +1,4 @@
-//! The scopes and names of a program, in the order in which it is read.
+//! The scopes and names of a program, in the order in which they are read.
 
 ghost use Rattle.std.specs.Prelude.{◌≡◌, ◌∷◌, ◌++◌, [], map, IfOk, OnOk};
 ghost use Rattle.std.specs.Option.{option_map};
@@ -21,12 +21,12 @@ ghost use Rattle.fk_types_names.specs.Filling.{is_header};
 use fk_syntax::{Declared, Expr, Function, Item, Link, Name, Stmt, Suffix};
 use std::alloc::{AllocError, Global};
 
-/// What has a name of its own, other than structs and their members.
+/// A declaration other than that of a struct or a member.
 #[derive(Clone, Copy)]
 pub enum Declaration<'p, 'a> {
     /// A variable or a parameter.
     Variable(&'p Declared<'a>),
-    /// A header of a function, with its body where it has one.
+    /// A header of a function, with its body if it has one.
     Function(&'p Function<'a>),
 }
 
@@ -42,12 +42,12 @@ impl<'a> Declaration<'_, 'a> {
     }
 }
 
-/// What matters for names, at one point of a text.
+/// A point of a text that matters for names.
 #[derive(Clone, Copy)]
 pub enum Mark<'p, 'a> {
     /// A scope begins.
     Opens,
-    /// The scope that began last and has no end yet ends.
+    /// The innermost open scope ends.
     Closes,
     /// The name of a declaration.
     Declares(Declaration<'p, 'a>),
@@ -56,7 +56,7 @@ pub enum Mark<'p, 'a> {
 }
 
 impl Mark<'_, '_> {
-    /// Whether a scope begins.
+    /// Whether the mark opens a scope.
     pub fn is_opening(&self) -> bool
         ensures { result ≡ is_opening (mark_of self.now) }
     {
@@ -66,14 +66,14 @@ impl Mark<'_, '_> {
         }
     }
 
-    /// Whether a function's header is declared.
+    /// Whether the mark declares a header of a function.
     pub fn is_header(&self) -> bool
         ensures { result ≡ is_header (mark_of self.now) }
     {
         matches!(self, Mark::Declares(Declaration::Function(_)))
     }
 
-    /// Whether a scope ends.
+    /// Whether the mark closes a scope.
     pub fn is_closing(&self) -> bool
         ensures { result ≡ is_closing (mark_of self.now) }
     {
@@ -84,14 +84,14 @@ impl Mark<'_, '_> {
     }
 }
 
-/// The marks of a text, in the order in which it is read.
+/// The marks of a text, in the order in which they are read.
 #[derive(Drop)]
 pub struct Outline<'p, 'a> {
     marks: Vec<Mark<'p, 'a>>,
 }
 
 impl<'p, 'a> Outline<'p, 'a> {
-    /// The marks of a program. Fails only for want of memory.
+    /// The marks of a program. It fails only if there isn't enough memory.
     pub fn of(alloc: Global, items: &'p [Item<'a>]) -> Result<Self, AllocError>
         ensures { IfOk result (λ outline. marks_in outline ≡ items_marks (map item_of items.now)) }
     {
@@ -109,7 +109,8 @@ impl<'p, 'a> Outline<'p, 'a> {
         &self.marks
     }
 
-    // What is read stands before what it is added to: such calls have shorter proofs than methods.
+    // The inputs come before the list that grows, because such calls have shorter proofs than
+    // methods.
     fn add(mark: Mark<'p, 'a>, into: &mut Self) -> Result<(), AllocError>
         ensures { OnOk result (marks_in into.new ≡ marks_in into.old ++ mark_of mark.entry ∷ []) }
     {
@@ -217,7 +218,7 @@ impl<'p, 'a> Outline<'p, 'a> {
         Ok(())
     }
 
-    // The three expressions of a `for`.
+    // Adds the three expressions of a `for`.
     fn add_head(
         before: &'p Option<Expr<'a>>,
         condition: &'p Option<Expr<'a>>,
@@ -234,7 +235,7 @@ impl<'p, 'a> Outline<'p, 'a> {
         Self::add_optional(after, into)
     }
 
-    // The three expressions of a `fork`.
+    // Adds the three expressions of a `fork`.
     fn add_parts(
         parts: &'p Expr<'a>,
         part: &'p Expr<'a>,
@@ -281,7 +282,7 @@ impl<'p, 'a> Outline<'p, 'a> {
         }
     }
 
-    // A body behind its condition.
+    // Adds a condition and the body after it.
     #[cycle(statement)]
     fn add_while(
         body: &'p Stmt<'a>,
@@ -296,7 +297,7 @@ impl<'p, 'a> Outline<'p, 'a> {
         Self::add_body(body, into)
     }
 
-    // A body before its condition.
+    // Adds a body and the condition after it.
     #[cycle(statement)]
     fn add_do_while(
         body: &'p Stmt<'a>,
@@ -311,7 +312,7 @@ impl<'p, 'a> Outline<'p, 'a> {
         Self::add_expression(condition, into)
     }
 
-    // The body of a `for` behind its three expressions.
+    // Adds the three expressions of a `for` and the body after them.
     #[cycle(statement)]
     fn add_for(
         body: &'p Stmt<'a>,
@@ -330,7 +331,7 @@ impl<'p, 'a> Outline<'p, 'a> {
         Self::add_body(body, into)
     }
 
-    // The body of a `start` behind its count.
+    // Adds the count of a `start` and the body after it.
     #[cycle(statement)]
     fn add_start(
         body: &'p Stmt<'a>,
@@ -345,7 +346,7 @@ impl<'p, 'a> Outline<'p, 'a> {
         Self::add_body(body, into)
     }
 
-    // The body of a `fork` behind its three expressions.
+    // Adds the three expressions of a `fork` and the body after them.
     #[cycle(statement)]
     fn add_fork(
         body: &'p Stmt<'a>,
@@ -364,7 +365,7 @@ impl<'p, 'a> Outline<'p, 'a> {
         Self::add_body(body, into)
     }
 
-    // A statement that is the body of another.
+    // Adds a statement that is the body of another one.
     #[cycle(statement)]
     fn add_body(body: &'p Stmt<'a>, into: &mut Self) -> Result<(), AllocError>
         ensures { OnOk result (marks_in into.new
@@ -404,7 +405,7 @@ impl<'p, 'a> Outline<'p, 'a> {
         Self::add_scope(function, into)
     }
 
-    // The scope of a function.
+    // Adds the scope of a function.
     fn add_scope(function: &'p Function<'a>, into: &mut Self) -> Result<(), AllocError>
         ensures { OnOk result (marks_in into.new ≡ marks_in into.old
             ++ scope (variables_marks (function_of function.now).parameters
@@ -415,7 +416,7 @@ impl<'p, 'a> Outline<'p, 'a> {
         Self::add(Mark::Closes, into)
     }
 
-    // The parameters of a function, and its body where it has one.
+    // Adds the parameters of a function, and its body if it has one.
     fn add_inside(function: &'p Function<'a>, into: &mut Self) -> Result<(), AllocError>
         ensures { OnOk result (marks_in into.new ≡ marks_in into.old
             ++ (variables_marks (function_of function.now).parameters

@@ -1,4 +1,4 @@
-//! What is visible while a text is read.
+//! The declarations that are visible while a text is read.
 
 ghost use Rattle.std.specs.Prelude.{◌≡◌, ◌≢◌, ◌+◌, ◌<◌, ◌≤◌, ◌++◌, ◌∷◌, [], ℕ, IfOk, OnOk, IsNone};
 ghost use Rattle.std.specs.Prelude.{IfSome, MatchOption, length, List, Some, false, IsTrue};
@@ -14,30 +14,31 @@ use crate::survey::{depths, file_scope};
 use crate::table::Table;
 use std::alloc::{AllocError, Global};
 
-/// A declaration of an inner scope that is open.
+/// A declaration in an inner scope that is open.
 #[derive(Clone, Copy)]
 struct Local<'a> {
     name: &'a [u8],
     /// Its mark.
     mark: usize,
-    /// The mark of what the name means outside its scope.
+    /// The mark of the declaration of the name outside its scope.
     hides: Option<usize>,
 }
 
-/// A reader of an outline, who knows the innermost declaration of each name.
+/// A reader of an outline, which knows the innermost declaration of each name.
 #[derive(Drop)]
 pub struct Reader<'m, 'p, 'a> {
     marks: &'m [Mark<'p, 'a>],
-    // How many scopes lie round each mark, and after the last one.
+    // The number of scopes around each mark, and after the last one.
     depths: Vec<usize>,
     // The mark of the innermost declaration of each name.
     visible: Table<'a>,
-    // The first declarations of their names in the scopes that are open, outer ones first.
+    // The first declaration of each name in each open scope, from the outer scopes to the inner
+    // ones.
     locals: Vec<Local<'a>>,
 }
 
 impl<'m, 'p, 'a> Reader<'m, 'p, 'a> {
-    /// A reader before the first mark. Fails only for want of memory.
+    /// A reader before the first mark. It fails only if there isn't enough memory.
     pub fn new(alloc: Global, marks: &'m [Mark<'p, 'a>]) -> Result<Self, AllocError>
         ensures start { IfOk result (λ reader. IsAt reader 0) }
         ensures marks { IfOk result (λ reader. reader.marks.now ≡ marks.entry.now) }
@@ -52,14 +53,14 @@ impl<'m, 'p, 'a> Reader<'m, 'p, 'a> {
         })
     }
 
-    /// The index behind the last mark.
+    /// The index after the last mark.
     pub(crate) fn end(&self) -> usize
         ensures { result ≡ length (marks_of self.now) }
     {
         self.marks.len()
     }
 
-    /// The mark of an index.
+    /// The mark with this index.
     pub(crate) fn mark(&self, at: usize) -> &'m Mark<'p, 'a>
         requires { at < length (marks_of self.now) }
         ensures { slice_get (marks_of self.now) at ≡ Some (mark_of result.now) }
@@ -76,7 +77,7 @@ impl<'m, 'p, 'a> Reader<'m, 'p, 'a> {
         self.visible.get(name)
     }
 
-    /// Goes past the mark of an index. Fails only for want of memory.
+    /// Passes the mark with this index. It fails only if there isn't enough memory.
     pub fn pass(&mut self, at: usize) -> Result<(), AllocError>
         requires within { at < length self.old.marks.now }
         requires here { IsAt self.old at }
@@ -87,7 +88,7 @@ impl<'m, 'p, 'a> Reader<'m, 'p, 'a> {
         self.leave(at)
     }
 
-    /// How many scopes lie round the mark of an index.
+    /// The number of scopes around the mark with this index.
     pub fn depth(&self, at: usize) -> usize
         requires known { (here : ℕ) × IsAt self.now here }
         requires within { at ≤ length (marks_of self.now) }
@@ -96,7 +97,7 @@ impl<'m, 'p, 'a> Reader<'m, 'p, 'a> {
         self.depths[at]
     }
 
-    // Whether the innermost declaration of a name stands in the scope of an index.
+    // Whether the innermost declaration of a name is in the scope of an index.
     fn is_of_scope(&self, innermost: Option<usize>, at: usize) -> bool
         requires here { at < length self.now.depths.items }
         requires there { (o : ℕ) → innermost ≡ Some o → o < length self.now.depths.items }
@@ -111,7 +112,7 @@ impl<'m, 'p, 'a> Reader<'m, 'p, 'a> {
         }
     }
 
-    // Takes note of what is declared at an index. What is of file scope is known from the start.
+    // Notes the declaration at an index. Those at file scope are known from the beginning.
     fn declare(&mut self, at: usize) -> Result<(), AllocError>
         requires within { at < length self.old.marks.now }
         requires here { IsAt self.old at }
@@ -128,7 +129,7 @@ impl<'m, 'p, 'a> Reader<'m, 'p, 'a> {
         self.declare_inside(name, at)
     }
 
-    // Takes note of a name that an inner scope declares at an index. Its first declaration counts.
+    // Notes a name that an inner scope declares at an index. Only its first declaration counts.
     fn declare_inside(&mut self, name: &'a [u8], at: usize) -> Result<(), AllocError>
         requires named { DeclaresAt (marks_of self.old) name.now at }
         requires here { IsAt self.old at }
@@ -149,7 +150,7 @@ impl<'m, 'p, 'a> Reader<'m, 'p, 'a> {
         Ok(())
     }
 
-    // Leaves the scope that ends at an index, where one does.
+    // Leaves the scope that ends at an index, if one does.
     fn leave(&mut self, at: usize) -> Result<(), AllocError>
         requires within { at < length self.old.marks.now }
         requires past { IsPast self.old at }
@@ -164,7 +165,7 @@ impl<'m, 'p, 'a> Reader<'m, 'p, 'a> {
     }
 }
 
-// Takes the last declaration, where it is deeper than this.
+// Removes and returns the last declaration, if it is deeper than `depth`.
 fn pop_below<'a>(locals: &mut Vec<Local<'a>>, depths: &[usize], depth: usize) -> Option<Local<'a>>
     requires { Each (λ l. l.mark < length depths.now) locals.old.items }
     ensures deep { IfSome result (λ l. depth < slice_index depths.now l.mark) }

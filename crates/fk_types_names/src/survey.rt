@@ -1,4 +1,4 @@
-//! What is known of each mark of an outline by itself.
+//! Tables of the marks of an outline.
 
 ghost use Rattle.std.specs.Prelude.{◌≡◌, ◌+◌, ℕ, ◌<◌, ◌++◌, List, IfOk, OnOk, map, length};
 ghost use Rattle.std.specs.Prelude.{slice_index, IfSome, IsNone};
@@ -14,7 +14,7 @@ use crate::outline::{Declaration, Mark};
 use crate::table::Table;
 use std::alloc::{AllocError, Global};
 
-/// How many scopes lie round each mark, and after the last one.
+/// The number of scopes around each mark, and after the last one.
 pub(crate) fn depths(alloc: Global, marks: &[Mark]) -> Result<Vec<usize>, AllocError>
     ensures { IfOk result (λ depths. AreDepths (map mark_of marks.now) depths.items) }
 {
@@ -30,7 +30,7 @@ pub(crate) fn depths(alloc: Global, marks: &[Mark]) -> Result<Vec<usize>, AllocE
     Ok(depths)
 }
 
-// Adds what a mark declares.
+// Adds the declaration at a mark, if it is one.
 fn add_declared<'p, 'a>(
     mark: &Mark<'p, 'a>,
     declarations: &mut Vec<Declaration<'p, 'a>>,
@@ -45,7 +45,7 @@ fn add_declared<'p, 'a>(
     Ok(())
 }
 
-/// The declarations.
+/// The declarations of an outline.
 pub(crate) fn declarations<'p, 'a>(
     alloc: Global,
     marks: &[Mark<'p, 'a>],
@@ -60,7 +60,7 @@ pub(crate) fn declarations<'p, 'a>(
     Ok(declarations)
 }
 
-// The number after a mark.
+// The number of declarations after a mark.
 fn number_after(mark: &Mark, number: u32) -> Result<u32, AllocError>
     ensures { IfOk result (λ next. next ≡ number + length (declared_by (mark_of mark.now))) }
 {
@@ -70,8 +70,8 @@ fn number_after(mark: &Mark, number: u32) -> Result<u32, AllocError>
     }
 }
 
-/// How many declarations stand before each mark. Where they are too many to be counted there is no
-/// memory for them.
+/// The number of declarations before each mark. It fails if there isn't enough memory, which
+/// includes more declarations than can be counted.
 pub(crate) fn numbers(alloc: Global, marks: &[Mark]) -> Result<Vec<u32>, AllocError>
     ensures size { IfOk result (λ numbers. length numbers.items ≡ length marks.now) }
     ensures each { IfOk result (λ numbers. (k : ℕ) → k < length marks.now
@@ -86,7 +86,7 @@ pub(crate) fn numbers(alloc: Global, marks: &[Mark]) -> Result<Vec<u32>, AllocEr
     Ok(numbers)
 }
 
-// The name that a mark declares, where no scope lies round it.
+// The name that a mark declares at file scope.
 fn file_name<'a>(mark: &Mark<'_, 'a>, depth: usize) -> Option<&'a [u8]>
     ensures some { IfSome result
         (λ name. DeclaresHere name.now (mark_of mark.now) × (depth ≡ 0)) }
@@ -116,7 +116,7 @@ pub(crate) fn file_scope<'a>(
     Ok(firsts)
 }
 
-// The name of a function, where the mark is its header with the body.
+// The name of a function, if the mark is its header with the body.
 fn defined_name<'a>(mark: &Mark<'_, 'a>) -> Option<&'a [u8]>
     ensures some { IfSome result (λ name. DefinesHere name.now (mark_of mark.now)) }
     ensures none { IsNone result → (name : List ℕ) → ¬ DefinesHere name (mark_of mark.now) }

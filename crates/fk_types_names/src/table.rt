@@ -15,7 +15,7 @@ pub struct Table<'a> {
 impl<'a> Table<'a> {
     ghost use Rattle.fk_types_names.specs.TableView.{shown, first_set};
 
-    /// No name has a mark.
+    /// A table in which no name has a mark.
     pub fn new(alloc: Global) -> Self
         ensures { (name : List ℕ) → shown result name ≡ None }
     {
@@ -31,7 +31,8 @@ impl<'a> Table<'a> {
         self.marks.get(name).copied()
     }
 
-    /// Gives a name another mark, and returns the one that it had. Fails only for want of memory.
+    /// Gives a name another mark. Returns the mark that it had. It fails only if there isn't enough
+    /// memory.
     pub(crate) fn replace(
         &mut self,
         name: &'a [u8],
@@ -45,7 +46,7 @@ impl<'a> Table<'a> {
         Ok(self.marks.insert(name, mark)?)
     }
 
-    /// Gives a name another mark, or none. Fails only for want of memory.
+    /// Gives a name another mark, or none. It fails only if there isn't enough memory.
     pub fn set(&mut self, name: &'a [u8], mark: Option<usize>) -> Result<(), AllocError>
         ensures same { OnOk result (shown self.new name.now ≡ mark) }
         ensures others { OnOk result
@@ -62,7 +63,8 @@ impl<'a> Table<'a> {
         Ok(())
     }
 
-    /// Gives a name, if there is one, a mark where it has none. Fails only for want of memory.
+    /// Gives a name, if there is one, a mark unless it has one. It fails only if there isn't enough
+    /// memory.
     pub fn set_first(&mut self, name: Option<&'a [u8]>, mark: usize) -> Result<(), AllocError>
         ensures some { OnOk result (IfSome name.entry (λ n. (q : List ℕ)
             → shown self.new q ≡ first_set n.now mark q (shown self.old q))) }

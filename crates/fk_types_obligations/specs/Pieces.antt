@@ -1,4 +1,4 @@
--- What stands in a text side by side: what is declared, and each expression with how it is used.
+-- The pieces of a text: its declarations, and each of its expressions with its use.
 use Rattle.std.specs.Prelude.{List, [], ◌∷◌, ◌++◌, Option, Some, None}
 use Rattle.fk_syntax.specs.declared.place.Spot.{Spot}
 use Rattle.fk_syntax.specs.Tree.{TypeTree, Tree}
@@ -8,8 +8,8 @@ use Rattle.fk_syntax.specs.Program.{ProgramTree}
 use Rattle.fk_types_obligations.specs.declared.piece.Role.{Role}
 use Rattle.fk_types_obligations.specs.declared.piece.Role.TheVariants as role
 
--- a variable stands with its initial value, where it has one, and a `return` with its own and with
--- the result of the function that it stands in
+-- a variable has its initial value, if there is one. A `return` has its value, if there is one, and
+-- the result type of its function
 pub data PieceTree : Type 0 where
   FileVariable : (variable : DeclaredTree) → PieceTree
   Variable : (variable : DeclaredTree) → PieceTree
@@ -34,7 +34,7 @@ abbrev pub parameters_pieces : List DeclaredTree → List PieceTree
 parameters_pieces [] = []
 parameters_pieces (x ∷ xs) = Parameter x ∷ parameters_pieces xs
 
--- those of a statement in a function of this result
+-- the pieces of a statement in a function with this result type
 abbrev mutual
   pub statement_pieces : TypeTree → Statement → List PieceTree
   statement_pieces result p.Empty = []
@@ -85,6 +85,6 @@ abbrev pub items_pieces : List ItemTree → List PieceTree
 items_pieces [] = []
 items_pieces (x ∷ xs) = item_pieces x ++ items_pieces xs
 
--- those of a program, in the order of the text
+-- the pieces of a program, in the order of the text
 abbrev pub pieces : ProgramTree → List PieceTree
 pieces program = items_pieces program.items

@@ -1,4 +1,4 @@
--- The pieces that are kept.
+-- The pieces that the code has collected.
 use Rattle.std.specs.Prelude.{List, map}
 use Rattle.fk_types_obligations.specs.declared.pieces.Pieces.{Pieces}
 use Rattle.fk_types_obligations.specs.Pieces.{PieceTree}

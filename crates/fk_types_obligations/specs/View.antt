@@ -1,4 +1,4 @@
--- The pieces of the code as those of the definitions.
+-- The pieces of the code in the form of the definitions.
 use Rattle.std.specs.Option.{option_map}
 use Rattle.fk_syntax.specs.View.{type_of, tree_of}
 use Rattle.fk_syntax.specs.ProgramView.{declared_of, function_of}

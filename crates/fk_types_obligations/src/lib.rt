@@ -1,5 +1,4 @@
-//! What stands in a Fork95 text side by side: what it declares, and each of its expressions
-//! with how it is used.
+//! The pieces of a Fork95 text: its declarations, and each of its expressions with its use.
 #![tactic(auto)]
 
 mod piece;

@@ -1,4 +1,4 @@
-//! One piece of a text.
+//! The pieces of a text.
 
 use fk_syntax::{Declared, Expr, Function, Spot, TypeName};
 
@@ -7,24 +7,24 @@ use fk_syntax::{Declared, Expr, Function, Spot, TypeName};
 pub enum Role {
     /// The condition of an `if` or a loop.
     Condition,
-    /// A statement of its own, or what a `for` does before and after its body.
+    /// A statement, or one of the expressions that a `for` evaluates before and after its body.
     Alone,
     /// A number of a `start` or a `fork`.
     Word,
 }
 
-/// What a text declares outside structs, or an expression in it.
+/// A declaration outside structs, or an expression.
 #[derive(Clone, Copy)]
 pub enum Piece<'p, 'a> {
-    /// A variable of file scope, with its initial value where it has one.
+    /// A variable of file scope, with its initial value if it has one.
     FileVariable(&'p Declared<'a>),
-    /// A variable in a function, with its initial value where it has one.
+    /// A variable in a function, with its initial value if it has one.
     Variable(&'p Declared<'a>),
     Parameter(&'p Declared<'a>),
-    /// A header of a function.
+    /// The header of a function.
     Header(&'p Function<'a>),
     /// An expression.
     Used(Role, &'p Expr<'a>),
-    /// A `return`: the result of its function, where it stands, and its value where it has one.
+    /// A `return`: the result type of its function, its spot, and its value if it has one.
     Return(&'p TypeName<'a>, Spot, &'p Option<Expr<'a>>),
 }

@@ -1,4 +1,4 @@
-//! The pieces of a text, in the order in which it is read.
+//! The pieces of a text, in the order in which they are checked.
 
 ghost use Rattle.std.specs.Prelude.{◌≡◌, ◌∷◌, ◌++◌, [], map, IfOk, OnOk};
 ghost use Rattle.std.specs.Option.{option_map};
@@ -18,15 +18,15 @@ use crate::piece::{Piece, Role};
 use fk_syntax::{Declared, Expr, Function, Item, Spot, Stmt, TypeName};
 use std::alloc::{AllocError, Global};
 
-/// The pieces of a text, in the order in which it is read: a `do` has its body before its
-/// condition.
+/// The pieces of a text, in the order in which they are checked. The body of a `do` comes before
+/// its condition.
 #[derive(Drop)]
 pub struct Pieces<'p, 'a> {
     list: Vec<Piece<'p, 'a>>,
 }
 
 impl<'p, 'a> Pieces<'p, 'a> {
-    /// The pieces of some items. Fails only for want of memory.
+    /// The pieces of some items. It fails only if there isn't enough memory.
     pub fn of(alloc: Global, items: &'p [Item<'a>]) -> Result<Self, AllocError>
         ensures { IfOk result (λ into. pieces_in into ≡ items_pieces (map item_of items.now)) }
     {
@@ -44,7 +44,8 @@ impl<'p, 'a> Pieces<'p, 'a> {
         &self.list
     }
 
-    // What is read stands before what it is added to: such calls have shorter proofs than methods.
+    // The inputs come before the list that grows, because such calls have shorter proofs than
+    // methods.
     fn add(piece: Piece<'p, 'a>, into: &mut Self) -> Result<(), AllocError>
         ensures { OnOk result (pieces_in into.new
             ≡ pieces_in into.old ++ piece_of piece.entry ∷ []) }
@@ -104,7 +105,7 @@ impl<'p, 'a> Pieces<'p, 'a> {
         Ok(())
     }
 
-    // The three expressions of a `for`.
+    // Adds the three expressions of a `for`.
     fn add_head(
         before: &'p Option<Expr<'a>>,
         condition: &'p Option<Expr<'a>>,
@@ -121,7 +122,7 @@ impl<'p, 'a> Pieces<'p, 'a> {
         Self::add_optional(after, Role::Alone, into)
     }
 
-    // The three expressions of a `fork`.
+    // Adds the three expressions of a `fork`.
     fn add_parts(
         parts: &'p Expr<'a>,
         part: &'p Expr<'a>,
@@ -137,10 +138,10 @@ impl<'p, 'a> Pieces<'p, 'a> {
         Self::add_optional(rank, Role::Word, into)
     }
 
-    // A `return` in a function of a result.
+    // Adds a `return` in a function with this result type.
     //
-    // Here and below a piece is made in a function of its own: what makes it and does more has a
-    // longer proof.
+    // Here and below, each piece is made in a function of its own, because a function that makes a
+    // piece and does more has a longer proof.
     fn add_return(
         value: &'p Option<Expr<'a>>,
         gives: &'p TypeName<'a>,
@@ -215,7 +216,7 @@ impl<'p, 'a> Pieces<'p, 'a> {
         Ok(())
     }
 
-    // The header of a function.
+    // Adds the header of a function.
     fn add_header(function: &'p Function<'a>, into: &mut Self) -> Result<(), AllocError>
         ensures { OnOk result (pieces_in into.new
             ≡ pieces_in into.old ++ t.Header (function_of function.now) ∷ []) }

@@ -1,4 +1,4 @@
--- The table of signs: what each takes, and what it gives.
+-- The table of signs: the operands of each sign, and the type of its result.
 use Rattle.std.specs.Prelude.{Bool, true, false, ◌&&◌, ◌||◌, nat_eq, Option, Some, None}
 use Rattle.std.specs.Prelude.{if◌then◌else◌}
 use Rattle.fk_syntax.specs.declared.sign.Sign.{Sign}
@@ -23,14 +23,14 @@ is_void_root r.Unsigned = false
 is_void_root r.Void = true
 is_void_root (r.Struct index) = false
 
--- a pointer to this is `void *`
+-- whether a pointer to this target is `void *`
 abbrev pub is_void : Target → Bool
 is_void t = is_void_root t.root && nat_eq t.stars 0
 
 abbrev pub is_same_target : Target → Target → Bool
 is_same_target a b = is_same_root a.root b.root && nat_eq a.stars b.stars
 
--- pointers to these convert to each other
+-- whether pointers to these targets convert to each other
 abbrev pub do_convert : Target → Target → Bool
 do_convert a b = is_same_target a b || is_void a || is_void b
 
@@ -46,11 +46,11 @@ fits is_zero (Pointer a) _ = false
 fits is_zero _ (Pointer b) = is_zero
 fits is_zero _ _ = true
 
--- a value converts to a type
+-- whether a value converts to a type
 abbrev pub converts : Operand → Value → Bool
 converts from to = fits from.is_zero from.value to
 
--- two integers give `unsigned` if one of them is that
+-- two integers give `unsigned` if one of them is unsigned
 abbrev pub joined : Value → Value → Option Value
 joined Int Int = Some Int
 joined Int Unsigned = Some Unsigned
@@ -58,7 +58,7 @@ joined Unsigned Int = Some Unsigned
 joined Unsigned Unsigned = Some Unsigned
 joined _ _ = None
 
--- a pointer that is moved by steps: `void *` has none
+-- the type of a pointer after it is moved; `void *` can't be moved
 abbrev pub moved : Target → Option Value
 moved t = if is_void t then None else Some (Pointer t)
 
@@ -76,25 +76,25 @@ shifted Unsigned Int = Some Unsigned
 shifted Unsigned Unsigned = Some Unsigned
 shifted _ _ = None
 
--- `int`, where a test holds
+-- `int` if a test holds
 abbrev pub int_if : Bool → Option Value
 int_if holds = if holds then Some Int else None
 
--- values that can be ordered, where an integer and a pointer can't
+-- whether two values can be ordered; an integer and a pointer can't
 abbrev pub are_ordered : Value → Value → Bool
 are_ordered (Pointer a) (Pointer b) = do_convert a b
 are_ordered (Pointer a) _ = false
 are_ordered _ (Pointer b) = false
 are_ordered _ _ = true
 
--- values that can be equal, where one of two may be the number 0: a pointer and that too
+-- whether two values can be compared for equality; a pointer and the number 0 can
 abbrev pub are_comparable : Bool → Bool → Value → Value → Bool
 are_comparable left_zero right_zero (Pointer a) (Pointer b) = do_convert a b
 are_comparable left_zero right_zero (Pointer a) _ = right_zero
 are_comparable left_zero right_zero _ (Pointer b) = left_zero
 are_comparable left_zero right_zero _ _ = true
 
--- a sign between two operands. Signs that don't stand there take nothing
+-- the type of a sign between two operands; signs that don't occur there have none
 abbrev pub binary : Sign → Operand → Operand → Option Value
 binary s.Star a b = joined a.value b.value
 binary s.Slash a b = joined a.value b.value
@@ -116,7 +116,7 @@ binary s.AndAnd a b = Some Int
 binary s.OrOr a b = Some Int
 binary _ a b = None
 
--- a sign before an operand, other than those that speak of where it is stored
+-- the type of a sign before an operand, except for signs that need the operand's location
 abbrev pub prefixed : Sign → Value → Option Value
 prefixed s.Plus Int = Some Int
 prefixed s.Plus Unsigned = Some Unsigned
@@ -133,27 +133,27 @@ counted Int = Some Int
 counted Unsigned = Some Unsigned
 counted (Pointer t) = moved t
 
--- two pointers of which one value is taken: `void *` where one of them is that
+-- the common type of two pointers, which is `void *` if one of them is
 abbrev pub met : Target → Target → Option Value
 met a b = if is_void a then Some (Pointer a) else (if is_void b then Some (Pointer b)
     else (if is_same_target a b then Some (Pointer a) else None))
 
--- a pointer, where a test holds
+-- a pointer if a test holds
 abbrev pub pointer_if : Bool → Target → Option Value
 pointer_if holds t = if holds then Some (Pointer t) else None
 
--- the value of one of two branches, of which each may be the number 0
+-- the type of a `?:`, each of whose two operands may be the number 0
 abbrev pub chosen_of : Bool → Bool → Value → Value → Option Value
 chosen_of left_zero right_zero (Pointer a) (Pointer b) = met a b
 chosen_of left_zero right_zero (Pointer a) _ = pointer_if right_zero a
 chosen_of left_zero right_zero _ (Pointer b) = pointer_if left_zero b
 chosen_of left_zero right_zero a b = joined a b
 
--- `?` with its `:`
+-- the type of a `?:`
 abbrev pub chosen : Operand → Operand → Option Value
 chosen a b = chosen_of a.is_zero b.is_zero a.value b.value
 
--- the sign in an assignment such as `+=`. `=` and all others have none
+-- the operator of a compound assignment such as `+=`. `=` and all other signs have none
 abbrev pub sign_within : Sign → Option Sign
 sign_within s.PlusAssign = Some s.Plus
 sign_within s.MinusAssign = Some s.Minus

@@ -1,4 +1,4 @@
--- The types of expressions, and what each is as a value.
+-- The types of expressions, and their value types.
 use Rattle.std.specs.Prelude.{ℕ, zero, suc, Bool, false, Option, Some, None, is_some, unwrap_or}
 use Rattle.std.specs.Option.{option_map}
 use Rattle.fk_types_structs.specs.declared.types.Root.{Root}
@@ -14,7 +14,7 @@ use Rattle.fk_types_operators.specs.declared.values.ExpressionType.TheVariants.{
 abbrev pub target : Root → ℕ → Target
 target root stars = record { root = root; stars = stars }
 
--- a root with so many stars, as a value: `void` and a struct are none
+-- the value type of a root with this number of stars; `void` and structs have none
 abbrev pub value_under : Root → ℕ → Option Value
 value_under r.Int zero = Some Int
 value_under r.Unsigned zero = Some Unsigned
@@ -22,7 +22,7 @@ value_under r.Void zero = None
 value_under (r.Struct index) zero = None
 value_under root (suc stars) = Some (Pointer (target root stars))
 
--- what is stored, as a value: an array is the pointer to its first element
+-- the value type of a stored value; for an array it is the pointer to its first element
 abbrev pub value_held : Root → ℕ → Option ℕ → Option Value
 value_held root stars None = value_under root stars
 value_held root stars (Some length) = Some (Pointer (target root stars))
@@ -30,13 +30,13 @@ value_held root stars (Some length) = Some (Pointer (target root stars))
 abbrev pub value_stored : DataType → Option Value
 value_stored type = value_held type.root type.stars type.length
 
--- an expression of a type, as a value
+-- the value type of an expression with this type
 abbrev pub value_of : ExpressionType → Option Value
 value_of (Stored type) = value_stored type
 value_of (Computed value) = Some value
 value_of Nothing = None
 
--- what a call gives whose function has this type as its result: for `void` nothing
+-- the type of a call of a function whose result has this type; there is no value for `void`
 abbrev pub result_of : DataType → ExpressionType
 result_of type = unwrap_or (option_map Computed (value_stored type)) Nothing
 
@@ -45,7 +45,7 @@ is_array (Stored type) = is_some type.length
 is_array (Computed value) = false
 is_array Nothing = false
 
--- the pointer to what is stored: for an array to its first element
+-- the pointer to a stored value; for an array it is that to its first element
 abbrev pub address_of : ExpressionType → Option Value
 address_of (Stored type) = Some (Pointer (target type.root type.stars))
 address_of (Computed value) = None

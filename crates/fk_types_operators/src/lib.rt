@@ -1,4 +1,5 @@
-//! The types of values, and the table of signs: what each sign takes, and what it gives.
+//! The types of values, and the table of signs: the operands of each sign, and the type of its
+//! result.
 #![tactic(auto)]
 
 mod signs;

@@ -23,7 +23,7 @@ fn is_same_root(left: Root, right: Root) -> bool
 }
 
 impl Target {
-    /// Whether a pointer to this is `void *`.
+    /// Whether a pointer to this target is `void *`.
     pub fn is_void(&self) -> bool
         ensures { result ≡ is_void self.now }
     {
@@ -36,14 +36,14 @@ impl Target {
         is_same_root(self.root, other.root) && self.stars == other.stars
     }
 
-    // Whether pointers to the two convert to each other.
+    // Whether pointers to the two targets convert to each other.
     fn does_convert(&self, other: &Target) -> bool
         ensures { result ≡ do_convert self.now other.now }
     {
         self.is_same(other) || self.is_void() || other.is_void()
     }
 
-    // A pointer to this, moved by steps: `void *` has none.
+    // The type of a pointer to this target after it is moved; `None` for `void *`.
     fn moved(self) -> Option<Value>
         ensures { result ≡ moved self }
     {
@@ -55,7 +55,7 @@ impl Target {
 }
 
 impl Value {
-    /// Whether it is an integer, and no pointer.
+    /// Whether it is an integer, and not a pointer.
     pub fn is_integer(&self) -> bool
         ensures { result ≡ is_integer self.now }
     {
@@ -66,8 +66,8 @@ impl Value {
     }
 }
 
-/// Whether a value converts to a type: integers to each other, pointers to those of one type, to
-/// and from `void *`, and the number 0 to every pointer.
+/// Whether a value converts to a type. Integers convert to each other, pointers to those of the
+/// same type, to and from `void *`, and the number 0 to every pointer.
 pub fn converts(from: Operand, to: Value) -> bool
     ensures { result ≡ t.converts from to }
 {
@@ -79,7 +79,7 @@ pub fn converts(from: Operand, to: Value) -> bool
     }
 }
 
-// Two integers give `unsigned` if one of them is that.
+// The type that two integers give, which is `unsigned` if one of them is.
 fn joined(left: Value, right: Value) -> Option<Value>
     ensures { result ≡ joined left right }
 {
@@ -110,7 +110,7 @@ fn shifted(left: Value, right: Value) -> Option<Value>
     }
 }
 
-// `int`, where a test holds
+// `int` if a test holds
 fn int_if(holds: bool) -> Option<Value>
     ensures { result ≡ int_if holds }
 {
@@ -139,8 +139,8 @@ fn are_comparable(left: Operand, right: Operand) -> bool
     }
 }
 
-/// What a sign between two operands gives. There is none where it doesn't take them, and for signs
-/// that don't stand between two operands, the comma and assignments among them.
+/// The type of a sign between two operands. There is none if the sign doesn't take them, or if it
+/// doesn't occur between two operands. The latter includes the comma and assignments.
 pub fn binary(sign: Sign, left: Operand, right: Operand) -> Option<Value>
     ensures { result ≡ t.binary sign left right }
 {
@@ -158,8 +158,8 @@ pub fn binary(sign: Sign, left: Operand, right: Operand) -> Option<Value>
     }
 }
 
-/// What one of the signs `+`, `-`, `~` and `!` before a value gives. There is none where it doesn't
-/// take the value, and for all other signs.
+/// The type of a sign `+`, `-`, `~` or `!` before a value. There is none if the sign doesn't take
+/// the value, or for other signs.
 pub fn prefixed(sign: Sign, value: Value) -> Option<Value>
     ensures { result ≡ t.prefixed sign value }
 {
@@ -173,7 +173,7 @@ pub fn prefixed(sign: Sign, value: Value) -> Option<Value>
     }
 }
 
-/// What `++` or `--` gives. There is none for a `void *`.
+/// The type of `++` or `--` on a value. There is none for a `void *`.
 pub fn counted(value: Value) -> Option<Value>
     ensures { result ≡ t.counted value }
 {
@@ -183,7 +183,7 @@ pub fn counted(value: Value) -> Option<Value>
     }
 }
 
-// Two pointers of which one value is taken.
+// The common type of two pointers.
 fn met(left: Target, right: Target) -> Option<Value>
     ensures { result ≡ met left right }
 {
@@ -199,7 +199,7 @@ fn met(left: Target, right: Target) -> Option<Value>
     None
 }
 
-// A pointer, where a test holds
+// A pointer if a test holds
 fn pointer_if(holds: bool, target: Target) -> Option<Value>
     ensures { result ≡ t.pointer_if holds target }
 {
@@ -209,8 +209,7 @@ fn pointer_if(holds: bool, target: Target) -> Option<Value>
     None
 }
 
-/// What `?` with its `:` gives, by what stands on each side of the `:`. There is none where the two
-/// have no type together.
+/// The type of a `?:`, by its two operands. There is none if they have no common type.
 pub fn chosen(first: Operand, second: Operand) -> Option<Value>
     ensures { result ≡ t.chosen first second }
 {
@@ -226,7 +225,7 @@ pub fn chosen(first: Operand, second: Operand) -> Option<Value>
     }
 }
 
-/// The sign in an assignment such as `+=`. `=` and all other signs have none.
+/// The operator of a compound assignment such as `+=`. `=` and all other signs have none.
 pub fn sign_within(sign: Sign) -> Option<Sign>
     ensures { result ≡ t.sign_within sign }
 {

@@ -1,4 +1,4 @@
-//! The types of expressions, and what each is as a value.
+//! The types of expressions, and their value types.
 
 ghost use Rattle.std.specs.Prelude.{◌≡◌};
 ghost use Rattle.fk_types_operators.specs.Values.{value_under, value_held, value_stored, value_of};
@@ -6,11 +6,11 @@ ghost use Rattle.fk_types_operators.specs.Values.{result_of, is_array, address_o
 
 use fk_types_structs::{DataType, Root};
 
-/// What a pointer points to: a root with stars, as `int *` for an `int **`.
+/// The target of a pointer: a root with stars, such as `int *` for an `int **`.
 #[derive(Clone, Copy, PartialEq, Eq)]
 pub struct Target {
     pub root: Root,
-    /// How many pointers lead from it to the root.
+    /// The number of pointers from it to the root.
     pub stars: u64,
 }
 
@@ -19,30 +19,30 @@ pub struct Target {
 pub enum Value {
     Int,
     Unsigned,
-    /// A pointer to this.
+    /// A pointer to this target.
     Pointer(Target),
 }
 
-/// A value that a sign works on.
+/// An operand of a sign.
 #[derive(Clone, Copy, PartialEq, Eq)]
 pub struct Operand {
     pub value: Value,
-    /// Whether it is the number 0, written as one token: that converts to every pointer.
+    /// Whether it is the number 0, written as one token, which converts to every pointer.
     pub is_zero: bool,
 }
 
 /// The type of an expression.
 #[derive(Clone, Copy, PartialEq, Eq)]
 pub enum ExpressionType {
-    /// What is stored in memory: a variable, a member, an element, or what a pointer points to.
+    /// A stored value: a variable, a member, an element, or what a pointer points to.
     Stored(DataType),
-    /// A value that is computed.
+    /// A computed value.
     Computed(Value),
-    /// Nothing: the call of a `void` function.
+    /// No value: the call of a `void` function.
     Nothing,
 }
 
-// A root with so many stars, as a value. `void` and a struct are none.
+// The value type of a root with this number of stars. `void` and structs have none.
 fn value_under(root: Root, stars: u64) -> Option<Value>
     ensures { result ≡ value_under root stars }
 {
@@ -57,7 +57,7 @@ fn value_under(root: Root, stars: u64) -> Option<Value>
     }
 }
 
-// What is stored, as a value: an array is the pointer to its first element.
+// The value type of a stored value. For an array it is the pointer to its first element.
 fn value_stored(stored: &DataType) -> Option<Value>
     ensures { result ≡ value_stored stored.now }
 {
@@ -69,8 +69,8 @@ fn value_stored(stored: &DataType) -> Option<Value>
 }
 
 impl ExpressionType {
-    /// What an expression of this type is as a value: an array is the pointer to its first element,
-    /// and a struct and nothing at all are no values.
+    /// The value type of an expression with this type. For an array it is the pointer to its first
+    /// element. A struct has none, and neither has a call of a `void` function.
     pub fn value(&self) -> Option<Value>
         ensures { result ≡ value_of self.now }
     {
@@ -81,7 +81,7 @@ impl ExpressionType {
         }
     }
 
-    /// What a call of a function gives whose result is of this type.
+    /// The type of the calls of a function whose result has this type.
     pub fn of_call(kind: &DataType) -> ExpressionType
         ensures { result ≡ result_of kind.now }
     {
@@ -101,7 +101,7 @@ impl ExpressionType {
         }
     }
 
-    /// The pointer to it, where it is stored: for an array to its first element.
+    /// The pointer to it, if it is stored. For an array it is that to its first element.
     pub fn address(&self) -> Option<Value>
         ensures { result ≡ address_of self.now }
     {

@@ -1,4 +1,4 @@
--- The references that are kept.
+-- The references that the code has collected.
 use Rattle.std.specs.Prelude.{List, map}
 use Rattle.fk_types_references.specs.declared.references.References.{References}
 use Rattle.fk_types_references.specs.References.{ReferenceTree}

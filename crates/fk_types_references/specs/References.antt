@@ -1,4 +1,5 @@
--- What expressions name: variables and functions, members of structs, and types by their size.
+-- The references in expressions: to variables and functions, members of structs, and types by
+-- `sizeof`.
 use Rattle.std.specs.Prelude.{ℕ, Bool, true, false, List, [], ◌∷◌, ◌++◌, Option, Some, None}
 use Rattle.fk_syntax.specs.declared.place.Spot.{Spot}
 use Rattle.fk_syntax.specs.Tree as t
@@ -40,7 +41,7 @@ pub data ReferenceTree : Type 0 where
   Member : (whole : ℕ) (is_arrow : Bool) (member : Named) → ReferenceTree
   Size : (spot : Spot) (type : TypeTree) → ReferenceTree
 
--- those of an expression
+-- the references in an expression
 abbrev mutual
   pub tree_references : Tree → List ReferenceTree
   tree_references (t.Number spot value unsigned) = []
@@ -68,7 +69,7 @@ abbrev mutual
   trees_references t.no_trees = []
   trees_references (t.tree first others) = tree_references first ++ trees_references others
 
-  -- those of suffixes of an expression with this main token
+  -- the references in suffixes of an expression with this main token
   pub suffixes_references : ℕ → Suffixes → List ReferenceTree
   suffixes_references at t.no_suffixes = []
   suffixes_references at (t.index spot by others) =

@@ -1,4 +1,4 @@
--- The references of the code as those of the definitions.
+-- The references of the code in the form of the definitions.
 use Rattle.fk_syntax.specs.View.{named, type_of}
 use Rattle.fk_types_references.specs.declared.references.Reference.{Reference}
 use Rattle.fk_types_references.specs.declared.references.Reference.TheVariants as c

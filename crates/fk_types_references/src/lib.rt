@@ -1,5 +1,5 @@
-//! What the expressions of a Fork95 text name: variables and functions, members of structs, and
-//! types by their size.
+//! The references in the expressions of a Fork95 text: to variables and functions, to members of
+//! structs, and to types by `sizeof`.
 #![tactic(auto)]
 
 mod references;

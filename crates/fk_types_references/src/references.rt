@@ -1,4 +1,4 @@
-//! The names in expressions.
+//! The references in expressions.
 
 ghost use Rattle.std.specs.Prelude.{◌≡◌, ◌∷◌, ◌++◌, [], map, IfOk, OnOk};
 ghost use Rattle.std.specs.Option.{option_map};
@@ -14,7 +14,7 @@ ghost use Rattle.fk_types_references.specs.Found.{found_in};
 use fk_syntax::{Expr, Link, Name, Spot, Suffix, TypeName};
 use std::alloc::{AllocError, Global};
 
-/// What an expression names.
+/// A reference in an expression.
 #[derive(Clone, Copy)]
 pub enum Reference<'a> {
     /// A variable or a function.
@@ -22,18 +22,18 @@ pub enum Reference<'a> {
     /// A member: the index of the main token of the expression before the `.` or `->`, whether it
     /// is `->`, and the member's name.
     Member(u32, bool, Name<'a>),
-    /// A `sizeof`, and its type.
+    /// A `sizeof`, with its type.
     Size(Spot, TypeName<'a>),
 }
 
-/// What expressions name, in the order in which they are read.
+/// The references in expressions, in the order in which they are read.
 #[derive(Drop)]
 pub struct References<'a> {
     list: Vec<Reference<'a>>,
 }
 
 impl<'a> References<'a> {
-    /// None yet.
+    /// An empty list.
     pub fn new(alloc: Global) -> Self
         ensures { found_in result ≡ [] }
     {
@@ -42,7 +42,7 @@ impl<'a> References<'a> {
         }
     }
 
-    /// Those that were added, in order.
+    /// The references that were added, in order.
     pub fn list(&self) -> &[Reference<'a>]
         ensures { map reference_of result.now ≡ found_in self.now }
     {
@@ -57,8 +57,8 @@ impl<'a> References<'a> {
         Ok(())
     }
 
-    /// Adds those of an expression, and answers the index of its main token: of its last sign, or
-    /// of its name or number. Fails only for want of memory.
+    /// Adds the references in an expression. Returns the index of its main token, which is its last
+    /// sign, or its name or number. It fails only if there isn't enough memory.
     pub fn add(&mut self, expression: &Expr<'a>) -> Result<u32, AllocError>
         ensures main { IfOk result (λ at. at ≡ main_token (tree_of expression.now)) }
         ensures added { OnOk result (found_in self.new
@@ -67,8 +67,8 @@ impl<'a> References<'a> {
         Self::add_tree(expression, self)
     }
 
-    // Here and below what is read stands before what it is added to: such calls have shorter proofs
-    // than methods.
+    // In this function and those below, the inputs come before the list that grows, because such
+    // calls have shorter proofs than methods.
     #[cycle(expression)]
     fn add_tree(expression: &Expr<'a>, kept: &mut Self) -> Result<u32, AllocError>
         ensures main { IfOk result (λ at. at ≡ main_token (tree_of expression.now)) }
@@ -129,7 +129,7 @@ impl<'a> References<'a> {
         Ok(at)
     }
 
-    // One suffix of an expression with this main token.
+    // Adds the references in one suffix of an expression with this main token.
     #[cycle(expression)]
     fn add_suffix(suffix: &Suffix<'a>, whole: u32, kept: &mut Self) -> Result<u32, AllocError>
         ensures main { IfOk result
@@ -183,7 +183,8 @@ impl<'a> References<'a> {
         Ok(())
     }
 
-    /// Adds those of an expression, where there is one. Fails only for want of memory.
+    /// Adds the references in an expression, if there is one. It fails only if there isn't enough
+    /// memory.
     pub fn add_optional(&mut self, expression: &Option<Expr<'a>>) -> Result<(), AllocError>
         ensures { OnOk result (found_in self.new
             ≡ found_in self.old ++ optional_references (option_map tree_of expression.now)) }

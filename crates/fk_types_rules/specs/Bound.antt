@@ -1,4 +1,4 @@
--- What the tokens of a program name.
+-- The bindings of the tokens of a program.
 use Rattle.std.specs.Prelude.{◌≡◌, ℕ, ◌*◌, ◌^◌, ◌-◌, Bool, true, false, List, [], ◌∷◌, ◌++◌, Option}
 use Rattle.std.specs.Prelude.{Some, None, slice_get, Contains}
 use Rattle.std.specs.Option.{option_and_then}
@@ -22,7 +22,7 @@ use Rattle.fk_types_references.specs.References.{ReferenceTree, Name, Member, Si
 use Rattle.fk_types_references.specs.References.{optional_references}
 use Rattle.fk_types_rules.specs.Noted.{HasTypeAt}
 
--- what the expressions of a piece name
+-- the references in the expressions of a piece
 abbrev pub piece_references : PieceTree → List ReferenceTree
 piece_references (p.FileVariable variable) = optional_references variable.first
 piece_references (p.Variable variable) = optional_references variable.first
@@ -35,13 +35,13 @@ abbrev pub pieces_references : List PieceTree → List ReferenceTree
 pieces_references [] = []
 pieces_references (x ∷ xs) = piece_references x ++ pieces_references xs
 
--- the struct whose member is named: after `.` what stands before it, after `->` what that points to
+-- the struct whose member is named: after `.` the expression itself, after `->` what it points to
 abbrev pub struct_before : Bool → ExpressionType → Option ℕ
 struct_before false type = struct_of type
 struct_before true type = option_and_then struct_at (value_of type)
 
--- what a reference names, as a number: a declaration, or what is declared before each text; the
--- words before a member; the bytes of a type. Sizes above the limit are all alike
+-- the number to which a reference refers: that of a declaration or of predeclared names; the words
+-- before a member; the bytes of a type. All sizes above the limit are the same
 pub data Refers (env : Env) (program : ProgramTree) : ReferenceTree → ℕ → Type 0 where
   declared : (name : Named) (number : ℕ) → Means program name.at (m.Declared number)
       → Refers env program (Name name) number
@@ -63,8 +63,8 @@ token_of (Name name) = name.at
 token_of (Member whole is_arrow name) = name.at
 token_of (Size spot type) = spot.at
 
--- what the token of an index names: what stands there refers to it, or is the name of a declaration
--- that stands for it
+-- the binding of the token with this index: the number to which its reference refers, or that of
+-- the declaration for which the declared name there stands
 pub data IsBound (env : Env) (program : ProgramTree) (at : ℕ) : ℕ → Type 0 where
   refers : (r : ReferenceTree) (number : ℕ) → Contains (pieces_references (pieces program)) r
       → token_of r ≡ at → Refers env program r number → IsBound env program at number
@@ -73,12 +73,12 @@ pub data IsBound (env : Env) (program : ProgramTree) (at : ℕ) : ℕ → Type 0
       → StandsFor (outline program) (name_of d).bytes here d meant
       → IsBound env program at (binding (outline program) meant)
 
--- each token that names anything has its number
+-- each token that has a binding has its number
 abbrev pub AreBound : Env → ProgramTree → List ℕ → Type 0
 AreBound env program numbers = (at number : ℕ) → IsBound env program at number
     → slice_get numbers at ≡ Some number
 
--- and each other token has 0
+-- each token without a binding has 0
 abbrev pub AreUnbound : Env → ProgramTree → List ℕ → Type 0
 AreUnbound env program numbers = (at number : ℕ) → ((bound : ℕ) → ¬ IsBound env program at bound)
     → slice_get numbers at ≡ Some number → number ≡ 0

@@ -1,4 +1,4 @@
--- What a program breaks of the rules about names and types.
+-- The rules about names and types that a program breaks.
 use Rattle.std.specs.Prelude.{◌≡◌, Some}
 use Rattle.fk_syntax.specs.declared.facts.CheckFault.{CheckFault}
 use Rattle.fk_syntax.specs.declared.facts.CheckFault.TheVariants as c
@@ -12,14 +12,13 @@ use Rattle.fk_types_judgments.specs.Names.{Env, IsEnv}
 use Rattle.fk_types_obligations.specs.Pieces.{pieces}
 use Rattle.fk_types_rules.specs.Pieces.{PieceBreaks}
 
--- the sum of the rules: what its structs, its names and its pieces break, where this is
--- known of its names
+-- the rules as a whole: those that its structs, its names and its pieces break, in this environment
 abbrev pub Broken : Env → ProgramTree → Breaks
 Broken env program = either (either (StructsBreak env.structs) (NamesBreak program))
     (among (λ i. PieceBreaks env) (pieces program))
 
--- why a program has no facts: the first rule that it breaks, by place and then by number, where
--- what is known of its names is right
+-- the refusal of a program: the first rule that it breaks, by place and then by number, in an
+-- environment that is right about it; or there isn't enough memory
 abbrev pub IsRefusal : ProgramTree → CheckFault → Type 0
 IsRefusal program (c.Rule place number) = (env : Env) × IsEnv program env
     × (rule : Rule) × IsLeast (Broken env program) (Some (record { place = place; rule = rule }))

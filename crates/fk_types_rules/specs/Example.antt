@@ -1,4 +1,4 @@
--- The text `int x = 2;`, of which the laws tell something.
+-- The text `int x = 2;`, the example of a law.
 use Rattle.std.specs.Prelude.{ℕ, false, [], ◌∷◌, Some, None}
 use Rattle.fk_syntax.specs.declared.place.Place.{Place}
 use Rattle.fk_syntax.specs.Tree as t

@@ -1,4 +1,4 @@
--- What is known of a program that keeps the rules about names and types.
+-- The facts of a program that keeps the rules about names and types.
 use Rattle.std.specs.Prelude.{◌≡◌, ℕ, ◌<◌, false, List, length, slice_get, Some}
 use Rattle.fk_syntax.specs.declared.place.Place.{Place}
 use Rattle.fk_syntax.specs.declared.facts.Note.{Note}
@@ -13,8 +13,8 @@ use Rattle.fk_types_rules.specs.Kinds.{IsKind}
 use Rattle.fk_types_rules.specs.Noted.{HasTypeAt}
 use Rattle.fk_types_rules.specs.Bound.{IsBound}
 
--- a note says the type of its token and what it names, with 0 where there is none, and
--- nothing else yet
+-- a note has the kind of the type of its token and its binding, with 0 if there is none, and no
+-- other facts yet
 pub record IsNote (env : Env) (program : ProgramTree) (kinds : List Kind) (at : ℕ)
     (note : Note) : Type 0 where
   pub kind : (type : ExpressionType) → HasTypeAt env program at type
@@ -26,7 +26,7 @@ pub record IsNote (env : Env) (program : ProgramTree) (kinds : List Kind) (at : 
   pub shared : note.shared ≡ false
   pub splits : note.splits ≡ false
 
--- a kind is first met at a token: tokens before it have earlier ones
+-- a kind first occurs at a token: all tokens before it that have a type have lesser numbers
 pub record IsMetAt (env : Env) (program : ProgramTree) (notes : List Note)
     (number at : ℕ) : Type 0 where
   pub here : (note : Note) × (type : ExpressionType) × (slice_get notes at ≡ Some note)
@@ -34,7 +34,7 @@ pub record IsMetAt (env : Env) (program : ProgramTree) (notes : List Note)
   pub first : (before : ℕ) (note : Note) (type : ExpressionType) → before < at
       → slice_get notes before ≡ Some note → HasTypeAt env program before type → note.kind < number
 
--- the facts, where this is known of the program
+-- the facts of a program, in this environment
 pub record AreFactsIn (env : Env) (program : ProgramTree) (facts : Facts) : Type 0 where
   pub tokens : length facts.notes.items ≡ program.tokens
   pub notes : (at : ℕ) (note : Note) → slice_get facts.notes.items at ≡ Some note

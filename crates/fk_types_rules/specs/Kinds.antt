@@ -1,4 +1,4 @@
--- Types, as far as code is made by them.
+-- Types, as far as code generation depends on them.
 use Rattle.std.specs.Prelude.{◌≡◌, ◌⊎◌, ℕ, ◌*◌, true, false, List, Option, Some, None}
 use Rattle.fk_syntax.specs.declared.facts.Kind.{Kind}
 use Rattle.fk_types_structs.specs.declared.types.DataType.{DataType}
@@ -13,13 +13,13 @@ use Rattle.fk_types_operators.specs.declared.values.ExpressionType.TheVariants.{
 use Rattle.fk_types_operators.specs.declared.values.ExpressionType.TheVariants.{Nothing}
 use Rattle.fk_types_operators.specs.Values.{target, value_under}
 
--- the words of a type, those above the limit all alike; `void` has none
+-- the words of a type, those above the limit all alike; 0 where it has no number of words
 abbrev pub IsWords : List StructTree → DataType → ℕ → Type 0
 IsWords structs type words =
     ((exact : ℕ) × HasTypeWords structs type exact × (words ≡ capped exact))
     ⊎ (((exact : ℕ) → ¬ HasTypeWords structs type exact) × (words ≡ 0))
 
--- the bytes of what a pointer points to: 0 for `void *`
+-- the size in bytes of what a pointer points to; 0 for `void *`
 abbrev pub IsStep : List StructTree → Target → ℕ → Type 0
 IsStep structs t step = (words : ℕ) × IsWords structs
     (record { root = t.root; stars = t.stars; length = None }) words × (step ≡ 4 * words)
@@ -32,7 +32,7 @@ IsValueKind structs Unsigned kind =
 IsValueKind structs (Pointer t) kind = (step : ℕ) × IsStep structs t step
     × (kind ≡ record { words = 1; unsigned = true; array = false; step = step })
 
--- what is stored: an array, a value, or a struct
+-- the kind of a stored value, which is an array, a scalar, or a struct
 abbrev pub IsArrayKind : List StructTree → DataType → Kind → Type 0
 IsArrayKind structs type kind = (words : ℕ) × (step : ℕ) × IsWords structs type words
     × IsStep structs (target type.root type.stars) step
@@ -48,7 +48,8 @@ IsStoredKind structs type (Some length) kind = IsArrayKind structs type kind
 IsStoredKind structs type None kind =
     IsPlainKind structs type (value_under type.root type.stars) kind
 
--- what code needs to know of a type. The call of a `void` function gives no words
+-- the kind of a type, which is what code generation needs to know of it. The call of a `void`
+-- function has no words
 abbrev pub IsKind : List StructTree → ExpressionType → Kind → Type 0
 IsKind structs (Stored type) kind = IsStoredKind structs type type.length kind
 IsKind structs (Computed value) kind = IsValueKind structs value kind

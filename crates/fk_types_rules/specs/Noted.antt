@@ -21,8 +21,8 @@ abbrev pub declared_noted : Env → DeclaredTree → List Noted
 declared_noted env declared =
     note declared.name.at (option_map Stored (type_declared env.structs declared))
 
--- the types in a piece, each by its token: those of its expressions at their main tokens, and of
--- what it declares at its name; of a function that is what it gives
+-- the types in a piece, each with its token: those of its expressions at their main tokens, and
+-- those of declared names at the names. For a function that is the type of its calls
 abbrev pub piece_noted : Env → PieceTree → List Noted
 piece_noted env (p.FileVariable variable) =
     declared_noted env variable ++ optional_noted env variable.first
@@ -38,12 +38,12 @@ abbrev pub pieces_noted : Env → List PieceTree → List Noted
 pieces_noted env [] = []
 pieces_noted env (x ∷ xs) = piece_noted env x ++ pieces_noted env xs
 
--- the token of an index has a type
+-- the token with this index has this type
 abbrev pub HasTypeAt : Env → ProgramTree → ℕ → ExpressionType → Type 0
 HasTypeAt env program at type =
     Contains (pieces_noted env (pieces program)) (record { at = at; type = Some type })
 
--- the type that a table has at a token
+-- the type that a table has for a token
 abbrev pub type_at : List (Option ExpressionType) → ℕ → Option ExpressionType
 type_at types at = option_and_then (λ type. type) (slice_get types at)
 

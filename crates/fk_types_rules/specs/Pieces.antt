@@ -1,4 +1,4 @@
--- What the pieces of a text break.
+-- The rules that the pieces of a text break.
 use Rattle.std.specs.Prelude.{◌⊎◌, Bool, false, not, Option, Some, None, is_some, IsSome}
 use Rattle.std.specs.Prelude.{if◌then◌else◌}
 use Rattle.fk_syntax.specs.declared.place.Place.{Place}
@@ -26,27 +26,27 @@ use Rattle.fk_types_obligations.specs.Pieces.{PieceTree}
 use Rattle.fk_types_obligations.specs.Pieces as p
 use Rattle.fk_types_rules.specs.Constant.{ConstantBreaks}
 
--- what is stored, as a value, where it is neither an array nor a struct
+-- the value type of a stored value that is neither an array nor a struct
 abbrev pub scalar : Option DataType → Option Value
 scalar None = None
 scalar (Some type) = if is_some type.length then None else value_stored type
 
--- a value doesn't convert to another
+-- there are two types, and the first doesn't convert to the second
 abbrev pub is_not_converted : Option Operand → Option Value → Bool
 is_not_converted (Some from) (Some to) = not (converts from to)
 is_not_converted _ _ = false
 
--- a value that doesn't convert to a type, told at a place
+-- a value doesn't convert to a type, which is reported at a place
 abbrev pub ConversionBreaks : Env → Place → Option DataType → Term → Breaks
 ConversionBreaks env place type term = where_so rules.NoConversion place
     (is_not_converted (operand_in (is_zero term) (type_of env term)) (scalar type))
 
--- an array or a struct that has an initial value
+-- a variable with an initial value is an array or a struct
 abbrev pub WholeInitialBreaks : DeclaredTree → Breaks
 WholeInitialBreaks variable = only rules.WholeAssigned
     (At variable.name.place (IsSome variable.length ⊎ IsStruct variable.kind))
 
--- what an initial value breaks
+-- the rules that an initial value breaks
 abbrev pub InitialBreaks : Env → DeclaredTree → Term → Breaks
 InitialBreaks env variable term = either (as_value env term (Broken env term))
     (either (ConversionBreaks env variable.name.place (type_declared env.structs variable) term)
@@ -56,7 +56,7 @@ abbrev pub FileInitialBreaks : Env → DeclaredTree → Term → Breaks
 FileInitialBreaks env variable term =
     either (InitialBreaks env variable term) (ConstantBreaks env term)
 
--- what an expression breaks that may be absent
+-- the rules that an expression breaks, if there is one
 abbrev pub if_there : (Term → Breaks) → Option Tree → Breaks
 if_there broken None = nothing
 if_there broken (Some tree) = broken (term_of tree)
@@ -66,7 +66,7 @@ UsedBreaks env role.Condition term = as_condition env term (Broken env term)
 UsedBreaks env role.Alone term = as_statement env term (Broken env term)
 UsedBreaks env role.Word term = as_value env term (Broken env term)
 
--- a `return` without a value in a function that has a result, or with one in another
+-- a `return` without a value is in a function that has a result, or one with a value is in another
 abbrev pub ReturnBreaks : Env → TypeTree → Spot → Option Tree → Breaks
 ReturnBreaks env result spot None = only rules.WrongReturn (At spot.place (¬ IsVoid result))
 ReturnBreaks env result spot (Some value) =
@@ -74,7 +74,7 @@ ReturnBreaks env result spot (Some value) =
     (either (ConversionBreaks env spot.place (type_spelled env.structs result None) (term_of value))
     (only rules.WrongReturn (At spot.place (IsVoid result))))
 
--- what a piece breaks
+-- the rules that a piece breaks
 abbrev pub PieceBreaks : Env → PieceTree → Breaks
 PieceBreaks env (p.FileVariable variable) = either (DeclarationBreaks env.structs variable)
     (if_there (FileInitialBreaks env variable) variable.first)

@@ -8,11 +8,11 @@ use Rattle.fk_types_obligations.specs.Pieces.{pieces}
 use Rattle.fk_types_rules.specs.Noted.{pieces_noted, AreTypes}
 use Rattle.fk_types_rules.specs.Apart.{AreTokensApart}
 
--- a token names one thing at most
+-- a token belongs to at most one declaration or reference
 abbrev pub TokensAreApart : Type 0
 TokensAreApart = (program : ProgramTree) → IsWellFormed program → AreTokensApart program
 
--- a token has one type at most: a table in which each is noted has them all
+-- a token has at most one type: a table in which each type is noted has them all
 abbrev pub TablesHaveTypes : Type 0
 TablesHaveTypes = (env : Env) (program : ProgramTree) → IsWellFormed program
     → AreTypes env program

@@ -1,5 +1,4 @@
-//! Laws of the definitions.
-//! Laws of the tokens of a program.
+//! Laws of the definitions, and of the tokens of a program.
 
 ghost use Rattle.fk_types_rules.specs.Laws.{AreTypeRules, BreakTheSame};
 ghost use Rattle.fk_syntax.specs.WellFormed.{IsWellFormed};
@@ -10,23 +9,23 @@ ghost use Rattle.fk_types_rules.specs.Noted.{HasTypeAt};
 ghost use Rattle.fk_types_rules.specs.Example.{example};
 ghost use Rattle.fk_types_rules.specs.Unique.{TokensAreApart, TablesHaveTypes};
 
-/// All that a program breaks of the rules about names and types is one of the rules 1 to 20.
+/// The rules about names and types that a program breaks are all among the rules 1 to 20.
 pub fn only_type_rules()
     ensures { AreTypeRules }
 {}
 
-/// What a program breaks of the rules about names and types rests on the program alone: two
-/// environments that are right about it break the same.
+/// The rules about names and types that a program breaks depend only on the program: two
+/// environments that are right about it have the same broken rules.
 pub fn right_environments()
     ensures { BreakTheSame }
 {}
 
-/// A token of a well-formed program is the name of one declaration, or names one thing, or neither.
+/// A token of a well-formed program belongs to at most one declaration or reference.
 pub fn tokens_are_apart()
     ensures { TokensAreApart }
 {}
 
-/// A token of a well-formed program has one type at most.
+/// A token of a well-formed program has at most one type.
 pub fn tables_have_types()
     ensures { TablesHaveTypes }
 {}

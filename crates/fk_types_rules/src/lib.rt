@@ -1,7 +1,7 @@
-//! What a program breaks of the rules about names and types, and its facts; and that a token has
-//! at most one type and names at most one thing.
+//! The rules about names and types that a program breaks, and its facts. A token has at most one
+//! type and at most one binding.
 //!
-//! The definitions stand in `specs/`, and what is proved of them in `laws`.
+//! The definitions are in `specs/`, and what is proved of them is in `laws`.
 #![tactic(auto)]
 
 pub mod laws;

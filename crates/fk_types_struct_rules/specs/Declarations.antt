@@ -1,4 +1,4 @@
--- The rules about what is declared: a variable, a member or a parameter.
+-- The rules about declarations of a variable, a member or a parameter.
 use Rattle.std.specs.Prelude.{◌≡◌, ℕ, ◌<◌, ◌⊎◌, List, Some, None}
 use Rattle.fk_syntax.specs.declared.place.Place.{Place}
 use Rattle.fk_syntax.specs.Tree.{Named, TypeTree}
@@ -10,16 +10,16 @@ use Rattle.fk_types_structs.specs.declared.types.DataType.{DataType}
 use Rattle.fk_types_structs.specs.Types.{StructTree, struct_named, type_declared}
 use Rattle.fk_types_structs.specs.Sizes.{HasTypeWords}
 
--- a type names a struct that is not declared, at its name
+-- a type names an undeclared struct, at its name
 abbrev pub NamesNoStruct : List StructTree → TypeTree → Place → Type 0
 NamesNoStruct structs type place = (name : Named) × (type.base ≡ t.Struct name)
     × (struct_named structs name.bytes ≡ None) × (place ≡ name.place)
 
--- a type is `void`, and no pointer
+-- a type is `void`, and not a pointer
 abbrev pub IsVoid : TypeTree → Type 0
 IsVoid type = (type.base ≡ t.Void) × (type.stars ≡ 0)
 
--- a type is a struct, and no pointer
+-- a type is a struct, and not a pointer
 abbrev pub IsStruct : TypeTree → Type 0
 IsStruct type = (name : Named) × (type.base ≡ t.Struct name) × (type.stars ≡ 0)
 
@@ -32,16 +32,16 @@ HasWrongLength declared = (length : ℕ) × (declared.length ≡ Some length)
 abbrev pub IsTooLarge : List StructTree → DataType → Type 0
 IsTooLarge structs type = (words : ℕ) × HasTypeWords structs type words × (524288 < words)
 
--- what is declared has such a type
+-- a declaration has such a type
 abbrev pub HasLargeType : List StructTree → DeclaredTree → Type 0
 HasLargeType structs declared = (type : DataType) × (type_declared structs declared ≡ Some type)
     × IsTooLarge structs type
 
--- a fact, told at one place
+-- a fact that is reported at one place
 abbrev pub At : Place → Type 0 → Place → Type 0
 At here P place = P × (place ≡ here)
 
--- what a declaration breaks by its type and length alone
+-- the rules that a declaration breaks by its type and length alone
 abbrev pub DeclarationBreaks : List StructTree → DeclaredTree → Breaks
 DeclarationBreaks structs declared =
     either (only rules.NoStruct (NamesNoStruct structs declared.kind))
@@ -49,17 +49,17 @@ DeclarationBreaks structs declared =
     (only rules.WrongSize
     (At declared.name.place (HasWrongLength declared ⊎ HasLargeType structs declared))))
 
--- what a parameter breaks: it is no struct either
+-- the rules that a parameter breaks, which may not be a struct either
 abbrev pub ParameterBreaks : List StructTree → DeclaredTree → Breaks
 ParameterBreaks structs parameter = either (DeclarationBreaks structs parameter)
     (only rules.NoVariable (At parameter.name.place (IsStruct parameter.kind)))
 
--- what the result of a function breaks by its type, told at the function's name
+-- the rules that the result of a function breaks by its type, reported at the function's name
 abbrev pub ResultBreaks : List StructTree → TypeTree → Place → Breaks
 ResultBreaks structs type here = either (only rules.NoStruct (NamesNoStruct structs type))
     (only rules.NoVariable (At here (IsStruct type)))
 
--- what a `sizeof` breaks by its type
+-- the rules that a `sizeof` breaks by its type
 abbrev pub SizeofBreaks : List StructTree → TypeTree → Place → Breaks
 SizeofBreaks structs type here = either (only rules.NoStruct (NamesNoStruct structs type))
     (only rules.NoVariable (At here (IsVoid type)))

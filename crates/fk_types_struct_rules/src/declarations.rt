@@ -1,5 +1,5 @@
-//! The rules about types where they are written: of a variable, a member, a parameter, a
-//! result or in `sizeof`.
+//! The rules about written types: those of a variable, a member, a parameter, a result or a
+//! `sizeof`.
 
 ghost use Rattle.std.specs.Prelude.{◌≡◌, ◌↔◌, ◌⊎◌, IsTrue};
 ghost use Rattle.fk_syntax.specs.View.{type_of};
@@ -16,10 +16,10 @@ use fk_check_rules::{Fault, Rule, first_of};
 use fk_syntax::{Base, Declared, Place, TypeName};
 use fk_types_structs::{DataType, Structs};
 
-/// The most elements and the most words.
+/// The greatest number of elements and of words.
 const LIMIT: u32 = 524_288;
 
-/// A struct that a type names and that is not declared, at its name.
+/// The fault that a type names an undeclared struct, at its name.
 pub fn no_struct(structs: &Structs, kind: &TypeName) -> Option<Fault>
     requires { IsSound structs.now }
     ensures { IsLeast (only rules.NoStruct
@@ -34,7 +34,7 @@ pub fn no_struct(structs: &Structs, kind: &TypeName) -> Option<Fault>
     }
 }
 
-/// Whether a type is `void`, and no pointer.
+/// Whether a type is `void`, and not a pointer.
 pub fn is_void(kind: &TypeName) -> bool
     ensures { IsTrue result ↔ IsVoid (type_of kind.now) }
 {
@@ -47,7 +47,7 @@ pub fn is_void(kind: &TypeName) -> bool
     )
 }
 
-/// Whether a type is a struct, and no pointer.
+/// Whether a type is a struct, and not a pointer.
 pub fn is_struct(kind: &TypeName) -> bool
     ensures { IsTrue result ↔ IsStruct (type_of kind.now) }
 {
@@ -57,7 +57,7 @@ pub fn is_struct(kind: &TypeName) -> bool
     }
 }
 
-// Whether the length of an array is none.
+// Whether the length of an array is 0 or too large.
 fn has_wrong_length(declared: &Declared) -> bool
     ensures { IsTrue result ↔ HasWrongLength (declared_of declared.now) }
 {
@@ -78,7 +78,7 @@ pub(crate) fn is_too_large(structs: &Structs, kind: &DataType) -> bool
     }
 }
 
-// Whether the type of what is declared has too many words.
+// Whether the type of a declaration has too many words.
 fn has_large_type(structs: &Structs, declared: &Declared) -> bool
     requires { IsSound structs.now }
     ensures { IsTrue result ↔ HasLargeType (structs_in structs.now) (declared_of declared.now) }
@@ -89,7 +89,7 @@ fn has_large_type(structs: &Structs, declared: &Declared) -> bool
     }
 }
 
-// A type that is `void`.
+// The fault that a type is `void`.
 fn void(kind: &TypeName, place: Place) -> Option<Fault>
     ensures { IsLeast (only rules.NoVariable (At place (IsVoid (type_of kind.now)))) result }
 {
@@ -102,7 +102,7 @@ fn void(kind: &TypeName, place: Place) -> Option<Fault>
     None
 }
 
-// A type that is a struct.
+// The fault that a type is a struct.
 fn whole_struct(kind: &TypeName, place: Place) -> Option<Fault>
     ensures { IsLeast (only rules.NoVariable (At place (IsStruct (type_of kind.now)))) result }
 {
@@ -115,7 +115,7 @@ fn whole_struct(kind: &TypeName, place: Place) -> Option<Fault>
     None
 }
 
-// A declaration of a wrong length or of too many words.
+// The fault that a declaration has a wrong length or too many words.
 fn wrong_size(structs: &Structs, declared: &Declared) -> Option<Fault>
     requires { IsSound structs.now }
     ensures { IsLeast (only rules.WrongSize (At (declared_of declared.now).name.place
@@ -131,8 +131,8 @@ fn wrong_size(structs: &Structs, declared: &Declared) -> Option<Fault>
     None
 }
 
-/// The first that a declaration breaks by its type and length alone: a struct that is not declared,
-/// `void`, or a wrong length or size.
+/// The first fault of a declaration by its type and length alone: an undeclared struct, `void`, or
+/// a wrong length or size.
 pub fn declaration_fault(structs: &Structs, declared: &Declared) -> Option<Fault>
     requires { IsSound structs.now }
     ensures { IsLeast
@@ -143,7 +143,7 @@ pub fn declaration_fault(structs: &Structs, declared: &Declared) -> Option<Fault
     first_of(no_struct(structs, &declared.kind), later)
 }
 
-/// The first that a parameter breaks by its type alone: what any declaration breaks, and a struct.
+/// The first fault of a parameter by its type alone: a fault of any declaration, or a struct.
 pub fn parameter_fault(structs: &Structs, parameter: &Declared) -> Option<Fault>
     requires { IsSound structs.now }
     ensures { IsLeast
@@ -153,8 +153,8 @@ pub fn parameter_fault(structs: &Structs, parameter: &Declared) -> Option<Fault>
     first_of(declaration_fault(structs, parameter), whole)
 }
 
-/// The first that the result of a function breaks by its type, where the function's name stands at
-/// a place: a struct that is not declared, or one that is no pointer.
+/// The first fault of the result of a function by its type: an undeclared struct, or a struct that
+/// isn't a pointer. `place` is that of the function's name.
 pub fn result_fault(structs: &Structs, kind: &TypeName, place: Place) -> Option<Fault>
     requires { IsSound structs.now }
     ensures { IsLeast (ResultBreaks (structs_in structs.now) (type_of kind.now) place) result }
@@ -162,8 +162,7 @@ pub fn result_fault(structs: &Structs, kind: &TypeName, place: Place) -> Option<
     first_of(no_struct(structs, kind), whole_struct(kind, place))
 }
 
-/// The first that a `sizeof` at a place breaks by its type: a struct that is not declared, or
-/// `void`.
+/// The first fault of the type of a `sizeof` at a place: an undeclared struct, or `void`.
 pub fn sizeof_fault(structs: &Structs, kind: &TypeName, place: Place) -> Option<Fault>
     requires { IsSound structs.now }
     ensures { IsLeast (SizeofBreaks (structs_in structs.now) (type_of kind.now) place) result }

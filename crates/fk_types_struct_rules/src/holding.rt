@@ -1,4 +1,4 @@
-//! The rule that no struct holds itself.
+//! The rule that no struct contains itself.
 
 ghost use Rattle.std.specs.Prelude.{◌≡◌, ◌↔◌, ℕ, ◌<◌, ◌++◌, length, IsTrue, IfOk, OnOk};
 ghost use Rattle.std.specs.Bool.{OnFalse};
@@ -19,7 +19,7 @@ use fk_types_graph::{is_on_cycle, suspects};
 use fk_types_structs::{DataType, Root, Structs};
 use std::alloc::{AllocError, Global};
 
-// The struct that a member holds, where it holds one.
+// The struct that a member contains, if it contains one.
 fn held_at(structs: &Structs, index: usize, place: usize) -> Option<usize>
     requires { IsSound structs.now }
     ensures { result ≡ held_at (structs_in structs.now) index place }
@@ -36,7 +36,7 @@ fn held_at(structs: &Structs, index: usize, place: usize) -> Option<usize>
     }
 }
 
-// Adds a struct, where there is one.
+// Adds a struct, if there is one.
 fn add(held: &mut Vec<usize>, other: Option<usize>) -> Result<(), AllocError>
     ensures { OnOk result (held.new.items ≡ held.old.items ++ option_to_list other) }
 {
@@ -46,7 +46,7 @@ fn add(held: &mut Vec<usize>, other: Option<usize>) -> Result<(), AllocError>
     Ok(())
 }
 
-// The structs that the first members of a struct hold.
+// The structs that the first `count` members of a struct contain.
 fn held(
     alloc: Global,
     structs: &Structs,
@@ -63,7 +63,7 @@ fn held(
     Ok(held)
 }
 
-// For each struct those that it holds.
+// For each struct the structs that it contains.
 fn graph(alloc: Global, structs: &Structs) -> Result<Vec<Vec<usize>>, AllocError>
     requires { IsSound structs.now }
     ensures { IfOk result (λ graph. AreEdges (structs_in structs.now) graph.items) }
@@ -76,7 +76,7 @@ fn graph(alloc: Global, structs: &Structs) -> Result<Vec<Vec<usize>>, AllocError
     Ok(graph)
 }
 
-// Whether a struct holds itself, where only suspects may.
+// Whether a struct contains itself, where only suspects may.
 fn is_holder(
     alloc: Global,
     graph: &[Vec<usize>],
@@ -94,7 +94,7 @@ fn is_holder(
     Ok(false)
 }
 
-// Whether a fault stands at a place.
+// Whether there is a fault at a place.
 fn stands_at(fault: Option<Fault>, place: Place) -> bool
     ensures { OnFalse result ((f : Fault) → fault ≡ Some f → ¬ (f.place ≡ place)) }
 {
@@ -104,8 +104,8 @@ fn stands_at(fault: Option<Fault>, place: Place) -> bool
     }
 }
 
-// The first of a fault and that of a struct that holds itself. The struct is searched only where it
-// would come first.
+// The first of a fault and that of a struct that contains itself. The struct is only searched if
+// its fault would come first.
 fn holder_fault(
     alloc: Global,
     graph: &[Vec<usize>],
@@ -131,7 +131,7 @@ fn holder_fault(
     Ok(fault)
 }
 
-// The first struct that holds itself, by its place.
+// The first struct that contains itself, by its place.
 fn first_holder(
     alloc: Global,
     structs: &Structs,
@@ -152,7 +152,7 @@ fn first_holder(
     Ok(fault)
 }
 
-/// The first that structs break which hold themselves.
+/// The first fault of structs that contain themselves.
 pub(crate) fn holding_fault(alloc: Global, structs: &Structs) -> Result<Option<Fault>, AllocError>
     requires { IsSound structs.now }
     ensures { IfOk result (λ fault. IsLeast

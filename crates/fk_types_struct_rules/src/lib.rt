@@ -1,5 +1,4 @@
-//! The rules of Fork95 about types as they are written and about structs, and the first that a text
-//! breaks.
+//! The rules of Fork95 about written types and about structs, and the first one that a text breaks.
 #![tactic(auto)]
 
 mod declarations;

@@ -1,4 +1,4 @@
-//! The rules about structs and their members: what is declared twice or is too large.
+//! The rules about structs and their members: double declarations and sizes.
 
 ghost use Rattle.std.specs.Prelude.{◌↔◌, map, IsTrue};
 ghost use Rattle.fk_syntax.specs.ProgramView.{declared_of};
@@ -13,7 +13,7 @@ use fk_check_rules::{Fault, Rule, fault_if, first_of};
 use fk_syntax::Declared;
 use fk_types_structs::{DataType, Outline, Root, Structs};
 
-// Whether a struct is declared again.
+// Whether an earlier struct has the same name.
 fn is_second_struct(structs: &Structs, index: usize, outline: &Outline) -> bool
     requires { IsSound structs.now }
     ensures { IsTrue result
@@ -25,7 +25,7 @@ fn is_second_struct(structs: &Structs, index: usize, outline: &Outline) -> bool
     }
 }
 
-// Whether a member is declared again.
+// Whether an earlier member of the struct has the same name.
 fn is_second_member(structs: &Structs, index: usize, place: usize, member: &Declared) -> bool
     requires { IsSound structs.now }
     ensures { IsTrue result
@@ -37,7 +37,7 @@ fn is_second_member(structs: &Structs, index: usize, place: usize, member: &Decl
     }
 }
 
-// The first that a struct breaks by its name and its words.
+// The first fault of a struct by its name and its words.
 fn name_fault(structs: &Structs, index: usize, outline: &Outline) -> Option<Fault>
     requires { IsSound structs.now }
     ensures { IsLeast
@@ -55,7 +55,7 @@ fn name_fault(structs: &Structs, index: usize, outline: &Outline) -> Option<Faul
     first_of(second, large)
 }
 
-// The first that a member breaks.
+// The first fault of a member.
 fn member_fault(structs: &Structs, index: usize, place: usize, member: &Declared) -> Option<Fault>
     requires { IsSound structs.now }
     ensures { IsLeast
@@ -66,7 +66,7 @@ fn member_fault(structs: &Structs, index: usize, place: usize, member: &Declared
     first_of(second, declaration_fault(structs, member))
 }
 
-// The first that a member of a struct breaks.
+// The first fault among the members of a struct.
 fn members_fault(structs: &Structs, index: usize, members: &[Declared]) -> Option<Fault>
     requires { IsSound structs.now }
     ensures { IsLeast
@@ -79,7 +79,7 @@ fn members_fault(structs: &Structs, index: usize, members: &[Declared]) -> Optio
     fault
 }
 
-// The first that a struct breaks by its name, its words and its members.
+// The first fault of a struct by its name, its words and its members.
 fn struct_fault(structs: &Structs, index: usize, outline: &Outline) -> Option<Fault>
     requires { IsSound structs.now }
     ensures { IsLeast
@@ -89,7 +89,7 @@ fn struct_fault(structs: &Structs, index: usize, outline: &Outline) -> Option<Fa
     first_of(name_fault(structs, index, outline), members)
 }
 
-/// The first that structs break by their names, words and members.
+/// The first fault of structs by their names, words and members.
 pub(crate) fn declared_fault(structs: &Structs) -> Option<Fault>
     requires { IsSound structs.now }
     ensures { IsLeast

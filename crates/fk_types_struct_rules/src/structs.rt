@@ -1,4 +1,4 @@
-//! All rules about structs where they are declared.
+//! All rules about the declarations of structs.
 
 ghost use Rattle.std.specs.Prelude.{IfOk};
 ghost use Rattle.fk_check_rules.specs.Least.{IsLeast};
@@ -11,9 +11,9 @@ use fk_check_rules::{Fault, first_of};
 use fk_types_structs::Structs;
 use std::alloc::{AllocError, Global};
 
-/// The first rule that structs break where they are declared: a struct or a member that is declared
-/// twice, a struct that holds itself or has too many words, or what a member breaks by its type and
-/// length. Fails only for want of memory.
+/// The first rule that the declarations of structs break: a struct or a member that is declared
+/// twice, a struct that contains itself or has too many words, or a fault of a member's type and
+/// length. It fails only if there isn't enough memory.
 pub fn structs_fault(alloc: Global, structs: &Structs) -> Result<Option<Fault>, AllocError>
     requires { IsSound structs.now }
     ensures { IfOk result (λ fault. IsLeast (StructsBreak (structs_in structs.now)) fault) }

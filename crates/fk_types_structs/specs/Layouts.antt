@@ -12,7 +12,7 @@ pub record IsLayout (sizes : Sizes) (structs : List StructTree) (s : StructTree)
   pub places : Finds layout.places.entries (member_names s.members)
   pub offsets : AreOffsets sizes (member_types structs s) layout.offsets.items
 
--- layouts are those of the first structs
+-- these layouts are those of the first `count` structs
 abbrev pub AreFirstLayouts : Sizes → List StructTree → ℕ → List Layout → Type 0
 AreFirstLayouts sizes structs count layouts = (length layouts ≡ count)
     × ((index : ℕ) (layout : Layout) (s : StructTree) → index < count → slice_get layouts index

@@ -1,4 +1,4 @@
--- Types, and what a type's words spell.
+-- Types, and the types that written types spell.
 use Rattle.std.specs.Prelude.{ℕ, suc, List, [], ◌∷◌, Option, Some, None, map, nat_eq, if◌then◌else◌}
 use Rattle.std.specs.Prelude.{slice_get}
 use Rattle.std.specs.Option.{option_map, option_and_then}
@@ -11,13 +11,13 @@ use Rattle.fk_types_structs.specs.declared.types.Root.{Root}
 use Rattle.fk_types_structs.specs.declared.types.Root.TheVariants as r
 use Rattle.fk_types_structs.specs.declared.types.DataType.{DataType}
 
--- the first place of a text among others
+-- the first position of a text in a list
 abbrev pub first_of : List ℕ → List (List ℕ) → Option ℕ
 first_of text [] = None
 first_of text (name ∷ names) = if pointwise nat_eq text name then Some 0
     else option_map suc (first_of text names)
 
--- a struct as it is declared
+-- the declaration of a struct
 pub record StructTree : Type 0 where
   pub name : Named
   pub members : List DeclaredTree
@@ -35,7 +35,7 @@ names_of structs = map (λ (s : StructTree). s.name.bytes) structs
 abbrev pub member_names : List DeclaredTree → List (List ℕ)
 member_names members = map (λ (d : DeclaredTree). d.name.bytes) members
 
--- the struct that a name means: of several of the name it is the first
+-- the struct that a name denotes: the first one, if there are several with the name
 abbrev pub struct_named : List StructTree → List ℕ → Option ℕ
 struct_named structs text = first_of text (names_of structs)
 
@@ -45,12 +45,12 @@ root_of structs t.Unsigned = Some r.Unsigned
 root_of structs t.Void = Some r.Void
 root_of structs (t.Struct name) = option_map r.Struct (struct_named structs name.bytes)
 
--- a type with a length or none; there is none where its struct is not declared
+-- a written type with the length of an array, if it is one; there is none for an undeclared struct
 abbrev pub type_spelled : List StructTree → TypeTree → Option ℕ → Option DataType
 type_spelled structs tree length = option_map (λ (root : Root).
     record { root = root; stars = tree.stars; length = length }) (root_of structs tree.base)
 
--- the type of what is declared
+-- the type of a declaration
 abbrev pub type_declared : List StructTree → DeclaredTree → Option DataType
 type_declared structs declared = type_spelled structs declared.kind declared.length
 
@@ -62,12 +62,12 @@ member_types structs s = map (type_declared structs) s.members
 abbrev pub all_types : List StructTree → List (List (Option DataType))
 all_types structs = map (member_types structs) structs
 
--- the place of a member among those of its struct: of several of the name it is the first
+-- the position of a member in its struct: the first one, if there are several with the name
 abbrev pub member_named : List StructTree → ℕ → List ℕ → Option ℕ
 member_named structs index text = option_and_then
     (λ (s : StructTree). first_of text (member_names s.members)) (slice_get structs index)
 
--- the type of the member at a place
+-- the type of the member at a position
 abbrev pub member_type : List StructTree → ℕ → ℕ → Option DataType
 member_type structs index place = option_and_then (λ (s : StructTree).
     option_and_then (type_declared structs) (slice_get s.members place)) (slice_get structs index)

@@ -1,4 +1,4 @@
--- The structs of a text, and the tables that are kept of them.
+-- The structs of a text, and the tables that the code keeps of them.
 use Rattle.std.specs.Prelude.{◌≡◌, List, map}
 use Rattle.fk_types_structs.specs.declared.structs.Structs.{Structs}
 use Rattle.fk_types_structs.specs.Types.{StructTree, names_of, all_types}
@@ -6,7 +6,7 @@ use Rattle.fk_types_structs.specs.Table.{sizes_of, types_of, AreWords}
 use Rattle.fk_types_structs.specs.View.{outline_tree, Finds}
 use Rattle.fk_types_structs.specs.Layouts.{AreLayouts}
 
--- the structs as they are declared
+-- the declarations of the structs
 abbrev pub structs_in : Structs → List StructTree
 structs_in kept = map outline_tree kept.outlines.items
 

@@ -12,14 +12,15 @@ use crate::types::DataType;
 use crate::words::offsets;
 use std::alloc::{AllocError, Global};
 
-/// The members of a struct: where each name stands first among them, and the words before each.
+/// The layout of a struct: the first position of each name among its members, and the number of
+/// words before each member.
 #[derive(Drop)]
 pub(crate) struct Layout<'a> {
     pub(crate) places: Places<'a>,
     pub(crate) offsets: Vec<Option<u32>>,
 }
 
-/// The layouts of structs, where the words of each are given.
+/// The layouts of structs, given the number of words of each.
 pub(crate) fn layouts<'a>(
     alloc: Global,
     structs: &[Outline<'_, 'a>],

@@ -1,4 +1,4 @@
-//! Names, and where each stands first.
+//! Names and their first positions.
 
 ghost use Rattle.std.specs.Prelude.{◌≡◌, ℕ, List, [], ◌∷◌, ◌++◌, length, map, IfOk, OnOk};
 ghost use Rattle.fk_syntax.specs.ProgramView.{declared_of};
@@ -10,10 +10,10 @@ use fk_syntax::Declared;
 use indexmap::IndexMap;
 use std::alloc::{AllocError, Global};
 
-/// For each of some names the place where it stands first, from 0.
+/// The first position of each name in a list, from 0.
 pub(crate) type Places<'a> = IndexMap<&'a [u8], usize>;
 
-// A name at a place after those of all names so far.
+// Adds a name at a position after those of all names so far.
 fn add<'a>(places: &mut Places<'a>, name: &'a [u8], place: usize) -> Result<(), AllocError>
     ensures { OnOk result ((names : List (List ℕ)) → place ≡ length names
         → Finds places.old.entries names → Finds places.new.entries (names ++ name.now ∷ [])) }
@@ -25,7 +25,7 @@ fn add<'a>(places: &mut Places<'a>, name: &'a [u8], place: usize) -> Result<(), 
     Ok(())
 }
 
-/// Where each member's name stands first among its struct's members.
+/// The first position of each name among the members of a struct.
 pub(crate) fn member_places<'a>(
     alloc: Global,
     members: &[Declared<'a>],
@@ -40,7 +40,7 @@ pub(crate) fn member_places<'a>(
     Ok(places)
 }
 
-/// Where each name stands first among those of structs.
+/// The first position of each name among those of structs.
 pub(crate) fn struct_places<'a>(
     alloc: Global,
     structs: &[Outline<'_, 'a>],

@@ -1,4 +1,4 @@
-//! An order of structs in which the words of all can be found by one pass.
+//! An order of structs in which one pass finds the number of words of all.
 
 ghost use Rattle.std.specs.Prelude.{◌<◌, length, All, IfOk, IfSome, OnOk};
 ghost use Rattle.fk_types_structs.specs.Order.{AreVisits};
@@ -6,14 +6,14 @@ ghost use Rattle.fk_types_structs.specs.Order.{AreVisits};
 use crate::types::{DataType, Root};
 use std::alloc::{AllocError, Global};
 
-// A struct that is gone through, and its next member.
+// A struct that is being visited, and its next member.
 #[derive(Clone, Copy)]
 struct Visit {
     index: usize,
     next: usize,
 }
 
-// The struct that a member of a type holds, where it holds one.
+// The struct that a member with this type contains, if it contains one.
 pub(crate) fn held(kind: &Option<DataType>) -> Option<usize> {
     match kind {
         Some(
@@ -27,8 +27,8 @@ pub(crate) fn held(kind: &Option<DataType>) -> Option<usize> {
     }
 }
 
-// Goes on in the struct that was begun last: to one that it holds and that was not seen yet, to its
-// next member, or to its end.
+// Goes on with the struct that was begun last: to one that it contains and that hasn't been seen
+// yet, to its next member, or to its end. Returns the struct if it has ended.
 fn step(
     structs: &[Vec<Option<DataType>>],
     seen: &mut [bool],
@@ -58,7 +58,7 @@ fn step(
     Ok(None)
 }
 
-// Adds the structs that one leads to, each after those that it holds.
+// Adds the structs that are reached from the begun ones, each after those that it contains.
 fn go_through(
     structs: &[Vec<Option<DataType>>],
     seen: &mut [bool],
@@ -81,7 +81,7 @@ fn go_through(
     Ok(())
 }
 
-/// The structs, each after those that it holds, where none holds itself.
+/// The structs, each after those that it contains, if none contains itself.
 pub(crate) fn order(
     alloc: Global,
     structs: &[Vec<Option<DataType>>],

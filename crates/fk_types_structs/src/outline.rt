@@ -8,7 +8,7 @@ ghost use Rattle.fk_types_structs.specs.View.{outline_tree};
 use fk_syntax::{Declared, Item, Name};
 use std::alloc::{AllocError, Global};
 
-/// A struct as it is declared.
+/// The declaration of a struct.
 #[derive(Clone, Copy)]
 pub struct Outline<'p, 'a> {
     pub name: Name<'a>,

@@ -1,4 +1,4 @@
-//! The types that words and stars spell.
+//! The types that a base and stars spell.
 
 ghost use Rattle.std.specs.Prelude.{◌≡◌, List, map, IfOk};
 ghost use Rattle.fk_syntax.specs.View.{base_of, type_of};
@@ -14,7 +14,7 @@ use crate::types::{DataType, Root};
 use fk_syntax::{Base, Declared, TypeName};
 use std::alloc::{AllocError, Global};
 
-// The root that the first words of a type name. A struct that is not declared is none.
+// The root that the base of a type names. There is none for an undeclared struct.
 fn root_of(places: &Places, base: &Base) -> Option<Root>
     ensures { (structs : List StructTree) → Finds places.now.entries (names_of structs)
         → result ≡ root_of structs (base_of base.now) }
@@ -30,7 +30,7 @@ fn root_of(places: &Places, base: &Base) -> Option<Root>
     }
 }
 
-/// The type that words and stars spell, with a length or none.
+/// The type that a base and stars spell, with the length of an array if it is one.
 pub(crate) fn spelled(places: &Places, kind: &TypeName, length: Option<u32>) -> Option<DataType>
     ensures { (structs : List StructTree) → Finds places.now.entries (names_of structs)
         → result ≡ type_spelled structs (type_of kind.now) length }

@@ -19,7 +19,7 @@ use crate::words::{struct_words, type_words};
 use fk_syntax::{Item, TypeName};
 use std::alloc::{AllocError, Global};
 
-/// The structs of a text in the order of their declarations, each known by its index from 0.
+/// The structs of a text in the order of their declarations, each identified by its index from 0.
 #[derive(Drop)]
 pub struct Structs<'p, 'a> {
     outlines: Vec<Outline<'p, 'a>>,
@@ -30,7 +30,7 @@ pub struct Structs<'p, 'a> {
 }
 
 impl<'p, 'a> Structs<'p, 'a> {
-    /// The structs that some items declare. Fails only for want of memory.
+    /// The structs that some items declare. It fails only if there isn't enough memory.
     pub fn new(alloc: Global, items: &'p [Item<'a>]) -> Result<Self, AllocError>
         ensures structs { IfOk result
             (λ kept. structs_in kept ≡ structs_of (map item_of items.now)) }
@@ -50,28 +50,28 @@ impl<'p, 'a> Structs<'p, 'a> {
         })
     }
 
-    /// How many structs there are.
+    /// The number of structs.
     pub fn len(&self) -> usize
         ensures { result ≡ length (structs_in self.now) }
     {
         self.outlines.len()
     }
 
-    /// Whether there are none.
+    /// Whether there are no structs.
     pub fn is_empty(&self) -> bool
         ensures { IsTrue result ↔ (length (structs_in self.now) ≡ 0) }
     {
         self.outlines.is_empty()
     }
 
-    /// The structs as they are declared.
+    /// The declarations of the structs.
     pub fn outlines(&self) -> &[Outline<'p, 'a>]
         ensures { map outline_tree result.now ≡ structs_in self.now }
     {
         &self.outlines
     }
 
-    /// The index of the struct of this name: of several the first.
+    /// The index of the struct with this name: the first one, if there are several.
     pub fn find(&self, name: &[u8]) -> Option<usize>
         requires { IsSound self.now }
         ensures { result ≡ struct_named (structs_in self.now) name.now }
@@ -79,8 +79,8 @@ impl<'p, 'a> Structs<'p, 'a> {
         self.places.get(name).copied()
     }
 
-    /// The type that words and stars spell, with the length of an array or none. There is none
-    /// where its struct is not declared.
+    /// The type that a base and stars spell, with the length of an array if it is one. There is
+    /// none for an undeclared struct.
     pub fn type_of(&self, kind: &TypeName, length: Option<u32>) -> Option<DataType>
         requires { IsSound self.now }
         ensures { result ≡ type_spelled (structs_in self.now) (tree_of_type kind.now) length }
@@ -88,7 +88,7 @@ impl<'p, 'a> Structs<'p, 'a> {
         spelled(&self.places, kind, length)
     }
 
-    /// The words of a type, at most one above the limit. There are none where it is `void`, where
+    /// The words of a type, at most one above the limit, and 0 for `void`. There is no number where
     /// it is a struct that holds itself, or where a part of it has none.
     pub fn words(&self, kind: &DataType) -> Option<u32>
         requires { IsSound self.now }
@@ -101,7 +101,8 @@ impl<'p, 'a> Structs<'p, 'a> {
         type_words(&self.sizes, kind)
     }
 
-    /// The place of a member among those of its struct, from 0: of several of the name the first.
+    /// The position of a member in its struct, from 0: the first one, if there are several with the
+    /// name.
     pub fn find_member(&self, index: usize, name: &[u8]) -> Option<usize>
         requires { IsSound self.now }
         ensures { result ≡ member_named (structs_in self.now) index name.now }
@@ -110,7 +111,7 @@ impl<'p, 'a> Structs<'p, 'a> {
         layout.places.get(name).copied()
     }
 
-    /// The type of the member at a place. There is none where its struct is not declared.
+    /// The type of the member at a position. There is none for an undeclared struct.
     pub fn member_type(&self, index: usize, place: usize) -> Option<DataType>
         requires { IsSound self.now }
         ensures { result ≡ member_type (structs_in self.now) index place }
@@ -119,8 +120,8 @@ impl<'p, 'a> Structs<'p, 'a> {
         kinds.get(place).copied().flatten()
     }
 
-    /// The words before the member at a place, at most one above the limit. There are none where
-    /// a member before it has none.
+    /// The number of words before the member at a position, at most one above the limit. There is
+    /// none if a member before it has none.
     pub fn offset(&self, index: usize, place: usize) -> Option<u32>
         requires { IsSound self.now }
         ensures some { IfSome result

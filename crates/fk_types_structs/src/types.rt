@@ -1,6 +1,6 @@
 //! Types.
 
-/// What is left of a type without its pointers and its length.
+/// A type without its pointers and its length.
 #[derive(Clone, Copy, PartialEq, Eq)]
 pub enum Root {
     Int,
@@ -15,8 +15,8 @@ pub enum Root {
 #[derive(Clone, Copy, PartialEq, Eq)]
 pub struct DataType {
     pub root: Root,
-    /// How many pointers lead to the root.
+    /// The number of pointers to the root.
     pub stars: u64,
-    /// The length of an array. Arrays of arrays and pointers to arrays are no types.
+    /// The length of an array. Arrays of arrays and pointers to arrays aren't types.
     pub length: Option<u32>,
 }

@@ -7,7 +7,7 @@ ghost use Rattle.fk_asm.specs.Listing.{digit_at, eight_digits, hexadecimal};
 
 use arrayvec::ArrayVec;
 
-// The digit of a value below 16.
+// The hexadecimal digit of a value below 16.
 fn digit(value: u32) -> u8
     requires { value < 16 }
     ensures { result ≡ digit_glyph false value }

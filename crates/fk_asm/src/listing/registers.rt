@@ -23,7 +23,7 @@ pub fn register(number: u8) -> &'static [u8]
     text_at(&NAMES, usize::from(number))
 }
 
-// The text that stands at an index.
+// The text at an index.
 fn text_at(texts: &[&'static [u8]], index: usize) -> &'static [u8]
     requires { index < length texts.now }
     ensures { result.now ≡ slice_index_or (map text texts.now) index [] }

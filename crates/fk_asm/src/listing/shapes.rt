@@ -1,4 +1,4 @@
-//! The shapes that the texts of instructions have. A name has at most 9 bytes.
+//! The shapes of the texts of instructions. A name has at most 9 bytes.
 
 ghost use Rattle.std.specs.Prelude.{◌≡◌, ◌+◌, ◌<◌, ◌≤◌, ◌++◌, length};
 ghost use Rattle.arrayvec.specs.ArrayVec.{array_vec_len};
@@ -154,7 +154,7 @@ pub fn three_registers(name: &[u8], first: u8, second: u8, third: u8) -> ArrayVe
     text
 }
 
-// What the bits aq and rl add to a name.
+// The suffix of a name for the bits aq and rl.
 #[tactic(auto, unfolding(crate::specs::Listing::ordering))]
 fn ordering(aq: bool, rl: bool) -> &'static [u8]
     ensures text { result.now ≡ spec.ordering aq rl }

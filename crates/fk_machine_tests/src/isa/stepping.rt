@@ -4,8 +4,8 @@ ghost use Rattle.std.specs.Prelude.{◌<◌};
 use fk_isa::{Effect, FlatMemory, Hart, decode, step};
 use std::process::Abort;
 
-// Of the suite rv32um of riscv-tests: a word with rd x3, rs1 x1 and rs2 x2, their
-// words, and that of rd.
+// From the suite rv32um of riscv-tests: a word with rd x3, rs1 x1 and rs2 x2, the values of x1 and
+// x2, and the resulting value of x3.
 const PRODUCTS: [(u32, u32, u32, u32); 16] = [
     (0x0220_81b3, 0xaaaa_aaab, 0x0002_fe7d, 0x0000_ff7f), // mul
     (0x0220_81b3, 0xffff_ffff, 0xffff_ffff, 0x0000_0001),
@@ -25,8 +25,8 @@ const PRODUCTS: [(u32, u32, u32, u32); 16] = [
     (0x0220_f1b3, 0x8000_0000, 0x0000_0000, 0x8000_0000),
 ];
 
-// Of the suite rv32ua of riscv-tests: a word with rd x3, rs2 x2 and the address x1, the word of
-// memory before, that of x2, and the word of memory after. x3 gets the word before.
+// From the suite rv32ua of riscv-tests: a word with rd x3, rs2 x2 and the address in x1; the word
+// of memory before, the value of x2, and the word of memory after. x3 gets the word before.
 const ATOMICS: [(u32, u32, u32, u32); 18] = [
     (0x0820_a1af, 0x8000_0000, 0xffff_f800, 0xffff_f800), // amoswap.w
     (0x0820_a1af, 0xffff_f800, 0x8000_0000, 0x8000_0000),
@@ -65,7 +65,7 @@ fn empty() -> FlatMemory {
     }
 }
 
-// One step from address 0 with two registers given: its effect, x3 and pc.
+// One step from address 0 with the given values of x1 and x2. Returns its effect, x3 and pc.
 fn run(
     rt: &impl Abort,
     memory: &mut FlatMemory,
@@ -89,7 +89,8 @@ fn run(
     (effect, hart.registers[3], hart.pc)
 }
 
-// Such a step, of a word with x1 and x2, goes to the next word and leaves this in x3.
+// Checks that a step with a word and values of x1 and x2 goes to the next word, and leaves this
+// value in x3.
 fn gives(rt: &impl Abort, memory: &mut FlatMemory, number: u32, operands: (u32, u32, u32), x3: u32)
     requires { number < 2 }
 {
@@ -106,7 +107,8 @@ fn multiplies_and_divides_as_riscv_tests_expect(rt: HostRuntime) {
     }
 }
 
-// A word of memory and x2 are combined to this word, and x3 gets the word before.
+// Checks that a word of memory and x2 are combined into this word, and that x3 gets the word
+// before.
 fn combines(rt: &impl Abort, word: u32, before: u32, x2: u32, after: u32) {
     let mut memory = empty();
     gives(rt, &mut memory, 0, (SW, 16, before), 0);
@@ -121,7 +123,7 @@ fn combines_words_of_memory_as_riscv_tests_expect(rt: HostRuntime) {
     }
 }
 
-// The hart, its word, x1, x2 and the x3 that is wanted.
+// The hart, its word, x1, x2 and the expected x3.
 const CONDITIONAL_STORES: [(u32, u32, u32, u32, u32); 10] = [
     (0, SC, 16, 5, 1), // without a reservation
     (0, LW, 16, 0, 0),
@@ -143,7 +145,7 @@ fn stores_conditionally_where_the_word_is_reserved(rt: HostRuntime) {
     }
 }
 
-// Loads of a word 0x1234fe80, and what they give.
+// Loads from a word 0x1234fe80, and their results.
 const LOADS: [(u32, u32); 5] = [
     (0x0000_8183, 0xffff_ff80), // lb
     (0x0000_c183, 0x0000_0080), // lbu
@@ -161,7 +163,7 @@ fn loads_with_and_without_sign(rt: HostRuntime) {
     }
 }
 
-// A word, x1, and what its step in an empty memory comes to: the effect, x3 and pc.
+// A word, x1, and the result of its step in an empty memory: the effect, x3 and pc.
 const ENDS: [(u32, u32, Effect, u32, u32); 7] = [
     (0x0000_0073, 0, Effect::Trap(5), 0, 0), // ecall
     (0x0010_0073, 0, Effect::Trap(6), 0, 0), // ebreak

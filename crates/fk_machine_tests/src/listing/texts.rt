@@ -1,4 +1,4 @@
-//! Words with the texts that GNU objdump reads in them, made by tools/riscv_texts.py.
+//! Words with the texts that GNU objdump gives for them, made by tools/riscv_texts.py.
 
 pub static TEXTS: [(u32, &[u8]); 87] = [
     (0xabcd_e537, b"lui a0, 0xabcde"),
