@@ -2,5 +2,4 @@ pub mod Kinds
 pub mod Grammar
 pub mod Reading
 pub mod Parts
-pub mod Headers
 pub mod View

@@ -1,23 +1,19 @@
--- How declarations, and parts of statements that have no others in them, are read, token by token.
--- What is read so is what the grammar says: that is proved, and the contracts of the functions of
--- the grammar speak of the grammar alone.
+-- How declarations are read, token by token. What is read so is what the grammar says: that is
+-- proved, and the contracts of the functions of the grammar speak of the grammar alone.
 use Rattle.std.specs.Prelude.{ℕ, List, [], ◌∷◌, map, Option, None, Bool, false, Ok, length, ◌||◌}
 use Rattle.std.specs.Prelude.{◌&&◌}
 use Rattle.fk_syntax.specs.Tree.{Tree}
-use Rattle.fk_syntax.specs.Program.{DeclaredTree, Statement, Expression, Return}
+use Rattle.fk_syntax.specs.Program.{DeclaredTree}
 use Rattle.fk_lex.specs.declared.token.TokenKind.{TokenKind}
-use Rattle.fk_parse_combinators.specs.Languages.{Placed, spot, name}
+use Rattle.fk_parse_combinators.specs.Languages.{Placed, name}
 use Rattle.fk_expr.specs.Kinds.{number_told}
 use Rattle.fk_parse_combinators.specs.Readers.{Reader, giving, ◌and◌, next_is, tells, expect}
 use Rattle.fk_parse_combinators.specs.Readers.{expect_told, either, by_next, optional, repeated}
-use Rattle.fk_expr.specs.Reading.{read_base, begins_type, begins_expression, Readers, read_comma}
-use Rattle.fk_expr.specs.Reading.{read_assignment}
+use Rattle.fk_expr.specs.Reading.{read_base, begins_type, Readers, read_assignment}
 use Rattle.fk_parse_declarations.specs.Kinds.{sharing_told}
 use Rattle.fk_parse_declarations.specs.Grammar.{Declarator, declared, is_shared}
 use Rattle.fk_parse_combinators.specs.Kinds.{just}
 use Rattle.fk_lex.specs.declared.token.TokenKind.TheVariants as kind
-
--- ---- declarations
 
 unfoldable pub read_separated : {A : Type 0} → Reader A → Reader (List A)
 read_separated P = giving (λ (first, others). first ∷ others)
@@ -27,7 +23,7 @@ unfoldable pub read_length : Reader ℕ
 read_length = giving (λ (opening, ((at, (value, unsigned)), closing)). value)
     (expect kind.OpenBracket and expect_told number_told and expect kind.CloseBracket)
 
--- [ length ] [ "=" assign ], behind the stars and the name
+-- [ length ] [ "=" assign ], after the stars and the name
 unfoldable pub read_rest : Option Readers → Reader (Option ℕ × Option Tree)
 read_rest E =
     optional (just kind.OpenBracket) read_length and optional (just kind.Assign)
@@ -69,7 +65,7 @@ read_parameter =
     (optional (tells sharing_told) (expect_told sharing_told) and read_base
     and repeated (just kind.Star) (expect kind.Star) and expect kind.Word)
 
--- "void" and a closing parenthesis come next
+-- the next tokens are "void" and a closing parenthesis
 abbrev pub void_is_next : List Placed → Bool
 void_is_next [] = false
 void_is_next (t ∷ ts) = just kind.Void t.kind && next_is (just kind.CloseParenthesis) ts
@@ -82,27 +78,3 @@ unfoldable pub read_parameters : Reader (List DeclaredTree)
 read_parameters ts =
     either (void_is_next ts) (giving (λ t. []) (expect kind.Void))
     (by_next begins_parameter (read_separated read_parameter) (λ rest. Ok ([], rest))) ts
-
--- ---- parts of statements, where E reads expressions
-
-unfoldable pub read_condition : Option Readers → Reader Tree
-read_condition E = giving (λ (opening, (tree, closing)). tree)
-    (expect kind.OpenParenthesis and read_comma E and expect kind.CloseParenthesis)
-
--- an expression, where one comes next
-abbrev pub read_some : Option Readers → Reader (Option Tree)
-read_some E = optional begins_expression (read_comma E)
-
-unfoldable pub read_rank : Option Readers → Reader Tree
-read_rank E = giving (λ (end, (dollar, (equals, rank))). rank)
-    (expect kind.Semicolon and expect kind.Dollar and expect kind.Assign and read_comma E)
-
-abbrev pub read_plain : TokenKind → Reader Placed
-read_plain is = giving (λ (word, end). word) (expect is and expect kind.Semicolon)
-
-unfoldable pub read_return : Option Readers → Reader Statement
-read_return E = giving (λ (word, (value, end)). Return (spot word) value)
-    (expect kind.Return and read_some E and expect kind.Semicolon)
-
-unfoldable pub read_expression : Option Readers → Reader Statement
-read_expression E = giving (λ (tree, end). Expression tree) (read_comma E and expect kind.Semicolon)

@@ -1,14 +1,13 @@
-//! What a kind of token tells, and the kinds that begin a production.
+//! What a kind of token tells of sharing, and the kinds that begin a parameter.
 
 ghost use Rattle.std.specs.Prelude.{◌≡◌};
 ghost use Rattle.fk_parse_declarations.specs.Kinds.{sharing_told};
 ghost use Rattle.fk_parse_declarations.specs.Reading.{begins_parameter};
-ghost use Rattle.fk_parse_declarations.specs.Headers.{begins_header};
 
 use fk_expr::kinds::begins_type;
 use fk_lex::token::TokenKind;
 
-/// Whether a word of sharing shares.
+/// Whether a sharing word is `sh`; `None` if the token isn't a sharing word.
 pub fn sharing(kind: TokenKind) -> Option<bool>
     ensures { result ≡ sharing_told kind }
 {
@@ -24,20 +23,4 @@ pub fn begins_parameter(kind: TokenKind) -> bool
     ensures { result ≡ begins_parameter kind }
 {
     sharing(kind).is_some() || begins_type(kind)
-}
-
-/// Whether it is a word that begins what stands before the last statement in a statement.
-#[tactic(auto, unfolding(fk_parse_combinators::specs::Kinds::just))]
-pub fn begins_header(kind: TokenKind) -> bool
-    ensures { result ≡ begins_header kind }
-{
-    matches!(
-        kind,
-        TokenKind::While
-            | TokenKind::For
-            | TokenKind::Start
-            | TokenKind::Farm
-            | TokenKind::Seq
-            | TokenKind::Fork
-    )
 }

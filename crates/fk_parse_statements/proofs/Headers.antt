@@ -14,8 +14,8 @@ use Rattle.fk_expr.specs.Reading.{inner}
 use Rattle.fk_parse_declarations.specs.Reading.{begins_parameter}
 use Rattle.fk_parse_statements.specs.Reading.{begins_statement, statements_with, read_while, read_for, read_start, read_fork, read_statement}
 use Rattle.fk_parse_statements.specs.Parts.{read_nested}
-use Rattle.fk_parse_declarations.specs.Parts.{read_worded}
-use Rattle.fk_parse_declarations.specs.Headers.{Header, OfFarm, OfSeq, headed, begins_header, read_while_header, read_for_header, read_start_header, read_fork_header}
+use Rattle.fk_parse_headers.specs.Parts.{read_worded}
+use Rattle.fk_parse_headers.specs.Headers.{Header, OfFarm, OfSeq, headed, begins_header, read_while_header, read_for_header, read_start_header, read_fork_header}
 use Rattle.fk_parse_statements.specs.Parts.{read_headed, read_any}
 
 -- ---- a header is read as a whole

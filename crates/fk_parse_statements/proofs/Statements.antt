@@ -13,7 +13,8 @@ use Rattle.fk_parse_combinators.proofs.Exact.{Example}
 use Rattle.fk_parse_combinators.proofs.Productions.{IsRead, IsLooselyRead, reads_token, reads_making, reads_then, reads_loose_then, reads_maybe, reads_many, reads_lower, reads_in_parentheses}
 use Rattle.fk_parse_statements.specs.Statements.{is_closed, not_before, block, condition, while_statement, do_statement, for_statement, fork_statement, plain, statement, statement_within}
 use Rattle.fk_parse_statements.specs.Reading.{begins_statement, nested, read_block, read_if, read_while, read_do, read_for, read_start, read_fork, read_statement, statements_with}
-use Rattle.fk_parse_declarations.specs.Reading.{begins_parameter, read_condition, read_some, read_rank, read_plain, read_return, read_expression}
+use Rattle.fk_parse_declarations.specs.Reading.{begins_parameter}
+use Rattle.fk_parse_headers.specs.Reading.{read_condition, read_some, read_rank, read_plain, read_return, read_expression}
 use Rattle.fk_parse_statements.proofs.Closing.{IsClosing, closing_any, closing_making, closing_then, closing_loose_then, closing_or, closing_kinds, closing_room, closing_nothing, closing_bottom, closing_deeper, read_of}
 use Rattle.fk_parse_declarations.proofs.Declarations.{Expressions, expressions, after_comma, reads_variables}
 use Rattle.fk_parse_statements.proofs.Branches.{closing_if}

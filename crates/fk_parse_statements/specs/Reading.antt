@@ -1,5 +1,5 @@
--- How statements are read, token by token. What is read so is what the grammar says: that is
--- proved, and the contracts of the public functions speak of the grammar alone.
+-- How statements are read, token by token. It is proved that the result is what the grammar says,
+-- and the contracts of the public functions refer only to the grammar.
 use Rattle.std.specs.Prelude.{ℕ, zero, suc, Option, Some, None, Bool, ◌||◌}
 use Rattle.fk_syntax.specs.Program.{Statement, Empty, Block, Declare, DoWhile, While, For, Start}
 use Rattle.fk_syntax.specs.Program.{Farm, Seq, Fork, Barrier, Break, Continue, Statements}
@@ -11,13 +11,13 @@ use Rattle.fk_parse_combinators.specs.Readers.{repeated, opened}
 use Rattle.fk_expr.specs.Reading.{begins_expression, Readers, inner, read_comma}
 use Rattle.fk_parse_combinators.specs.Kinds.{just}
 use Rattle.fk_lex.specs.declared.token.TokenKind.TheVariants as kind
-use Rattle.fk_parse_declarations.specs.Reading.{begins_parameter, read_variables, read_condition}
-use Rattle.fk_parse_declarations.specs.Reading.{read_some, read_rank, read_plain, read_return}
-use Rattle.fk_parse_declarations.specs.Reading.{read_expression}
+use Rattle.fk_parse_declarations.specs.Reading.{begins_parameter, read_variables}
+use Rattle.fk_parse_headers.specs.Reading.{read_condition, read_some, read_rank, read_plain}
+use Rattle.fk_parse_headers.specs.Reading.{read_return, read_expression}
 
--- E reads expressions, S statements one level deeper, if there may be one
+-- E reads expressions, and S reads statements one level deeper, if these may be read
 
--- the words that begin a statement
+-- the keywords that begin a statement
 abbrev pub begins_word : TokenKind → Bool
 begins_word k =
     just kind.If k || just kind.While k || just kind.Do k || just kind.For k || just kind.Start k
@@ -32,7 +32,7 @@ begins_bare k = just kind.OpenBrace k || just kind.Semicolon k
 abbrev pub begins_statement : TokenKind → Bool
 begins_statement k = begins_bare k || begins_parameter k || begins_word k || begins_expression k
 
--- a statement in a statement opens a level at its first token
+-- an inner statement opens a level at its first token
 abbrev pub nested : Option (Reader Statement) → Reader Statement
 nested S = opened begins_statement S (λ P. P)
 
@@ -100,7 +100,7 @@ read_statement E S =
     (by_next (just kind.Return) (read_return E)
     (read_expression E)))))))))))))))
 
--- statements with so many levels left below them
+-- the reader of statements, with `left` levels left below them
 abbrev pub statements_with : ℕ → Option (Reader Statement)
 statements_with zero = None
 statements_with (suc left) = Some (read_statement (inner left) (statements_with left))

@@ -1,4 +1,4 @@
-//! Where statements are put that were read.
+//! Boxes for parsed statements.
 
 ghost use Rattle.std.specs.Prelude.{◌≡◌, ◌⊎◌, List, Ok, Err, IfOk, IfErr, IsOk};
 ghost use Rattle.fk_syntax.specs.Program.{Statement};
@@ -7,15 +7,15 @@ ghost use Rattle.fk_parse_combinators.specs.Faults.{IsMemory};
 ghost use Rattle.fk_parse_combinators.specs.Languages.{Placed};
 ghost use Rattle.fk_parse_combinators.specs.Reads.{Answer};
 ghost use Rattle.fk_parse_combinators.specs.Gives.{Gives};
-ghost use Rattle.fk_parse_declarations.specs.Headers as h;
-ghost use Rattle.fk_parse_declarations.specs.View.{header_of};
+ghost use Rattle.fk_parse_headers.specs.Headers as h;
+ghost use Rattle.fk_parse_headers.specs.View.{header_of};
 
 use fk_parse_combinators::fault::SyntaxFault;
-use fk_parse_declarations::header::Header;
+use fk_parse_headers::header::Header;
 use fk_syntax::program::Stmt;
 use std::alloc::Global;
 
-/// What was read, in a box. A fault of its own is only want of memory.
+/// A parsed value in a box. It adds a fault of its own only if there isn't enough memory.
 pub(crate) fn in_box<T: Drop>(
     alloc: Global,
     read: Result<T, SyntaxFault>,
@@ -26,7 +26,7 @@ pub(crate) fn in_box<T: Drop>(
     Ok(Box::new(alloc, read?)?)
 }
 
-/// The statement of a header and a body, if that was read.
+/// The statement of a header and a body, if the body was read.
 pub(crate) fn completed<'a>(
     header: Header<'a>,
     body: Result<Box<Stmt<'a>>, SyntaxFault>,

@@ -1,11 +1,11 @@
-//! Statements of Fork95, where they stand among the tokens of a text.
+//! Statements of Fork95.
 //!
-//! Each contract says what is read by the function on lists of tokens that it computes, of which
-//! the functions of the grammar above are put together. That those read the grammar is proved
-//! there.
+//! Each contract gives the result of a function in terms of a reader on lists of tokens. The
+//! readers of the crates above are built from these. That those read the grammar is proved there.
 #![tactic(auto)]
 
 mod boxes;
 pub mod kinds;
+mod simple;
 pub mod statement;
 pub mod told;

@@ -1,7 +1,7 @@
 //! Statements.
 //!
-//! The next token says which statement comes. So no token is read twice, and calls stand in calls
-//! as levels of nesting do: that is seen in the code, and no clause says it.
+//! The next token tells which statement comes. No token is therefore read twice, and the calls nest
+//! as the levels do. The code shows this; no clause states it.
 
 ghost use Rattle.std.specs.Prelude.{map, IfOk};
 ghost use Rattle.std.specs.Option.{option_map};
@@ -18,15 +18,15 @@ ghost use Rattle.fk_parse_statements.specs.Parts.{read_nested, read_otherwise, r
 ghost use Rattle.fk_parse_statements.specs.Parts.{read_headed, read_any};
 
 use crate::boxes::{completed, in_box};
+use crate::simple::simple;
 use crate::told::{open_statement, statement_is_next};
 use fk_lex::token::TokenKind;
 use fk_parse_combinators::cursor::Cursor;
 use fk_parse_combinators::fault::SyntaxFault;
-use fk_parse_declarations::expressions::{condition, do_condition};
-use fk_parse_declarations::header::any_header;
 use fk_parse_declarations::lists::put;
-use fk_parse_declarations::simple::simple;
-use fk_parse_declarations::told::header_is_next;
+use fk_parse_headers::expressions::{condition, do_condition};
+use fk_parse_headers::header::any_header;
+use fk_parse_headers::told::header_is_next;
 use fk_syntax::program::Stmt;
 use std::alloc::Global;
 
@@ -51,7 +51,7 @@ pub fn block<'a>(
     Ok(statements)
 }
 
-/// A statement in a statement, which opens a level at its first token.
+/// An inner statement, which opens a level at its first token.
 #[cycle(statement)]
 fn nested<'a>(
     alloc: Global,
@@ -65,7 +65,7 @@ fn nested<'a>(
     statement(alloc, cursor, inside)
 }
 
-/// Reads a statement one level deeper, in a box, as statements hold others.
+/// Reads an inner statement in a box, in which the outer statement keeps it.
 #[cycle(statement)]
 fn boxed<'a>(
     alloc: Global,
@@ -79,7 +79,7 @@ fn boxed<'a>(
     in_box(alloc, nested(alloc, cursor, left))
 }
 
-/// A statement, with so many levels left inside.
+/// A statement with `left` levels left inside.
 #[cycle(statement)]
 #[tactic(auto, using(fk_expr::proofs::Halting::halting))]
 fn statement<'a>(
@@ -194,7 +194,7 @@ fn do_while<'a>(
     }
 }
 
-/// A statement that ends in one.
+/// A header, and the statement after it.
 #[cycle(statement)]
 #[tactic(auto, using(fk_expr::proofs::Halting::halting))]
 fn headed<'a>(

@@ -5,7 +5,7 @@ use Rattle.fk_parse_combinators.proofs.Repeats.{going_end, items_more}
 use Rattle.fk_parse_combinators.proofs.Halting.{halts_going}
 use Rattle.fk_parse_combinators.specs.Gives.{Gives}
 use Rattle.fk_parse_statements.proofs.Headers.{nested_reads}
-use Rattle.fk_parse_declarations.specs.Headers.{headed, read_header}
+use Rattle.fk_parse_headers.specs.Headers.{headed, read_header}
 use Rattle.fk_parse_statements.specs.Parts.{read_nested}
 use Rattle.fk_parse_statements.proofs.Completing.{both_give, both_shorten, boxed_give, boxed_shorten}
 use Rattle.fk_parse_statements.proofs.Blocks.{block_reads, block_stops, block_open}

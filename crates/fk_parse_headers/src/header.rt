@@ -1,4 +1,4 @@
-//! What stands before the last statement in a statement.
+//! Headers: the parts of statements before their bodies.
 
 ghost use Rattle.std.specs.Prelude.{◌≡◌, Option, IfOk};
 ghost use Rattle.std.specs.Option.{option_map};
@@ -7,11 +7,11 @@ ghost use Rattle.fk_syntax.specs.View.{tree_of};
 ghost use Rattle.fk_syntax.specs.ProgramView.{statement_of};
 ghost use Rattle.fk_parse_combinators.specs.Ahead.{Shortens};
 ghost use Rattle.fk_parse_combinators.specs.Gives.{Gives, Makes};
-ghost use Rattle.fk_parse_declarations.specs.Headers.{headed, read_header, read_while_header};
-ghost use Rattle.fk_parse_declarations.specs.Headers.{read_for_header, read_last_parts};
-ghost use Rattle.fk_parse_declarations.specs.Headers.{read_start_header, read_parts, read_portion};
-ghost use Rattle.fk_parse_declarations.specs.Headers.{read_last_rank, read_fork_header};
-ghost use Rattle.fk_parse_declarations.specs.View.{header_of};
+ghost use Rattle.fk_parse_headers.specs.Headers.{headed, read_header, read_while_header};
+ghost use Rattle.fk_parse_headers.specs.Headers.{read_for_header, read_last_parts};
+ghost use Rattle.fk_parse_headers.specs.Headers.{read_start_header, read_parts, read_portion};
+ghost use Rattle.fk_parse_headers.specs.Headers.{read_last_rank, read_fork_header};
+ghost use Rattle.fk_parse_headers.specs.View.{header_of};
 
 use crate::expressions::{assigned, condition, count, part, rank};
 use fk_expr::at_cursor::comma;
@@ -23,7 +23,7 @@ use fk_syntax::place::Spot;
 use fk_syntax::program::Stmt;
 use std::alloc::Global;
 
-/// What stands before the last statement in a statement.
+/// The part of a statement before its body, which is its last part.
 #[derive(Drop)]
 pub enum Header<'a> {
     While(Spot, Expr<'a>),
@@ -35,7 +35,7 @@ pub enum Header<'a> {
 }
 
 impl<'a> Header<'a> {
-    /// The whole statement.
+    /// The whole statement, with this body.
     pub fn complete(self, body: Box<Stmt<'a>>) -> Stmt<'a>
         ensures { statement_of result
             ≡ headed (header_of self.entry) (statement_of body.entry.value) }
@@ -53,7 +53,7 @@ impl<'a> Header<'a> {
     }
 }
 
-/// What stands before the statement that ends a `while`, `for`, `start`, `farm`, `seq` or `fork`.
+/// The header of a `while`, `for`, `start`, `farm`, `seq` or `fork`.
 #[tactic(auto, using(fk_expr::proofs::Halting::halting))]
 pub fn any_header<'a>(
     alloc: Global,

@@ -2,7 +2,7 @@
 use Rattle.std.proofs.Common.{rules, refl}
 use Rattle.fk_syntax.specs.View.{tree_of}
 use Rattle.fk_parse_combinators.specs.Ahead.{seen}
-use Rattle.fk_parse_declarations.proofs.expressions.do_condition.Goals as goal
+use Rattle.fk_parse_headers.proofs.expressions.do_condition.Goals as goal
 
 pub returns-in-Ok-clause-read : goal.returns-in-Ok-clause-read
 returns-in-Ok-clause-read c =

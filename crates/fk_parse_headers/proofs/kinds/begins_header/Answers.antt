@@ -3,8 +3,8 @@ use Rattle.fk_lex.specs.declared.token.TokenKind.TheVariants as kind
 use Rattle.fk_lex.specs.declared.token.TokenKind.{TokenKind}
 use Rattle.fk_parse_combinators.specs.Kinds.{just}
 use Rattle.fk_parse_combinators.proofs.SameKind.{just_other}
-use Rattle.fk_parse_declarations.specs.Headers.{begins_header}
-use Rattle.fk_parse_declarations.proofs.kinds.begins_header.Goals as goal
+use Rattle.fk_parse_headers.specs.Headers.{begins_header}
+use Rattle.fk_parse_headers.proofs.kinds.begins_header.Goals as goal
 
 begun : (t k : TokenKind) → true ≡ begins_header k → t ≡ k → true ≡ begins_header t
 begun t k b e = subst (λ k. true ≡ begins_header k) (sym e) b

@@ -1,4 +1,4 @@
--- What stands before the last statement in a statement, and how it is read.
+-- Headers, the parts of statements before their bodies, and how they are read.
 use Rattle.std.specs.Prelude.{ℕ, Option, Bool, ◌||◌}
 use Rattle.fk_syntax.specs.declared.place.Spot.{Spot}
 use Rattle.fk_syntax.specs.Tree.{Tree}
@@ -9,7 +9,7 @@ use Rattle.fk_parse_combinators.specs.Languages.{Placed, spot}
 use Rattle.fk_parse_combinators.specs.Kinds.{just}
 use Rattle.fk_parse_combinators.specs.Readers.{Reader, giving, ◌and◌, expect, by_next, optional}
 use Rattle.fk_expr.specs.Reading.{inner, read_comma}
-use Rattle.fk_parse_declarations.specs.Reading.{read_condition, read_some, read_rank}
+use Rattle.fk_parse_headers.specs.Reading.{read_condition, read_some, read_rank}
 
 pub data Header : Type 0 where
   OfWhile : (at : Spot) (condition : Tree) → Header
@@ -19,7 +19,7 @@ pub data Header : Type 0 where
   OfSeq : (at : Spot) → Header
   OfFork : (at : Spot) (parts part : Tree) (rank : Option Tree) → Header
 
--- the whole statement
+-- the whole statement, with this body
 abbrev pub headed : Header → Statement → Statement
 headed (OfWhile at condition) body = While at condition body
 headed (OfFor at before condition after) body = For at before condition after body
@@ -34,7 +34,7 @@ read_while_header left =
     giving (λ (word, condition). OfWhile (spot word) condition)
     (expect kind.While and read_condition (inner left))
 
--- [ comma ], and the token behind it
+-- [ comma ], and the token after it
 abbrev pub read_part : ℕ → TokenKind → Reader (Option Tree)
 read_part left end = giving (λ (value, closing). value) (read_some (inner left) and expect end)
 
@@ -83,7 +83,7 @@ read_fork_header left =
     giving (λ ((at, parts), (part, (rank, closing))). OfFork at parts part rank)
     (read_parts left and read_portion left)
 
--- the words that begin a header
+-- the keywords that begin a header
 abbrev pub begins_header : TokenKind → Bool
 begins_header k = just kind.While k || (just kind.For k
     || (just kind.Start k || (just kind.Farm k || (just kind.Seq k || just kind.Fork k))))

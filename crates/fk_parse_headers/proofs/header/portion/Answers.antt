@@ -1,7 +1,7 @@
 -- What is read are the part and the rank, and the parenthesis behind them.
 use Rattle.std.proofs.Common.{refl, ap}
 use Rattle.fk_syntax.specs.View.{tree_of}
-use Rattle.fk_parse_declarations.proofs.header.portion.Goals as goal
+use Rattle.fk_parse_headers.proofs.header.portion.Goals as goal
 
 pub returns-in-Ok-clause-read : goal.returns-in-Ok-clause-read
 returns-in-Ok-clause-read c =

@@ -1,4 +1,4 @@
-//! Statements that have no others in them.
+//! Statements that have no others in them, but for declarations and empty statements.
 
 ghost use Rattle.std.specs.Prelude.{IfOk};
 ghost use Rattle.fk_syntax.specs.ProgramView.{statement_of};
@@ -6,12 +6,10 @@ ghost use Rattle.fk_parse_combinators.specs.Languages.{spot};
 ghost use Rattle.fk_parse_combinators.specs.Ahead.{Shortens};
 ghost use Rattle.fk_parse_combinators.specs.Gives.{Gives, Makes};
 ghost use Rattle.fk_expr.specs.Reading.{inner};
-ghost use Rattle.fk_parse_declarations.specs.Reading.{read_plain, read_return, read_expression};
-ghost use Rattle.fk_parse_declarations.specs.Parts.{read_simple, read_worded};
+ghost use Rattle.fk_parse_headers.specs.Reading.{read_plain, read_return, read_expression};
+ghost use Rattle.fk_parse_headers.specs.Parts.{read_worded};
 
-use crate::declaration::variables;
 use crate::expressions::some_expression;
-use crate::told::parameter_is_next;
 use fk_expr::at_cursor::comma;
 use fk_lex::token::TokenKind;
 use fk_parse_combinators::cursor::Cursor;
@@ -20,28 +18,9 @@ use fk_syntax::place::Spot;
 use fk_syntax::program::Stmt;
 use std::alloc::Global;
 
-/// A statement that has no others in it.
+/// A statement that begins with a word and has no others in it, or an expression and ";"
 #[tactic(auto, using(fk_expr::proofs::Halting::halting))]
-pub fn simple<'a>(
-    alloc: Global,
-    cursor: &mut Cursor<'_, 'a>,
-    left: u32,
-) -> Result<Stmt<'a>, SyntaxFault>
-    ensures read { Gives statement_of result cursor.new (read_simple left cursor.old) }
-    ensures shorter { IfOk result (λ _. Shortens cursor.old cursor.new) }
-{
-    if let Some(_semicolon) = cursor.accept(TokenKind::Semicolon) {
-        return Ok(Stmt::Empty);
-    }
-    if parameter_is_next(cursor) {
-        return Ok(Stmt::Declare(variables(alloc, cursor, left)?));
-    }
-    worded(alloc, cursor, left)
-}
-
-/// One that begins with a word, or an expression and ";"
-#[tactic(auto, using(fk_expr::proofs::Halting::halting))]
-fn worded<'a>(
+pub fn worded<'a>(
     alloc: Global,
     cursor: &mut Cursor<'_, 'a>,
     left: u32,

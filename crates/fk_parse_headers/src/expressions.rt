@@ -1,4 +1,4 @@
-//! Expressions where they stand in statements.
+//! Expressions in statements.
 
 ghost use Rattle.std.specs.Prelude.{IfOk};
 ghost use Rattle.std.specs.Option.{option_map};
@@ -10,9 +10,9 @@ ghost use Rattle.fk_parse_combinators.specs.Readers.{optional};
 ghost use Rattle.fk_parse_combinators.specs.Ahead.{Shortens, Leaves};
 ghost use Rattle.fk_parse_combinators.specs.Gives.{Gives, Makes};
 ghost use Rattle.fk_expr.specs.Reading.{inner};
-ghost use Rattle.fk_parse_declarations.specs.Reading.{read_condition, read_some, read_rank};
-ghost use Rattle.fk_parse_declarations.specs.Parts.{read_do_condition};
-ghost use Rattle.fk_parse_declarations.specs.Headers.{read_part, read_assigned};
+ghost use Rattle.fk_parse_headers.specs.Reading.{read_condition, read_some, read_rank};
+ghost use Rattle.fk_parse_headers.specs.Parts.{read_do_condition};
+ghost use Rattle.fk_parse_headers.specs.Headers.{read_part, read_assigned};
 
 use fk_expr::at_cursor::comma;
 use fk_expr::told::expression_is_next;
@@ -44,7 +44,7 @@ pub fn condition<'a>(
     }
 }
 
-/// "while" "(" comma ")" ";", behind the body of `do`
+/// "while" "(" comma ")" ";", after the body of a `do`
 #[tactic(auto, using(fk_expr::proofs::Halting::halting))]
 pub fn do_condition<'a>(
     alloc: Global,
@@ -118,7 +118,7 @@ pub(crate) fn some_expression<'a>(
     Ok(Some(comma(alloc, cursor, left)?))
 }
 
-/// [ comma ], and the token behind it
+/// [ comma ], and the token after it
 #[tactic(auto, using(fk_expr::proofs::Halting::halting))]
 pub(crate) fn part<'a>(
     alloc: Global,
