@@ -22,7 +22,7 @@ use Rattle.fk_core.proofs.Running.{IsAt, same_next, body_at, as_many_callers}
 use Rattle.fk_meaning.specs.Behind.{past, works, waiting, outs}
 use Rattle.fk_lockstep.specs.Course.{ByItself, Follows}
 use Rattle.fk_lockstep.specs.OneProgram.{AreTogether, HaveOneProgram, KeepOneProgram}
-use Rattle.fk_lockstep_one_group.specs.Where.{Where, InRoot, InGroup, goes, GoesNext, GoesFor, Goes}
+use Rattle.fk_lockstep_one_group.specs.Where.{Where, InRoot, InGroup, GoesNext, GoesFor, Goes}
 use Rattle.fk_lockstep_one_group.specs.Placed.{IsPlaced, HasOneGroup}
 use Rattle.fk_lockstep_one_group.specs.Runs.{BeginAtOne, AlwaysOneGroup}
 use Rattle.fk_lockstep_one_group.proofs.Known.{at_group}

@@ -1,6 +1,6 @@
--- Which steps of the tree processors do together.
+-- The steps of the tree that processors do together.
 use Rattle.std.specs.Prelude.{◌≡◌, ◌≢◌, ℕ, suc, Bool, true, false, List, [], ◌∷◌, Option, Some}
-use Rattle.std.specs.Prelude.{None, ◌⊎◌}
+use Rattle.std.specs.Prelude.{◌⊎◌}
 use Rattle.fk_tree.specs.declared.node.Kind.TheVariants.{Lockstep, Waiting, Asynchronous}
 use Rattle.fk_tree.specs.Tree as t
 use Rattle.fk_tree.specs.Tree.{Tree}
@@ -8,25 +8,23 @@ use Rattle.fk_tree.specs.Sound.{Has}
 use Rattle.fk_meaning_operation.specs.declared.operation.Operation.{Operation}
 use Rattle.fk_meaning_operation.specs.declared.operation.Operation.TheVariants as o
 use Rattle.fk_meaning.specs.Round.{Step, Acting}
-use Rattle.fk_lockstep.specs.Untouched.{changes_tree}
+use Rattle.fk_lockstep_nodes.specs.Steps as nodes
 
 module _ {W : Type 0} where
-  -- what is due doesn't change the tree
+  -- the due operation doesn't change the tree
   abbrev pub Keeps : Option (Step W) → Type 0
-  Keeps None = Unit {0}
-  Keeps (Some step) = changes_tree step.operation ≡ false
+  Keeps due = nodes.Keeps due
 
-  -- it is one operation
+  -- the due operation is this one
   abbrev pub Does : Operation → Option (Step W) → Type 0
-  Does operation None = ⊥
-  Does operation (Some step) = step.operation ≡ operation
+  Does operation due = nodes.Does operation due
 
   abbrev pub AllKeep : List (Acting W) → Type 0
   AllKeep [] = Unit {0}
   AllKeep (a ∷ actings) = Keeps a.due × AllKeep actings
 
-  -- all who stand at a node do one operation, and nobody else changes the tree. Their
-  -- numbers begin with one
+  -- all processors at a node do one operation, and no other processor changes the tree. The numbers
+  -- of the processors begin with `number`
   abbrev pub StepsAt : Tree → (g number : ℕ) → Operation → List (Acting W) → Type 0
   StepsAt old g number operation [] = Unit {0}
   StepsAt old g number operation (a ∷ actings) =
@@ -34,8 +32,8 @@ module _ {W : Type 0} where
       × (old.places number ≢ g → Keeps a.due)
       × StepsAt old g (suc number) operation actings
 
--- at which nodes the steps stand that change the tree: all begin in the root, and resume there; a
--- group comes to a body, or ends; those meet who have a body
+-- the nodes at which steps may change the tree: all processors begin in the root, and resume there;
+-- a group comes to a body, or ends; the processors that have a body meet
 abbrev pub MayStep : Tree → (g : ℕ) → Operation → Type 0
 MayStep tree g o.Begin = (g ≡ 0) × (t.kind tree g ≡ Some (Asynchronous false))
 MayStep tree g o.Resume = (g ≡ 0) × ((first : ℕ) × (t.kind tree g ≡ Some (Waiting first 1)))
@@ -47,7 +45,7 @@ MayStep tree g (o.Meet true) = (g ≢ 0)
 MayStep tree g operation = ⊥
 
 module _ {W : Type 0} (tree : Tree) (actings : List (Acting W)) where
-  -- one node is stepped at, all members of which stand there
+  -- the steps that change the tree are at one node, and all members of that node are there
   pub record OneSteps : Type 0 where
     pub node : ℕ
     pub operation : Operation
