@@ -20,16 +20,17 @@ use Rattle.fk_core.specs.Next.{Position, next}
 use Rattle.fk_image.specs.declared.Image.{Image}
 use Rattle.fk_machine.specs.Hart.{Hart, Setting as MachineSetting}
 use Rattle.fk_sim_nodes.specs.Node.{Member, numbered, of_node, add}
-use Rattle.fk_sim_nodes.specs.Phase.{Phase, Outside, Away, Coming, Waiting as Polls, Leaving, Each, Stays, Leaves}
+use Rattle.fk_sim_nodes.specs.Phase.{Phase, Outside, Away, Coming, Waiting as Polls, Leaving, members, Each, Stays, Leaves}
 use Rattle.fk_sim_match.specs.Stage.{Ending, Commits, Unites, Stage, Ended, Acts, Meets, count_of_stage, counts_for, kept, absent, phase_of}
 use Rattle.fk_sim_match.specs.Plan.{Plan, IsOpen, phase_at, phases_from, phases, Binds, InLockstep, AllAct, IsInside, IsBound}
 use Rattle.fk_sim_block.specs.Owner.{Owner, core_source}
 use Rattle.fk_sim_block.specs.Stands.{Places}
 use Rattle.fk_sim_block.specs.Node.{Nestings}
-use Rattle.fk_sim_match.specs.Nodes.{first_of, HaveSpaces, meeters_at, is_arrival, is_lockstep, nodes_of, plan_of}
+use Rattle.fk_sim_match.specs.Nodes.{first_of, HaveSpaces, body_at, meeters_at, is_arrival, is_lockstep, nodes_of, plan_of}
+use Rattle.fk_sim_match.specs.Laws.{TellsMeeters}
 use Rattle.fk_sim_match.specs.Behind.{blocks_of}
 use Rattle.fk_sim_match.specs.Rounds.{closing_joint, joint_at_word, ending_of, IsDue, MeetsAtWord, IsDueAt, AllDue, owners_of, RoundsAreAllowed}
-use Rattle.fk_sim_match.proofs.Nodes.{tells}
+use Rattle.fk_sim_match.proofs.Nodes.{few_arrivals, tells}
 
 -- ---- lists by hart
 
@@ -212,11 +213,6 @@ module _ (core : List CoreOp) (setting : Setting) (tree : Tree) (spaces : ℕ �
   joint_here [] rs h x r at here = absurd (cc)
   joint_here (y ∷ stages) [] h x r at here = absurd (cc)
 
-few_arrivals : (offset : ℕ) → is_arrival offset ≡ true → offset < 8
-few_arrivals zero is = omega arith
-few_arrivals (suc zero) is = omega arith
-few_arrivals (suc (suc i)) is = absurd (false≢true is)
-
 -- all act at one distance
 abbrev AllAre : (d : ℕ) → List Stage → Type 0
 AllAre d [] = Unit {0}
@@ -240,6 +236,22 @@ lockstep_kind None is = absurd (false≢true is)
 lockstep_kind (Some Lockstep) is = refl
 lockstep_kind (Some (Waiting first parts)) is = absurd (false≢true is)
 lockstep_kind (Some (Asynchronous alone)) is = absurd (false≢true is)
+
+nobody_inside : (fs : List Phase) → members fs ≡ 0 → Each (λ f. f ≡ Outside) fs
+nobody_inside [] e = tt
+nobody_inside (Outside ∷ fs) e = (refl, nobody_inside fs e)
+nobody_inside (Away ∷ fs) e = absurd (omega (arith, e))
+nobody_inside (Coming d ∷ fs) e = absurd (omega (arith, e))
+nobody_inside (Polls ∷ fs) e = absurd (omega (arith, e))
+nobody_inside (Leaving d ∷ fs) e = absurd (omega (arith, e))
+
+-- those who run the body of a node meet at its first word, or nobody does
+body_or_none : (k : Option Kind) (g : ℕ) (ms : List ℕ) → (body_at k g ms ≡ body_of k ms) ⊎ (body_at k g ms ≡ [])
+body_or_none None g ms = inl refl
+body_or_none (Some Lockstep) g ms = inl refl
+body_or_none (Some (Waiting first parts)) zero ms = inl refl
+body_or_none (Some (Waiting first parts)) (suc g) ms = inr refl
+body_or_none (Some (Asynchronous alone)) g ms = inl refl
 
 -- ---- a whole round
 
@@ -345,25 +357,38 @@ module _ (core : List CoreOp) (image : Image) (places : Places) (nestings : Nest
     lives : is_some (tree.nodes n) ≡ true
     lives = alive (tree.nodes n) h (sound.placed h lt).member
 
+    told : TellsMeeters tree plan n meets.offset (first_of spaces n + meets.offset)
+    told = tells tree spaces spaced nodes n meets.offset lives (given p tree sound n lives) (few_arrivals meets.offset meets.arrival)
+
+    is_open : IsOpen plan n w
+    is_open = (subst (λ k. plan.words n k ≡ true) (sym meets.word_is) told.own, subst (λ k. plan.arrivals k ≡ true) (sym meets.word_is) (told.arrival ∙ meets.arrival))
+
+    staged : slice_get stages h ≡ Some (Meets Commits w (Leaving 0))
+    staged = x.at ∙ ap (λ y. Some y) leaves
+
+    -- its own phase is known
+    this : (P : Phase → Type 0) → P (phase_at (n == n) (plan.member w h) (phase_of w (plan.member w h) (Some (Meets Commits w (Leaving 0))))) → P (Leaving 0)
+    this P q =
+        subst (λ b. P (cond b (Leaving 0) (absent (plan.member w h)))) (eq-eqb w w refl)
+        (subst (λ b. P (phase_at b (plan.member w h) (phase_of w (plan.member w h) (Some (Meets Commits w (Leaving 0)))))) (eq-eqb n n refl) q)
+
     -- so all who meet there leave now
     all_leave : Each (Leaves 0) (phases plan n w (kept stages))
     all_leave =
-        let few = few_arrivals meets.offset meets.arrival in
-        let told = tells tree spaces spaced nodes n meets.offset lives (given p tree sound n lives) few in
-        let is_open : IsOpen plan n w = (subst (λ k. plan.words n k ≡ true) (sym meets.word_is) told.own, subst (λ k. plan.arrivals k ≡ true) (sym meets.word_is) (told.arrival ∙ meets.arrival)) in
-        let at : slice_get stages h ≡ Some (Meets Commits w (Leaving 0)) = x.at ∙ ap (λ y. Some y) leaves in
         ⊎_elim
-        (λ stay. absurd (this (λ f. Stays f) (each_at Stays plan n w 0 nodes stages h h n (Meets Commits w (Leaving 0)) (omega arith) stay x.node at)))
+        (λ stay. absurd (this (λ f. Stays f) (each_at Stays plan n w 0 nodes stages h h n (Meets Commits w (Leaving 0)) (omega arith) stay x.node staged)))
         (λ gone.
-        let e : 0 ≡ gone.0 = this (λ f. Leaves gone.0 f) (each_at (λ f. Leaves gone.0 f) plan n w 0 nodes stages h h n (Meets Commits w (Leaving 0)) (omega arith) gone.1 x.node at) in
+        let e : 0 ≡ gone.0 = this (λ f. Leaves gone.0 f) (each_at (λ f. Leaves gone.0 f) plan n w 0 nodes stages h h n (Meets Commits w (Leaving 0)) (omega arith) gone.1 x.node staged) in
         subst (λ k. Each (Leaves k) (phases plan n w (kept stages))) (sym e) gone.1)
         (bound.counts n w free is_open).together
-      where
-        -- of its own phase
-        this : (P : Phase → Type 0) → P (phase_at (n == n) (plan.member w h) (phase_of w (plan.member w h) (Some (Meets Commits w (Leaving 0))))) → P (Leaving 0)
-        this P q =
-            subst (λ b. P (cond b (Leaving 0) (absent (plan.member w h)))) (eq-eqb w w refl)
-            (subst (λ b. P (phase_at b (plan.member w h) (phase_of w (plan.member w h) (Some (Meets Commits w (Leaving 0)))))) (eq-eqb n n refl) q)
+
+    -- somebody meets there
+    somebody_meets : meeters_at tree n meets.offset ≡ [] → ⊥
+    somebody_meets none =
+        let size : plan.size w ≡ 0 = ap (λ k. plan.size k) meets.word_is ∙ told.size ∙ ap (λ ms. length ms) none in
+        let outside = nobody_inside (phases plan n w (kept stages)) ((bound.counts n w free is_open).size ∙ size) in
+        let e : Leaving 0 ≡ Outside = this (λ f. f ≡ Outside) (each_at (λ f. f ≡ Outside) plan n w 0 nodes stages h h n (Meets Commits w (Leaving 0)) (omega arith) outside x.node staged) in
+        absurd (cc)
 
     -- each of them stands in the node, commits, and does the same
     record Joins (m : ℕ) : Type 0 where
@@ -395,8 +420,6 @@ module _ (core : List CoreOp) (image : Image) (places : Places) (nestings : Nest
     joins_so : (m : ℕ) → is_member m (meeters_at tree n meets.offset) ≡ true → m < p → Joins m
     joins_so m is lt' =
         let y = here m lt' in
-        let few = few_arrivals meets.offset meets.arrival in
-        let told = tells tree spaces spaced nodes n meets.offset lives (given p tree sound n lives) few in
         let member : plan.member w m ≡ true = subst (λ k. plan.member k m ≡ true) (sym meets.word_is) (told.member m ∙ is) in
         let phase = each_at (λ f. Leaves 0 f) plan n w 0 nodes stages m m (tree.places m) y.stage (omega arith) all_leave y.node y.at in
         let so = stands_so m y (subst (λ b. Leaves 0 (phase_at (tree.places m == n) b (phase_of w b (Some y.stage)))) member phase) in
@@ -459,10 +482,16 @@ module _ (core : List CoreOp) (image : Image) (places : Places) (nestings : Nest
 
     joins_by : (o : ℕ) → meets.offset ≡ o → joins round does tree n (joint_at_word n (t.kind tree n) o) ≡ true
     joins_by zero e =
-        subst (λ o. all_do round does (joint_at_word n (t.kind tree n) o) (meeters_at tree n 0) ≡ true) e
-        (all_do_so (meeters_at tree n 0)
+        ⊎_elim
+        (λ body.
+        let meet : meeters_at tree n 0 ≡ body_of (t.kind tree n) (t.members tree n) = body in
+        subst (λ o. all_do round does (joint_at_word n (t.kind tree n) o) (body_of (t.kind tree n) (t.members tree n)) ≡ true) e
+        (all_do_so (body_of (t.kind tree n) (t.members tree n))
         (λ m is.
-        joins_so m (subst (λ o. is_member m (meeters_at tree n o) ≡ true) (sym e) is) (sound.within n m (within_body (t.kind tree n) (t.members tree n) m is))))
+        joins_so m (subst (λ o. is_member m (meeters_at tree n o) ≡ true) (sym e) (subst (λ ms. is_member m ms ≡ true) (sym meet) is))
+        (sound.within n m (within_body (t.kind tree n) (t.members tree n) m is)))))
+        (λ none. absurd (somebody_meets (ap (λ o. meeters_at tree n o) e ∙ none)))
+        (body_or_none (t.kind tree n) n (t.members tree n))
     joins_by (suc zero) e = closing_joins (t.kind tree n) refl e
     joins_by (suc (suc o)) e = absurd (false≢true (subst (λ k. is_arrival k ≡ true) e meets.arrival))
 

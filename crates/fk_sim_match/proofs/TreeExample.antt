@@ -1,5 +1,5 @@
 -- The plan of a state, made once: one processor in the root, whose hart is at a distance from its commit.
-use Rattle.std.proofs.Common.{◌≡◌, ◌≢◌, ℕ, zero, suc, ◌+◌, ◌-◌, ◌≤◌, List, [], ◌∷◌, length, Bool, true, false, Some, None, sym, ap, subst, ◌∙◌, refl, arith, ◌⊎◌, inl, inr, ⊎_elim}
+use Rattle.std.proofs.Common.{◌≡◌, ◌≢◌, ℕ, zero, suc, ◌-◌, List, [], ◌∷◌, length, Bool, true, false, Some, None, sym, ap, subst, ◌∙◌, refl, arith, ◌⊎◌, inl, inr, ⊎_elim}
 use Rattle.std.specs.Prelude.{◌==◌, ◌&&◌, is_some}
 use Rattle.std.proofs.lemmas.Bool.{cases_Bool, cond-true, cond-false, ne_eqb, false≢true}
 use Rattle.fk_space.specs.Space.{Space}
@@ -17,7 +17,7 @@ use Rattle.fk_sim_match.specs.Plan.{Plan, StandsAt, Binds, Counts, IsBound}
 use Rattle.fk_sim_block.specs.Owner.{Owner, core_source}
 use Rattle.fk_sim_block.specs.Stands.{Places}
 use Rattle.fk_sim_block.specs.Node.{Nestings, root_words}
-use Rattle.fk_sim_match.specs.Nodes.{first_of, owns, meeters_at, meeters_by, meeters, HaveSpaces, is_lockstep, plan_of}
+use Rattle.fk_sim_match.specs.Nodes.{first_of, own_words, owns, meeters_at, meeters_by, meeters, HaveSpaces, is_lockstep, plan_of}
 use Rattle.fk_sim_match.specs.Behind.{blocks_of}
 
 module _ (core : List CoreOp) (image : Image) (places : Places) (nestings : Nestings) (setting : Setting) (spaces : ℕ → Space) where
@@ -28,17 +28,18 @@ module _ (core : List CoreOp) (image : Image) (places : Places) (nestings : Nest
   gone : (g : ℕ) → (root 1).nodes (suc g) ≡ None
   gone g = with_other 0 (node_of (below 1 []) 0 (Asynchronous false)) (λ i. None) (suc g) (λ e. omega (arith, e))
 
-  within : (g : ℕ) → g ≢ 0 → is_some ((root 1).nodes g) ≡ true → (spaces g).low + 8 ≤ root_words
-  within zero ne some = absurd (ne refl)
-  within (suc g) ne some = absurd (false≢true (subst (λ o. is_some o ≡ true) (gone g) some))
-
-  apart : (g k : ℕ) → g ≢ 0 → k ≢ 0 → (g ≡ k → ⊥) → is_some ((root 1).nodes g) ≡ true → is_some ((root 1).nodes k) ≡ true
-      → ((spaces g).low + 8 ≤ (spaces k).low) ⊎ ((spaces k).low + 8 ≤ (spaces g).low)
-  apart zero k ne ne' differ some some' = absurd (ne refl)
-  apart (suc g) k ne ne' differ some some' = absurd (false≢true (subst (λ o. is_some o ≡ true) (gone g) some))
+  none : (g : ℕ) → g ≢ 0 → is_some ((root 1).nodes g) ≡ true → ⊥
+  none zero ne some = ne refl
+  none (suc g) ne some = false≢true (subst (λ o. is_some o ≡ true) (gone g) some)
 
   pub spaced : HaveSpaces (root 1) spaces
-  spaced = record { within = within; apart = apart }
+  spaced = record {
+    header = λ g ne some. absurd (none g ne some);
+    within = λ g ne some. absurd (none g ne some);
+    waits = λ g ne some. absurd (none g ne some);
+    nested = λ g ne some up. absurd (none g ne some);
+    apart = λ g k ne ne' differ some some' same. absurd (none g ne some);
+  }
 
   -- at most the one processor meets at a word
   who_meets : (w : ℕ) → (meeters (root 1) spaces w ≡ []) ⊎ (meeters (root 1) spaces w ≡ 0 ∷ [])
@@ -74,7 +75,7 @@ module _ (core : List CoreOp) (image : Image) (places : Places) (nestings : Nest
 
     counts : (g w : ℕ) → Counts (core_source core setting) image plan (blocks_of core image places nestings setting plan (first_of spaces)) t g w (Acts d ∷ []) (λ i. 0)
     counts zero w free is_open = counted t.finished d (meeters (root 1) spaces w) (who_meets w)
-    counts (suc g) w free is_open = absurd (false≢true (subst (λ o. (is_some o && is_from (first_of spaces (suc g)) 8 w) ≡ true) (gone g) is_open.0))
+    counts (suc g) w free is_open = absurd (false≢true (subst (λ o. (is_some o && is_from (first_of spaces (suc g)) (own_words spaces (suc g) (kind_of o)) w) ≡ true) (gone g) is_open.0))
 
     pub one_is_bound : IsBound (core_source core setting) image plan (blocks_of core image places nestings setting plan (first_of spaces)) t (Acts d ∷ []) (h ∷ []) (p ∷ []) (λ g i. 0)
     one_is_bound = record { as_many = tt; stages_as_many = tt; binds = binds; counts = counts }

@@ -1,8 +1,8 @@
--- What is so of the plan of a tree.
+-- Laws of the plan of a tree.
 use Rattle.std.specs.Prelude.{◌≡◌, ◌≢◌, ℕ, ◌+◌, ◌<◌, List, length, true, false, None, is_some}
 use Rattle.fk_num.specs.Word.{Memory}
 use Rattle.fk_space.specs.Space.{Space, IsSpace}
-use Rattle.fk_tree.specs.Tree.{Tree, is_member}
+use Rattle.fk_tree.specs.Tree.{Tree, parent, kind, is_member, is_waiting}
 use Rattle.fk_meaning.specs.Processor.{Setting}
 use Rattle.fk_core.specs.declared.op.CoreOp.{CoreOp}
 use Rattle.fk_image.specs.declared.Image.{Image}
@@ -19,9 +19,11 @@ use Rattle.fk_sim_block.specs.Node.{Nestings}
 use Rattle.fk_sim_match.specs.Nodes.{first_of, owns, HaveSpaces, meeters_at, is_arrival, plan_of}
 use Rattle.fk_sim_match.specs.Behind.{blocks_of, joining_blocks_of}
 
--- a tree has one group at most, with a space
+-- a tree has one group at most, with a space, and the root waits for it
 pub record HasOneGroup (tree : Tree) (spaces : ℕ → Space) (group : ℕ) : Type 0 where
   pub only : (g : ℕ) → g ≢ 0 → is_some (tree.nodes g) ≡ true → g ≡ group
+  pub part : (g : ℕ) → g ≢ 0 → is_some (tree.nodes g) ≡ true
+      → (parent tree g ≡ 0) × (is_waiting (kind tree 0) ≡ true)
   pub space : IsSpace (spaces group)
 
 abbrev pub OneGroupHasSpace : Type 0
@@ -32,7 +34,7 @@ abbrev pub NodesOwnApart : Type 0
 NodesOwnApart = (tree : Tree) (spaces : ℕ → Space) → HaveSpaces tree spaces
     → OwnApart (owns tree spaces) (λ i. false)
 
--- at a word of the header of a node
+-- The plan tells, of a word in the header of a node, who meets there and how many they are.
 pub record TellsMeeters (tree : Tree) (plan : Plan) (g offset word : ℕ) : Type 0 where
   pub own : plan.words g word ≡ true
   pub arrival : plan.arrivals word ≡ is_arrival offset
@@ -45,7 +47,7 @@ WordsTellMeeters =
     → is_some (tree.nodes g) ≡ true → g < tree.given → offset < 8
     → TellsMeeters tree (plan_of tree spaces nodes) g offset (first_of spaces g + offset)
 
--- whatever the plan
+-- Members who meet turn as their phases do, whatever the plan.
 abbrev pub MeetersTurn : Type 0
 MeetersTurn =
     (core : List CoreOp) (image : Image) (places : Places) (nestings : Nestings) (setting : Setting)
@@ -67,7 +69,8 @@ CyclesAreRounds =
     → IsPlanned (core_source core setting) image plan (joining_blocks_of core image places nestings
     setting plan (first_of spaces)) t earlier stages hs ps own sh s
 
--- whatever the plan: a cycle without a fault leaves control words that no node owns as they were
+-- A cycle without a fault leaves the control words that no node owns as they were, whatever the
+-- plan.
 abbrev pub UnownedWordsStay : Type 0
 UnownedWordsStay =
     (core : List CoreOp) (image : Image) (places : Places) (nestings : Nestings) (setting : Setting)

@@ -24,6 +24,7 @@ use Rattle.fk_sim_match.specs.Behind.{HaveParted, HaveEnded, HaveBegun, AllHaveG
 use Rattle.fk_sim_rounds.specs.After.{DoesStep, ArePlaces}
 use Rattle.fk_sim_rounds.proofs.Lists.{run_end}
 use Rattle.fk_sim_rounds.proofs.Harts.{AllAre}
+use Rattle.fk_sim_rounds.proofs.Moved.{one, at_one}
 use Rattle.fk_sim_rounds.proofs.Changed.{Here}
 use Rattle.fk_sim_rounds.proofs.Close.{AllDo}
 
@@ -40,14 +41,14 @@ both_parts Own true m ms d ds all = (λ e. all.0, all.1)
 both_parts Own false m ms d ds all = (λ e. absurd (false≢true e), all)
 
 -- what is so of those of a node is so of each hart that stands there
-pub spread : (old : Tree) (Own : Member → Doing → Type 0) (g number : ℕ) (ns : List ℕ) (hs : List Hart) (ds : List Doing) → ArePlaces old number ns → AreAsMany ns hs ds
-    → Both Own (of_node g ns (numbered number hs)) (of_node g ns ds) → AllAre (Here old g Own) number hs ds
-spread old Own g number [] [] [] places many all = tt
-spread old Own g number (n ∷ ns) (h ∷ hs) (d ∷ ds) places many all =
+pub spread : (old : Tree) (operation : Operation) (Own : Member → Doing → Type 0) (g number : ℕ) (ns : List ℕ) (hs : List Hart) (ds : List Doing) → ArePlaces old number ns → AreAsMany ns hs ds
+    → Both Own (of_node g ns (numbered number hs)) (of_node g ns ds) → AllAre (Here old (one g operation) Own) number hs ds
+spread old operation Own g number [] [] [] places many all = tt
+spread old operation Own g number (n ∷ ns) (h ∷ hs) (d ∷ ds) places many all =
     let m : Member = record { number = number; hart = h } in
     let parts = both_parts Own (n == g) m (of_node g ns (numbered (suc number) hs)) d (of_node g ns ds) all in
-    (λ e. parts.0 (eq-eqb n g (places.0 ∙ e)), spread old Own g (suc number) ns hs ds places.1 many parts.1)
-spread old Own g number ns hs ds places many all = absurd (assumption many)
+    (λ x e. parts.0 (eq-eqb n g (places.0 ∙ (at_one g (old.places number) operation x e).0)), spread old operation Own g (suc number) ns hs ds places.1 many parts.1)
+spread old operation Own g number ns hs ds places many all = absurd (assumption many)
 
 -- ---- what the step has left
 

@@ -1,5 +1,5 @@
 -- After the round in which a group comes to a body, where each goes on by itself, all are bound again.
-use Rattle.std.proofs.Common.{◌≡◌, ◌≢◌, ℕ, zero, suc, ◌+◌, ◌-◌, ◌≤◌, ◌<◌, List, [], ◌∷◌, length, Option, Some, None, Bool, true, false, sym, ap, subst, ◌∙◌, refl, arith, inr, ⊎_elim, eq-eqb}
+use Rattle.std.proofs.Common.{◌≡◌, ◌≢◌, ℕ, zero, suc, ◌+◌, ◌≤◌, ◌<◌, List, [], ◌∷◌, length, Option, Some, None, Bool, true, false, sym, ap, subst, ◌∙◌, refl, arith, inr, ⊎_elim, eq-eqb}
 use Rattle.std.specs.Prelude.{◌==◌, ◌||◌, map, is_some, slice_get, if◌then◌else◌}
 use Rattle.std.proofs.lemmas.Bool.{ne_eqb, eqb-true, false≢true, and_parts, or_cases, or_left}
 use Rattle.std.proofs.lemmas.List.{length-map}
@@ -7,14 +7,14 @@ use Rattle.fk_num.specs.Word.{Memory}
 use Rattle.fk_space.specs.Space.{Space}
 use Rattle.fk_tree.specs.declared.node.Kind.TheVariants.{Lockstep, Asynchronous}
 use Rattle.fk_tree.specs.Tree as trees
-use Rattle.fk_tree.specs.Tree.{Tree, Node, turned, with_kind, is_member, is_from}
+use Rattle.fk_tree.specs.Tree.{Tree, Node, turned, with_kind, is_member}
 use Rattle.fk_tree.specs.Sound.{is_below_all, is_ascending, IsSound}
 use Rattle.fk_tree.proofs.Lists.{below_all-member}
-use Rattle.fk_tree.proofs.Shapes.{with_other, kind_members, kind_same, some-given, from_parts}
+use Rattle.fk_tree.proofs.Shapes.{with_other, kind_members, kind_same, some-given}
 use Rattle.fk_meaning_operation.specs.declared.operation.Operation.{Operation}
 use Rattle.fk_meaning_operation.specs.declared.operation.Operation.TheVariants.{Begin, Farm, Seq, End}
 use Rattle.fk_meaning.specs.Processor.{Setting}
-use Rattle.fk_meaning.specs.Round.{Step, lowest, body_of}
+use Rattle.fk_meaning.specs.Round.{Step, lowest}
 use Rattle.fk_core.specs.declared.op.CoreOp.{CoreOp}
 use Rattle.fk_core.specs.Next.{Position}
 use Rattle.fk_image.specs.declared.Image.{Image}
@@ -33,9 +33,9 @@ use Rattle.fk_sim_block.specs.Block.{most_behind, IsRunning}
 use Rattle.fk_sim_block.specs.Node.{Nestings, StandsInNode}
 use Rattle.fk_sim_block.specs.Lockstep.{is_due, stepped, highest_value, ComesAlone, AllComeAlone, AreOfSize, IsLowest, one_runs}
 use Rattle.fk_sim_block.specs.Law.{Cycles, GroupLaw, runs_behind, IsAskedOf}
-use Rattle.fk_sim_match.specs.Nodes.{first_of, is_arrival, is_lockstep, meeters_at, plan_of}
+use Rattle.fk_sim_match.specs.Nodes.{first_of, is_arrival, is_lockstep, body_at, meeters_at, plan_of}
 use Rattle.fk_sim_match.specs.Behind.{runs_of, HaveParted, blocks_of}
-use Rattle.fk_sim_match.proofs.Nodes.{tells}
+use Rattle.fk_sim_match.proofs.Nodes.{tells, open_at}
 use Rattle.fk_sim_match.proofs.Rounds.{not_none, leaf_place}
 use Rattle.fk_sim_rounds.specs.Next.{JumpsLead, all_landed}
 use Rattle.fk_sim_rounds.specs.After.{actings, tree_after, owner_after, owners_after, halts, is_halt, DoesStep, StepsAt, AllGoOn, GroupsGoOn, BindsAgain}
@@ -44,8 +44,8 @@ use Rattle.fk_sim_rounds.proofs.Agreed.{member_place, place_member}
 use Rattle.fk_sim_rounds.proofs.Keep.{AllOn, AllAtHome}
 use Rattle.fk_sim_rounds.proofs.Harts.{AllAre, LockLeft, HartsGo, steps_apart}
 use Rattle.fk_sim_rounds.proofs.Groups.{Stands, somebody, there_are, at_home, many_length}
-use Rattle.fk_sim_rounds.proofs.Changed.{Here, Steps, running, At, near, AnyGoes, all, bound_at}
-use Rattle.fk_sim_rounds.proofs.Moved.{TreeMoves, one_node, only}
+use Rattle.fk_sim_rounds.proofs.Changed.{Here, Steps, known_at, running, At, near, AnyGoes, all, bound_at}
+use Rattle.fk_sim_rounds.proofs.Moved.{one, by_one, TreeMoves, one_node, only}
 use Rattle.fk_sim_rounds.proofs.Resume.{kind_there, lowest_there, is_busy, step_is_brought}
 use Rattle.fk_sim_rounds.proofs.Close.{AllDo, all_do}
 use Rattle.fk_sim_rounds.proofs.Acted.{Both, spread, acted}
@@ -154,13 +154,13 @@ module _ (core : List CoreOp) (image : Image) (places : Places) (nestings : Nest
   free : plan'.in_lockstep g ≡ false
   free = ap is_lockstep kind'
 
-  move : TreeMoves old (with_kind g (Asynchronous alone) old) setting.processors g nodes nodes (λ k. k == g)
-  move = one_node old (with_kind g (Asynchronous alone) old) setting.processors g nodes others (λ h. refl) before.stand
+  move : TreeMoves old (with_kind g (Asynchronous alone) old) setting.processors (one g operation) nodes nodes (λ k. k == g)
+  move = one_node old (with_kind g (Asynchronous alone) old) setting.processors g operation nodes others (λ h. refl) before.stand
 
   abbrev run : IsRunning image setting (later t)
   run =
       running core image places nestings cycles firsts main setting old (with_kind g (Asynchronous alone) old) spaces nodes nodes t stages hs ps ds own own' control the_law leads before left has behind.sound
-      behind.spaced g operation steps (λ k. k == g) move on next
+      behind.spaced (one g operation) (by_one old g operation 0 ds steps) (λ k. k == g) move on next
 
   -- ---- its members
 
@@ -241,7 +241,7 @@ module _ (core : List CoreOp) (image : Image) (places : Places) (nestings : Nest
   }
 
   body_is : meeters_at new g 0 ≡ trees.runs (Asynchronous alone) (trees.members new g)
-  body_is = ap (λ k. body_of k (trees.members new g)) kind'
+  body_is = ap (λ k. body_at k g (trees.members new g)) kind'
 
   runs_by : (number : ℕ) (body : List ℕ) → trees.runs (Asynchronous alone) (trees.members new g) ≡ body
       → runs_of plan' (first_of spaces g) number ≡ (if is_member number body then Some (length body) else None)
@@ -368,12 +368,12 @@ module _ (core : List CoreOp) (image : Image) (places : Places) (nestings : Nest
 
   -- ---- all of it
 
-  own_here : AllAre (Here old g GoesApart) 0 hs ds
-  own_here = spread old GoesApart g 0 nodes hs ds before.stand left.done_as_many (all_apart operation is all_parted all_parted.same)
+  own_here : AllAre (Here old (one g operation) GoesApart) 0 hs ds
+  own_here = spread old operation GoesApart g 0 nodes hs ds before.stand left.done_as_many (all_apart operation is all_parted all_parted.same)
 
   at_group : (k : ℕ) → (k == g) ≡ true → plan'.in_lockstep k ≡ true
       → At core image places nestings cycles firsts main setting old (with_kind g (Asynchronous alone) old) spaces nodes nodes t stages hs ps ds own own' control the_law leads before left has behind.sound
-      behind.spaced g operation steps (λ k. k == g) move on next k
+      behind.spaced (one g operation) (by_one old g operation 0 ds steps) (λ k. k == g) move on next k
   at_group k is' locked = absurd (false≢true (sym (ap (λ j. plan'.in_lockstep j) (eqb-true k g is') ∙ free) ∙ locked))
 
   on_by : (operation : Operation) (due : Option (Step Position)) → runs_alone operation ≡ Some alone → DoesStep operation due → halts due ≡ false
@@ -395,26 +395,27 @@ module _ (core : List CoreOp) (image : Image) (places : Places) (nestings : Nest
       (λ locked. inr (all_parted.committed, on_all doings all_step))
 
   each_member : AnyGoes core image places nestings cycles firsts main setting old (with_kind g (Asynchronous alone) old) spaces nodes nodes t stages hs ps ds own own' control the_law leads before left has
-      behind.sound behind.spaced g operation steps (λ k. k == g) move on next at_group lock_group (Steps old g operation GoesApart)
-  each_member m p d known lt land home' s0 a locks alone' due remains on' =
+      behind.sound behind.spaced (one g operation) (by_one old g operation 0 ds steps) (λ k. k == g) move on next at_group lock_group (Steps old (one g operation) GoesApart)
+  each_member m p d step lt land home' s0 a locks alone' due remains on' =
+      let known = known_at old g operation GoesApart m d step in
       let apart = known.2 in
       steps_apart core image places nestings cycles firsts main setting old (with_kind g (Asynchronous alone) old) spaces nodes nodes the_law leads behind.spaced behind.sound (later t) run (actings ds)
       (λ k. (near core image places nestings cycles firsts main setting old (with_kind g (Asynchronous alone) old) spaces nodes nodes t stages hs ps ds own own' control the_law leads before left has
-      behind.sound behind.spaced g operation steps (λ k. k == g) move on next at_group lock_group k).distance)
+      behind.sound behind.spaced (one g operation) (by_one old g operation 0 ds steps) (λ k. k == g) move on next at_group lock_group k).distance)
       (λ k. (near core image places nestings cycles firsts main setting old (with_kind g (Asynchronous alone) old) spaces nodes nodes t stages hs ps ds own own' control the_law leads before left has
-      behind.sound behind.spaced g operation steps (λ k. k == g) move on next at_group lock_group k).soon)
+      behind.sound behind.spaced (one g operation) (by_one old g operation 0 ds steps) (λ k. k == g) move on next at_group lock_group k).soon)
       m p d lt home' (is_busy operation d p known.1) a (ap (λ k. plan'.in_lockstep k) known.0 ∙ free) (locks (ap (λ k. plan.in_lockstep k) known.0 ∙ lock)) apart.cycles_behind apart.hart apart.few apart.private
       apart.at (subst (λ k. StandsInNode places nestings setting (runs_of plan' (first_of spaces k) m.number) (settle d) apart.hart) (sym known.0) apart.node) on'
 
   abbrev everybody : HartsGo core image places nestings cycles firsts main setting old (with_kind g (Asynchronous alone) old) spaces nodes nodes the_law leads behind.spaced behind.sound (later t) run (actings ds)
       (λ k. (near core image places nestings cycles firsts main setting old (with_kind g (Asynchronous alone) old) spaces nodes nodes t stages hs ps ds own own' control the_law leads before left has
-      behind.sound behind.spaced g operation steps (λ k. k == g) move on next at_group lock_group k).distance)
+      behind.sound behind.spaced (one g operation) (by_one old g operation 0 ds steps) (λ k. k == g) move on next at_group lock_group k).distance)
       (λ k. (near core image places nestings cycles firsts main setting old (with_kind g (Asynchronous alone) old) spaces nodes nodes t stages hs ps ds own own' control the_law leads before left has
-      behind.sound behind.spaced g operation steps (λ k. k == g) move on next at_group lock_group k).soon)
+      behind.sound behind.spaced (one g operation) (by_one old g operation 0 ds steps) (λ k. k == g) move on next at_group lock_group k).soon)
       0 nodes nodes left.afters hs ps ds
   everybody =
       all core image places nestings cycles firsts main setting old (with_kind g (Asynchronous alone) old) spaces nodes nodes t stages hs ps ds own own' control the_law leads before left has behind.sound
-      behind.spaced g operation steps (λ k. k == g) move on next at_group lock_group GoesApart own_here each_member
+      behind.spaced (one g operation) (by_one old g operation 0 ds steps) (λ k. k == g) move on next at_group lock_group GoesApart own_here each_member
 
   abbrev Opens : ℕ → Type 0
   Opens w = MeetingOpens (core_source core setting) image plan blocks plan' blocks' g w left.afters everybody.stages control
@@ -438,20 +439,14 @@ module _ (core : List CoreOp) (image : Image) (places : Places) (nestings : Nest
 
   opens : (w : ℕ) → IsOpen plan' g w → Opens w
   opens w is_open =
-      let range = from_parts (first_of spaces g) 8 w (and_parts (is_some (new.nodes g)) (is_from (first_of spaces g) 8 w) is_open.0).1 in
-      let from = range.0 in
-      let below = range.1 in
-      let offset = w - first_of spaces g in
-      let lt : offset < 8 = omega (arith, from, below) in
-      let e : first_of spaces g + offset ≡ w = omega (arith, from) in
-      let tell = tells new spaces behind.spaced nodes g offset there' given' lt in
-      subst Opens e (opens_at offset lt (sym tell.arrival ∙ ap (λ k. plan'.arrivals k) e ∙ is_open.1))
+      let x = open_at new spaces behind.spaced nodes g w given' is_open in
+      subst Opens x.word (opens_at x.offset x.few x.arrival)
 
   pub apart : BindsAgain core image places nestings setting old spaces nodes (with_kind g (Asynchronous alone) old) spaces nodes t hs left.afters ps
       (all_landed core (owners_after old (with_kind g (Asynchronous alone) old) ds)) control
   apart =
       bound_at core image places nestings cycles firsts main setting old (with_kind g (Asynchronous alone) old) spaces nodes nodes t stages hs ps ds own own' control the_law leads before left has behind.sound
-      behind.spaced g operation steps (λ k. k == g) move on next at_group lock_group GoesApart own_here each_member (λ k is'. eqb-true k g is') (λ w free' is_open. inr (opens w is_open))
+      behind.spaced (one g operation) (by_one old g operation 0 ds steps) (λ k. k == g) move on next at_group lock_group GoesApart own_here each_member g (λ k is'. eqb-true k g is') (λ w free' is_open. inr (opens w is_open))
 
 -- all members of a group stand in its node
 all_stand : (p : ℕ) (tree : Tree) → IsSound p tree → (g : ℕ) → trees.kind tree g ≡ Some Lockstep → AllStandIn tree g

@@ -1,7 +1,7 @@
--- After a round in which the members of one node do a step all are bound again.
-use Rattle.std.proofs.Common.{◌≡◌, ◌≢◌, ℕ, suc, ◌≤◌, ◌<◌, List, [], ◌∷◌, Bool, true, false, sym, ap, subst, ◌∙◌, refl, arith, ◌⊎◌, inl, inr, ⊎_elim}
+-- After a round in which the members of some nodes do steps all are bound again.
+use Rattle.std.proofs.Common.{◌≡◌, ℕ, suc, ◌≤◌, ◌<◌, List, [], ◌∷◌, Option, Some, None, Bool, true, false, sym, ap, subst, ◌∙◌, refl, arith, ◌⊎◌, inl, inr, ⊎_elim}
 use Rattle.std.specs.Prelude.{◌==◌, is_some}
-use Rattle.std.proofs.lemmas.Bool.{cases_Bool, cases_eq, eqb-true, false≢true}
+use Rattle.std.proofs.lemmas.Bool.{cases_Bool, eqb-true, false≢true}
 use Rattle.fk_num.specs.Word.{Memory}
 use Rattle.fk_space.specs.Space.{Space}
 use Rattle.fk_tree.specs.Tree as trees
@@ -30,61 +30,74 @@ use Rattle.fk_sim_match.specs.Behind.{blocks_of}
 use Rattle.fk_sim_match.proofs.Rounds.{not_none, lockstep_kind}
 use Rattle.fk_sim_rounds.specs.Next.{JumpsLead, all_landed}
 use Rattle.fk_sim_rounds.specs.Comes.{most_between}
-use Rattle.fk_sim_rounds.specs.After.{actings, owner_after, owners_after, Keeps, AllKeep, DoesStep, StepsAt, ArePlaces, AllGoOn, GroupsGoOn, BindsAgain}
+use Rattle.fk_sim_rounds.specs.After.{actings, owner_after, owners_after, Keeps, AllKeep, DoesStep, ArePlaces, AllGoOn, GroupsGoOn, BindsAgain}
+use Rattle.fk_lockstep_nodes.specs.Steps.{KeepsOrDoes, StepsBy}
 use Rattle.fk_sim_rounds.specs.Rounds.{IsBefore}
 use Rattle.fk_sim_rounds.proofs.Cycles.{runs_later}
 use Rattle.fk_sim_rounds.proofs.Same.{SameNode, same_node, own_there, opened_before, member_still, size_still}
 use Rattle.fk_sim_rounds.proofs.Harts.{AllAre, LockLeft, HartsGo, EachGoes, hart_goes, harts_go}
 use Rattle.fk_sim_rounds.proofs.Groups.{GroupAt, group_at, lock_left}
 use Rattle.fk_sim_rounds.proofs.Trees.{many_become, many_landed, some_kind, some_there}
-use Rattle.fk_sim_rounds.proofs.Moved.{TreeMoves, many_moved, many_nodes}
+use Rattle.fk_sim_rounds.proofs.Moved.{one, at_one, TreeMoves, many_moved, many_nodes}
 
 -- who does not stand at the node keeps the tree
 keep_add : (b : Bool) (d : Doing) (ds : List Doing) → (b ≡ true → Keeps d.acting.due) → AllKeep ds → AllKeep (add b d ds)
 keep_add true d ds one rest = (one refl, rest)
 keep_add false d ds one rest = rest
 
-pub keep_elsewhere : (old : Tree) (g k number : ℕ) (operation : Operation) (ns : List ℕ) (ds : List Doing) → k ≢ g → ArePlaces old number ns → StepsAt old g number operation ds → AllKeep (of_node k ns ds)
-keep_elsewhere old g k number operation [] ds ne places steps = tt
-keep_elsewhere old g k number operation (n ∷ ns) [] ne places steps = tt
-keep_elsewhere old g k number operation (n ∷ ns) (d ∷ ds) ne places steps =
-    keep_add (n == k) d (of_node k ns ds) (λ e. steps.2 (λ at. ne (sym (eqb-true n k e) ∙ places.0 ∙ at))) (keep_elsewhere old g k (suc number) operation ns ds ne places.1 steps.3)
+pub keep_elsewhere : (old : Tree) (does : ℕ → Option Operation) (k number : ℕ) (ns : List ℕ) (ds : List Doing) → does k ≡ None → ArePlaces old number ns → StepsBy old does number (actings ds)
+    → AllKeep (of_node k ns ds)
+keep_elsewhere old does k number [] ds none places steps = tt
+keep_elsewhere old does k number (n ∷ ns) [] none places steps = tt
+keep_elsewhere old does k number (n ∷ ns) (d ∷ ds) none places steps =
+    keep_add (n == k) d (of_node k ns ds) (λ e. subst (λ x. KeepsOrDoes x d.acting.due) (ap does (sym places.0 ∙ eqb-true n k e) ∙ none) steps.1)
+    (keep_elsewhere old does k (suc number) ns ds none places.1 steps.2)
 
--- what is so of each hart at the node that changes
-abbrev pub Here : (old : Tree) (g : ℕ) (Own : Member → Doing → Type 0) → Member → Doing → Type 0
-Here old g Own m d = old.places m.number ≡ g → Own m d
+-- what is so of each hart at a node that steps
+abbrev pub Here : (old : Tree) (does : ℕ → Option Operation) (Own : Member → Doing → Type 0) → Member → Doing → Type 0
+Here old does Own m d = (operation : Operation) → does (old.places m.number) ≡ Some operation → Own m d
 
 -- what is known of one hart
-abbrev pub Fact : (old : Tree) (g : ℕ) (operation : Operation) (Own : Member → Doing → Type 0) → Member → Doing → Type 0
-Fact old g operation Own m d = (old.places m.number ≡ g → DoesStep operation d.acting.due × Own m d) × (old.places m.number ≢ g → Keeps d.acting.due)
+abbrev pub Fact : (old : Tree) (does : ℕ → Option Operation) (Own : Member → Doing → Type 0) → Member → Doing → Type 0
+Fact old does Own m d = KeepsOrDoes (does (old.places m.number)) d.acting.due × Here old does Own m d
 
-facts : (old : Tree) (g number : ℕ) (operation : Operation) (Own : Member → Doing → Type 0) (hs : List Hart) (ds : List Doing) → StepsAt old g number operation ds
-    → AllAre (Here old g Own) number hs ds → AllAre (Fact old g operation Own) number hs ds
-facts old g number operation Own [] [] steps own = tt
-facts old g number operation Own [] (d ∷ ds) steps own = tt
-facts old g number operation Own (h ∷ hs) [] steps own = tt
-facts old g number operation Own (h ∷ hs) (d ∷ ds) steps own =
-    ((λ e. (steps.1 e, own.0 e), steps.2), facts old g (suc number) operation Own hs ds steps.3 own.1)
+facts : (old : Tree) (does : ℕ → Option Operation) (number : ℕ) (Own : Member → Doing → Type 0) (hs : List Hart) (ds : List Doing) → StepsBy old does number (actings ds)
+    → AllAre (Here old does Own) number hs ds → AllAre (Fact old does Own) number hs ds
+facts old does number Own [] [] steps own = tt
+facts old does number Own [] (d ∷ ds) steps own = tt
+facts old does number Own (h ∷ hs) [] steps own = tt
+facts old does number Own (h ∷ hs) (d ∷ ds) steps own = ((steps.1, own.0), facts old does (suc number) Own hs ds steps.2 own.1)
 
--- at the node that changes
-abbrev pub Steps : (old : Tree) (g : ℕ) (operation : Operation) (Own : Member → Doing → Type 0) → Member → Doing → Type 0
-Steps old g operation Own m d = (old.places m.number ≡ g) × DoesStep operation d.acting.due × Own m d
+-- at a node that steps
+abbrev pub Steps : (old : Tree) (does : ℕ → Option Operation) (Own : Member → Doing → Type 0) → Member → Doing → Type 0
+Steps old does Own m d = (operation : Operation) × (does (old.places m.number) ≡ Some operation) × DoesStep operation d.acting.due × Own m d
+
+-- where that is one node
+pub known_at : (old : Tree) (g : ℕ) (operation : Operation) (Own : Member → Doing → Type 0) (m : Member) (d : Doing) → Steps old (one g operation) Own m d
+    → (old.places m.number ≡ g) × DoesStep operation d.acting.due × Own m d
+known_at old g operation Own m d x =
+    let at = at_one g (old.places m.number) operation x.0 x.1 in
+    (at.0, subst (λ y. DoesStep y d.acting.due) (sym at.1) x.2, x.3)
+
+none_or_some : (x : Option Operation) → (x ≡ None) ⊎ ((operation : Operation) × (x ≡ Some operation))
+none_or_some None = inl refl
+none_or_some (Some operation) = inr (operation, refl)
 
 -- nothing more is known there
 abbrev pub Nothing : Member → Doing → Type 0
 Nothing m d = Unit {0}
 
-pub nothing_here : (old : Tree) (g number : ℕ) (hs : List Hart) (ds : List Doing) → AllAre (Here old g Nothing) number hs ds
-nothing_here old g number [] ds = tt
-nothing_here old g number (h ∷ hs) [] = tt
-nothing_here old g number (h ∷ hs) (d ∷ ds) = (λ e. tt, nothing_here old g (suc number) hs ds)
+pub nothing_here : (old : Tree) (does : ℕ → Option Operation) (number : ℕ) (hs : List Hart) (ds : List Doing) → AllAre (Here old does Nothing) number hs ds
+nothing_here old does number [] ds = tt
+nothing_here old does number (h ∷ hs) [] = tt
+nothing_here old does number (h ∷ hs) (d ∷ ds) = (λ operation e. tt, nothing_here old does (suc number) hs ds)
 
 module _ (core : List CoreOp) (image : Image) (places : Places) (nestings : Nestings) (cycles : Cycles) (firsts : List ℕ) (main : ℕ) (setting : Setting) (old tree : Tree) (spaces : ℕ → Space) (nodes nodes' : List ℕ)
     (t : MachineSetting) (stages : List Stage) (hs : List Hart) (ps : List Owner) (ds : List Doing) (own own' : ℕ → Memory) (control : Memory)
     (the_law : GroupLaw core image places nestings cycles firsts main) (leads : JumpsLead core) (before : IsBefore core image setting old spaces nodes t stages hs ps)
     (left : IsLeft (core_source core setting) image (plan_of old spaces nodes) (blocks_of core image places nestings setting (plan_of old spaces nodes) (first_of spaces)) t stages hs ps ds own own')
     (has : (g : ℕ) → Has ((plan_of old spaces nodes).words g) control (own' g)) (sound : IsSound setting.processors tree) (spaced : HaveSpaces tree spaces)
-    (g0 : ℕ) (operation : Operation) (steps : StepsAt old g0 0 operation ds) (changed : ℕ → Bool) (move : TreeMoves old tree setting.processors g0 nodes nodes' changed)
+    (does : ℕ → Option Operation) (steps : StepsBy old does 0 (actings ds)) (changed : ℕ → Bool) (move : TreeMoves old tree setting.processors does nodes nodes' changed)
     (on : AllGoOn core nestings setting tree spaces 0 left.afters ds (owners_after old tree ds)) (next : GroupsGoOn core nestings tree nodes' left.afters (owners_after old tree ds)) where
   abbrev plan : Plan
   plan = plan_of old spaces nodes
@@ -101,8 +114,9 @@ module _ (core : List CoreOp) (image : Image) (places : Places) (nestings : Nest
   pub running : IsRunning image setting (later t)
   running = runs_later image setting 1 t before.running
 
-  not_g0 : (k : ℕ) → changed k ≡ false → k ≢ g0
-  not_g0 k off e = false≢true (sym off ∙ ap changed e ∙ move.here)
+  -- nor does it step
+  keeps : (k : ℕ) → changed k ≡ false → does k ≡ None
+  keeps k off = ⊎_elim (λ none. none) (λ some. absurd (false≢true (sym off ∙ move.here k some.0 some.1))) (none_or_some (does k))
 
   -- a node that doesn't change
   same_at : (g : ℕ) → changed g ≡ false → is_some (old.nodes g) ≡ true → SameNode old tree spaces g
@@ -119,7 +133,7 @@ module _ (core : List CoreOp) (image : Image) (places : Places) (nestings : Nest
 
   -- its members stay there
   stay : (g : ℕ) → changed g ≡ false → (h : ℕ) → h < setting.processors → old.places h ≡ g → tree.places h ≡ g
-  stay g off h lt at = move.places h lt (λ e. not_g0 g off (sym at ∙ e)) ∙ at
+  stay g off h lt at = move.places h lt (ap does at ∙ keeps g off) ∙ at
 
   abbrev pub At : ℕ → Type 0
   At g =
@@ -132,7 +146,7 @@ module _ (core : List CoreOp) (image : Image) (places : Places) (nestings : Nest
       let was = ap is_lockstep (sym same.kind) ∙ lock in
       group_at core image places nestings cycles firsts main setting old tree spaces nodes nodes' the_law leads spaced sound (later t) running ds hs ps left.afters own' control before.stand
       before.many left.as_many left.done_as_many on has before.sound left.nodes g same was
-      (keep_elsewhere old g0 g 0 operation nodes ds (not_g0 g off) before.stand steps) (stay g off) (move.alike g off was) (next g lock)
+      (keep_elsewhere old does g 0 nodes ds (keeps g off) before.stand steps) (stay g off) (move.alike g off was) (next g lock)
 
   module _ (at_changed : (k : ℕ) → changed k ≡ true → plan'.in_lockstep k ≡ true → At k)
       (lock_changed : (k : ℕ) → changed k ≡ true → plan.in_lockstep k ≡ true → LockLeft (of_node k nodes left.afters) (of_node k nodes ps) (of_node k nodes ds)) where
@@ -158,16 +172,17 @@ module _ (core : List CoreOp) (image : Image) (places : Places) (nestings : Nest
     AnyGoes Known =
         EachGoes core image places nestings cycles firsts main setting old tree spaces nodes nodes' the_law leads spaced sound (later t) running (actings ds) distances (λ g. (near g).soon) Known
 
-    module _ (Own : Member → Doing → Type 0) (own_g0 : AllAre (Here old g0 Own) 0 hs ds) (each_g0 : AnyGoes (Steps old g0 operation Own)) where
-      each : AnyGoes (Fact old g0 operation Own)
+    module _ (Own : Member → Doing → Type 0) (own_here : AllAre (Here old does Own) 0 hs ds) (each_here : AnyGoes (Steps old does Own)) where
+      each : AnyGoes (Fact old does Own)
       each m p d fact lt land home s0 a lock alone due remains on' =
-          ⊎_elim (λ e. each_g0 m p d (e, (fact.0 e).0, (fact.0 e).1) lt land home s0 a lock alone due remains on')
-          (λ ne.
+          ⊎_elim
+          (λ none.
           hart_goes core image places nestings cycles firsts main setting old tree spaces nodes nodes' the_law leads spaced sound (later t) running (actings ds) distances (λ g. (near g).soon)
-          m p d lt land home (move.places m.number lt ne)
-          (same_at (old.places m.number) (move.elsewhere m.number lt ne) (some_there (old.nodes (old.places m.number)) (has_some old (old.places m.number) m.number (before.sound.placed m.number lt).member))) s0 a lock alone due
+          m p d lt land home (move.places m.number lt none)
+          (same_at (old.places m.number) (move.elsewhere m.number lt none) (some_there (old.nodes (old.places m.number)) (has_some old (old.places m.number) m.number (before.sound.placed m.number lt).member))) s0 a lock alone due
           remains on')
-          (cases_eq (old.places m.number) g0)
+          (λ some. each_here m p d (some.0, some.1, subst (λ x. KeepsOrDoes x d.acting.due) some.1 fact.0, fact.1 some.0 some.1) lt land home s0 a lock alone due remains on')
+          (none_or_some (does (old.places m.number)))
 
       lock_any : (g : ℕ) → plan.in_lockstep g ≡ true → LockLeft (of_node g nodes left.afters) (of_node g nodes ps) (of_node g nodes ds)
       lock_any g lock =
@@ -175,14 +190,14 @@ module _ (core : List CoreOp) (image : Image) (places : Places) (nestings : Nest
           (λ off.
           lock_left core image places nestings cycles firsts main setting old tree spaces nodes nodes' the_law leads spaced sound (later t) running ds hs ps left.afters own' control
           before.stand before.many left.as_many left.done_as_many on has before.sound left.nodes g (lock_old g off lock) lock
-          (keep_elsewhere old g0 g 0 operation nodes ds (not_g0 g off) before.stand steps) (stay g off) (move.alike g off lock))
+          (keep_elsewhere old does g 0 nodes ds (keeps g off) before.stand steps) (stay g off) (move.alike g off lock))
           (cases_Bool (changed g))
 
       pub all : HartsGo core image places nestings cycles firsts main setting old tree spaces nodes nodes' the_law leads spaced sound (later t) running (actings ds) distances (λ g. (near g).soon)
           0 nodes nodes' left.afters hs ps ds
       all =
           harts_go core image places nestings cycles firsts main setting old tree spaces nodes nodes' the_law leads spaced sound (later t) running (actings ds) distances (λ g. (near g).soon)
-          (Fact old g0 operation Own) each 0 nodes hs nodes' left.afters stages ps ds (facts old g0 0 operation Own hs ds steps own_g0) before.stand move.there (let many = before.many in omega (arith, many)) left.as_many
+          (Fact old does Own) each 0 nodes hs nodes' left.afters stages ps ds (facts old does 0 Own hs ds steps own_here) before.stand move.there (let many = before.many in omega (arith, many)) left.as_many
           before.as_many left.done_as_many (many_nodes nodes nodes' hs ps move.many before.as_many) left.stay before.due before.landed on lock_any
           (λ g free. left_alone (core_source core setting) image plan blocks plan blocks (plan.in_lockstep g) (later t) g (of_node g nodes left.afters) (of_node g nodes (numbered 0 hs))
           (of_node g nodes ps) (of_node g nodes ds) (own' g) free (left.nodes g))
@@ -237,9 +252,9 @@ module _ (core : List CoreOp) (image : Image) (places : Places) (nestings : Nest
       }
 
       -- where one node changes
-      pub bound_at : ((k : ℕ) → changed k ≡ true → k ≡ g0) → ((w : ℕ) → plan'.in_lockstep g0 ≡ false → IsOpen plan' g0 w → Meetings g0 w)
+      pub bound_at : (g : ℕ) → ((k : ℕ) → changed k ≡ true → k ≡ g) → ((w : ℕ) → plan'.in_lockstep g ≡ false → IsOpen plan' g w → Meetings g w)
           → BindsAgain core image places nestings setting old spaces nodes tree spaces nodes' t hs left.afters ps (all_landed core (owners_after old tree ds)) control
-      bound_at alone meets =
+      bound_at g alone meets =
           bound
           (λ k yes w free is_open.
           let e = alone k yes in

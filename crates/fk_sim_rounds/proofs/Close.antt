@@ -45,8 +45,8 @@ use Rattle.fk_sim_rounds.proofs.Comes.{groups_come_to_commits}
 use Rattle.fk_sim_rounds.proofs.Keep.{AllAtHome, settled_below, met_settles}
 use Rattle.fk_sim_rounds.proofs.Harts.{LockLeft, steps_into_group}
 use Rattle.fk_sim_rounds.proofs.Groups.{at_home, many_length}
-use Rattle.fk_sim_rounds.proofs.Changed.{Steps, Nothing, nothing_here, running, At, near, AnyGoes, bound_at}
-use Rattle.fk_sim_rounds.proofs.Moved.{TreeMoves, one_node, only}
+use Rattle.fk_sim_rounds.proofs.Changed.{Steps, known_at, Nothing, nothing_here, running, At, near, AnyGoes, bound_at}
+use Rattle.fk_sim_rounds.proofs.Moved.{one, by_one, TreeMoves, one_node, only}
 use Rattle.fk_sim_rounds.proofs.Resume.{kind_there, is_busy, step_is_brought}
 
 -- all of them do this
@@ -127,15 +127,15 @@ module _ (core : List CoreOp) (image : Image) (places : Places) (nestings : Nest
   lock : plan'.in_lockstep g ≡ true
   lock = ap is_lockstep kind'
 
-  move : TreeMoves old (trees.meet g old) setting.processors g nodes nodes (λ k. k == g)
-  move = one_node old (trees.meet g old) setting.processors g nodes others (λ h. refl) before.stand
+  move : TreeMoves old (trees.meet g old) setting.processors (one g (Meet true)) nodes nodes (λ k. k == g)
+  move = one_node old (trees.meet g old) setting.processors g (Meet true) nodes others (λ h. refl) before.stand
 
   -- ---- its members
 
   abbrev run : IsRunning image setting (later t)
   run =
-      running core image places nestings cycles firsts main setting old (trees.meet g old) spaces nodes nodes t stages hs ps ds own own' control the_law leads before left has behind.sound behind.spaced g
-      (Meet true) steps (λ k. k == g) move on next
+      running core image places nestings cycles firsts main setting old (trees.meet g old) spaces nodes nodes t stages hs ps ds own own' control the_law leads before left has behind.sound behind.spaced (one g (Meet true))
+      (by_one old g (Meet true) 0 ds steps) (λ k. k == g) move on next
 
   abbrev Home : List Member → List Doing → Type 0
   Home ms xs =
@@ -222,8 +222,8 @@ module _ (core : List CoreOp) (image : Image) (places : Places) (nestings : Nest
 
   abbrev AtGroup : Type 0
   AtGroup =
-      At core image places nestings cycles firsts main setting old (trees.meet g old) spaces nodes nodes t stages hs ps ds own own' control the_law leads before left has behind.sound behind.spaced g
-      (Meet true) steps (λ k. k == g) move on next g
+      At core image places nestings cycles firsts main setting old (trees.meet g old) spaces nodes nodes t stages hs ps ds own own' control the_law leads before left has behind.sound behind.spaced (one g (Meet true))
+      (by_one old g (Meet true) 0 ds steps) (λ k. k == g) move on next g
 
   at_group : plan'.in_lockstep g ≡ true → AtGroup
   at_group locked =
@@ -251,13 +251,13 @@ module _ (core : List CoreOp) (image : Image) (places : Places) (nestings : Nest
       }
 
   at_groups : (k : ℕ) → (k == g) ≡ true → plan'.in_lockstep k ≡ true
-      → At core image places nestings cycles firsts main setting old (trees.meet g old) spaces nodes nodes t stages hs ps ds own own' control the_law leads before left has behind.sound behind.spaced g
-      (Meet true) steps (λ k. k == g) move on next k
+      → At core image places nestings cycles firsts main setting old (trees.meet g old) spaces nodes nodes t stages hs ps ds own own' control the_law leads before left has behind.sound behind.spaced (one g (Meet true))
+      (by_one old g (Meet true) 0 ds steps) (λ k. k == g) move on next k
   at_groups =
       only g
       (λ k. plan'.in_lockstep k ≡ true
-      → At core image places nestings cycles firsts main setting old (trees.meet g old) spaces nodes nodes t stages hs ps ds own own' control the_law leads before left has behind.sound behind.spaced g
-      (Meet true) steps (λ k. k == g) move on next k) at_group
+      → At core image places nestings cycles firsts main setting old (trees.meet g old) spaces nodes nodes t stages hs ps ds own own' control the_law leads before left has behind.sound behind.spaced (one g (Meet true))
+      (by_one old g (Meet true) 0 ds steps) (λ k. k == g) move on next k) at_group
 
   lock_groups : (k : ℕ) → (k == g) ≡ true → plan.in_lockstep k ≡ true → LockLeft (of_node k nodes left.afters) (of_node k nodes ps) (of_node k nodes ds)
   lock_groups k is locked = absurd (false≢true (sym (ap (λ j. plan.in_lockstep j) (eqb-true k g is) ∙ free) ∙ locked))
@@ -270,20 +270,21 @@ module _ (core : List CoreOp) (image : Image) (places : Places) (nestings : Nest
       halts_by (Some step) does = ap is_halt does
 
   each_member : AnyGoes core image places nestings cycles firsts main setting old (trees.meet g old) spaces nodes nodes t stages hs ps ds own own' control the_law leads before left has behind.sound
-      behind.spaced g (Meet true) steps (λ k. k == g) move on next at_groups lock_groups (Steps old g (Meet true) Nothing)
-  each_member m p d known lt land home' s0 a locks alone' due remains on' =
+      behind.spaced (one g (Meet true)) (by_one old g (Meet true) 0 ds steps) (λ k. k == g) move on next at_groups lock_groups (Steps old (one g (Meet true)) Nothing)
+  each_member m p d step lt land home' s0 a locks alone' due remains on' =
+      let known = known_at old g (Meet true) Nothing m d step in
       steps_into_group core image places nestings cycles firsts main setting old (trees.meet g old) spaces nodes nodes the_law leads behind.spaced behind.sound (later t) run (actings ds)
-      (λ k. (near core image places nestings cycles firsts main setting old (trees.meet g old) spaces nodes nodes t stages hs ps ds own own' control the_law leads before left has behind.sound behind.spaced g
-      (Meet true) steps (λ k. k == g) move on next at_groups lock_groups k).distance)
-      (λ k. (near core image places nestings cycles firsts main setting old (trees.meet g old) spaces nodes nodes t stages hs ps ds own own' control the_law leads before left has behind.sound behind.spaced g
-      (Meet true) steps (λ k. k == g) move on next at_groups lock_groups k).soon)
+      (λ k. (near core image places nestings cycles firsts main setting old (trees.meet g old) spaces nodes nodes t stages hs ps ds own own' control the_law leads before left has behind.sound behind.spaced (one g (Meet true))
+      (by_one old g (Meet true) 0 ds steps) (λ k. k == g) move on next at_groups lock_groups k).distance)
+      (λ k. (near core image places nestings cycles firsts main setting old (trees.meet g old) spaces nodes nodes t stages hs ps ds own own' control the_law leads before left has behind.sound behind.spaced (one g (Meet true))
+      (by_one old g (Meet true) 0 ds steps) (λ k. k == g) move on next at_groups lock_groups k).soon)
       m p d (is_busy (Meet true) d p known.1) a (ap (λ k. plan'.in_lockstep k) known.0 ∙ lock) (alone' (ap (λ k. plan.in_lockstep k) known.0 ∙ free))
       (λ none. on' none (no_halt_here d known.1))
 
   closed : BindsAgain core image places nestings setting old spaces nodes (trees.meet g old) spaces nodes t hs left.afters ps (all_landed core (owners_after old (trees.meet g old) ds)) control
   closed =
-      bound_at core image places nestings cycles firsts main setting old (trees.meet g old) spaces nodes nodes t stages hs ps ds own own' control the_law leads before left has behind.sound behind.spaced g
-      (Meet true) steps (λ k. k == g) move on next at_groups lock_groups Nothing (nothing_here old g 0 hs ds) each_member (λ k is. eqb-true k g is) (λ w free' is_open. absurd (false≢true (sym free' ∙ lock)))
+      bound_at core image places nestings cycles firsts main setting old (trees.meet g old) spaces nodes nodes t stages hs ps ds own own' control the_law leads before left has behind.sound behind.spaced (one g (Meet true))
+      (by_one old g (Meet true) 0 ds steps) (λ k. k == g) move on next at_groups lock_groups Nothing (nothing_here old (one g (Meet true)) 0 hs ds) each_member g (λ k is. eqb-true k g is) (λ w free' is_open. absurd (false≢true (sym free' ∙ lock)))
 
 pub rounds_close : RoundsClose
 rounds_close core image places nestings cycles firsts main setting tree spaces nodes t stages earlier hs ps ds own own' control g alone the_law leads before few binds left has kind stand steps behind on next =

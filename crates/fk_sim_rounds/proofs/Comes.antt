@@ -11,7 +11,6 @@ use Rattle.fk_meaning_operation.specs.declared.operation.Operation.{Operation}
 use Rattle.fk_meaning_operation.specs.declared.operation.Operation.TheVariants.{Begin, End, Halt, Meet, Resume}
 use Rattle.fk_meaning_operation.specs.declared.kinds.Joint.TheVariants.{Alone, Starting}
 use Rattle.fk_meaning.specs.Processor.{Setting}
-use Rattle.fk_meaning.specs.Round.{body_of}
 use Rattle.fk_core.specs.declared.op.CoreOp.{CoreOp}
 use Rattle.fk_core.specs.Next.{is_jump, landing, next}
 use Rattle.fk_image.specs.declared.Image.{Image}
@@ -36,7 +35,7 @@ use Rattle.fk_sim_block.specs.Node.{Nestings, StandsInNode, OwnsHeader, IsAtRest
 use Rattle.fk_sim_block.specs.Lockstep.{IsMember, AreMembers, AllEnter, AreInStart}
 use Rattle.fk_sim_block.specs.Joint.{is_meeting, word_of, AreSoMany, Polls, IsArriving, StandsBehind}
 use Rattle.fk_sim_block.specs.Law.{Cycles, GroupLaw}
-use Rattle.fk_sim_match.specs.Nodes.{first_of, HaveSpaces, meeters_at, is_arrival, is_lockstep, plan_of}
+use Rattle.fk_sim_match.specs.Nodes.{first_of, HaveSpaces, body_at, meeters_at, is_arrival, is_lockstep, plan_of}
 use Rattle.fk_sim_match.specs.Behind.{runs_of, blocks_of}
 use Rattle.fk_sim_match.proofs.Nodes.{tells}
 use Rattle.fk_sim_match.proofs.Standing.{members_stand_at_stages, members_halt_at_stages, meeters_set_out, starters_set_out, act_together, step_together, end_together}
@@ -72,7 +71,10 @@ few_words operation = omega arith
 
 header_within : (tree : Tree) (spaces : ℕ → Space) (g : ℕ) → HaveSpaces tree spaces → is_some (tree.nodes g) ≡ true → first_of spaces g + 8 ≤ root_words + 64
 header_within tree spaces zero spaced there = omega arith
-header_within tree spaces (suc g) spaced there = let within = spaced.within (suc g) (λ e. omega (arith, e)) there in omega (arith, within)
+header_within tree spaces (suc g) spaced there =
+    let header = spaced.header (suc g) (λ e. omega (arith, e)) there in
+    let within = spaced.within (suc g) (λ e. omega (arith, e)) there in
+    omega (arith, header, within)
 
 pub owns_header : (tree : Tree) (spaces : ℕ → Space) (nodes : List ℕ) (g : ℕ) → IsNode tree spaces g → OwnsHeader ((plan_of tree spaces nodes).words g) (first_of spaces g)
 owns_header tree spaces nodes g node = record {
@@ -317,7 +319,7 @@ module _ (core : List CoreOp) (image : Image) (places : Places) (nestings : Nest
         let all = tells tree spaces node.spaced nodes 0 barrier_word root.there root.given (omega arith) in
         let processors : length (trees.members tree 0) ≡ setting.processors
         = sym (home.size ∙ ap (λ k. length (trees.members tree k)) e) ∙ may.in_root.level.size in
-        let body : meeters_at tree 0 barrier_word ≡ trees.members tree 0 = ap (λ k. body_of k (trees.members tree 0)) may.kind in
+        let body : meeters_at tree 0 barrier_word ≡ trees.members tree 0 = ap (λ k. body_at k 0 (trees.members tree 0)) may.kind in
         let runs : runs_of plan (first_of spaces g) m.number ≡ Some setting.processors
         = ap (λ k. runs_of plan (first_of spaces k) m.number) e
         ∙ ap (λ b. if b then Some (plan.size (first_of spaces 0 + barrier_word)) else None) (all.member m.number ∙ ap (λ l. is_member m.number l) body ∙ may.member)

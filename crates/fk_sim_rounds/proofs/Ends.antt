@@ -13,7 +13,7 @@ use Rattle.fk_tree.proofs.Begins.{length-root}
 use Rattle.fk_tree.proofs.Shapes.{with_same, with_other, has_some, some-given}
 use Rattle.fk_meaning_operation.specs.declared.operation.Operation.TheVariants.{Begin, End}
 use Rattle.fk_meaning.specs.Processor.{Setting}
-use Rattle.fk_meaning.specs.Round.{Step, body_of}
+use Rattle.fk_meaning.specs.Round.{Step}
 use Rattle.fk_core.specs.declared.op.CoreOp.{CoreOp}
 use Rattle.fk_core.specs.Next.{Position}
 use Rattle.fk_image.specs.declared.Image.{Image}
@@ -30,7 +30,7 @@ use Rattle.fk_sim_block.specs.Block.{most_behind}
 use Rattle.fk_sim_block.specs.Node.{Nestings, StandsInNode, first_word, root_words}
 use Rattle.fk_sim_block.specs.Lockstep.{is_due, stepped, AllComeAlone}
 use Rattle.fk_sim_block.specs.Law.{Cycles, GroupLaw, sets_apart}
-use Rattle.fk_sim_match.specs.Nodes.{first_of, is_lockstep, meeters_at, plan_of}
+use Rattle.fk_sim_match.specs.Nodes.{first_of, is_lockstep, body_at, meeters_at, plan_of}
 use Rattle.fk_sim_match.specs.Behind.{runs_of, blocks_of}
 use Rattle.fk_sim_match.proofs.Nodes.{tells}
 use Rattle.fk_sim_match.proofs.Rounds.{not_none, leaf_place, lockstep_kind}
@@ -41,8 +41,8 @@ use Rattle.fk_sim_rounds.proofs.Same.{own_there}
 use Rattle.fk_sim_rounds.proofs.Keep.{AllOn}
 use Rattle.fk_sim_rounds.proofs.Harts.{AllAre, LockLeft, steps_apart}
 use Rattle.fk_sim_rounds.proofs.Groups.{somebody, there_are, many_length}
-use Rattle.fk_sim_rounds.proofs.Moved.{TreeMoves, has_same, only}
-use Rattle.fk_sim_rounds.proofs.Changed.{Here, Steps, running, At, near, AnyGoes, bound_at}
+use Rattle.fk_sim_rounds.proofs.Moved.{one, at_one, not_one, by_one, TreeMoves, has_same, only}
+use Rattle.fk_sim_rounds.proofs.Changed.{Here, Steps, known_at, running, At, near, AnyGoes, bound_at}
 use Rattle.fk_sim_rounds.proofs.Trees.{some_there}
 use Rattle.fk_sim_rounds.proofs.Resume.{kind_there, is_busy, step_is_brought}
 use Rattle.fk_sim_rounds.proofs.Close.{AllDo, all_do}
@@ -60,7 +60,7 @@ nobody_left (Some node) = ap (λ ms. node_of ms node.parent node.kind) (filter_n
 
 -- ---- one that waits
 
-waiting_body : (k : Option Kind) (m : ℕ) (ms : List ℕ) → awaits k m ≡ true → body_of k ms ≡ ms
+waiting_body : (k : Option Kind) (m : ℕ) (ms : List ℕ) → awaits k m ≡ true → body_at k 0 ms ≡ ms
 waiting_body (Some (Waiting first parts)) m ms is = refl
 waiting_body k m ms is = absurd (false≢true is)
 
@@ -134,12 +134,12 @@ module _ (core : List CoreOp) (image : Image) (places : Places) (nestings : Nest
       (λ other. ap (λ n. n == k) (sym (stays h other)))
       (cases_eq (old.places h) g)
 
-  move : TreeMoves old (trees.finish g old) setting.processors g nodes nodes' (λ k. k == g)
+  move : TreeMoves old (trees.finish g old) setting.processors (one g End) nodes nodes' (λ k. k == g)
   move = record {
-    here = eq-eqb g g refl;
+    here = λ k x e. eq-eqb k g (at_one g k End x e).0;
     others = λ k no. others k (λ e. false≢true (sym no ∙ eq-eqb k g e));
-    elsewhere = λ h lt ne. ne_eqb (old.places h) g ne;
-    places = λ h lt ne. stays h ne;
+    elsewhere = λ h lt none. ne_eqb (old.places h) g (not_one g (old.places h) End none);
+    places = λ h lt none. stays h (not_one g (old.places h) End none);
     there = there;
     many = many';
     alike = λ k no is.
@@ -151,7 +151,10 @@ module _ (core : List CoreOp) (image : Image) (places : Places) (nestings : Nest
 
   root_place : (k : ℕ) → is_some ((trees.finish g old).nodes k) ≡ true → first_of spaces k ≡ root_words → k ≡ 0
   root_place zero is e = refl
-  root_place (suc k) is e = absurd (let x = behind.spaced.within (suc k) (λ z. absurd (cc)) is in omega (arith, x, e))
+  root_place (suc k) is e =
+      let header = behind.spaced.header (suc k) (λ z. absurd (cc)) is in
+      let within = behind.spaced.within (suc k) (λ z. absurd (cc)) is in
+      absurd (omega (arith, header, within, e))
 
   stands_there : (h : ℕ) → h < setting.processors → is_some ((trees.finish g old).nodes ((trees.finish g old).places h)) ≡ true
   stands_there h lt = some_there (new.nodes (new.places h)) (has_some new (new.places h) h (behind.sound.placed h lt).member)
@@ -232,8 +235,8 @@ module _ (core : List CoreOp) (image : Image) (places : Places) (nestings : Nest
 
   -- ---- all of it
 
-  own_here : AllAre (Here old g GoesHome) 0 hs ds
-  own_here = spread old GoesHome g 0 nodes hs ds before.stand left.done_as_many go_home
+  own_here : AllAre (Here old (one g End) GoesHome) 0 hs ds
+  own_here = spread old End GoesHome g 0 nodes hs ds before.stand left.done_as_many go_home
 
   on_by : (due : Option (Step Position)) → DoesStep End due → halts due ≡ false
   on_by None does = absurd does
@@ -245,7 +248,7 @@ module _ (core : List CoreOp) (image : Image) (places : Places) (nestings : Nest
 
   at_group : (k : ℕ) → (k == g) ≡ true → plan'.in_lockstep k ≡ true
       → At core image places nestings cycles firsts main setting old (trees.finish g old) spaces nodes nodes' t stages hs ps ds own own' control the_law leads before left has behind.sound
-      behind.spaced g End steps (λ k. k == g) move on next k
+      behind.spaced (one g End) (by_one old g End 0 ds steps) (λ k. k == g) move on next k
   at_group k is locked = absurd (false≢true (sym (ap (λ j. plan'.in_lockstep j) (eqb-true k g is) ∙ free) ∙ locked))
 
   lock_group : (k : ℕ) → (k == g) ≡ true → plan.in_lockstep k ≡ true → LockLeft (of_node k nodes left.afters) (of_node k nodes ps) (of_node k nodes ds)
@@ -254,18 +257,19 @@ module _ (core : List CoreOp) (image : Image) (places : Places) (nestings : Nest
       (λ locked. inr (has_acted.committed, on_all doings all_step))
 
   each_member : AnyGoes core image places nestings cycles firsts main setting old (trees.finish g old) spaces nodes nodes' t stages hs ps ds own own' control the_law leads before left has
-      behind.sound behind.spaced g End steps (λ k. k == g) move on next at_group lock_group (Steps old g End GoesHome)
-  each_member m p d known lt land home s0 a locks alone due remains on' =
+      behind.sound behind.spaced (one g End) (by_one old g End 0 ds steps) (λ k. k == g) move on next at_group lock_group (Steps old (one g End) GoesHome)
+  each_member m p d step lt land home s0 a locks alone due remains on' =
+      let known = known_at old g End GoesHome m d step in
       let x = known.2 in
       let back = root_place (new.places m.number) (stands_there m.number lt) (sym home.words ∙ x.words) in
       steps_apart core image places nestings cycles firsts main setting old (trees.finish g old) spaces nodes nodes' the_law leads behind.spaced behind.sound (later t)
       (running core image places nestings cycles firsts main setting old (trees.finish g old) spaces nodes nodes' t stages hs ps ds own own' control the_law leads before left has
-      behind.sound behind.spaced g End steps (λ k. k == g) move on next)
+      behind.sound behind.spaced (one g End) (by_one old g End 0 ds steps) (λ k. k == g) move on next)
       (actings ds)
       (λ k. (near core image places nestings cycles firsts main setting old (trees.finish g old) spaces nodes nodes' t stages hs ps ds own own' control the_law leads before left has
-      behind.sound behind.spaced g End steps (λ k. k == g) move on next at_group lock_group k).distance)
+      behind.sound behind.spaced (one g End) (by_one old g End 0 ds steps) (λ k. k == g) move on next at_group lock_group k).distance)
       (λ k. (near core image places nestings cycles firsts main setting old (trees.finish g old) spaces nodes nodes' t stages hs ps ds own own' control the_law leads before left has
-      behind.sound behind.spaced g End steps (λ k. k == g) move on next at_group lock_group k).soon)
+      behind.sound behind.spaced (one g End) (by_one old g End 0 ds steps) (λ k. k == g) move on next at_group lock_group k).soon)
       m p d lt home (is_busy End d p known.1) a (ap (λ k. plan'.in_lockstep k) back ∙ free_root) (locks (ap (λ k. plan.in_lockstep k) known.0 ∙ lock)) x.cycles_behind x.hart x.few x.private
       x.at
       (subst (λ k. StandsInNode places nestings setting (runs_of plan' (first_of spaces k) m.number) (settle d) x.hart) (sym back)
@@ -274,7 +278,7 @@ module _ (core : List CoreOp) (image : Image) (places : Places) (nestings : Nest
   pub ends : BindsAgain core image places nestings setting old spaces nodes (trees.finish g old) spaces nodes' t hs left.afters ps (all_landed core (owners_after old (trees.finish g old) ds)) control
   ends =
       bound_at core image places nestings cycles firsts main setting old (trees.finish g old) spaces nodes nodes' t stages hs ps ds own own' control the_law leads before left has behind.sound
-      behind.spaced g End steps (λ k. k == g) move on next at_group lock_group GoesHome own_here each_member (λ k is. eqb-true k g is)
+      behind.spaced (one g End) (by_one old g End 0 ds steps) (λ k. k == g) move on next at_group lock_group GoesHome own_here each_member g (λ k is. eqb-true k g is)
       (λ w free' is_open. absurd (false≢true (sym (ap (λ x. is_some x) ended) ∙ own_there new spaces g w is_open.0)))
 
 pub rounds_end : RoundsEnd

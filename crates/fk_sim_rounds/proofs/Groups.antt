@@ -27,7 +27,7 @@ use Rattle.fk_sim_block.specs.Stands.{Places}
 use Rattle.fk_sim_block.specs.Block.{IsRunning}
 use Rattle.fk_sim_block.specs.Node.{Nestings}
 use Rattle.fk_sim_block.specs.Law.{Cycles, GroupLaw}
-use Rattle.fk_sim_match.specs.Nodes.{first_of, HaveSpaces, plan_of}
+use Rattle.fk_sim_match.specs.Nodes.{first_of, own_words, HaveSpaces, plan_of}
 use Rattle.fk_sim_match.specs.Behind.{HaveActed, blocks_of}
 use Rattle.fk_sim_match.proofs.Rounds.{lockstep_kind}
 use Rattle.fk_sim_rounds.specs.Next.{JumpsLead, landed, all_landed, HaveNext}
@@ -167,7 +167,7 @@ module _ (core : List CoreOp) (image : Image) (places : Places) (nestings : Nest
       node = record { spaced = spaced; there = same.words.there'; given = same.words.given' }
 
       words : plan.words g ≡ plan'.words g
-      words = ap (λ n i. is_some n && is_from (first_of spaces g) 8 i) (sym same.node)
+      words = ap (λ n i. is_some n && is_from (first_of spaces g) (own_words spaces g (kind_of n)) i) (sym same.node)
 
       after_same : (u : MachineSetting) (ms : List Member) (xs : List Doing) (own : Memory) → blocks.AfterAll u g ms xs own → blocks'.AfterAll u g ms xs own
       after_same u ms xs own x =

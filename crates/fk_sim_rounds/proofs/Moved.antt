@@ -1,34 +1,70 @@
 -- A round in which the members of one node do a step: what it leaves of the other nodes, and of who stands where.
-use Rattle.std.proofs.Common.{◌≡◌, ◌≢◌, ℕ, suc, ◌+◌, ◌≤◌, ◌<◌, List, [], ◌∷◌, length, Bool, true, false, sym, ap, subst, ◌∙◌, refl, arith, eq-eqb}
-use Rattle.std.specs.Prelude.{◌==◌}
-use Rattle.std.proofs.lemmas.Bool.{eqb-true, ne_eqb, false≢true}
+use Rattle.std.proofs.Common.{◌≡◌, ◌≢◌, ℕ, suc, ◌+◌, ◌≤◌, ◌<◌, List, [], ◌∷◌, length, Option, Some, None, Bool, true, false, sym, ap, subst, ◌∙◌, refl, arith, ⊎_elim, eq-eqb}
+use Rattle.std.specs.Prelude.{◌==◌, if◌then◌else◌}
+use Rattle.std.proofs.lemmas.Bool.{cases_eq, eqb-true, ne_eqb, false≢true}
 use Rattle.fk_tree.specs.Tree as trees
 use Rattle.fk_tree.specs.Tree.{Tree}
 use Rattle.fk_sim_nodes.specs.Node.{AreAsMany}
 use Rattle.fk_sim_match.specs.Change.{HasSame}
 use Rattle.fk_sim_match.specs.Nodes.{is_lockstep}
-use Rattle.fk_sim_rounds.specs.After.{ArePlaces}
+use Rattle.fk_meaning_operation.specs.declared.operation.Operation.{Operation}
+use Rattle.fk_lockstep_nodes.specs.Steps.{KeepsOrDoes, StepsBy}
+use Rattle.fk_sim_block.specs.Owner.{Doing}
+use Rattle.fk_sim_rounds.specs.After.{actings, StepsAt, ArePlaces}
 use Rattle.fk_sim_rounds.proofs.Groups.{same_all}
 
--- some nodes change, among them the one whose members do the step. All others stay, and so does who stands in none that changes;
+-- the step of one node
+abbrev pub one : (g : ℕ) → Operation → ℕ → Option Operation
+one g operation k = if k == g then Some operation else None
+
+one_is : (b : Bool) (x operation : Operation) → (if b then Some x else None) ≡ Some operation → b ≡ true
+one_is true x operation e = refl
+one_is false x operation e = absurd (cc)
+
+one_not : (b : Bool) (x : Operation) → (if b then Some x else None) ≡ None → b ≡ false
+one_not true x e = absurd (cc)
+one_not false x e = refl
+
+pub at_one : (g k : ℕ) (x operation : Operation) → one g x k ≡ Some operation → (k ≡ g) × (x ≡ operation)
+at_one g k x operation e =
+    let is = one_is (k == g) x operation e in
+    let same : Some x ≡ Some operation = sym (ap (λ b. if b then Some x else None) is) ∙ e in
+    (eqb-true k g is, cc)
+
+pub not_one : (g k : ℕ) (x : Operation) → one g x k ≡ None → k ≢ g
+not_one g k x none e = false≢true (sym (one_not (k == g) x none) ∙ eq-eqb k g e)
+
+-- a round in which the members of one node do a step
+pub by_one : (old : Tree) (g : ℕ) (operation : Operation) (number : ℕ) (ds : List Doing) → StepsAt old g number operation ds → StepsBy old (one g operation) number (actings ds)
+by_one old g operation number [] steps = tt
+by_one old g operation number (d ∷ ds) steps = (
+  steps.0,
+  ⊎_elim
+      (λ e. subst (λ x. KeepsOrDoes x d.acting.due) (sym (ap (λ b. if b then Some operation else None) (eq-eqb (old.places number) g e))) (steps.1 e))
+      (λ ne. subst (λ x. KeepsOrDoes x d.acting.due) (sym (ap (λ b. if b then Some operation else None) (ne_eqb (old.places number) g ne))) (steps.2 ne))
+      (cases_eq (old.places number) g),
+  by_one old g operation (suc number) ds steps.3,
+)
+
+-- some nodes change, among them those whose members do a step. All others stay, and so does who stands in none that changes;
 -- a group among the others has the same members
-pub record TreeMoves (old tree : Tree) (processors g : ℕ) (nodes nodes' : List ℕ) (changed : ℕ → Bool) : Type 0 where
-  pub here : changed g ≡ true
+pub record TreeMoves (old tree : Tree) (processors : ℕ) (does : ℕ → Option Operation) (nodes nodes' : List ℕ) (changed : ℕ → Bool) : Type 0 where
+  pub here : (g : ℕ) (operation : Operation) → does g ≡ Some operation → changed g ≡ true
   pub others : (k : ℕ) → changed k ≡ false → tree.nodes k ≡ old.nodes k
-  pub elsewhere : (h : ℕ) → h < processors → old.places h ≢ g → changed (old.places h) ≡ false
-  pub places : (h : ℕ) → h < processors → old.places h ≢ g → tree.places h ≡ old.places h
+  pub elsewhere : (h : ℕ) → h < processors → does (old.places h) ≡ None → changed (old.places h) ≡ false
+  pub places : (h : ℕ) → h < processors → does (old.places h) ≡ None → tree.places h ≡ old.places h
   pub there : ArePlaces tree 0 nodes'
   pub many : length nodes' ≡ length nodes
   pub alike : (k : ℕ) → changed k ≡ false → is_lockstep (trees.kind old k) ≡ true → HasSame k nodes nodes'
 
 -- one node changes, and nobody moves
-pub one_node : (old tree : Tree) (processors g : ℕ) (nodes : List ℕ) → ((k : ℕ) → k ≢ g → tree.nodes k ≡ old.nodes k) → ((h : ℕ) → tree.places h ≡ old.places h) → ArePlaces tree 0 nodes
-    → TreeMoves old tree processors g nodes nodes (λ k. k == g)
-one_node old tree processors g nodes others places there = record {
-  here = eq-eqb g g refl;
+pub one_node : (old tree : Tree) (processors g : ℕ) (operation : Operation) (nodes : List ℕ) → ((k : ℕ) → k ≢ g → tree.nodes k ≡ old.nodes k) → ((h : ℕ) → tree.places h ≡ old.places h)
+    → ArePlaces tree 0 nodes → TreeMoves old tree processors (one g operation) nodes nodes (λ k. k == g)
+one_node old tree processors g operation nodes others places there = record {
+  here = λ k x e. eq-eqb k g (at_one g k operation x e).0;
   others = λ k no. others k (λ e. false≢true (sym no ∙ eq-eqb k g e));
-  elsewhere = λ h lt ne. ne_eqb (old.places h) g ne;
-  places = λ h lt ne. places h;
+  elsewhere = λ h lt none. ne_eqb (old.places h) g (not_one g (old.places h) operation none);
+  places = λ h lt none. places h;
   there = there;
   many = refl;
   alike = λ k no lock. same_all k nodes;

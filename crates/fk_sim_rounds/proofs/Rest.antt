@@ -1,12 +1,12 @@
 -- Known rounds keep groups but those that end, at whose words nobody is left.
-use Rattle.std.proofs.Common.{◌≡◌, ℕ, ◌+◌, ◌<◌, List, [], ◌∷◌, Option, None, Some, Bool, true, false, sym, ap, subst, ◌∙◌, refl, arith, ◌⊎◌, inl, inr, ⊎_elim}
+use Rattle.std.proofs.Common.{◌≡◌, ℕ, ◌+◌, ◌<◌, List, [], ◌∷◌, Option, None, Some, Bool, true, false, sym, ap, subst, ◌∙◌, refl, arith, inl, inr, ⊎_elim}
 use Rattle.std.specs.Prelude.{◌==◌, is_some, if◌then◌else◌}
-use Rattle.std.proofs.lemmas.Bool.{cases_eq, and_from, false≢true}
+use Rattle.std.proofs.lemmas.Bool.{cases_eq, false≢true}
 use Rattle.fk_tree.specs.declared.node.Kind.{Kind}
 use Rattle.fk_tree.specs.declared.node.Kind.TheVariants.{Lockstep, Asynchronous}
 use Rattle.fk_tree.specs.Tree as trees
-use Rattle.fk_tree.specs.Tree.{Tree, turned, with_kind, is_from}
-use Rattle.fk_tree.proofs.Shapes.{with_same, with_other, turned-none, from_within}
+use Rattle.fk_tree.specs.Tree.{Tree, turned, with_kind}
+use Rattle.fk_tree.proofs.Shapes.{with_same, with_other, turned-none, some-given}
 use Rattle.fk_meaning_operation.specs.declared.operation.Operation.{Operation}
 use Rattle.fk_meaning_operation.specs.declared.operation.Operation.TheVariants as o
 use Rattle.fk_meaning.specs.Processor.{Processor}
@@ -21,6 +21,8 @@ use Rattle.fk_sim_block.specs.Node.{IsAtRest, barrier_word, closing_word}
 use Rattle.fk_sim_block.specs.Law.{sets_apart}
 use Rattle.fk_sim_match.specs.Nodes.{first_of, is_lockstep, plan_of}
 use Rattle.fk_sim_match.specs.Behind.{blocks_of}
+use Rattle.fk_sim_match.proofs.Nodes.{tells}
+use Rattle.fk_sim_match.proofs.Rounds.{not_none}
 use Rattle.fk_sim_rounds.specs.After.{actings, tree_after}
 use Rattle.fk_sim_rounds.specs.Rest.{HasNoGroup, KnownRoundsKeepGroups, EndedGroupsRest}
 use Rattle.fk_sim_rounds.proofs.Groups.{somebody, there_are, many_length}
@@ -85,7 +87,7 @@ known_rounds_keep_groups tree ds known =
 -- ---- the words of one that ends
 
 pub ended_groups_rest : EndedGroupsRest
-ended_groups_rest core image places nestings setting tree spaces nodes t stages hs ps ds own own' control g sound stand many left has kind steps =
+ended_groups_rest core image places nestings setting tree spaces nodes t stages hs ps ds own own' control g spaced sound stand many left has kind steps =
     let plan = plan_of tree spaces nodes in
     let blocks = blocks_of core image places nestings setting plan (first_of spaces) in
     let lock : plan.in_lockstep g ≡ true = ap is_lockstep kind in
@@ -101,6 +103,7 @@ ended_groups_rest core image places nestings setting tree spaces nodes t stages 
     (λ other. ⊎_elim (λ ended. ended.0.rest) (λ begun. absurd (begin_or_end begun.1)) other) a.how in
     let first = first_of spaces g in
     let there : is_some (tree.nodes g) ≡ true = kind_there (tree.nodes g) Lockstep kind in
+    let given = some-given setting.processors tree sound g (not_none (tree.nodes g) there) in
     let owned : (offset : ℕ) → offset < 8 → control (first + offset) ≡ own' g (first + offset)
-    = λ offset lt. has g (first + offset) (and_from (is_some (tree.nodes g)) (is_from first 8 (first + offset)) there (from_within first 8 (first + offset) (omega arith) (omega (arith, lt)))) in
+    = λ offset lt. has g (first + offset) (tells tree spaces spaced nodes g offset there given lt).own in
     record { barrier = owned barrier_word (omega arith) ∙ rest.barrier; closing = owned closing_word (omega arith) ∙ rest.closing }

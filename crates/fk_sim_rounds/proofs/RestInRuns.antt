@@ -21,7 +21,7 @@ use Rattle.fk_sim_block.specs.Owner.{Commons, Owner, Doing, core_source}
 use Rattle.fk_sim_block.specs.Stands.{Places}
 use Rattle.fk_sim_block.specs.Node.{Nestings, IsAtRest, root_words, barrier_word, closing_word}
 use Rattle.fk_sim_block.specs.Law.{Cycles, GroupLaw}
-use Rattle.fk_sim_match.specs.Nodes.{first_of, owns, plan_of, united}
+use Rattle.fk_sim_match.specs.Nodes.{first_of, own_words, owns, plan_of, united}
 use Rattle.fk_sim_match.specs.Uniting.{NobodyUnites, SomebodyUnites}
 use Rattle.fk_sim_match.proofs.Joining.{nobody_or_somebody}
 use Rattle.fk_sim_match.proofs.Nodes.{own_apart}
@@ -61,7 +61,7 @@ not_owned tree spaces first i header none lt zero =
     nobody true = refl
     nobody false = refl
 not_owned tree spaces first i header none lt (suc g) =
-    ap (λ b. b && is_from (first_of spaces (suc g)) 8 i) (none_is_there (tree.nodes (suc g)) (none (suc g) (λ e. omega (arith, e))))
+    ap (λ b. b && is_from (first_of spaces (suc g)) (own_words spaces (suc g) (trees.kind tree (suc g))) i) (none_is_there (tree.nodes (suc g)) (none (suc g) (λ e. omega (arith, e))))
 
 -- so nobody comes to them
 still_at_rest : (first : ℕ) (before after : Memory) → ((i : ℕ) → i < first + 8 → after i ≡ before i) → IsAtRest first before → IsAtRest first after
@@ -147,7 +147,7 @@ module _ (core : List CoreOp) (image : Image) (places : Places) (nestings : Nest
           ⊎_elim
           (λ ends.
           subst (λ k. IsAtRest k control_after) (header.same ends.group (λ e. f.before.sound.free (ap (trees.kind s.tree) (sym e) ∙ ends.kind)))
-          (ended_groups_rest core image places nestings setting s.tree spaces nodes t stages (turns t 0 hs sh).harts f.ps whole.did (λ g. sh.control) whole.own control_after ends.group f.before.sound
+          (ended_groups_rest core image places nestings setting s.tree spaces nodes t stages (turns t 0 hs sh).harts f.ps whole.did (λ g. sh.control) whole.own control_after ends.group f.before.spaced f.before.sound
           f.before.stand f.before.many r.left whole.has ends.kind ends.steps))
           (λ before. none_comes whole.going ready (before (subst HasNoGroup after.tree none)))
           (keeps whole.did whole.store parts))

@@ -14,7 +14,7 @@ use Rattle.fk_meaning_operation.specs.declared.operation.Operation.{Operation}
 use Rattle.fk_meaning_operation.specs.declared.operation.Operation.TheVariants.{Resume}
 use Rattle.fk_meaning.specs.Processor.{Setting}
 use Rattle.fk_meaning.specs.Group.{changes}
-use Rattle.fk_meaning.specs.Round.{lowest, who, agreed, body_of}
+use Rattle.fk_meaning.specs.Round.{lowest, who, agreed}
 use Rattle.fk_core.specs.declared.op.CoreOp.{CoreOp}
 use Rattle.fk_image.specs.declared.Image.{Image}
 use Rattle.fk_machine.specs.Hart.{Hart, Setting as MachineSetting}
@@ -27,7 +27,7 @@ use Rattle.fk_sim_block.specs.Owner.{Owner, Doing, idle, core_source}
 use Rattle.fk_sim_block.specs.Stands.{Places}
 use Rattle.fk_sim_block.specs.Node.{Nestings}
 use Rattle.fk_sim_block.specs.Law.{Cycles, GroupLaw}
-use Rattle.fk_sim_match.specs.Nodes.{first_of, is_lockstep, meeters_at, plan_of}
+use Rattle.fk_sim_match.specs.Nodes.{first_of, is_lockstep, body_at, meeters_at, plan_of}
 use Rattle.fk_sim_match.specs.Behind.{runs_of, blocks_of}
 use Rattle.fk_sim_match.proofs.Rounds.{not_none}
 use Rattle.fk_sim_rounds.specs.Next.{JumpsLead, all_landed}
@@ -36,8 +36,8 @@ use Rattle.fk_sim_rounds.specs.Rounds.{IsBefore, IsTree, AllStandIn, RoundsResum
 use Rattle.fk_sim_rounds.proofs.Same.{SameWords, runs_same, opened_before, member_still, size_still}
 use Rattle.fk_sim_rounds.proofs.Harts.{LockLeft, steps_alone}
 use Rattle.fk_sim_rounds.proofs.Groups.{many_length}
-use Rattle.fk_sim_rounds.proofs.Changed.{Steps, Nothing, nothing_here, running, At, near, AnyGoes, bound_at}
-use Rattle.fk_sim_rounds.proofs.Moved.{TreeMoves, one_node}
+use Rattle.fk_sim_rounds.proofs.Changed.{Steps, known_at, Nothing, nothing_here, running, At, near, AnyGoes, bound_at}
+use Rattle.fk_sim_rounds.proofs.Moved.{one, by_one, TreeMoves, one_node}
 use Rattle.fk_sim_rounds.proofs.Steps.{one_changes}
 
 pub kind_there : (x : Option Node) (k : Kind) → kind_of x ≡ Some k → is_some x ≡ true
@@ -95,7 +95,7 @@ module _ (core : List CoreOp) (image : Image) (places : Places) (nestings : Nest
   members = kind_members 0 (Asynchronous false) old 0
 
   meet : (offset : ℕ) → meeters_at (trees.resume 0 old) 0 offset ≡ meeters_at old 0 offset
-  meet zero = ap (λ k. body_of k (trees.members new 0)) kind' ∙ members ∙ sym (ap (λ k. body_of k (trees.members old 0)) kind)
+  meet zero = ap (λ k. body_at k 0 (trees.members new 0)) kind' ∙ members ∙ sym (ap (λ k. body_at k 0 (trees.members old 0)) kind)
   meet (suc zero) = members
   meet (suc (suc o)) = refl
 
@@ -116,28 +116,28 @@ module _ (core : List CoreOp) (image : Image) (places : Places) (nestings : Nest
   free' : plan'.in_lockstep 0 ≡ false
   free' = ap is_lockstep kind'
 
-  move : TreeMoves old (trees.resume 0 old) setting.processors 0 nodes nodes (λ k. k == 0)
-  move = one_node old (trees.resume 0 old) setting.processors 0 nodes others (λ h. refl) before.stand
+  move : TreeMoves old (trees.resume 0 old) setting.processors (one 0 Resume) nodes nodes (λ k. k == 0)
+  move = one_node old (trees.resume 0 old) setting.processors 0 Resume nodes others (λ h. refl) before.stand
 
   at_root : (k : ℕ) → (k == 0) ≡ true → plan'.in_lockstep k ≡ true
-      → At core image places nestings cycles firsts main setting old (trees.resume 0 old) spaces nodes nodes t stages hs ps ds own own' control the_law leads before left has behind.sound behind.spaced 0 Resume
-      steps (λ k. k == 0) move on next k
+      → At core image places nestings cycles firsts main setting old (trees.resume 0 old) spaces nodes nodes t stages hs ps ds own own' control the_law leads before left has behind.sound behind.spaced (one 0 Resume) (by_one old 0 Resume 0 ds steps) (λ k. k == 0) move on next k
   at_root k is lock = absurd (false≢true (sym (ap (λ j. plan'.in_lockstep j) (eqb-true k 0 is) ∙ free') ∙ lock))
 
   lock_root : (k : ℕ) → (k == 0) ≡ true → plan.in_lockstep k ≡ true → LockLeft (of_node k nodes left.afters) (of_node k nodes ps) (of_node k nodes ds)
   lock_root k is lock = absurd (false≢true (sym (ap (λ j. plan.in_lockstep j) (eqb-true k 0 is) ∙ free) ∙ lock))
 
   each_root : AnyGoes core image places nestings cycles firsts main setting old (trees.resume 0 old) spaces nodes nodes t stages hs ps ds own own' control the_law leads before left has behind.sound
-      behind.spaced 0 Resume steps (λ k. k == 0) move on next at_root lock_root (Steps old 0 Resume Nothing)
-  each_root m p d known lt land home s0 a lock alone due remains on' =
+      behind.spaced (one 0 Resume) (by_one old 0 Resume 0 ds steps) (λ k. k == 0) move on next at_root lock_root (Steps old (one 0 Resume) Nothing)
+  each_root m p d step lt land home s0 a lock alone due remains on' =
+      let known = known_at old 0 Resume Nothing m d step in
       steps_alone core image places nestings cycles firsts main setting old (trees.resume 0 old) spaces nodes nodes the_law leads behind.spaced behind.sound (later t)
-      (running core image places nestings cycles firsts main setting old (trees.resume 0 old) spaces nodes nodes t stages hs ps ds own own' control the_law leads before left has behind.sound behind.spaced 0
-      Resume steps (λ k. k == 0) move on next)
+      (running core image places nestings cycles firsts main setting old (trees.resume 0 old) spaces nodes nodes t stages hs ps ds own own' control the_law leads before left has behind.sound behind.spaced (one 0 Resume)
+      (by_one old 0 Resume 0 ds steps) (λ k. k == 0) move on next)
       (actings ds)
-      (λ g. (near core image places nestings cycles firsts main setting old (trees.resume 0 old) spaces nodes nodes t stages hs ps ds own own' control the_law leads before left has behind.sound behind.spaced 0
-      Resume steps (λ k. k == 0) move on next at_root lock_root g).distance)
-      (λ g. (near core image places nestings cycles firsts main setting old (trees.resume 0 old) spaces nodes nodes t stages hs ps ds own own' control the_law leads before left has behind.sound behind.spaced 0
-      Resume steps (λ k. k == 0) move on next at_root lock_root g).soon)
+      (λ g. (near core image places nestings cycles firsts main setting old (trees.resume 0 old) spaces nodes nodes t stages hs ps ds own own' control the_law leads before left has behind.sound behind.spaced (one 0 Resume)
+      (by_one old 0 Resume 0 ds steps) (λ k. k == 0) move on next at_root lock_root g).distance)
+      (λ g. (near core image places nestings cycles firsts main setting old (trees.resume 0 old) spaces nodes nodes t stages hs ps ds own own' control the_law leads before left has behind.sound behind.spaced (one 0 Resume)
+      (by_one old 0 Resume 0 ds steps) (λ k. k == 0) move on next at_root lock_root g).soon)
       m p d lt home (is_busy Resume d p known.1) a (ap (λ k. plan'.in_lockstep k) known.0 ∙ free')
       (ap (λ k. runs_of (plan_of old spaces nodes) (first_of spaces k) m.number) known.0 ∙ runs_same old (trees.resume 0 old) spaces nodes nodes 0 words m.number
       ∙ ap (λ k. runs_of (plan_of (trees.resume 0 old) spaces nodes) (first_of spaces k) m.number) (sym known.0))
@@ -145,8 +145,8 @@ module _ (core : List CoreOp) (image : Image) (places : Places) (nestings : Nest
 
   resumed : BindsAgain core image places nestings setting old spaces nodes (trees.resume 0 old) spaces nodes t hs left.afters ps (all_landed core (owners_after old (trees.resume 0 old) ds)) control
   resumed =
-      bound_at core image places nestings cycles firsts main setting old (trees.resume 0 old) spaces nodes nodes t stages hs ps ds own own' control the_law leads before left has behind.sound behind.spaced 0
-      Resume steps (λ k. k == 0) move on next at_root lock_root Nothing (nothing_here old 0 0 hs ds) each_root (λ k is. eqb-true k 0 is)
+      bound_at core image places nestings cycles firsts main setting old (trees.resume 0 old) spaces nodes nodes t stages hs ps ds own own' control the_law leads before left has behind.sound behind.spaced (one 0 Resume)
+      (by_one old 0 Resume 0 ds steps) (λ k. k == 0) move on next at_root lock_root Nothing (nothing_here old (one 0 Resume) 0 hs ds) each_root 0 (λ k is. eqb-true k 0 is)
       (λ w lock is_open.
       let was = opened_before old (trees.resume 0 old) spaces nodes nodes 0 words w is_open in
       inl (record {

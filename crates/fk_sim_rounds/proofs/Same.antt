@@ -1,17 +1,15 @@
 -- A node that a round leaves as it was is the same in both plans.
-use Rattle.std.proofs.Common.{◌≡◌, ℕ, zero, suc, ◌+◌, ◌-◌, ◌<◌, List, length, Bool, true, Some, None, sym, ap, subst, ◌∙◌, refl, arith}
-use Rattle.std.specs.Prelude.{is_some, ◌&&◌, if◌then◌else◌}
+use Rattle.std.proofs.Common.{◌≡◌, ℕ, zero, suc, ◌+◌, ◌<◌, List, length, true, Some, None, sym, ap, subst, ◌∙◌, refl, arith}
+use Rattle.std.specs.Prelude.{is_some, if◌then◌else◌}
 use Rattle.std.proofs.lemmas.Bool.{and_parts}
 use Rattle.fk_space.specs.Space.{Space}
 use Rattle.fk_tree.specs.Tree as trees
 use Rattle.fk_tree.specs.Tree.{Tree, Node, kind_of, members_of, is_from, is_member}
-use Rattle.fk_tree.proofs.Shapes.{from_parts}
-use Rattle.fk_meaning.specs.Round.{body_of}
 use Rattle.fk_sim_match.specs.Plan.{IsOpen}
 use Rattle.fk_sim_block.specs.Node.{barrier_word}
-use Rattle.fk_sim_match.specs.Nodes.{first_of, owns, HaveSpaces, meeters_at, plan_of}
+use Rattle.fk_sim_match.specs.Nodes.{first_of, own_words, owns, HaveSpaces, body_at, meeters_at, plan_of}
 use Rattle.fk_sim_match.specs.Behind.{runs_of}
-use Rattle.fk_sim_match.proofs.Nodes.{tells}
+use Rattle.fk_sim_match.proofs.Nodes.{tells, open_at}
 
 -- at a node that is there the same members meet at its words
 pub record SameWords (old tree : Tree) (spaces : ℕ → Space) (g : ℕ) : Type 0 where
@@ -30,7 +28,7 @@ pub record SameNode (old tree : Tree) (spaces : ℕ → Space) (g : ℕ) : Type 
   pub kind : trees.kind tree g ≡ trees.kind old g
 
 at_by : (old tree : Tree) (g offset : ℕ) → tree.nodes g ≡ old.nodes g → meeters_at tree g offset ≡ meeters_at old g offset
-at_by old tree g zero e = ap (λ x. body_of (kind_of x) (members_of x)) e
+at_by old tree g zero e = ap (λ x. body_at (kind_of x) g (members_of x)) e
 at_by old tree g (suc zero) e = ap members_of e
 at_by old tree g (suc (suc o)) e = refl
 
@@ -51,7 +49,7 @@ same_node old tree spaces g spaced spaced' there given given' node = record {
 }
 
 pub own_there : (tree : Tree) (spaces : ℕ → Space) (g w : ℕ) → owns tree spaces g w ≡ true → is_some (tree.nodes g) ≡ true
-own_there tree spaces g w own = (and_parts (is_some (tree.nodes g)) (is_from (first_of spaces g) 8 w) own).0
+own_there tree spaces g w own = (and_parts (is_some (tree.nodes g)) (is_from (first_of spaces g) (own_words spaces g (trees.kind tree g)) w) own).0
 
 module _ (old tree : Tree) (spaces : ℕ → Space) (nodes nodes' : List ℕ) (g : ℕ) (same : SameWords old tree spaces g) where
   -- a word of its header, in both plans
@@ -81,22 +79,20 @@ module _ (old tree : Tree) (spaces : ℕ → Space) (nodes nodes' : List ℕ) (g
       ap (λ b. if b then Some ((plan_of old spaces nodes).size w) else None) (sym (first.member number))
       ∙ ap (λ n. if (plan_of tree spaces nodes').member w number then Some n else None) first.size
 
-  own_word : (w : ℕ) → (b : Bool) → (b && is_from (first_of spaces g) 8 w) ≡ true → Words w
-  own_word w b own =
-      let range = from_parts (first_of spaces g) 8 w (and_parts b (is_from (first_of spaces g) 8 w) own).1 in
-      let from = range.0 in
-      let below = range.1 in
-      let e : first_of spaces g + (w - first_of spaces g) ≡ w = omega (arith, from) in
-      subst Words e (words_at (w - first_of spaces g) (omega (arith, from, below)))
+  was_open : (w : ℕ) → IsOpen (plan_of old spaces nodes) g w → Words w
+  was_open w is_open = let x = open_at old spaces same.spaced nodes g w same.given is_open in subst Words x.word (words_at x.offset x.few)
+
+  is_open_now : (w : ℕ) → IsOpen (plan_of tree spaces nodes') g w → Words w
+  is_open_now w is_open = let x = open_at tree spaces same.spaced' nodes' g w same.given' is_open in subst Words x.word (words_at x.offset x.few)
 
   pub opens_still : (w : ℕ) → IsOpen (plan_of old spaces nodes) g w → IsOpen (plan_of tree spaces nodes') g w
-  opens_still w is_open = let x = own_word w (is_some (old.nodes g)) is_open.0 in (x.own', x.arrivals ∙ is_open.1)
+  opens_still w is_open = let x = was_open w is_open in (x.own', x.arrivals ∙ is_open.1)
 
   pub opened_before : (w : ℕ) → IsOpen (plan_of tree spaces nodes') g w → IsOpen (plan_of old spaces nodes) g w
-  opened_before w is_open = let x = own_word w (is_some (tree.nodes g)) is_open.0 in (x.own, sym x.arrivals ∙ is_open.1)
+  opened_before w is_open = let x = is_open_now w is_open in (x.own, sym x.arrivals ∙ is_open.1)
 
   pub member_still : (w number : ℕ) → IsOpen (plan_of old spaces nodes) g w → (plan_of tree spaces nodes').member w number ≡ (plan_of old spaces nodes).member w number
-  member_still w number is_open = (own_word w (is_some (old.nodes g)) is_open.0).member number
+  member_still w number is_open = (was_open w is_open).member number
 
   pub size_still : (w : ℕ) → IsOpen (plan_of tree spaces nodes') g w → (plan_of old spaces nodes).size w ≡ (plan_of tree spaces nodes').size w
-  size_still w is_open = (own_word w (is_some (tree.nodes g)) is_open.0).size
+  size_still w is_open = (is_open_now w is_open).size

@@ -2,21 +2,21 @@
 use Rattle.std.proofs.Common.{◌≡◌, ◌≢◌, ℕ, zero, suc, ◌+◌, ◌-◌, ◌^◌, ◌≤◌, ◌<◌, List, [], ◌∷◌, length, Option, Some, None, Bool, true, false, sym, ap, subst, ◌∙◌, refl, arith, ◌⊎◌, inl, inr, ⊎_elim, eq-eqb, filter}
 use Rattle.std.specs.Prelude.{◌==◌, ◌||◌, map, min, is_some, nat_lt, if◌then◌else◌}
 use Rattle.std.proofs.Math.Nat.{min-le_right}
-use Rattle.std.proofs.lemmas.Bool.{cases_Bool, cases_eq, ne_eqb, eqb-true, and_parts, lt-ltb, le-ltb, false≢true}
+use Rattle.std.proofs.lemmas.Bool.{cases_Bool, cases_eq, ne_eqb, eqb-true, lt-ltb, le-ltb, false≢true}
 use Rattle.fk_num.specs.Word.{Memory}
 use Rattle.fk_space.specs.Space.{Space}
 use Rattle.fk_tree.specs.declared.node.Kind.TheVariants.{Lockstep, Waiting, Asynchronous}
 use Rattle.fk_tree.specs.Tree as trees
-use Rattle.fk_tree.specs.Tree.{Tree, kind_of, members_of, node_of, below, is_member, is_in, is_from, first_part}
+use Rattle.fk_tree.specs.Tree.{Tree, kind_of, members_of, node_of, below, is_member, is_in, first_part}
 use Rattle.fk_tree.specs.Sound.{is_ascending, IsSound}
 use Rattle.fk_tree.proofs.Lists.{length-below}
 use Rattle.fk_tree.proofs.Begins.{length-root}
-use Rattle.fk_tree.proofs.Shapes.{members-node_of, kind-node_of, has_some, some-given, from_parts}
+use Rattle.fk_tree.proofs.Shapes.{members-node_of, kind-node_of, has_some, some-given}
 use Rattle.fk_meaning_operation.specs.declared.operation.Operation.{Operation}
 use Rattle.fk_meaning_operation.specs.declared.operation.Operation.TheVariants.{Begin, End}
 use Rattle.fk_meaning.specs.Processor.{Processor, Setting, values, last}
 use Rattle.fk_meaning.specs.Group.{not_negative, is_taken, does, goes_onward}
-use Rattle.fk_meaning.specs.Round.{Step, lowest, agreed, body_of}
+use Rattle.fk_meaning.specs.Round.{Step, lowest, agreed}
 use Rattle.fk_core.specs.declared.op.CoreOp.{CoreOp}
 use Rattle.fk_core.specs.Next.{Position, follows}
 use Rattle.fk_image.specs.declared.Image.{Image}
@@ -41,10 +41,10 @@ use Rattle.fk_sim_block.specs.Node.{Nestings, StandsInNode, IsAtRest}
 use Rattle.fk_sim_block.specs.Lockstep.{is_due, stepped, highest_value, AreMembers}
 use Rattle.fk_sim_block.specs.Start.{size_of_start, runs_behind_start, ComesToPart, AllComeToParts}
 use Rattle.fk_sim_block.specs.Law.{Cycles, GroupLaw, sets_apart}
-use Rattle.fk_sim_match.specs.Nodes.{first_of, is_arrival, is_lockstep, meeters_at, plan_of, united}
+use Rattle.fk_sim_match.specs.Nodes.{first_of, is_arrival, is_lockstep, body_at, meeters_at, plan_of, united}
 use Rattle.fk_sim_match.specs.Behind.{runs_of, HaveBegun, blocks_of}
 use Rattle.fk_sim_match.specs.Rounds.{IsDueAt, AllDue}
-use Rattle.fk_sim_match.proofs.Nodes.{tells}
+use Rattle.fk_sim_match.proofs.Nodes.{tells, open_at}
 use Rattle.fk_sim_match.proofs.Rounds.{not_none, leaf_place, lockstep_kind}
 use Rattle.fk_sim_rounds.specs.Next.{JumpsLead, landed, all_landed, IsHome, HasNext, HaveNext}
 use Rattle.fk_sim_rounds.specs.Comes.{most_between, IsSoon, AllBelow, IsNode, ComesTo}
@@ -499,7 +499,7 @@ module _ (core : List CoreOp) (image : Image) (places : Places) (nestings : Nest
   runs_root : (h : ℕ) → h < setting.processors → runs_of plan' (first_of spaces 0) h ≡ Some setting.processors
   runs_root h lt =
       let tell = tells new spaces behind.spaced nodes' 0 0 there_root given_root (omega arith) in
-      let body : meeters_at new 0 0 ≡ trees.members old 0 = ap (λ k. body_of k (trees.members new 0)) kind_root ∙ members_root in
+      let body : meeters_at new 0 0 ≡ trees.members old 0 = ap (λ k. body_at k 0 (trees.members new 0)) kind_root ∙ members_root in
       let w = first_of spaces 0 + 0 in
       ap (λ b. if b then Some (plan'.size w) else None) (tell.member h ∙ ap (λ l. is_member h l) body ∙ all_members h lt)
       ∙ ap (λ n. Some n) (tell.size ∙ ap (λ l. length l) body ∙ size_root)
@@ -610,7 +610,7 @@ module _ (core : List CoreOp) (image : Image) (places : Places) (nestings : Nest
       empty (suc (suc o)) arrival = absurd (false≢true arrival)
 
   meeters_are : (offset : ℕ) → is_arrival offset ≡ true → meeters_at (trees.begin count old) 0 offset ≡ trees.members old 0
-  meeters_are zero arrival = ap (λ k. body_of k (trees.members new 0)) kind_root ∙ members_root
+  meeters_are zero arrival = ap (λ k. body_at k 0 (trees.members new 0)) kind_root ∙ members_root
   meeters_are (suc zero) arrival = members_root
   meeters_are (suc (suc o)) arrival = absurd (false≢true arrival)
 
@@ -634,14 +634,8 @@ module _ (core : List CoreOp) (image : Image) (places : Places) (nestings : Nest
 
   opens : (w : ℕ) → IsOpen plan' 0 w → Opens w
   opens w is_open =
-      let range = from_parts (first_of spaces 0) 8 w (and_parts (is_some (new.nodes 0)) (is_from (first_of spaces 0) 8 w) is_open.0).1 in
-      let from = range.0 in
-      let under = range.1 in
-      let offset = w - first_of spaces 0 in
-      let lt : offset < 8 = omega (arith, from, under) in
-      let e : first_of spaces 0 + offset ≡ w = omega (arith, from) in
-      let tell = tells new spaces behind.spaced nodes' 0 offset there_root given_root lt in
-      subst Opens e (opens_at offset lt (sym tell.arrival ∙ ap (λ k. plan'.arrivals k) e ∙ is_open.1))
+      let x = open_at new spaces behind.spaced nodes' 0 w given_root is_open in
+      subst Opens x.word (opens_at x.offset x.few x.arrival)
 
   -- a node in which nobody stands is as it was
   abbrev Meetings : ℕ → ℕ → Type 0

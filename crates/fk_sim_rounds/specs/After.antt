@@ -17,7 +17,7 @@ use Rattle.fk_sim_nodes.specs.Node.{of_node}
 use Rattle.fk_sim_match.specs.Stage.{Stage}
 use Rattle.fk_sim_match.specs.Cycle.{AllHaveCommitted}
 use Rattle.fk_sim_match.specs.Change.{TreeChanges}
-use Rattle.fk_lockstep.specs.Untouched.{changes_tree}
+use Rattle.fk_lockstep_nodes.specs.Steps as steps
 use Rattle.fk_sim_block.specs.Owner.{Owner, Doing, core_source}
 use Rattle.fk_sim_block.specs.Stands.{Places}
 use Rattle.fk_sim_block.specs.Node.{Nestings}
@@ -27,7 +27,7 @@ use Rattle.fk_sim_match.specs.Rounds.{AllDue}
 use Rattle.fk_sim_rounds.specs.Next.{landed, IsHome, HasNext, HaveNext}
 use Rattle.fk_sim_rounds.specs.Comes.{IsSoon}
 
--- ---- behind the steps of the tree
+-- ---- after the steps of the tree
 
 abbrev pub actings : List Doing → List (Acting Position)
 actings ds = map (λ d. d.acting) ds
@@ -45,19 +45,17 @@ owner_after acting old new d =
 abbrev pub owners_after : (old new : Tree) → List Doing → List Owner
 owners_after old new ds = map (owner_after (actings ds) old new) ds
 
--- no step changes the tree
+-- No step changes the tree.
 abbrev pub Keeps : Option (Step Position) → Type 0
-Keeps None = Unit {0}
-Keeps (Some step) = changes_tree step.operation ≡ false
+Keeps due = steps.Keeps due
 
 abbrev pub AllKeep : List Doing → Type 0
 AllKeep [] = Unit {0}
 AllKeep (d ∷ ds) = Keeps d.acting.due × AllKeep ds
 
--- all who stand at a node do one step, and no other step changes the tree
+-- All processors at a node do one step, and no other step changes the tree.
 abbrev pub DoesStep : Operation → Option (Step Position) → Type 0
-DoesStep operation None = ⊥
-DoesStep operation (Some step) = step.operation ≡ operation
+DoesStep operation due = steps.Does operation due
 
 abbrev pub StepsAt : (old : Tree) → (g number : ℕ) → Operation → List Doing → Type 0
 StepsAt old g number operation [] = Unit {0}
@@ -68,12 +66,12 @@ StepsAt old g number operation (d ∷ ds) =
 
 -- ---- what is known
 
--- processors stand in these nodes, from a number on
+-- The nodes of processors, from a number on.
 abbrev pub ArePlaces : Tree → (number : ℕ) → List ℕ → Type 0
 ArePlaces tree number [] = Unit {0}
 ArePlaces tree number (n ∷ nodes) = (n ≡ tree.places number) × ArePlaces tree (suc number) nodes
 
--- each is at an operation, or at its end
+-- Each processor is at an operation, or at its end.
 abbrev pub AllLanded : List CoreOp → List Owner → Type 0
 AllLanded core [] = Unit {0}
 AllLanded core (p ∷ ps) = (landing core p.runner.left.at ≡ p.runner.left.at) × AllLanded core ps
@@ -86,8 +84,8 @@ abbrev pub halts : Option (Step Position) → Bool
 halts None = false
 halts (Some step) = is_halt step.operation
 
--- each processor has of its group what is that of its node, and who has committed anything but a
--- halt is about to do another operation
+-- Each processor has of its group what its node has, and one that has committed anything but a halt
+-- is about to do another operation.
 abbrev pub AllGoOn : List CoreOp → Nestings → Setting → Tree → (spaces : ℕ → Space) → (number : ℕ)
     → (afters : List (Option Stage)) → List Doing → List Owner → Type 0
 AllGoOn core nestings setting tree spaces number [] [] [] = Unit {0}
@@ -97,7 +95,7 @@ AllGoOn core nestings setting tree spaces number (a ∷ afters) (d ∷ ds) (p �
     × AllGoOn core nestings setting tree spaces (suc number) afters ds ps
 AllGoOn core nestings setting tree spaces number afters ds ps = ⊥
 
--- so it is with each group all of which has committed
+-- Each group in lockstep, all of whose members have committed, is about to do an operation.
 abbrev pub GroupsGoOn : List CoreOp → Nestings → Tree → (nodes : List ℕ)
     → (afters : List (Option Stage)) → List Owner → Type 0
 GroupsGoOn core nestings tree nodes afters ps =
@@ -106,7 +104,7 @@ GroupsGoOn core nestings tree nodes afters ps =
 
 -- ---- what follows
 
--- who has committed is near its next commit, or near the word where it meets others
+-- A hart that has committed is near its next commit, or near the word where it meets others.
 abbrev pub AllSoon : List (Option Stage) → List Stage → Type 0
 AllSoon [] [] = Unit {0}
 AllSoon (a ∷ afters) (s ∷ stages) = (a ≡ None → IsSoon s) × AllSoon afters stages
@@ -115,8 +113,8 @@ AllSoon afters stages = ⊥
 module _ (core : List CoreOp) (image : Image) (places : Places) (nestings : Nestings)
     (setting : Setting) (tree : Tree) (spaces : ℕ → Space) (nodes : List ℕ)
     (tree' : Tree) (spaces' : ℕ → Space) (nodes' : List ℕ) where
-  -- all have stages by which the next tree's plan may bind them, and each is about to do
-  -- what its stage tells
+  -- All harts have stages by which the next tree's plan may bind them, and each processor is about
+  -- to do what its stage tells.
   pub record BindsAgain (t : MachineSetting) (hs : List Hart) (afters : List (Option Stage))
       (ps ps' : List Owner) (control : Memory) : Type 0 where
     pub stages : List Stage

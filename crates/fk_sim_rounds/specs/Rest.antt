@@ -1,4 +1,4 @@
--- Groups that end, and their words.
+-- Groups that end, and their control words.
 use Rattle.std.specs.Prelude.{◌≡◌, ◌≢◌, ℕ, List, length, None, Some, ◌⊎◌}
 use Rattle.fk_num.specs.Word.{Memory}
 use Rattle.fk_space.specs.Space.{Space}
@@ -17,22 +17,22 @@ use Rattle.fk_sim_match.specs.Cycle.{IsLeft}
 use Rattle.fk_sim_block.specs.Owner.{Owner, Doing, core_source}
 use Rattle.fk_sim_block.specs.Stands.{Places}
 use Rattle.fk_sim_block.specs.Node.{Nestings, IsAtRest}
-use Rattle.fk_sim_match.specs.Nodes.{first_of, plan_of}
+use Rattle.fk_sim_match.specs.Nodes.{first_of, HaveSpaces, plan_of}
 use Rattle.fk_sim_match.specs.Behind.{blocks_of}
 use Rattle.fk_sim_rounds.specs.After.{tree_after, StepsAt, ArePlaces}
 use Rattle.fk_sim_rounds.specs.Rounds.{EndsGroup, IsKnownRound}
 
--- the root alone is there
+-- The tree has no node but the root.
 abbrev pub HasNoGroup : Tree → Type 0
 HasNoGroup tree = (g : ℕ) → g ≢ 0 → tree.nodes g ≡ None
 
--- a group that is there stays behind a known round, but for one that ends
+-- A group stays after a known round, unless the round ends it.
 abbrev pub KnownRoundsKeepGroups : Type 0
 KnownRoundsKeepGroups =
     (tree : Tree) (ds : List Doing) → IsKnownRound tree ds
     → EndsGroup tree ds ⊎ (HasNoGroup (tree_after tree ds) → HasNoGroup tree)
 
--- at the words of one that ends nobody is left
+-- Nobody is left at the arrival words of a group that ends.
 abbrev pub EndedGroupsRest : Type 0
 EndedGroupsRest =
     (core : List CoreOp) (image : Image) (places : Places) (nestings : Nestings) (setting : Setting)
@@ -41,7 +41,8 @@ EndedGroupsRest =
     (control : Memory) (g : ℕ)
     → let plan = plan_of tree spaces nodes in
     let blocks = blocks_of core image places nestings setting plan (first_of spaces) in
-    IsSound setting.processors tree → ArePlaces tree 0 nodes → length nodes ≡ setting.processors
+    HaveSpaces tree spaces → IsSound setting.processors tree → ArePlaces tree 0 nodes
+    → length nodes ≡ setting.processors
     → IsLeft (core_source core setting) image plan blocks t stages hs ps ds own own'
     → ((k : ℕ) → Has (plan.words k) control (own' k))
     → trees.kind tree g ≡ Some Lockstep → StepsAt tree g 0 End ds

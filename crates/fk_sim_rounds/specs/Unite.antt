@@ -1,6 +1,6 @@
 -- The cycle in which the last of all processors leaves the word where they meet at the
 -- beginning of `start`.
-use Rattle.std.specs.Prelude.{◌≡◌, ℕ, ◌^◌, ◌<◌, ◌≤◌, List, [], ◌∷◌, length, map, true}
+use Rattle.std.specs.Prelude.{◌≡◌, ℕ, ◌^◌, ◌<◌, List, [], ◌∷◌, length, map, true}
 use Rattle.fk_num.specs.Word.{Memory}
 use Rattle.fk_space.specs.Space.{Space}
 use Rattle.fk_tree.specs.Tree.{Tree}
@@ -31,12 +31,12 @@ use Rattle.fk_sim_rounds.specs.Next.{AllAt, AllAbout}
 use Rattle.fk_sim_rounds.specs.Rounds.{IsBefore}
 use Rattle.fk_sim_rounds.specs.Start.{IsBeforeStart}
 
--- all leave the word where they unite
+-- All harts leave the word where they unite.
 abbrev pub AllUnite : List Stage → Type 0
 AllUnite [] = Unit {0}
 AllUnite (s ∷ stages) = (unites_now s ≡ true) × AllUnite stages
 
--- all are in the root, whose group space is whole
+-- All processors are in the root, whose group space is whole.
 abbrev pub AreInRoot : Nestings → Setting → List Owner → Type 0
 AreInRoot nestings setting [] = Unit {0}
 AreInRoot nestings setting (p ∷ ps) = IsInRoot nestings setting p × AreInRoot nestings setting ps
@@ -46,8 +46,8 @@ module _ (core : List CoreOp) (image : Image) (places : Places) (nestings : Nest
     (earlier : List ℕ)
     (stages : List Stage) (hs : List Hart) (ps : List Owner) (own : ℕ → Memory) (sh : Shared)
     (s : Commons) where
-  -- behind it all are about to begin the group of `start`, at one index, and are in lockstep, so
-  -- far from their commit
+  -- After the cycle all processors are about to begin the group of `start`, at one index, and are
+  -- in lockstep, at this distance from their commit.
   pub record AreInLockstep (i : ℕ) : Type 0 where
     pub op : CoreOp
     pub stands : StandsOp core i op Begin
@@ -61,7 +61,7 @@ module _ (core : List CoreOp) (image : Image) (places : Places) (nestings : Nest
         (turns t 0 hs sh).harts ps (λ g. (turns t 0 hs sh).shared.control)
     pub near : AllNear stages (all_act distance (numbered 0 (turns t 0 hs sh).harts))
 
-  -- it is a whole round, nobody is in it, and all are in the root
+  -- The cycle is a whole round, nobody is in it, and all are in the root.
   pub record AreUnited : Type 0 where
     pub whole : IsWhole (core_source core setting) image (plan_of tree spaces nodes).words
         (DoneIn (core_source core setting) image (plan_of tree spaces nodes)
@@ -74,7 +74,7 @@ module _ (core : List CoreOp) (image : Image) (places : Places) (nestings : Nest
     pub roots : AreInRoot nestings setting ps
     pub together : (i : ℕ) → AllAt i ps → AreInLockstep i
 
--- where the plan binds all harts before a cycle in which somebody unites with others, all do
+-- Where the plan binds all harts before a cycle in which one of them unites with others, all do.
 abbrev pub CyclesUnite : Type 0
 CyclesUnite =
     (core : List CoreOp) (image : Image) (places : Places) (nestings : Nestings) (cycles : Cycles)

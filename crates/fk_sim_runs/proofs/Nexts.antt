@@ -26,7 +26,7 @@ use Rattle.fk_sim_block.specs.Node.{Nestings}
 use Rattle.fk_sim_block.specs.Lockstep.{NoneSaved}
 use Rattle.fk_sim_block.specs.Joint.{word_of}
 use Rattle.fk_sim_block.specs.Start.{IsInRoot}
-use Rattle.fk_sim_match.specs.Nodes.{is_lockstep}
+use Rattle.fk_sim_match.specs.Nodes.{is_lockstep, body_at}
 use Rattle.fk_sim_match.specs.Rounds.{joint_at_word}
 use Rattle.fk_sim_rounds.specs.Next.{landed, MayMeet, MayByItself, HasNext}
 use Rattle.fk_sim_runs.specs.Lists.{IsOfOneGroup}
@@ -48,9 +48,16 @@ meets_at_end tree number alone ne kind has = record {
   member = has;
 }
 
-pub meets_at_barrier : (tree : Tree) (number : ℕ) → is_member number (body_of (trees.kind tree (tree.places number)) (trees.members tree (tree.places number))) ≡ true
-    → MayMeet tree (tree.places number) number (o.Meet false)
-meets_at_barrier tree number runs = record { meeting = refl; joint = refl; member = runs }
+pub meets_at_barrier : (tree : Tree) (number : ℕ) (alone : Bool) → trees.kind tree (tree.places number) ≡ Some (Asynchronous alone)
+    → is_member number (body_of (trees.kind tree (tree.places number)) (trees.members tree (tree.places number))) ≡ true → MayMeet tree (tree.places number) number (o.Meet false)
+meets_at_barrier tree number alone kind runs =
+    let g = tree.places number in
+    let ms = trees.members tree g in
+    record {
+      meeting = refl;
+      joint = refl;
+      member = subst (λ (k : Option Kind). is_member number (body_at k g ms) ≡ true) (sym kind) (subst (λ (k : Option Kind). is_member number (body_of k ms) ≡ true) kind runs);
+    }
 
 resumes_at : (g first parts : ℕ) → joint_of o.Resume ≡ joint_at_word g (Some (Waiting first parts)) (word_of o.Resume)
 resumes_at zero first parts = refl
@@ -160,7 +167,7 @@ module _ (core : List CoreOp) (nestings : Nestings) (main : ℕ) (setting : Sett
         (λ e.
         let here : trees.kind s.tree g ≡ Some (Asynchronous false) = ap (trees.kind s.tree) node.0 ∙ kind in
         let runs_is : runs ≡ true = ap (λ (k : Option Kind). is_member h (body_of k (trees.members s.tree g))) here ∙ has in
-        meets (o.Meet false) e (meets_at_barrier s.tree h runs_is))
+        meets (o.Meet false) e (meets_at_barrier s.tree h false here runs_is))
         (λ e. by_itself (inr (inl e))) more)
         step
     by_place Waits there levels step =
@@ -177,7 +184,7 @@ module _ (core : List CoreOp) (nestings : Nestings) (main : ℕ) (setting : Sett
         }
     by_place InBody there levels step =
         let node = in_body g (trees.kind s.tree g) runs there in
-        ⊎_elim (λ e. meets (o.Meet true) e (meets_at_end s.tree h node.2.0 node.0 node.2.1 has)) (λ e. meets (o.Meet false) e (meets_at_barrier s.tree h node.1)) step
+        ⊎_elim (λ e. meets (o.Meet true) e (meets_at_end s.tree h node.2.0 node.0 node.2.1 has)) (λ e. meets (o.Meet false) e (meets_at_barrier s.tree h node.2.0 node.2.1 node.1)) step
     by_place BehindBody there levels step =
         let node = behind_body g (trees.kind s.tree g) runs there in
         meets (o.Meet true) step (meets_at_end s.tree h node.1.0 node.0 node.1.1 has)

@@ -1,5 +1,5 @@
 -- The beginning: all harts are in the root, each on the way to its first commit.
-use Rattle.std.proofs.Common.{◌≡◌, ◌≢◌, ℕ, zero, suc, ◌+◌, ◌-◌, ◌≤◌, ◌<◌, List, [], ◌∷◌, length, Some, None, Bool, true, false, cond, sym, ap, subst, ◌∙◌, refl, arith, ⊎_elim}
+use Rattle.std.proofs.Common.{◌≡◌, ◌≢◌, ℕ, zero, suc, ◌+◌, ◌≤◌, ◌<◌, List, [], ◌∷◌, length, Some, None, Bool, true, false, cond, sym, ap, subst, ◌∙◌, refl, arith, ⊎_elim}
 use Rattle.std.specs.Prelude.{◌==◌, map, replicate, slice_index, is_some}
 use Rattle.std.proofs.lemmas.Bool.{cases_eq, ne_eqb, and_parts, cond-true, false≢true}
 use Rattle.fk_space.specs.Space.{Space}
@@ -9,10 +9,10 @@ use Rattle.fk_tree.specs.Tree as trees
 use Rattle.fk_tree.specs.Tree.{Tree, kind_of, is_member, node_of, below, root, is_from}
 use Rattle.fk_tree.specs.Sound.{is_ascending}
 use Rattle.fk_tree.proofs.Lists.{length-below, below-has}
-use Rattle.fk_tree.proofs.Shapes.{with_other, from_parts}
+use Rattle.fk_tree.proofs.Shapes.{with_other}
 use Rattle.fk_tree.proofs.RootSound.{root_sound}
 use Rattle.fk_meaning.specs.Processor.{Setting, setting_of}
-use Rattle.fk_meaning.specs.Round.{Runner, State, body_of}
+use Rattle.fk_meaning.specs.Round.{Runner, State}
 use Rattle.fk_meaning.specs.Schedule.{beginners}
 use Rattle.fk_core.specs.declared.op.CoreOp.{CoreOp}
 use Rattle.fk_core.specs.Next.{Position, position, list_opening}
@@ -32,10 +32,10 @@ use Rattle.fk_sim_block.specs.Stands.{Places}
 use Rattle.fk_sim_block.specs.Block.{IsRunning, beginner}
 use Rattle.fk_sim_block.specs.Node.{Nestings, StandsInNode, barrier_word}
 use Rattle.fk_sim_block.specs.Law.{Cycles, GroupLaw}
-use Rattle.fk_sim_match.specs.Nodes.{first_of, HaveSpaces, meeters_at, is_arrival, is_lockstep, plan_of}
+use Rattle.fk_sim_match.specs.Nodes.{first_of, own_words, HaveSpaces, body_at, meeters_at, is_arrival, is_lockstep, plan_of}
 use Rattle.fk_sim_match.specs.Behind.{runs_of, blocks_of}
 use Rattle.fk_sim_match.specs.Rounds.{AllDue}
-use Rattle.fk_sim_match.proofs.Nodes.{tells}
+use Rattle.fk_sim_match.proofs.Nodes.{tells, open_at}
 use Rattle.fk_sim_rounds.specs.Next.{JumpsLead, landed, HasNext}
 use Rattle.fk_sim_rounds.specs.Comes.{IsNode, ComesTo}
 use Rattle.fk_sim_rounds.specs.After.{runners_of, ArePlaces, AllLanded}
@@ -127,7 +127,13 @@ module _ (core : List CoreOp) (image : Image) (places : Places) (nestings : Nest
   nobody g ne is = false≢true (sym (ap is_some (no_other g ne)) ∙ is)
 
   spaced : HaveSpaces (root p) spaces
-  spaced = record { within = λ g ne is. absurd (nobody g ne is); apart = λ g k ne ne' differ is is'. absurd (nobody g ne is) }
+  spaced = record {
+    header = λ g ne is. absurd (nobody g ne is);
+    within = λ g ne is. absurd (nobody g ne is);
+    waits = λ g ne is. absurd (nobody g ne is);
+    nested = λ g ne is up. absurd (nobody g ne is);
+    apart = λ g k ne ne' differ is is' same. absurd (nobody g ne is);
+  }
 
   free : (g : ℕ) → is_lockstep (trees.kind (root p) g) ≡ false
   free g =
@@ -141,7 +147,7 @@ module _ (core : List CoreOp) (image : Image) (places : Places) (nestings : Nest
 
   -- at both of its words all meet
   all_meet : (offset : ℕ) → is_arrival offset ≡ true → meeters_at (root p) 0 offset ≡ below p []
-  all_meet zero is = ap (λ k. body_of k (trees.members (root p) 0)) root_is.0 ∙ members_are
+  all_meet zero is = ap (λ k. body_at k 0 (trees.members (root p) 0)) root_is.0 ∙ members_are
   all_meet (suc zero) is = members_are
   all_meet (suc (suc i)) is = absurd (false≢true is)
 
@@ -157,13 +163,8 @@ module _ (core : List CoreOp) (image : Image) (places : Places) (nestings : Nest
 
   meet_in : (w : ℕ) → IsOpen plan 0 w → AllMeet w
   meet_in w is_open =
-      let first = first_of spaces 0 in
-      let range = from_parts first 8 w (and_parts (is_some ((root p).nodes 0)) (is_from first 8 w) is_open.0).1 in
-      let from = range.0 in
-      let below' = range.1 in
-      let e : first + (w - first) ≡ w = omega (arith, from) in
-      let told = tells (root p) spaces spaced (replicate p 0) 0 (w - first) root_is.1 (omega arith) (omega (arith, from, below')) in
-      subst AllMeet e (meet_at (w - first) (omega (arith, from, below')) (sym told.arrival ∙ ap (λ k. plan.arrivals k) e ∙ is_open.1))
+      let x = open_at (root p) spaces spaced (replicate p 0) 0 w (omega arith) is_open in
+      subst AllMeet x.word (meet_at x.offset x.few x.arrival)
 
   runs_are : (number : ℕ) → number < p → runs_of plan (first_of spaces 0) number ≡ Some p
   runs_are number lt =
@@ -324,7 +325,7 @@ module _ (core : List CoreOp) (image : Image) (places : Places) (nestings : Nest
         counts = λ g w alone is_open.
             ⊎_elim
             (λ e. subst (λ k. Settled 0 (plan.size w) 0 (phases plan k w (kept all.stages))) (sym e) (settled w (subst (λ k. IsOpen plan k w) e is_open)))
-            (λ ne. absurd (nobody g ne (and_parts (is_some ((root p).nodes g)) (is_from (first_of spaces g) 8 w) is_open.0).0))
+            (λ ne. absurd (nobody g ne (and_parts (is_some ((root p).nodes g)) (is_from (first_of spaces g) (own_words spaces g (trees.kind (root p) g)) w) is_open.0).0))
             (cases_eq g 0);
       };
     }

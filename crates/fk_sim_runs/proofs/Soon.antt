@@ -1,5 +1,5 @@
 -- Stages that are near their next commit are in time.
-use Rattle.std.proofs.Common.{◌≡◌, List, [], ◌∷◌, Option, None, arith}
+use Rattle.std.proofs.Common.{List, [], ◌∷◌, Option, arith}
 use Rattle.fk_sim_nodes.specs.Phase.{Coming}
 use Rattle.fk_sim_match.specs.Stage.{Stage, Ended, Acts, Meets}
 use Rattle.fk_sim_rounds.specs.Comes.{IsSoon}

@@ -1,10 +1,9 @@
 -- Behind the cycles in which all have met at the beginning of `start` nobody meets others, and all are near their common commit.
-use Rattle.std.proofs.Common.{◌≡◌, ◌≢◌, ℕ, zero, suc, ◌+◌, ◌<◌, ◌^◌, List, [], ◌∷◌, length, Some, Bool, true, false, sym, ap, subst, ◌∙◌, refl, arith}
+use Rattle.std.proofs.Common.{◌≡◌, ℕ, zero, suc, ◌+◌, List, [], ◌∷◌, Some, true, sym, ap, subst, ◌∙◌, refl}
 use Rattle.std.specs.Prelude.{slice_get}
 use Rattle.std.proofs.lemmas.Bool.{false≢true}
 use Rattle.fk_sim_nodes.specs.Phase.{Phase, Outside, Away, Coming, Waiting, Leaving}
 use Rattle.fk_sim_match.specs.Stage.{Ending, Commits, Unites, Stage, Ended, Acts, Meets, distance, Nears}
-use Rattle.fk_sim_block.specs.Start.{most_united}
 use Rattle.fk_sim_match.specs.Uniting.{unites_now}
 use Rattle.fk_sim_rounds.specs.Unite.{AllUnite}
 use Rattle.fk_sim_rounds.specs.Union.{IsNearBegin, AreNearBegin}

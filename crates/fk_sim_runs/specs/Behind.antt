@@ -1,6 +1,6 @@
 -- What is known behind a round of a machine, in the state that it leaves, as laws of machines that
 -- follow it ask it.
-use Rattle.std.specs.Prelude.{◌≡◌, ◌≢◌, ℕ, ◌≤◌, List, [], ◌∷◌, ◌++◌, length, true, Option, Some}
+use Rattle.std.specs.Prelude.{◌≡◌, ◌≢◌, ℕ, ◌≤◌, List, [], ◌∷◌, ◌++◌, length, true, Option}
 use Rattle.std.specs.Prelude.{None}
 use Rattle.fk_space.specs.Space.{Space}
 use Rattle.fk_meaning_operation.specs.declared.operation.Operation.TheVariants.{Begin}
@@ -26,13 +26,13 @@ use Rattle.fk_sim_runs.specs.Lists.{IsOfOneGroup}
 use Rattle.fk_sim_runs.specs.Reached.{IsReached}
 use Rattle.fk_sim_runs.specs.Facts.{spaces_of, HasSpace}
 
--- who has committed, or has met those with whom it unites, had something left to do
+-- A processor that has committed, or has met those with whom it unites, had something left to do.
 abbrev pub HadNext : List CoreOp → (afters : List (Option Stage)) → List (Runner Position) → Type 0
 HadNext core [] [] = Unit {0}
 HadNext core (a ∷ afters) (r ∷ rs) = (a ≡ None → next core r.left ≢ None) × HadNext core afters rs
 HadNext core afters rs = ⊥
 
--- so it is with all where all are about to begin the group of a `start`
+-- All processors had something left to do, where all are about to begin the group of a `start`.
 abbrev pub UnitedHadNext : Type 0
 UnitedHadNext =
     (core : List CoreOp) (s : State Position) (ps : List Owner) (shared : Commons) (i : ℕ)
@@ -44,8 +44,8 @@ module _ (core : List CoreOp) (setting : Setting) (s : State Position) (stages :
   abbrev pub behind : State Position
   behind = result (next core) setting (counts_for stages) s
 
-  -- a possible round of those whose stages commit, which is what processors beside
-  -- the state have done
+  -- A possible round of those whose stages commit, and what the processors that match the state
+  -- have done in it.
   pub record IsRoundOf (did : List Doing) : Type 0 where
     pub ps : List Owner
     pub shared : Commons
@@ -55,13 +55,13 @@ module _ (core : List CoreOp) (setting : Setting) (s : State Position) (stages :
     pub possible : is_possible (next core) setting (counts_for stages) s ≡ true
     pub passes : AllPass (core_source core setting) (counts_for stages) ps shared did shared'
 
-  -- both states are reached
+  -- The states before and after the round are reached.
   pub record AreReached : Type 0 where
     pub before : IsReached core setting s
     pub after : IsReached core setting behind
 
-  -- its tree is sound, and its nodes own words apart; all who have committed go on, and so do
-  -- groups all of which have committed
+  -- The tree after the round is sound, and its nodes own words apart. All processors that have
+  -- committed go on, and so do groups all of whose members have committed.
   pub record GoAhead (nestings : Nestings) (did : List Doing)
       (afters : List (Option Stage)) : Type 0 where
     pub tree : IsTree setting behind.tree (spaces_of setting)
@@ -71,7 +71,8 @@ module _ (core : List CoreOp) (setting : Setting) (s : State Position) (stages :
         → length nodes ≡ setting.processors
         → GroupsGoOn core nestings behind.tree nodes afters (owners_after s.tree behind.tree did)
 
--- a group all of which have come to one index goes on whether they were in the round or not
+-- After a round between reached states the run goes ahead (`GoAhead`). A group all of whose members
+-- have come to one index goes on, whether they were in the round or not.
 abbrev pub ReachedRoundsGoOn : Type 0
 ReachedRoundsGoOn =
     (core : List CoreOp) (nestings : Nestings) (main : ℕ) (setting : Setting) (s : State Position)
@@ -80,8 +81,8 @@ ReachedRoundsGoOn =
     → AreReached core setting s stages → IsRoundOf core setting s stages did
     → HadNext core afters s.runners → GoAhead core setting s stages nestings did afters
 
--- where each processor is about to do what its stage tells, and stages stay or are over, nobody
--- begins the group of a `start`, and the round is a known one
+-- Where each processor is about to do what its stage tells, and stages stay or are over, nobody
+-- begins the group of a `start`, and the round is a known one.
 abbrev pub ReachedStagesGoOn : Type 0
 ReachedStagesGoOn =
     (core : List CoreOp) (nestings : Nestings) (main : ℕ) (setting : Setting) (s : State Position)
@@ -92,7 +93,7 @@ ReachedStagesGoOn =
     (landed_state core s).runners → Pairwise Remains stages afters
     → IsKnownRound s.tree did × GoAhead core setting s stages nestings did afters
 
--- in a run both states of its last round are reached
+-- In a run the states before and after its last round are reached.
 abbrev pub RunsReachRounds : Type 0
 RunsReachRounds =
     (core : List CoreOp) (nestings : Nestings) (main : ℕ) → IsOfOneGroup core nestings main
