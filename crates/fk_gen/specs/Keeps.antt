@@ -1,5 +1,5 @@
--- What a block tells beside that it does its operation: how many cycles it takes, and what it
--- leaves of its hart beside what stands for a processor.
+-- What a block guarantees besides doing its operation: how many cycles it takes, and what it keeps
+-- of its hart besides what stands for a processor.
 use Rattle.std.specs.Prelude.{◌≡◌, ℕ, suc, ◌+◌, ◌-◌, ◌<◌, ◌≤◌, List, [], ◌∷◌, length, Bool, true}
 use Rattle.fk_meaning_operation.specs.declared.operation.Operation.{Operation}
 use Rattle.fk_meaning_operation.specs.declared.operation.Operation.TheVariants.{Push, Get, CopyLast}
@@ -14,33 +14,36 @@ use Rattle.fk_sim_block.specs.Owner.{Owner, core_source}
 use Rattle.fk_sim_block.specs.Stands.{Places, frame_start, frame_end}
 use Rattle.fk_sim_block.specs.Suits.{writes}
 use Rattle.fk_sim_block.specs.Block.{Enters, HasDone, member_of, most_before, most_behind}
-use Rattle.fk_gen.specs.Registers.{a0, a1}
+use Rattle.fk_gen.specs.Registers.{a0, a1, a2, a3}
 
--- how many lines of a block follow its first one
+-- The number of lines of a block after its first one.
 abbrev pub past_first : List MarkedLine → ℕ
 past_first [] = 0
 past_first (l ∷ ls) = length ls
 
--- how many values stand in the frame at most, where an operation finds so many and makes no call
+-- The most values in the frame while an operation runs that finds `depth` values and makes no call.
 abbrev pub peak : Operation → (depth : ℕ) → ℕ
 peak (Push n) depth = suc depth
 peak (Get known) depth = suc depth
 peak CopyLast depth = suc depth
 peak operation depth = depth
 
--- a hart keeps a0 and a1, and in the frames of all calls all words but private ones that are
--- written, and so many values of the running call
+-- a hart keeps what it knows of its node, the words below all frames, and in the frames of all
+-- calls all words but private ones that are written, and so many values of the running call
 pub record Keeps (places : Places) (waiting values : ℕ) (written : (word : ℕ) → Bool)
     (h h' : Hart) : Type 0 where
   pub node : h'.registers a0 ≡ h.registers a0
   pub body : h'.registers a1 ≡ h.registers a1
+  pub frames : h'.registers a2 ≡ h.registers a2
+  pub blocks : h'.registers a3 ≡ h.registers a3
+  pub header : (j : ℕ) → j < 7 → h'.local j ≡ h.local j
   pub words : (j : ℕ) → places.frames.of_file + 7 ≤ j → j < frame_end waiting - values
       → ((word : ℕ) → written word ≡ true → j ≡ frame_start places waiting + 7 + word → ⊥)
       → h'.local j ≡ h.local j
 
 module _ (core : List CoreOp) (image : Image) (places : Places) where
-  -- it commits after so many private instructions and with so many behind, and then
-  -- something more holds
+  -- The hart commits after `before` private instructions, runs `behind` more, and then `Also`
+  -- holds.
   pub record DoesAnd (setting : Setting) (t : MachineSetting) (p : Owner) (h : Hart)
       (before behind : ℕ) (Also : Hart → Type 0) : Type 0 where
     pub few_before : before ≤ most_before
@@ -48,8 +51,8 @@ module _ (core : List CoreOp) (image : Image) (places : Places) where
     pub does : OneDoes (core_source core setting) image t 1 before behind (member_of p h) p
         (λ h' d. HasDone core image places d h' × Also h')
 
-  -- it does an operation that makes no call, and ends none. How many cycles it runs behind its
-  -- commit rests on the way it goes
+  -- The block does an operation that makes no call, and ends none. The number of cycles after its
+  -- commit depends on the branch that it takes.
   abbrev pub BlockDoesBy : (before : ℕ) → (behind : (onward : Bool) → ℕ) → (i : ℕ) → CoreOp
       → Operation → Type 0
   BlockDoesBy before behind i op operation =

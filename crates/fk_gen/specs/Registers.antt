@@ -1,15 +1,15 @@
 -- The registers of blocks, by their numbers.
 use Rattle.std.specs.Prelude.{ℕ}
 
--- stays 0
+-- The register that stays 0.
 abbrev pub zero_register : ℕ
 zero_register = 0
 
--- what a call stores in its frame to return by
+-- The register whose value a call stores in its frame, to return by.
 abbrev pub ra : ℕ
 ra = 1
 
--- free in each block
+-- Registers that are free in each block.
 abbrev pub t0 : ℕ
 t0 = 5
 
@@ -22,9 +22,17 @@ t2 = 7
 abbrev pub t3 : ℕ
 t3 = 28
 
--- what is known of the hart's node of the tree of groups
+-- The registers with what is known of the hart's node of the tree of groups.
 abbrev pub a0 : ℕ
 a0 = 10
 
 abbrev pub a1 : ℕ
 a1 = 11
+
+-- the space of the hart's group: the addresses of the control words behind its frames, and at the
+-- beginning of its blocks
+abbrev pub a2 : ℕ
+a2 = 12
+
+abbrev pub a3 : ℕ
+a3 = 13

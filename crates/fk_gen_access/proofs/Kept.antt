@@ -9,18 +9,18 @@ use Rattle.fk_machine.specs.Hart.{Hart}
 use Rattle.fk_sim_block.specs.Owner.{Owner}
 use Rattle.fk_sim_block.specs.Stands.{Places, HasValues, HasFrame, HasRoom, HasWaiting, StandsFor, frame_end, frame_start, ahead, frame_register, end_register, number_register, rank_register, size_register, top_register, local_register, shared_register, heap_register, shared_mask_register, device_register, heap_mask_register}
 use Rattle.fk_sim_block.specs.Suits.{Flows, nothing}
-use Rattle.fk_gen.specs.Registers.{a0, a1}
+use Rattle.fk_gen.specs.Registers.{a0, a1, a2, a3}
 use Rattle.fk_gen.specs.Keeps.{Keeps}
 use Rattle.fk_gen.proofs.Values.{other_word}
 use Rattle.fk_gen.proofs.Standing.{lies_in, waiting_kept}
 
--- a memory is as it was from word 7 on below another
+-- a memory is as it was below a word
 pub record SameBelow (bound : ℕ) (m m' : Memory) : Type 0 where
-  pub same : (j : ℕ) → 7 ≤ j → j < bound → m' j ≡ m j
+  pub same : (j : ℕ) → j < bound → m' j ≡ m j
 
 -- words that are put from a word on leave those below it
 pub below_put : (m : Memory) (bound k v : ℕ) → bound ≤ k → SameBelow bound m (put m k v)
-below_put m bound k v le = record { same = λ j from lt. other_word m k v j (λ e. omega arith) }
+below_put m bound k v le = record { same = λ j lt. other_word m k v j (λ e. omega arith) }
 
 module _ (places : Places) where
   -- the variables of file scope have room in the frame of `main`, beside a value
@@ -58,6 +58,8 @@ module _ (places : Places) where
     pub heap_mask : h'.registers heap_mask_register ≡ h.registers heap_mask_register
     pub node : h'.registers a0 ≡ h.registers a0
     pub body : h'.registers a1 ≡ h.registers a1
+    pub frames : h'.registers a2 ≡ h.registers a2
+    pub blocks : h'.registers a3 ≡ h.registers a3
 
   -- a processor that has gone on to an index, with other values, another private heap and another top of it
   abbrev pub went : Owner → (index : ℕ) → (values : List ℕ) → (heap : Memory) → (top : ℕ) → Owner
@@ -99,12 +101,19 @@ module _ (places : Places) where
             privates = λ word kept.
                 let kept' = flows.kept word kept refl in
                 let lt = l.kept word kept' in
-                below.same (frame_start places n + 7 + word) (omega arith) (omega arith) ∙ frame.privates word kept';
+                below.same (frame_start places n + 7 + word) (omega arith) ∙ frame.privates word kept';
           };
           waiting = waiting_kept places h.local h'.local p.runner.left.callers p.runner.has.callers few
-              (λ k le lt. below.same k (omega arith) (omega arith)) stands.waiting;
-          own = λ k lt. below.same (7 + k) (omega arith) (omega arith) ∙ stands.own k lt;
+              (λ k le lt. below.same k (omega arith)) stands.waiting;
+          own = λ k lt. below.same (7 + k) (omega arith) ∙ stands.own k lt;
           heap = heap';
         },
-        record { node = same.node; body = same.body; words = λ k from lt apart. below.same k (omega arith) (omega arith) },
+        record {
+          node = same.node;
+          body = same.body;
+          frames = same.frames;
+          blocks = same.blocks;
+          header = λ k lt. below.same k (omega arith);
+          words = λ k from lt apart. below.same k (omega arith);
+        },
       )

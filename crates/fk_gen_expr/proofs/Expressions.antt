@@ -118,6 +118,9 @@ module _ (core : List CoreOp) (image : Image) (places : Places) (bound : ℕ →
       record {
         node = gives.same.13;
         body = gives.same.14;
+        frames = gives.same.15;
+        blocks = gives.same.16;
+        header = λ j lt. ap (λ m. m j) (sym memory) ∙ other_word h.local (frame_end n - k) v j (λ e. omega arith);
         words = λ j from lt apart. ap (λ m. m j) (sym memory) ∙ other_word h.local (frame_end n - k) v j (λ e. omega arith);
       } in
       subst (λ block. DoesAnd core image places setting t p h 0 (past_first block) (KeepsMost operation)) same
@@ -413,7 +416,7 @@ module _ (core : List CoreOp) (image : Image) (places : Places) (bound : ℕ →
       (nothing_written core places h.local p i (suc i) d new here.few here.enters.ready.in_range.waiting here.enters.index here.fits.room flows
       (in_memory places p h here.enters.at.stands)
       (values_before 1 h.local (frame_end n) vs here.enters.at.stands.running.values)))
-      record { node = refl; body = refl; words = λ j from lt apart. refl }
+      record { node = refl; body = refl; frames = refl; blocks = refl; header = λ j lt. refl; words = λ j from lt apart. refl }
 
   set_does : (variable : Variable) → Here (Set variable) → IsDone (Set variable)
   set_does (Private w) here =
@@ -435,7 +438,14 @@ module _ (core : List CoreOp) (image : Image) (places : Places) (bound : ℕ →
       (subst (λ m. InMemory places m new) found
       (private_written core places h.local p i (suc i) w (last vs) d here.few waiting here.enters.index here.fits.room (omega arith) here.fits.place flows
       (in_memory places p h stands))))
-      record { node = refl; body = refl; words = λ j from lt apart. other_word h.local (frame_start places n + 7 + w) (h1.registers 5) j (apart w (eq-eqb w w refl)) }
+      record {
+        node = refl;
+        body = refl;
+        frames = refl;
+        blocks = refl;
+        header = λ j lt. other_word h.local (frame_start places n + 7 + w) (h1.registers 5) j (λ e. omega arith);
+        words = λ j from lt apart. other_word h.local (frame_start places n + 7 + w) (h1.registers 5) j (apart w (eq-eqb w w refl));
+      }
   set_does (OfFile w) here =
       let depth = here.enters.ready.depth in
       let stands = here.enters.at.stands in
@@ -456,7 +466,14 @@ module _ (core : List CoreOp) (image : Image) (places : Places) (bound : ℕ →
       (subst (λ m. InMemory places m new) found
       (own_written core places h.local p i (suc i) w (last vs) d here.few waiting here.enters.index here.fits.room (omega arith) here.fits.place flows
       (in_memory places p h stands))))
-      record { node = refl; body = refl; words = λ j from lt apart. other_word h.local (7 + w) (h1.registers 5) j (λ e. omega arith) }
+      record {
+        node = refl;
+        body = refl;
+        frames = refl;
+        blocks = refl;
+        header = λ j lt. other_word h.local (7 + w) (h1.registers 5) j (λ e. omega arith);
+        words = λ j from lt apart. other_word h.local (7 + w) (h1.registers 5) j (λ e. omega arith);
+      }
 
   -- each of them
   pub block_does : (operation : Operation) → Here operation → IsDone operation

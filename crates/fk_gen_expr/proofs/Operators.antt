@@ -24,7 +24,7 @@ HasSame h h' =
     × (h'.registers 18 ≡ h.registers 18) × (h'.registers 19 ≡ h.registers 19) × (h'.registers 20 ≡ h.registers 20)
     × (h'.registers 22 ≡ h.registers 22) × (h'.registers 23 ≡ h.registers 23) × (h'.registers 24 ≡ h.registers 24)
     × (h'.registers 21 ≡ h.registers 21) × (h'.registers 25 ≡ h.registers 25) × (h'.registers 26 ≡ h.registers 26) × (h'.registers 27 ≡ h.registers 27)
-    × (h'.registers 10 ≡ h.registers 10) × (h'.registers 11 ≡ h.registers 11)
+    × (h'.registers 10 ≡ h.registers 10) × (h'.registers 11 ≡ h.registers 11) × (h'.registers 12 ≡ h.registers 12) × (h'.registers 13 ≡ h.registers 13)
 
 -- code leaves a value in a register, and all that stands for something as it was
 pub record Gives (told : Told) (code : Quiets) (h : Hart) (register v : ℕ) : Type 0 where
@@ -34,11 +34,11 @@ pub record Gives (told : Told) (code : Quiets) (h : Hart) (register v : ℕ) : T
   pub result : (walk told code h).registers register ≡ v
 
 pub itself : (h : Hart) → HasSame h h
-itself h = (refl, refl, refl, refl, refl, refl, refl, refl, refl, refl, refl, refl, refl, refl, refl)
+itself h = (refl, refl, refl, refl, refl, refl, refl, refl, refl, refl, refl, refl, refl, refl, refl, refl, refl)
 
 in_turn : (h h1 h2 : Hart) → HasSame h h1 → HasSame h1 h2 → HasSame h h2
 in_turn h h1 h2 a b =
-    (b.0 ∙ a.0, b.1 ∙ a.1, b.2 ∙ a.2, b.3 ∙ a.3, b.4 ∙ a.4, b.5 ∙ a.5, b.6 ∙ a.6, b.7 ∙ a.7, b.8 ∙ a.8, b.9 ∙ a.9, b.10 ∙ a.10, b.11 ∙ a.11, b.12 ∙ a.12, b.13 ∙ a.13, b.14 ∙ a.14)
+    (b.0 ∙ a.0, b.1 ∙ a.1, b.2 ∙ a.2, b.3 ∙ a.3, b.4 ∙ a.4, b.5 ∙ a.5, b.6 ∙ a.6, b.7 ∙ a.7, b.8 ∙ a.8, b.9 ∙ a.9, b.10 ∙ a.10, b.11 ∙ a.11, b.12 ∙ a.12, b.13 ∙ a.13, b.14 ∙ a.14, b.15 ∙ a.15, b.16 ∙ a.16)
 
 -- code behind code that only prepares it
 pub gives_behind : (told : Told) (xs ys : Quiets) (h : Hart) (register v : ℕ) → CanWalk told xs h → HasSame h (walk told xs h)

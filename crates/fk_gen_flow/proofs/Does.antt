@@ -171,7 +171,7 @@ module _ (core : List CoreOp) (image : Image) (bound : ℕ → ℕ) (places : Pl
       HasDone core image places (branched p way) h' × Keeps places (length p.runner.has.callers) op.depth (changes (Branch onward)) h h'
 
   kept : (p : Owner) (h : Hart) (v pc : ℕ) → Keeps places (length p.runner.has.callers) op.depth (changes (Branch onward)) h (record (writes h 5 v) { pc = pc })
-  kept p h v pc = record { node = refl; body = refl; words = λ j from lt apart. refl }
+  kept p h v pc = record { node = refl; body = refl; frames = refl; blocks = refl; header = λ j lt. refl; words = λ j from lt apart. refl }
 
   branch_way : HasBlock image bound places i (branch_block onward op.depth op.target) → StandsOp core i op (Branch onward) → Fits core places.frames i op (Branch onward)
       → (setting : Setting) (t : MachineSetting) (p : Owner) (h : Hart) → Holds image t → p.runner.left.at ≡ i → length (values p.runner.has) ≡ op.depth → length p.runner.has.callers < 256

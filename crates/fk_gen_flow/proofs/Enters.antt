@@ -265,6 +265,8 @@ module _ (core : List CoreOp) (image : Image) (bound : ℕ → ℕ) (places : Pl
           record {
             node = framed.same 10 refl refl refl ∙ same 10 refl refl ∙ stored.same 10 refl;
             body = framed.same 11 refl refl refl ∙ same 11 refl refl ∙ stored.same 11 refl;
+            frames = framed.same 12 refl refl refl ∙ same 12 refl refl ∙ stored.same 12 refl;
+            blocks = framed.same 13 refl refl refl ∙ same 13 refl refl ∙ stored.same 13 refl;
             words = below;
           },
         )

@@ -171,7 +171,7 @@ module _ (core : List CoreOp) (image : Image) (bound : ℕ → ℕ) (places : Pl
         ended_stands core image bound places i op false p h (back_to h1 (w + 1) target) l r at
             (record { live = refl; same = λ r' a b c d e. rw (d, e, b) })
             few waiting refl (λ j ne. refl) l.frame.values refl refl l.returns.frame (omega (arith, start)),
-        record { node = refl; body = refl; words = λ j lt. refl },
+        record { node = refl; body = refl; frames = refl; blocks = refl; words = λ j lt. refl },
       ))
 
   -- with one
@@ -227,7 +227,7 @@ module _ (core : List CoreOp) (image : Image) (bound : ℕ → ℕ) (places : Pl
             few waiting refl others
             (stored, values_kept h.local m' (frame_end m) l.call.values (omega arith) (λ j a b. others j (λ f. omega arith)) l.frame.values)
             refl refl (others (w + 1) (λ f. omega arith) ∙ l.returns.frame) (omega (arith, start)),
-        record { node = refl; body = refl; words = λ j lt. others j (λ f. omega arith) },
+        record { node = refl; body = refl; frames = refl; blocks = refl; words = λ j lt. others j (λ f. omega arith) },
       )))))
 
 pub leave_keeps : (core : List CoreOp) (image : Image) (bound : ℕ → ℕ) (places : Places) (i : ℕ) (op : CoreOp) (gives : Bool) → places.frames.of_file ≤ 56

@@ -1,5 +1,5 @@
--- What the blocks of control flow tell beside that they do their operations: how many cycles they
--- take, and what they leave of their harts.
+-- What the blocks of control flow guarantee besides doing their operations: how many cycles they
+-- take, and what they keep of their harts.
 use Rattle.std.specs.Prelude.{◌≡◌, ℕ, suc, ◌+◌, ◌-◌, ◌*◌, ◌<◌, nat_le, List, [], ◌∷◌, length, Bool}
 use Rattle.std.specs.Prelude.{if◌then◌else◌}
 use Rattle.fk_meaning_operation.specs.declared.operation.Operation.{Operation}
@@ -14,19 +14,21 @@ use Rattle.fk_sim_block.specs.Owner.{Owner}
 use Rattle.fk_sim_block.specs.Stands.{Places, frame_end}
 use Rattle.fk_sim_block.specs.Suits.{writes}
 use Rattle.fk_sim_block.specs.Block.{Enters}
-use Rattle.fk_gen.specs.Registers.{a0, a1}
+use Rattle.fk_gen.specs.Registers.{a0, a1, a2, a3}
 use Rattle.fk_gen.specs.Keeps.{Keeps, DoesAnd, peak}
 use Rattle.fk_gen_flow.specs.Calls.{most_privates}
 
 -- ---- cycles
 
--- a call looks at the depth, and stores where its caller goes on, before it commits
+-- The cycles before the commit. Before it a call looks at the depth, and stores the frame of its
+-- caller.
 abbrev pub before_commit : Operation → ℕ
 before_commit (Enter arguments) = 3
 before_commit operation = 0
 
--- behind that a call takes two cycles for each argument, and two more where the code that all calls
--- share copies them; one for each word that it clears, and two more; and four for the new frame
+-- The cycles of a call after its commit: two for each argument, and two more where the code that
+-- all calls share copies them; one for each word that it clears, and two more; and four for the new
+-- frame.
 abbrev pub copying_takes : (own : Bool) (arguments : ℕ) → ℕ
 copying_takes own arguments = 2 * arguments + (if own then 0 else 2)
 
@@ -37,7 +39,7 @@ abbrev pub call_takes : (clears : Bool) (arguments : ℕ) → ℕ
 call_takes clears arguments =
     copying_takes (nat_le arguments 1) arguments + clearing_takes clears arguments + 4
 
--- how many cycles follow a commit, by the way that the operation goes
+-- The number of cycles after a commit, by the branch that the operation takes.
 abbrev pub behind_commit : (clears : Bool) → Operation → (onward : Bool) → ℕ
 behind_commit clears (Branch turned) onward = if onward then 1 else 2
 behind_commit clears (Leave gives framed) onward = if gives then 6 else 3
@@ -46,26 +48,28 @@ behind_commit clears operation onward = 0
 
 -- ---- what stays
 
--- the word where the call that waits last takes its result
+-- The word where the innermost waiting call takes its result.
 abbrev pub result_word : List Call → ℕ
 result_word [] = 0
 result_word (c ∷ calls) = frame_end (length calls) - suc (length c.values)
 
--- a hart keeps a0 and a1, and all words below one
+-- a hart keeps what it knows of its node, and all words below one
 pub record KeepsBelow (word : ℕ) (h h' : Hart) : Type 0 where
   pub node : h'.registers a0 ≡ h.registers a0
   pub body : h'.registers a1 ≡ h.registers a1
+  pub frames : h'.registers a2 ≡ h.registers a2
+  pub blocks : h'.registers a3 ≡ h.registers a3
   pub words : (j : ℕ) → j < word → h'.local j ≡ h.local j
 
--- a call keeps all words below its own frame, and the end of a call those below the result. Other
--- operations keep what blocks do that make no call
+-- What the block of an operation keeps. A call keeps all words below its own frame, and the end of
+-- a call those below the result. Other operations keep what blocks without a call do.
 abbrev pub KeepsFor : Places → Operation → (depth : ℕ) → Processor → (h h' : Hart) → Type 0
 KeepsFor places (Enter arguments) depth p h h' = KeepsBelow (frame_end (length p.callers)) h h'
 KeepsFor places (Leave gives framed) depth p h h' = KeepsBelow (result_word p.callers) h h'
 KeepsFor places operation depth p h h' =
     Keeps places (length p.callers) (peak operation depth) (writes operation) h h'
 
--- the block of an operation does it in so many cycles, and keeps what is to be kept
+-- The block of an operation does it in this many cycles, and keeps what must be kept.
 abbrev pub BlockKeeps : (core : List CoreOp) → Image → Places → (before : ℕ)
     → (behind : (onward : Bool) → ℕ) → (i : ℕ) → CoreOp → Operation → Type 0
 BlockKeeps core image places before behind i op operation =
