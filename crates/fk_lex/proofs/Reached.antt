@@ -1,5 +1,5 @@
 -- How far a source is read: its pieces so far, and what is left of it.
-use Rattle.std.proofs.Common.{◌≡◌, ℕ, ◌+◌, ◌-◌, ◌<◌, ◌≤◌, Option, Some, None, List, [], ◌∷◌, ◌++◌, length, take, drop, get_or, true, refl, sym, ap, subst, ◌∙◌, arith, append_assoc, append-nil, length-append, length-drop}
+use Rattle.std.proofs.Common.{◌≡◌, ℕ, ◌+◌, ◌-◌, ◌^◌, ◌<◌, ◌≤◌, Option, Some, None, Ok, Err, List, [], ◌∷◌, ◌++◌, length, take, drop, get_or, true, refl, sym, ap, subst, ◌∙◌, arith, append_assoc, append-nil, length-append, length-drop}
 use Rattle.std.proofs.Math.Seq.{drop-append_seam}
 use Rattle.std.proofs.lemmas.List.{length-take-le, take-append-drop}
 use Rattle.fk_lex.specs.declared.step.Beginning.TheVariants as begins
@@ -13,9 +13,9 @@ use Rattle.fk_syntax.specs.declared.place.Place.{Place}
 use Rattle.fk_lex.specs.View.{IsFault}
 use Rattle.fk_lex.specs.declared.position.Position.{Position}
 use Rattle.fk_lex.specs.Bytes.{is_blank}
-use Rattle.fk_lex.specs.Moves.{position_of, next, after, place_of}
+use Rattle.fk_lex.specs.Moves.{HasPlace, position_of, next, after, place_of}
 use Rattle.fk_lex.specs.Positions.{place_behind}
-use Rattle.fk_lex.specs.Reading.{Spelled, fault_at, IsPiece, Cuts, spelled_by, tokens_in, Tokens, Faults}
+use Rattle.fk_lex.specs.Reading.{Spelled, fault_at, token_of, IsPiece, Cuts, spelled_by, tokens_in, Tokens, Faults}
 use Rattle.fk_lex.specs.Sizes.{size_of}
 use Rattle.fk_lex.specs.Steps.{beginning_of, StandsBy, Stands}
 use Rattle.fk_lex.proofs.Extents.{Within, few_newlines, stands_within}
@@ -102,6 +102,22 @@ within_size (Fault n kind) text within = omega arith
 pub stands_size : (before rest : List ℕ) (step : Step) → 0 < length rest → Stands before rest step → size_of step ≤ length rest
 stands_size before rest step some stands = within_size step rest (stands_within before rest step some stands)
 
+-- what a step is, by the token that it gives
+pub gives_none : (step : Step) (place : Place) → Ok None ≡ token_of step place → (n : ℕ) × (step ≡ Gap n)
+gives_none (Gap n) place e = (n, refl)
+gives_none (Token n kind) place e = cc
+gives_none (Fault n kind) place e = cc
+
+pub gives_kind : (step : Step) (place : Place) (kind : TokenKind) → Ok (Some kind) ≡ token_of step place → (n : ℕ) × (step ≡ Token n kind)
+gives_kind (Gap n) place kind e = cc
+gives_kind (Token n own) place kind e = (n, cc)
+gives_kind (Fault n own) place kind e = cc
+
+pub gives_fault : (step : Step) (place : Place) (found : LexFault) → Err found ≡ token_of step place → (n : ℕ) × (kind : FaultKind) × (step ≡ Fault n kind) × (found ≡ fault_at kind place)
+gives_fault (Gap n) place found e = cc
+gives_fault (Token n kind) place found e = cc
+gives_fault (Fault n kind) place found e = (n, kind, refl, cc)
+
 -- a gap
 pub reached_gap : (source : List ℕ) (tokens : List Spelled) (at behind : Position) (rest : List ℕ) (step : Step) (n : ℕ) (reached : Reached source tokens at rest) → step ≡ Gap n → behind ≡ after at (take (size_of step) rest) → 0 < length rest → Stands reached.before rest step → Reached source tokens behind (drop (size_of step) rest)
 reached_gap source tokens at behind rest step n reached is behind_is some stands =
@@ -187,6 +203,12 @@ fault_bounded source tokens at behind rest step n kind reached is behind_is some
     let known = bounded source (reached.before ++ front) (drop (size_of step) rest) behind split here in
     let offset = known.offset in
     (known, omega (arith, length-drop (size_of step) rest))
+
+-- and its line and column are below 2^32
+pub has_place : (source : List ℕ) (at : Position) (rest : List ℕ) → Bounded source at rest → at.offset + 1 ≤ length source → length source < 2 ^ 32 → HasPlace at
+has_place source at rest known inside short =
+    let lines = known.lines in
+    record { lines = omega arith; line = known.line; offset = omega arith }
 
 own_fault : (text : List ℕ) (kind : FaultKind) (place : Place) → Faults text (fault_at kind place) → IsFault text (fault_at kind place)
 own_fault text kinds.BadByte place faults = faults

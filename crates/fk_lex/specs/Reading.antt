@@ -1,6 +1,6 @@
 -- The tokens of a text, or its first fault.
-use Rattle.std.specs.Prelude.{◌≡◌, ℕ, ◌<◌, ◌⊎◌, Option, Some, None, List, [], ◌∷◌, ◌++◌, length}
-use Rattle.std.specs.Prelude.{take, drop}
+use Rattle.std.specs.Prelude.{◌≡◌, ℕ, ◌<◌, ◌⊎◌, Option, Some, None, Result, Ok, Err, List, [], ◌∷◌}
+use Rattle.std.specs.Prelude.{◌++◌, length, take, drop}
 use Rattle.fk_syntax.specs.declared.place.Place.{Place}
 use Rattle.fk_lex.specs.declared.token.TokenKind.{TokenKind}
 use Rattle.fk_lex.specs.declared.token.LexFault.{LexFault}
@@ -13,7 +13,7 @@ use Rattle.fk_lex.specs.Positions.{place_behind}
 use Rattle.fk_lex.specs.Sizes.{size_of}
 use Rattle.fk_lex.specs.Steps.{Stands}
 
--- a token, its bytes, and the place of the first of them
+-- a token: its kind, its bytes, and the place of the first of them
 pub record Spelled : Type 0 where
   pub kind : TokenKind
   pub bytes : List ℕ
@@ -25,13 +25,19 @@ fault_at kinds.OpenComment place = fault.OpenComment place
 fault_at kinds.OpenString place = fault.OpenString place
 fault_at kinds.WideNumber place = fault.WideNumber place
 
--- a gap or a token
+-- the kind of the token that a step gives, if it gives one; or the fault at this place
+abbrev pub token_of : Step → Place → Result (Option TokenKind) LexFault
+token_of (Gap n) place = Ok None
+token_of (Token n kind) place = Ok (Some kind)
+token_of (Fault n kind) place = Err (fault_at kind place)
+
+-- a step is a gap or a token
 abbrev pub IsPiece : Step → Type 0
 IsPiece (Gap n) = Unit {0}
 IsPiece (Token n kind) = Unit {0}
 IsPiece (Fault n kind) = ⊥
 
--- a text, behind these bytes, is cut into these pieces up to its end or up to a fault
+-- a text that follows the bytes `before` is cut into these pieces up to its end or up to a fault
 abbrev pub Cuts : List Step → List ℕ → List ℕ → Option LexFault → Type 0
 Cuts [] before text None = text ≡ []
 Cuts [] before text (Some fault) =
@@ -47,7 +53,7 @@ spelled_by (Token n kind) before text =
 spelled_by (Gap n) before text = []
 spelled_by (Fault n kind) before text = []
 
--- the tokens among pieces
+-- the tokens among these pieces of a text
 abbrev pub tokens_in : List Step → List ℕ → List ℕ → List Spelled
 tokens_in [] before text = []
 tokens_in (piece ∷ pieces) before text =
@@ -59,7 +65,7 @@ abbrev pub Tokens : List ℕ → List Spelled → Type 0
 Tokens text tokens = (pieces : List Step) × Cuts pieces [] text None
     × (tokens ≡ tokens_in pieces [] text)
 
--- a text has this fault, and gaps and tokens before it
+-- a text has this fault, with only gaps and tokens before it
 abbrev pub Faults : List ℕ → LexFault → Type 0
 Faults text found = (pieces : List Step) × Cuts pieces [] text (Some found)
 

@@ -1,10 +1,13 @@
-//! What stands at a point of a source text.
+//! The step at a point of a source text.
 
 ghost use Rattle.std.specs.Prelude.{◌≡◌, ℕ, ◌<◌, ◌≤◌, false, List, ◌++◌, length, slice_index};
 ghost use Rattle.fk_lex.specs.Steps.{Stands, TokenStep};
-ghost use Rattle.fk_lex.specs.Moves.{position_of};
+ghost use Rattle.fk_lex.specs.Moves.{HasPlace, place_of, position_of};
 ghost use Rattle.fk_lex.specs.Bytes;
+ghost use Rattle.fk_lex.specs.Reading;
 ghost use Rattle.fk_lex.specs.Sizes;
+ghost use Rattle.fk_lex.specs.declared.step.FaultKind.{FaultKind};
+ghost use Rattle.fk_lex.specs.declared.step.Step.TheVariants.{Fault};
 
 use crate::bytes::{is_digit, is_letter};
 use crate::gap::{beginning, comment_step, directive_step, line_length};
@@ -12,9 +15,10 @@ use crate::literal::{character_step, text_step};
 use crate::numeral::numeral_step;
 use crate::position::Position;
 use crate::table::{sign_step, word_step};
-use crate::token::TokenKind;
+use crate::token::{LexFault, TokenKind};
+use fk_syntax::Place;
 
-/// What the first two bytes of a text begin.
+/// The class of what begins at a point of a text, by the first two bytes.
 #[derive(Clone, Copy)]
 pub enum Beginning {
     Blank,
@@ -35,8 +39,8 @@ pub enum FaultKind {
     WideNumber,
 }
 
-/// What stands at a point of a text: a blank, a comment or an include line of so many bytes, a
-/// token of so many bytes, or a fault so many bytes behind the point.
+/// What a text has at a point: a blank, a comment or an include line with its size in bytes, a
+/// token with its size in bytes, or a fault with its distance in bytes from the point.
 #[derive(Clone, Copy)]
 pub enum Step {
     Gap(usize),
@@ -45,7 +49,7 @@ pub enum Step {
 }
 
 impl Step {
-    /// How many bytes the step takes, or how far behind the point the fault stands.
+    /// The size of the step in bytes; for a fault its distance from the point.
     pub fn size(self) -> usize
         ensures { result ≡ Sizes.size_of self }
     {
@@ -53,9 +57,34 @@ impl Step {
             Step::Gap(size) | Step::Token(size, _) | Step::Fault(size, _) => size,
         }
     }
+
+    /// The kind of the token that the step gives, if it gives one. A fault is at `behind`, the
+    /// position after the step.
+    pub fn token(self, behind: Position) -> Result<Option<TokenKind>, LexFault>
+        requires { (n : ℕ) (kind : FaultKind) → self ≡ Fault n kind → HasPlace behind }
+        ensures { result ≡ Reading.token_of self (place_of behind) }
+    {
+        match self {
+            Step::Gap(_) => Ok(None),
+            Step::Token(_, kind) => Ok(Some(kind)),
+            Step::Fault(_, kind) => Err(fault_at(kind, behind.place())),
+        }
+    }
 }
 
-/// What stands at this position of a source, where this text goes on.
+/// The fault of this kind at this place.
+fn fault_at(kind: FaultKind, place: Place) -> LexFault
+    ensures { result ≡ Reading.fault_at kind place }
+{
+    match kind {
+        FaultKind::BadByte => LexFault::BadByte(place),
+        FaultKind::OpenComment => LexFault::OpenComment(place),
+        FaultKind::OpenString => LexFault::OpenString(place),
+        FaultKind::WideNumber => LexFault::WideNumber(place),
+    }
+}
+
+/// The step at this position of a source. `text` is the source from this position on.
 pub fn step_at(source: &[u8], at: Position, text: &[u8]) -> Step
     requires some { 0 < length text.now }
     requires line { at.line_start ≤ at.offset }
@@ -77,7 +106,7 @@ pub fn step_at(source: &[u8], at: Position, text: &[u8]) -> Step
     }
 }
 
-/// The number or sign that a text begins with.
+/// The step for a number or a sign at the beginning of a text.
 fn token_step(text: &[u8]) -> Step
     requires some { 0 < length text.now }
     requires letter { Bytes.is_letter (slice_index text.now 0) ≡ false }
