@@ -1,6 +1,7 @@
 //! Tokens that open a level of nesting.
 
-ghost use Rattle.std.specs.Prelude.{◌≡◌, ◌+◌, ◌<◌, length, IfOk};
+ghost use Rattle.std.specs.Prelude.{◌≡◌, ◌+◌, ◌<◌, length, IfErr, IfOk};
+ghost use Rattle.fk_parse_combinators.specs.Faults.{IsMemory};
 ghost use Rattle.fk_parse_combinators.specs.Kinds.{just};
 ghost use Rattle.fk_parse_combinators.specs.Readers.{tells};
 ghost use Rattle.fk_expr.specs.Kinds.{prefix_told};
@@ -12,11 +13,12 @@ use fk_lex::token::TokenKind;
 use fk_parse_combinators::cursor::Cursor;
 use fk_parse_combinators::fault::SyntaxFault;
 
-/// How many levels of nesting are left inside the next token, which has to be of this kind and
-/// opens a level, where so many are left outside.
+/// The number of levels of nesting that are left inside the next token, which must have this kind
+/// and opens a level. `left` is the number of levels left outside.
 pub fn open(cursor: &Cursor, kind: TokenKind, left: u32) -> Result<u32, SyntaxFault>
     ensures read { Opens (just kind) (inner left) result cursor.now }
     ensures less { IfOk result (λ inside. inside + 1 ≡ left) }
+    ensures no_memory { IfErr result (λ fault. ¬ IsMemory fault) }
 {
     if !cursor.next_is(kind) {
         return Err(cursor.unexpected());
@@ -24,10 +26,11 @@ pub fn open(cursor: &Cursor, kind: TokenKind, left: u32) -> Result<u32, SyntaxFa
     inside(cursor, left)
 }
 
-/// How many levels are left inside a token that has to begin an expression.
+/// The number of levels left inside the next token, which must begin an expression.
 pub(crate) fn open_expression(cursor: &Cursor, left: u32) -> Result<u32, SyntaxFault>
     ensures read { Opens begins_expression (inner left) result cursor.now }
     ensures less { IfOk result (λ inside. inside + 1 ≡ left) }
+    ensures no_memory { IfErr result (λ fault. ¬ IsMemory fault) }
 {
     if !expression_is_next(cursor) {
         return Err(cursor.unexpected());
@@ -35,10 +38,11 @@ pub(crate) fn open_expression(cursor: &Cursor, left: u32) -> Result<u32, SyntaxF
     inside(cursor, left)
 }
 
-/// How many levels are left inside a sign before an operand.
+/// The number of levels left inside the next token, which must be a sign before an operand.
 pub(crate) fn open_prefix(cursor: &Cursor, left: u32) -> Result<u32, SyntaxFault>
     ensures read { Opens (tells prefix_told) (inner left) result cursor.now }
     ensures less { IfOk result (λ inside. inside + 1 ≡ left) }
+    ensures no_memory { IfErr result (λ fault. ¬ IsMemory fault) }
 {
     if !prefix_is_next(cursor) {
         return Err(cursor.unexpected());
@@ -46,11 +50,13 @@ pub(crate) fn open_prefix(cursor: &Cursor, left: u32) -> Result<u32, SyntaxFault
     inside(cursor, left)
 }
 
-/// How many levels are left inside the next token, whatever it is, where so many are left outside.
+/// The number of levels left inside the next token, of whatever kind. `left` is the number of
+/// levels left outside.
 pub fn inside(cursor: &Cursor, left: u32) -> Result<u32, SyntaxFault>
     requires { 0 < length cursor.now }
     ensures read { Nests (inner left) result cursor.now }
     ensures less { IfOk result (λ inside. inside + 1 ≡ left) }
+    ensures no_memory { IfErr result (λ fault. ¬ IsMemory fault) }
 {
     if left == 0 {
         return Err(cursor.nesting());

@@ -1,4 +1,4 @@
-//! A place among tokens.
+//! A position among the tokens of a text.
 
 ghost use Rattle.std.specs.Prelude.{
   ◌≡◌,
@@ -34,6 +34,7 @@ ghost use Rattle.fk_parse_combinators.specs.Ahead.{
   pair_is,
   triple_is,
 };
+ghost use Rattle.fk_parse_combinators.specs.Faults.{IsMemory};
 ghost use Rattle.fk_parse_combinators.specs.Gives.{Gives, Halts};
 
 use crate::fault::SyntaxFault;
@@ -49,7 +50,7 @@ pub struct Numbered<'a> {
 }
 
 impl<'a> Numbered<'a> {
-    /// Its index and its place.
+    /// The token's index and place.
     pub fn spot(&self) -> Spot
         ensures { result ≡ spot (seen self.now) }
     {
@@ -59,7 +60,7 @@ impl<'a> Numbered<'a> {
         }
     }
 
-    /// The name that it is.
+    /// The name that the token is.
     pub fn name(&self) -> Name<'a>
         ensures { named result ≡ name (seen self.now) }
     {
@@ -91,7 +92,7 @@ impl<'t, 'a> Model for Cursor<'t, 'a> {
 }
 
 impl<'t, 'a> Cursor<'t, 'a> {
-    /// The tokens from this index on are still to be read.
+    /// A cursor before the token with index `at`.
     pub fn new(tokens: &'t [Token<'a>], at: usize) -> Self
         requires within { at ≤ length tokens.now }
         requires few { length tokens.now < 2 ^ 32 }
@@ -103,7 +104,7 @@ impl<'t, 'a> Cursor<'t, 'a> {
         }
     }
 
-    /// How many tokens are left.
+    /// The number of tokens left.
     pub fn len(&self) -> usize
         ensures { result ≡ length self.now }
     {
@@ -121,7 +122,7 @@ impl<'t, 'a> Cursor<'t, 'a> {
         }
     }
 
-    /// The kind of the token behind the next one, if there is one.
+    /// The kind of the token after the next one, if there is one.
     pub fn second(&self) -> Option<TokenKind>
         ensures { result ≡ second_kind self.now }
     {
@@ -131,7 +132,7 @@ impl<'t, 'a> Cursor<'t, 'a> {
         }
     }
 
-    /// Whether a token of this kind comes next.
+    /// Whether the next token has this kind.
     pub fn next_is(&self, kind: TokenKind) -> bool
         ensures next { result ≡ next_is (just kind) self.now }
         ensures few { length self.now < 2 ^ 32 }
@@ -142,7 +143,7 @@ impl<'t, 'a> Cursor<'t, 'a> {
         }
     }
 
-    /// Whether tokens of these kinds come next, one after the other.
+    /// Whether the next two tokens have these kinds.
     #[tactic(auto, unfolding(crate::specs::Kinds::just))]
     pub fn pair_is(&self, first: TokenKind, second: TokenKind) -> bool
         ensures { result ≡ pair_is first second self.now }
@@ -153,7 +154,7 @@ impl<'t, 'a> Cursor<'t, 'a> {
         }
     }
 
-    /// Whether tokens of these kinds come next, one after the other.
+    /// Whether the next three tokens have these kinds.
     #[tactic(auto, unfolding(crate::specs::Kinds::just))]
     pub fn triple_is(&self, first: TokenKind, second: TokenKind, third: TokenKind) -> bool
         ensures { result ≡ triple_is first second third self.now }
@@ -182,9 +183,10 @@ impl<'t, 'a> Cursor<'t, 'a> {
         Ok(numbered)
     }
 
-    /// The fault of the next token, which does not fit here.
+    /// The fault that the next token doesn't fit here.
     pub fn unexpected(&self) -> SyntaxFault
-        ensures { Halts (unexpected {A = Placed} self.now) result self.now }
+        ensures fault { Halts (unexpected {A = Placed} self.now) result self.now }
+        ensures no_memory { ¬ IsMemory result }
     {
         match self.rest {
             [token, ..] => SyntaxFault::Unexpected(token.place),
@@ -192,10 +194,11 @@ impl<'t, 'a> Cursor<'t, 'a> {
         }
     }
 
-    /// The fault of the next token, which opens a level too many.
+    /// The fault that the next token opens a level too many.
     pub fn nesting(&self) -> SyntaxFault
         requires { 0 < length self.now }
-        ensures { Halts {A = Placed} (Err (Nesting self.now)) result self.now }
+        ensures fault { Halts {A = Placed} (Err (Nesting self.now)) result self.now }
+        ensures no_memory { ¬ IsMemory result }
     {
         match self.rest {
             [token, ..] => SyntaxFault::Nesting(token.place),
@@ -203,7 +206,7 @@ impl<'t, 'a> Cursor<'t, 'a> {
         }
     }
 
-    /// Reads the next token where it is of this kind.
+    /// Reads the next token if it has this kind.
     pub fn accept(&mut self, kind: TokenKind) -> Option<Numbered<'a>>
         ensures next { next_is (just kind) self.old ≡ is_some result }
         ensures read { IfSome result (λ token. expect kind self.old ≡ Ok (seen token, self.new)) }
@@ -220,10 +223,11 @@ impl<'t, 'a> Cursor<'t, 'a> {
         }
     }
 
-    /// Reads the next token, which has to be of this kind.
+    /// Reads the next token, which must have this kind.
     pub fn expect(&mut self, kind: TokenKind) -> Result<Numbered<'a>, SyntaxFault>
         ensures read { Gives seen result self.new (expect kind self.old) }
         ensures shorter { IfOk result (λ _. Shortens self.old self.new) }
+        ensures no_memory { IfErr result (λ fault. ¬ IsMemory fault) }
     {
         if self.next_is(kind) {
             self.next()

@@ -3,7 +3,7 @@ use Rattle.fk_expr.proofs.Halting.{next_some, opens_next, opens_none}
 use Rattle.fk_expr.proofs.level.open_expression.Goals as goal
 
 pub returns-then-not-expression_is_next-clause-read : goal.returns-then-not-expression_is_next-clause-read
-returns-then-not-expression_is_next-clause-read c = opens_none _ _ _ _ (sym c.expression_is_next.ensures.next ∙ c.if-not-expression_is_next.true) c.unexpected.ensures
+returns-then-not-expression_is_next-clause-read c = opens_none _ _ _ _ (sym c.expression_is_next.ensures.next ∙ c.if-not-expression_is_next.true) c.unexpected.ensures.fault
 
 pub inside-requires : goal.inside-requires
 inside-requires c = next_some _ _ (sym c.expression_is_next.ensures.next ∙ c.if-not-expression_is_next.false)

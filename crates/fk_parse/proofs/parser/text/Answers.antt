@@ -9,5 +9,5 @@ returns-in_err-items-clause-refused c =
 
 pub returns-then-len-gt0-clause-refused : goal.returns-then-len-gt0-clause-refused
 returns-then-len-gt0-clause-refused c =
-    let r = rest_tells _ _ _ _ c.in_ok-items.ensures.read (omega arith) c.unexpected.ensures in
+    let r = rest_tells _ _ _ _ c.in_ok-items.ensures.read (omega arith) c.unexpected.ensures.fault in
     search rules
