@@ -3,8 +3,8 @@
 ghost use Rattle.std.specs.Prelude.{◌≡◌, ℕ, ◌+◌, ◌*◌, ◌%◌, ◌<◌, ◌≤◌, ◌↔◌, All, flat_map, length};
 ghost use Rattle.std.specs.Prelude.{IfOk, IfErr, IsTrue, OnOk};
 ghost use Rattle.fk_image.specs.Limits.{IsCommit, IsSite, Rise};
-ghost use Rattle.fk_image.specs.Refusals.{HasLength, HasVersion, IsFault, IsHeaderWord, greatest};
-ghost use Rattle.fk_image.specs.Refusals.{least, site_at, word_at};
+ghost use Rattle.fk_image.specs.Refusals.{HasLength, HasVersion, IsFault, IsHeaderWord};
+ghost use Rattle.fk_image.specs.Refusals.{IsRefusedImage, greatest, least, site_at, word_at};
 ghost use Rattle.fk_image.specs.Spelling.{IsImageOf, Spells, commit_words, site_words};
 ghost use Rattle.fk_image.specs.Tables.{IsAboveLast, IsCommitFault, IsHeaderOf, IsSiteFault};
 ghost use Rattle.fk_image.specs.Tables.{code_table, commit_table, global_table, site_table};
@@ -14,10 +14,10 @@ use crate::fault::ImageFault;
 use byteorder::{ByteOrder, LittleEndian};
 use std::alloc::{AllocError, Global};
 
-/// How many bytes the header takes.
+/// The number of bytes of the header.
 const HEADER_SIZE: usize = 24;
 
-/// How many entries each table of an image has.
+/// The number of entries of each table of an image.
 #[derive(Clone, Copy)]
 struct Header {
     code: u32,
@@ -27,7 +27,7 @@ struct Header {
 }
 
 impl Header {
-    /// How many bytes an image with this header has.
+    /// The number of bytes of an image with this header.
     fn needed(self) -> u64
         ensures { result ≡ 24 + 4 * self.code + 4 * self.globals + 12 * self.sites
             + 8 * self.commits }
@@ -46,10 +46,8 @@ struct Tables<'a> {
     commits: &'a [u8],
 }
 
-/// The image whose bytes these are, all of them.
-///
-/// Where there is none, the fault is the first that applies, in the order of the file: see
-/// [`ImageFault`]. It takes time linear in the bytes.
+/// The image whose bytes these are, all of them. If they are no image, the fault is the first that
+/// applies, in the order of the file: see [`ImageFault`]. It takes time linear in the bytes.
 pub fn read_image(alloc: Global, bytes: &[u8]) -> Result<Image, ImageFault>
     ensures image { IfOk result (λ image. IsImageOf bytes.now image) }
     ensures fault { IfErr result (λ fault. IsFault bytes.now fault) }
@@ -65,10 +63,10 @@ pub fn read_image(alloc: Global, bytes: &[u8]) -> Result<Image, ImageFault>
     })
 }
 
-/// The header that bytes begin with.
+/// The header with which bytes begin.
 fn read_header(bytes: &[u8]) -> Result<Header, ImageFault>
     ensures header { IfOk result (λ header. IsHeaderOf bytes.now header) }
-    ensures fault { IfErr result (λ fault. IsFault bytes.now fault) }
+    ensures fault { IfErr result (IsRefusedImage bytes.now) }
 {
     check_front(bytes)?;
     let code = header_word(bytes, 2, 1, 262_144)?;
@@ -86,7 +84,7 @@ fn read_header(bytes: &[u8]) -> Result<Header, ImageFault>
 /// Tests that there is a header, of this format and version.
 fn check_front(bytes: &[u8]) -> Result<(), ImageFault>
     ensures front { OnOk result (HasVersion bytes.now) }
-    ensures fault { IfErr result (λ fault. IsFault bytes.now fault) }
+    ensures fault { IfErr result (IsRefusedImage bytes.now) }
 {
     if bytes.len() < HEADER_SIZE {
         return Err(ImageFault::Short(bytes.len() as u64, HEADER_SIZE as u64));
@@ -111,7 +109,7 @@ fn header_word(bytes: &[u8], index: u32, low: u32, high: u32) -> Result<u32, Ima
     requires before { (k : ℕ) → 2 ≤ k → k < index → IsHeaderWord bytes.now k }
     ensures word { IfOk result (λ word. word ≡ word_at bytes.now index) }
     ensures within { OnOk result (IsHeaderWord bytes.now index) }
-    ensures fault { IfErr result (λ fault. IsFault bytes.now fault) }
+    ensures fault { IfErr result (IsRefusedImage bytes.now) }
 {
     let word = read_word(bytes, index as usize);
     if !(low..=high).contains(&word) {
@@ -124,7 +122,7 @@ fn header_word(bytes: &[u8], index: u32, low: u32, high: u32) -> Result<u32, Ima
 fn check_length(bytes: &[u8], header: Header) -> Result<(), ImageFault>
     requires { IsHeaderOf bytes.now header }
     ensures length { OnOk result (HasLength bytes.now) }
-    ensures fault { IfErr result (λ fault. IsFault bytes.now fault) }
+    ensures fault { IfErr result (IsRefusedImage bytes.now) }
 {
     let length = bytes.len() as u64;
     let needed = header.needed();
@@ -137,7 +135,7 @@ fn check_length(bytes: &[u8], header: Header) -> Result<(), ImageFault>
     Ok(())
 }
 
-/// The tables behind the header.
+/// The tables after the header.
 fn split_tables(bytes: &[u8], header: Header) -> Tables<'_>
     requires header { IsHeaderOf bytes.now header }
     requires length { HasLength bytes.now }
@@ -158,7 +156,7 @@ fn split_tables(bytes: &[u8], header: Header) -> Tables<'_>
     }
 }
 
-/// The words of a table, which are all of its bytes.
+/// The words of a table.
 fn read_words(alloc: Global, table: &[u8]) -> Result<Vec<u32>, AllocError>
     requires { length table.now % 4 ≡ 0 }
     ensures { IfOk result (λ words. Spells words.items table.now) }
@@ -197,7 +195,7 @@ fn read_sites(alloc: Global, table: &[u8]) -> Result<Vec<(u32, u32, u32)>, Image
     Ok(sites)
 }
 
-/// The commits of a table, which are counted on from the sites.
+/// The commits of a table. They are counted on from the sites.
 fn read_commits(alloc: Global, header: Header, table: &[u8]) -> Result<Vec<(u32, u32)>, ImageFault>
     requires whole { length table.now % 8 ≡ 0 }
     requires few { length table.now ≤ 8 * 262144 }
@@ -223,14 +221,14 @@ fn read_commits(alloc: Global, header: Header, table: &[u8]) -> Result<Vec<(u32,
     Ok(commits)
 }
 
-/// Whether a commit may follow these, within so many words of code.
+/// Whether a commit may follow these, in code of this many words.
 fn may_follow(commits: &[(u32, u32)], code_words: u32, commit: (u32, u32)) -> bool
     ensures { IsTrue result ↔ (IsCommit code_words commit × IsAboveLast commits.now commit.0) }
 {
     is_commit(code_words, commit) && rises(commits, commit.0)
 }
 
-/// Whether this is a commit within so many words of code.
+/// Whether this is a commit in code of this many words.
 fn is_commit(code_words: u32, commit: (u32, u32)) -> bool
     ensures { IsTrue result ↔ IsCommit code_words commit }
 {
