@@ -1,16 +1,17 @@
-//! Why a call on the outside is refused.
+//! The reasons why a call to the outside fails.
 ghost use Rattle.std.specs.Prelude.{◌≡◌};
 ghost use Rattle.fk_ports.specs.declared.faults.StoreFault.TheVariants.{Fault, Memory};
 
 use std::alloc::AllocError;
+use std::io;
 use thiserror::Error;
 
-/// A source or a sink failed. It counts the fault.
+/// A source or a sink failed. It has counted this fault.
 #[derive(Clone, Copy, PartialEq, Eq, Debug, Error)]
 #[error("the other side failed")]
 pub struct Failed;
 
-/// Why a store, or a reading of all of a source, refused.
+/// The reason why a call of a store, or the reading of all of a source, failed.
 #[derive(Clone, Copy, PartialEq, Eq, Debug, Error)]
 pub enum StoreFault {
     /// The other side failed.
@@ -24,6 +25,16 @@ impl From<Failed> for StoreFault {
     ghost from_gives = { λ _ fault. fault ≡ Fault };
 
     fn from(_failed: Failed) -> Self {
+        StoreFault::Fault
+    }
+}
+
+impl From<io::Error> for StoreFault {
+    ghost from_gives = { λ _ fault. fault ≡ Fault };
+
+    /// Each error of the system is a fault of the other side, of whatever kind: that there is no
+    /// such file, or that it can't be read or written.
+    fn from(_error: io::Error) -> Self {
         StoreFault::Fault
     }
 }

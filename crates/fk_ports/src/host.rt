@@ -1,19 +1,21 @@
 //! Files, standard input, standard output and standard error. What they give and take is trusted.
-ghost use Rattle.std.specs.Prelude.{◌≡◌, ◌<◌, ◌≤◌, IfOk, None, if◌then◌else◌, is_err, length};
+ghost use Rattle.std.specs.Prelude.{◌≡◌, ◌<◌, ◌≤◌, IfOk, IsOkUnless, None, OnErr, OnOk};
+ghost use Rattle.std.specs.Prelude.{if◌then◌else◌, is_err, length};
 ghost use Rattle.std.specs.Io.KnownBytes.{ReadConsumes, WriteAppends};
 ghost use Rattle.fk_ports.specs.Faults.{one_more};
+ghost use Rattle.fk_ports.specs.Files.{AppendsAtMost};
 ghost use Rattle.fk_ports.specs.Host.{reader_of, sink_faults, source_faults, store_fetch_faults};
 ghost use Rattle.fk_ports.specs.Host.{store_put_faults, writer_of};
 
 use crate::faults::{Failed, StoreFault};
 use crate::sink::Sink;
-use crate::source::{Source, append_all};
+use crate::source::{Source, append_or_keep};
 use crate::store::Store;
 use std::fs;
 use std::io::{Read, Write};
 use std::rt::Files;
 
-/// The files of the system. It counts the errors of reading and those of writing apart.
+/// The files of the system. It counts the errors of reading and those of writing separately.
 #[derive(Drop)]
 pub struct HostStore<R> {
     rt: R,
@@ -43,29 +45,55 @@ impl<R: Files> Store for HostStore<R> {
     ghost files = { λ _. None };
 
     fn fetch(&mut self, name: &str, most: usize, into: &mut Vec<u8>) -> Result<(), StoreFault> {
-        let start = into.len();
-        let result = match fs::open(&self.rt, name) {
-            Ok(file) => append_all(&mut HostSource::new(file), most, into),
-            Err(_) => Err(StoreFault::Fault),
-        };
-        if let Err(fault) = result {
-            into.truncate(start);
-            if fault == StoreFault::Fault {
-                self.fetch_faults = self.fetch_faults.saturating_add(1);
-            }
+        let result = read_file(&self.rt, name, most, into);
+        if let Err(StoreFault::Fault) = result {
+            self.fetch_faults = self.fetch_faults.saturating_add(1);
         }
         result
     }
 
-    fn put(&mut self, name: &str, bytes: &[u8]) -> Result<(), StoreFault> {
-        match fs::write(&self.rt, name, bytes) {
-            Ok(()) => Ok(()),
-            Err(_) => {
-                self.put_faults = self.put_faults.saturating_add(1);
-                Err(StoreFault::Fault)
-            }
+    /// Makes these the bytes of the name. It takes no memory: each refusal is a fault.
+    fn put(&mut self, name: &str, bytes: &[u8]) -> Result<(), StoreFault>
+        ensures refusal { IsOkUnless result StoreFault.Fault }
+        ensures faults { store_put_faults self.new ≡ (if is_err result
+            then one_more (store_put_faults self.old) else store_put_faults self.old) }
+        ensures never_falls { store_put_faults self.old ≤ store_put_faults self.new }
+        ensures other_count { store_fetch_faults self.new ≡ store_fetch_faults self.old }
+    {
+        let result = write_file(&self.rt, name, bytes);
+        if result.is_err() {
+            self.put_faults = self.put_faults.saturating_add(1);
         }
+        result
     }
+}
+
+/// The named file, to be read. Each error of the system is a fault.
+fn opened<R: Files>(files: &R, name: &str) -> Result<R::File, StoreFault>
+    ensures { IsOkUnless result StoreFault.Fault }
+{
+    Ok(fs::open(files, name)?)
+}
+
+/// Appends the first `most` bytes of the named file, or all of it where it has fewer.
+fn read_file<R: Files>(
+    files: &R,
+    name: &str,
+    most: usize,
+    into: &mut Vec<u8>,
+) -> Result<(), StoreFault>
+    ensures at_most { OnOk result (AppendsAtMost most into.old.items into.new.items) }
+    ensures kept { OnErr result (into.new.items ≡ into.old.items) }
+{
+    let file = opened(files, name)?;
+    append_or_keep(&mut HostSource::new(file), most, into)
+}
+
+/// Makes these the bytes of the name. Each error of the system is a fault.
+fn write_file<R: Files>(files: &R, name: &str, bytes: &[u8]) -> Result<(), StoreFault>
+    ensures { IsOkUnless result StoreFault.Fault }
+{
+    Ok(fs::write(files, name, bytes)?)
 }
 
 /// A source over a reader, as standard input. It counts the errors, and tells nothing.
@@ -109,8 +137,8 @@ impl<R: Read> Source for HostSource<R> {
     }
 }
 
-/// A sink over a writer, as standard output and standard error. It counts the errors, and a write
-/// that takes nothing as one, and tells nothing.
+/// A sink over a writer, such as standard output and standard error. It counts the errors, and a
+/// write that takes nothing as one. What it took isn't known.
 #[derive(Drop)]
 pub struct HostSink<W> {
     writer: W,
@@ -118,7 +146,7 @@ pub struct HostSink<W> {
 }
 
 impl<W: Write> HostSink<W> {
-    /// A sink that hands on to a writer.
+    /// A sink that gives what it takes to a writer.
     pub fn new(writer: W) -> HostSink<W>
         ensures writer { writer_of result ≡ writer }
         ensures faults { sink_faults result ≡ 0 }

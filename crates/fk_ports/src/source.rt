@@ -8,26 +8,26 @@ ghost use Rattle.fk_ports.specs.Known.{GivesAtMost, MovesFirst};
 use crate::faults::{Failed, StoreFault};
 use std::alloc::Global;
 
-/// A source of bytes, as standard input.
+/// A source of bytes, such as standard input.
 ///
-/// It counts its faults. The count never falls: a fault raises it, or finds it at
-/// its end, 2^64 - 1.
+/// It counts its faults. The count never falls: a fault raises it, or finds it at its greatest
+/// value, 2^64 - 1.
 pub trait Source {
-    /// The faults so far.
+    /// The number of faults so far.
     ghost faults: { Self → ℕ };
 
-    /// The bytes that are left, if the source tells them.
+    /// The bytes that are left, if they are known.
     ghost left: { Self → Option (List ℕ) };
 
-    /// Moves the first bytes that are left to the front of `into`, and answers how many. They are
-    /// none exactly where nothing is left. It fails only by a fault, which is counted, and then
-    /// takes none; what `into` holds then is left open, since a reader of the system may have
-    /// written there before it failed.
+    /// Moves the first bytes that are left to the front of `into`, and gives how many. There are
+    /// none exactly if nothing is left. It fails only by a fault, which is counted, and then takes
+    /// none. What `into` has then is unspecified, because a reader of the system may have written
+    /// there before it failed.
     fn take(&mut self, into: &mut [u8]) -> Result<usize, Failed>
         requires { 0 < length into.old }
         ensures room { IfOk result (λ n. n ≤ length into.new) }
 
-        // What was left is what was written, and then what is left now.
+        // What was left is what was written, followed by what is left now.
         ensures moved { IfOk result
             (λ n. left self.old ≡ prepend_known (take n into.new) (left self.new)) }
         ensures end { IfOk result (λ n. IfSome (left self.old) (λ bytes. (n ≡ 0) ↔ (bytes ≡ []))) }
@@ -38,9 +38,9 @@ pub trait Source {
         ensures never_falls { faults self.old ≤ faults self.new };
 }
 
-/// Reads to the end of a source or until `most` bytes were taken, whichever is first.
+/// Reads to the end of a source, or until `most` bytes were taken, whichever comes first.
 ///
-/// It answers `Fault` only where the source fails. After a refusal some bytes of the front of the
+/// It fails with `Fault` only if the source fails. After an error some bytes from the front of the
 /// source may be lost.
 pub fn take_all<S: Source>(
     alloc: Global,
@@ -63,6 +63,24 @@ pub fn take_all<S: Source>(
     let mut bytes = Vec::new(alloc);
     append_all(source, most, &mut bytes)?;
     Ok(bytes)
+}
+
+/// Reads as `take_all` does, and appends what it reads. After a refusal `into` is as it was.
+pub(crate) fn append_or_keep<S: Source>(
+    source: &mut S,
+    most: usize,
+    into: &mut Vec<u8>,
+) -> Result<(), StoreFault>
+    ensures moved { OnOk result
+        (MovesFirst most (S.left source.old) (S.left source.new) into.old.items into.new.items) }
+    ensures kept { OnErr result (into.new.items ≡ into.old.items) }
+{
+    let start = into.len();
+    let result = append_all(source, most, into);
+    if result.is_err() {
+        into.truncate(start);
+    }
+    result
 }
 
 /// Reads as `take_all` does, and appends what it reads.
