@@ -1,7 +1,7 @@
-//! How many words the frames of functions have.
+//! The number of words of the frames of functions.
 
-ghost use Rattle.std.specs.Prelude.{◌≡◌, ◌+◌, ◌-◌, ◌^◌, ◌<◌, ◌≤◌, ◌∷◌, ◌++◌, [], false, List};
-ghost use Rattle.std.specs.Prelude.{length, map, min, IfOk, IfErr, OnOk, None};
+ghost use Rattle.std.specs.Prelude.{◌≡◌, ◌≢◌, ◌+◌, ◌-◌, ◌^◌, ◌<◌, ◌≤◌, ◌∷◌, ◌++◌, [], false};
+ghost use Rattle.std.specs.Prelude.{List, length, map, min, IfOk, IfErr, OnOk, None};
 ghost use Rattle.fk_syntax.specs.Program.{FunctionTree};
 ghost use Rattle.fk_syntax.specs.ProgramView.{declared_of, function_of, item_of};
 ghost use Rattle.fk_meaning_forms.specs.Code.{size};
@@ -22,10 +22,10 @@ use fk_meaning_forms::FrameSize;
 use fk_syntax::{Declared, Function, Item};
 use std::alloc::{AllocError, Global};
 
-/// How many words a private frame may have.
+/// The greatest number of words of a private frame.
 pub const MOST_PRIVATE_WORDS: u64 = 64;
 
-// Counts a variable where it is private. A number above 2^64 - 1 stays at it.
+// Adds 1 to a count if a variable is private. The count stays at 2^64 - 1 when it gets there.
 fn with_variable(count: u64, variable: &Declared) -> u64
     ensures { result
         ≡ min (count + length (kept false (declared_of variable.now ∷ []))) (2 ^ 64 - 1) }
@@ -37,7 +37,7 @@ fn with_variable(count: u64, variable: &Declared) -> u64
     }
 }
 
-// The private variables among these, added to a count.
+// Adds the number of private ones among these variables to a count.
 #[tactic(auto, using(crate::proofs::Sizing::kept_more))]
 fn with_variables(count: u64, variables: &[Declared]) -> u64
     ensures { result
@@ -50,7 +50,7 @@ fn with_variables(count: u64, variables: &[Declared]) -> u64
     behind
 }
 
-// The private variables of file scope in an item, added to a count.
+// Adds the number of private variables of file scope in an item to a count.
 fn with_item(count: u64, item: &Item) -> u64
     ensures { result ≡ min (count + file_privates (item_of item.now ∷ [])) (2 ^ 64 - 1) }
 {
@@ -60,7 +60,7 @@ fn with_item(count: u64, item: &Item) -> u64
     }
 }
 
-// How many private variables of file scope a text has. Above 2^64 - 1 it is that number.
+// The number of private variables of file scope in a text; at most 2^64 - 1.
 #[tactic(auto, using(crate::proofs::Sizing::file_privates_more))]
 fn count_file_privates(items: &[Item]) -> u64
     ensures { result ≡ min (file_privates (map item_of items.now)) (2 ^ 64 - 1) }
@@ -72,7 +72,7 @@ fn count_file_privates(items: &[Item]) -> u64
     count
 }
 
-// Puts the function of an item behind others, where it has a body.
+// Appends the function of an item to a list, if it has a body.
 fn keep<'p, 'a>(list: &mut Vec<&'p Function<'a>>, item: &'p Item<'a>) -> Result<(), AllocError>
     ensures { OnOk result (functions_behind list.new.items
         ≡ functions_behind list.old.items ++ functions_of (item_of item.now ∷ [])) }
@@ -102,8 +102,7 @@ fn functions_in<'p, 'a>(
     Ok(list)
 }
 
-// How many private places a function has, where the file has so many. Above 2^64 - 1 it is that
-// number.
+// The number of private places of a function, where the file has `file` of them; at most 2^64 - 1.
 fn privates_of(known: &ProgramTables, file: u64, own: Own, function: &Function) -> u64
     requires file { file ≡ min (file_privates (items_in known.now)) (2 ^ 64 - 1) }
     requires own { own ≡ own_of (told_in (tables_of known.now)) (function_of function.now) }
@@ -118,7 +117,7 @@ fn privates_of(known: &ProgramTables, file: u64, own: Own, function: &Function) 
     }
 }
 
-// How many words the private frame of a function has. Above 2^64 - 1 it is that number.
+// The number of words of the private frame of a function; at most 2^64 - 1.
 fn private_words(known: &ProgramTables, file: u64, own: Own, function: &Function) -> u64
     requires sound { IsSound known.now }
     requires file { file ≡ min (file_privates (items_in known.now)) (2 ^ 64 - 1) }
@@ -136,7 +135,7 @@ fn private_words(known: &ProgramTables, file: u64, own: Own, function: &Function
         .saturating_add(nested)
 }
 
-// The frame of a function, or that it is too large.
+// The frame of a function, or the fault that it is too large.
 fn frame_of(
     known: &ProgramTables,
     file: u64,
@@ -156,6 +155,7 @@ fn frame_of(
     ensures large { IfErr result (λ fault. (others : List FunctionTree)
         → TellsLarge (f.first_large_in (tables_of known.now) (items_in known.now)
         (function_of function.now ∷ others)) fault) }
+    ensures no_memory { IfErr result (λ fault. fault ≢ LayoutFault.Memory) }
 {
     let words = private_words(known, file, own, function);
     if words > MOST_PRIVATE_WORDS {
@@ -168,8 +168,9 @@ fn frame_of(
     })
 }
 
-/// The frames of all functions of a text that have a body, by what each takes by itself; or the
-/// first one that is too large. It takes time and memory linear in the text.
+/// The frames of all functions of a text that have a body, or the fault of the first one that is
+/// too large. `owns` has what each function takes by itself. It takes time and memory linear in the
+/// text.
 pub(crate) fn fitting_frames(
     alloc: Global,
     known: &ProgramTables,

@@ -1,11 +1,11 @@
-//! Where all that a program has lies.
+//! The layout of a program.
 
 ghost use Rattle.std.specs.Prelude.{◌≡◌, ◌≤◌, IfOk, IfErr, OnOk, None};
 ghost use Rattle.fk_syntax.specs.ProgramView.{program_of};
 ghost use Rattle.fk_layout_walk.specs.Known.{tables_of, items_in};
 ghost use Rattle.fk_layout_slots.specs.Slots.{owns_of};
 ghost use Rattle.fk_layout.specs.Frames.{told_in, first_large};
-ghost use Rattle.fk_layout.specs.Refusal.{IsRefusal, Fits, count_of_sites};
+ghost use Rattle.fk_layout.specs.Refusal.{IsRefusal, Fits, count_of_sites, of_globals};
 ghost use Rattle.fk_layout.specs.Layout.{IsLayout, ArePlaces, AreGlobals, AreSizes, tables_by};
 
 use crate::frames::fitting_frames;
@@ -19,16 +19,16 @@ use fk_meaning_forms::{FrameSize, Region, Slot};
 use fk_syntax::{Facts, Program};
 use std::alloc::Global;
 
-/// Where all that a program has lies.
+/// The layout of a program: where its variables lie, its frames and its sites.
 #[derive(Drop)]
 pub struct Layout<'a> {
     /// The shared variables of file scope, in the order of the text.
     pub rows: Vec<GlobalRow<'a>>,
-    /// What all words of these rows begin as.
+    /// The initial values of all words of these rows.
     pub words: Vec<u32>,
-    /// What the private variables of file scope begin as, in the order of the text.
+    /// The initial values of the private variables of file scope, in the order of the text.
     pub firsts: Vec<u32>,
-    /// A place for each variable, parameter and function, in the order of their names.
+    /// A slot for each variable, parameter and function, in the order of their names.
     pub slots: Vec<Slot>,
     /// The group frames that have words, in the order of their tokens.
     pub regions: Vec<Region>,
@@ -45,7 +45,7 @@ pub(crate) struct Sizes {
     pub(crate) frames: Vec<FrameSize>,
 }
 
-// Where the words of a program lie, and how much its functions take.
+// The slots and group frames of a program, and how much its functions take by themselves.
 fn places_of(alloc: Global, program: &Program, facts: &Facts) -> Result<Slots, LayoutFault>
     ensures places { IfOk result (ArePlaces (program_of program.now) facts.now) }
     ensures refused { IfErr result (λ fault. fault ≡ LayoutFault.Memory) }
@@ -53,7 +53,7 @@ fn places_of(alloc: Global, program: &Program, facts: &Facts) -> Result<Slots, L
     slots(alloc, &program.items, &facts.notes, &facts.kinds).map_err(out_of_memory)
 }
 
-// The variables of file scope, of a program that has not too much of anything else.
+// The variables of file scope of a program whose operations and frames fit.
 fn globals_of<'a>(
     alloc: Global,
     program: &Program<'a>,
@@ -69,12 +69,21 @@ fn globals_of<'a>(
 {
     match lay_globals(alloc, &program.items, &facts.notes, &facts.kinds) {
         Ok(globals) => Ok(globals),
-        Err(GlobalsFault::TooLarge(words)) => Err(LayoutFault::GlobalsTooLarge(words)),
-        Err(GlobalsFault::Memory) => Err(LayoutFault::Memory),
+        Err(fault) => Err(of_globals(fault)),
     }
 }
 
-// What is known of a program of which nothing is looked up yet.
+// Why there is no layout where the variables of file scope are refused.
+fn of_globals(fault: GlobalsFault) -> LayoutFault
+    ensures { result ≡ of_globals fault }
+{
+    match fault {
+        GlobalsFault::TooLarge(words) => LayoutFault::GlobalsTooLarge(words),
+        GlobalsFault::Memory => LayoutFault::Memory,
+    }
+}
+
+// The tables of a program before the lookup tables are made.
 fn known_of<'p, 'a>(
     program: &'p Program<'a>,
     facts: &'p Facts,
@@ -95,7 +104,7 @@ fn known_of<'p, 'a>(
     }
 }
 
-// The operations and frames of a text of which nothing is looked up yet.
+// The operations and frames of a text whose lookup tables aren't made yet.
 fn sizes_in(alloc: Global, known: ProgramTables, owns: &[Own]) -> Result<Sizes, LayoutFault>
     requires { owns.now ≡ owns_of (told_in (tables_of known)) (items_in known) }
     ensures sizes { IfOk result (AreSizes (tables_of known.entry) (items_in known.entry)) }
@@ -124,15 +133,16 @@ fn sizes_of<'p>(
     sizes_in(alloc, known_of(program, facts, places), &places.owns)
 }
 
-/// Where all that a program has lies, by its facts, of whatever program and facts. By facts of its
-/// own it takes time and memory linear in the text and the words of its shared variables.
+/// The layout of a program, by its facts. It is defined for every program and all facts. With the
+/// program's own facts it takes time and memory linear in the text and the words of its shared
+/// variables.
 ///
 /// # Errors
-/// In this order: `TooManySites` exactly where it has more than 16,000 operations, with their
-/// number; `FrameTooLarge` exactly where a function has a private frame of more than 64 words, with
-/// the place of the name of the first one and its words; `GlobalsTooLarge` exactly where the shared
-/// variables of file scope have more than 524,288 words, with their number. `Memory` where there is
-/// no memory.
+/// The checks are in this order. `TooManySites`: exactly if the program has more than 16,000
+/// operations, with their number. `FrameTooLarge`: exactly if a function has a private frame of
+/// more than 64 words, with the place of the name of the first one and its words.
+/// `GlobalsTooLarge`: exactly if the shared variables of file scope have more than 524,288 words,
+/// with their number. `Memory`: if there isn't enough memory.
 pub fn lay_out<'a>(
     alloc: Global,
     program: &Program<'a>,

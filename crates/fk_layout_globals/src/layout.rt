@@ -1,6 +1,7 @@
 //! The words of file scope of a whole text.
 
-ghost use Rattle.std.specs.Prelude.{◌≡◌, ◌≤◌, map, flat_map, length, IfOk, IfErr, OnOk};
+ghost use Rattle.std.specs.Prelude.{◌≡◌, ◌≤◌, ◌<◌, ◌^◌, ◌-◌, map, min, flat_map, length, IfOk};
+ghost use Rattle.std.specs.Prelude.{IfErr, OnErr, OnOk};
 ghost use Rattle.fk_syntax.specs.ProgramView.{item_of};
 ghost use Rattle.fk_layout_globals.specs.Constants.{told};
 ghost use Rattle.fk_layout_globals.specs.Variables.{declared_behind};
@@ -21,32 +22,48 @@ use thiserror::Error;
 pub struct Globals<'a> {
     /// The shared ones, in the order of the text.
     pub rows: Vec<GlobalRow<'a>>,
-    /// What all words of these rows begin as.
+    /// The initial values of all words of these rows.
     pub words: Vec<u32>,
-    /// What the private ones begin as, in the order of the text.
+    /// The initial values of the private ones, in the order of the text.
     pub firsts: Vec<u32>,
 }
 
 /// Why the variables of file scope of a text are refused.
 #[derive(Clone, Copy, Debug, PartialEq, Eq, Error)]
 pub enum GlobalsFault {
-    /// The shared ones have so many words, which are more than an image can have. Above 2^64 - 1 it
-    /// is that number.
+    /// The shared ones have this number of words, which is more than an image can have; at most
+    /// 2^64 - 1 is reported.
     #[error("{0} words of shared variables are too many")]
     TooLarge(u64),
-    /// There is not enough memory.
+    /// There isn't enough memory.
     #[error("out of memory")]
     Memory,
 }
 
-/// How many words of shared variables an image can have.
+/// The greatest number of words of shared variables in an image.
 pub const MOST_WORDS: u64 = 524_288;
 
-// There is no memory.
+// The fault that there isn't enough memory.
 fn out_of_memory(_refused: AllocError) -> GlobalsFault
     ensures { result ≡ GlobalsFault.Memory }
 {
     GlobalsFault::Memory
+}
+
+// Tests that these variables have not more words than an image can have.
+fn check_words(types: &Types, shared: &Vec<&Declared>) -> Result<(), GlobalsFault>
+    ensures few { OnOk result
+        (r.total_of (tables_of types.now) (declared_behind shared.now.items) ≤ 524288) }
+    ensures many { OnErr result
+        (524288 < r.total_of (tables_of types.now) (declared_behind shared.now.items)) }
+    ensures told { IfErr result (λ fault. fault ≡ GlobalsFault.TooLarge
+        (min (r.total_of (tables_of types.now) (declared_behind shared.now.items)) (2 ^ 64 - 1))) }
+{
+    let count = count_words(types, shared);
+    if count > MOST_WORDS {
+        return Err(GlobalsFault::TooLarge(count));
+    }
+    Ok(())
 }
 
 // The rows and words of shared variables, and what private ones begin as.
@@ -77,12 +94,12 @@ fn laid_out<'a>(
     })
 }
 
-/// The variables of file scope of a text: a row for each shared one, what the words of these begin
-/// as, and what the private ones begin as. Takes time linear in the text and the words, and nothing
-/// of the size of the words is made before they are counted.
+/// The variables of file scope of a text: a row for each shared one, the initial values of their
+/// words, and the initial values of the private ones. It takes time linear in the text and the
+/// words. The words are counted before anything of their size is allocated.
 ///
 /// # Errors
-/// `TooLarge` exactly where the shared ones have more than 524,288 words, with their number.
+/// `TooLarge` exactly if the shared ones have more than 524,288 words, with their number.
 pub fn lay_globals<'a>(
     alloc: Global,
     items: &[Item<'a>],
@@ -103,10 +120,7 @@ pub fn lay_globals<'a>(
 {
     let types = Types { notes, kinds };
     let shared = file_variables(alloc, items, true).map_err(out_of_memory)?;
-    let count = count_words(&types, &shared);
-    if count > MOST_WORDS {
-        return Err(GlobalsFault::TooLarge(count));
-    }
+    check_words(&types, &shared)?;
     let private = file_variables(alloc, items, false).map_err(out_of_memory)?;
     laid_out(alloc, &types, &shared, &private).map_err(out_of_memory)
 }
