@@ -1,6 +1,7 @@
-//! What the values of a command ask for.
+//! The command that values stand for.
 
-ghost use Rattle.std.specs.Prelude.{◌≡◌, ℕ, ◌≤◌, Some, IsNone, IfSome, option_map};
+ghost use Rattle.std.specs.Prelude.{◌≡◌, ℕ, ◌≤◌, Some, IfErr, IfOk, IfSome, IsNone, IsOkUnless};
+ghost use Rattle.std.specs.Prelude.{option_map};
 ghost use Rattle.clap.specs.Matches.{found_of};
 ghost use Rattle.clap.specs.Simple.{subcommand_rows_of};
 ghost use Rattle.clap.specs.Walk.{first_of, rows_of};
@@ -8,11 +9,22 @@ ghost use Rattle.fk_top_words.specs.Asked.{AsksFor, AsksOf, RunsBy, number_of};
 ghost use Rattle.fk_top_words.specs.Command.{Command, command_of};
 
 use crate::command::{CommandWords, RunWords};
+use crate::fault::WordsFault;
 use clap::ArgMatches;
 use fk_num::read_unsigned;
 
-/// The command that these matches ask for.
-pub(crate) fn asked<'a>(matches: &ArgMatches<'a>) -> Option<CommandWords<'a>>
+/// The command that these matches ask for, or that their words are no command.
+pub(crate) fn asked<'a>(matches: &ArgMatches<'a>) -> Result<CommandWords<'a>, WordsFault>
+    ensures some { IfOk result (λ c. AsksOf (subcommand_rows_of matches.now) (command_of c)) }
+    ensures none { IfErr result
+        (λ _. (c : Command) → AsksOf (subcommand_rows_of matches.now) c → ⊥) }
+    ensures fault { IsOkUnless result WordsFault.Usage }
+{
+    asked_by(matches).ok_or(WordsFault::Usage)
+}
+
+/// The command that these matches ask for, if they ask for one.
+fn asked_by<'a>(matches: &ArgMatches<'a>) -> Option<CommandWords<'a>>
     ensures some { IfSome result (λ c. AsksOf (subcommand_rows_of matches.now) (command_of c)) }
     ensures none { IsNone result → (c : Command) → AsksOf (subcommand_rows_of matches.now) c → ⊥ }
 {
@@ -20,7 +32,7 @@ pub(crate) fn asked<'a>(matches: &ArgMatches<'a>) -> Option<CommandWords<'a>>
     asked_for(given, name)
 }
 
-/// The command of this name that these values ask for.
+/// The command of this name that these values stand for.
 fn asked_for<'a>(given: &ArgMatches<'a>, name: &str) -> Option<CommandWords<'a>>
     ensures some { IfSome result
         (λ c. AsksFor name.now (rows_of (found_of given.now)) (command_of c)) }
@@ -37,7 +49,7 @@ fn asked_for<'a>(given: &ArgMatches<'a>, name: &str) -> Option<CommandWords<'a>>
     }
 }
 
-/// The run of a file with these values, where its numbers are in range.
+/// The run of a file with these values, if its numbers are in range.
 fn asked_run<'a>(given: &ArgMatches<'a>, file: &'a str) -> Option<RunWords<'a>>
     ensures file { IfSome result (λ run. run.file.now ≡ file.now) }
     ensures some { IfSome result
