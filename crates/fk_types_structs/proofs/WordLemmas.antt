@@ -62,7 +62,7 @@ module _ (R : ℕ → ℕ → Type 0) (nothing : R 0 0) (one : R 1 1) (add : (a 
   root-related : (root : Root) (n : ℕ) → root_words f root ≡ Some n → (m : ℕ) × (root_words g root ≡ Some m) × R n m
   root-related r.Int n e = (1, refl, subst (λ k. R k 1) (same_Some 1 n e) one)
   root-related r.Unsigned n e = (1, refl, subst (λ k. R k 1) (same_Some 1 n e) one)
-  root-related r.Void n e = absurd (none-some n e)
+  root-related r.Void n e = (0, refl, subst (λ k. R k 0) (same_Some 0 n e) nothing)
   root-related (r.Struct i) n e = related i n e
 
   element-related : (root : Root) (stars n : ℕ) → element_words f root stars ≡ Some n → (m : ℕ) × (element_words g root stars ≡ Some m) × R n m

@@ -1,4 +1,4 @@
-//! How many words types take. A size above the limit of 524,288 words stays at one above it.
+//! The number of words of types. A size above the limit of 524,288 words counts as one above it.
 
 ghost use Rattle.std.specs.Prelude.{◌≡◌, ◌<◌, None, length, All, count_by, is_none, IfOk};
 ghost use Rattle.std.specs.Bool.{OnTrue, OnFalse};
@@ -12,13 +12,13 @@ use crate::order::order;
 use crate::types::{DataType, Root};
 use std::alloc::{AllocError, Global};
 
-/// The most words that a type may have.
+/// The greatest number of words of a type.
 pub const MOST_WORDS: u32 = 524_288;
 
-// What every larger size stays at.
+// The number that stands for all sizes above the limit.
 const TOO_MANY: u32 = MOST_WORDS + 1;
 
-// The words of a root under some pointers, where those of the structs are given.
+// The number of words of a root under some pointers, given those of the structs.
 fn element_words(sizes: &[Option<u32>], root: Root, stars: u64) -> Option<u32>
     ensures { result ≡ element_words (sizes_of sizes.now) root stars }
 {
@@ -27,12 +27,12 @@ fn element_words(sizes: &[Option<u32>], root: Root, stars: u64) -> Option<u32>
     }
     match root {
         Root::Int | Root::Unsigned => Some(1),
-        Root::Void => None,
+        Root::Void => Some(0),
         Root::Struct(index) => sizes.get(index).copied().flatten(),
     }
 }
 
-/// The words of a type, where those of the structs are given.
+/// The number of words of a type, given those of the structs.
 pub(crate) fn type_words(sizes: &[Option<u32>], kind: &DataType) -> Option<u32>
     ensures { result ≡ option_map capped (type_words (sizes_of sizes.now) kind.now) }
 {
@@ -42,7 +42,7 @@ pub(crate) fn type_words(sizes: &[Option<u32>], kind: &DataType) -> Option<u32>
     Some(all.min(TOO_MANY as u64) as u32)
 }
 
-// The words of a type after others, where both are known.
+// The number of words of other types and one more type, if both are known.
 fn after(sizes: &[Option<u32>], before: Option<u32>, kind: Option<DataType>) -> Option<u32>
     ensures { result ≡ option_map capped
         (plus before (option_and_then (type_words (sizes_of sizes.now)) kind)) }
@@ -52,7 +52,7 @@ fn after(sizes: &[Option<u32>], before: Option<u32>, kind: Option<DataType>) -> 
     Some(before.saturating_add(words).min(TOO_MANY))
 }
 
-// The words of types one after the other.
+// The number of words of types that follow each other.
 fn total_words(sizes: &[Option<u32>], kinds: &[Option<DataType>]) -> Option<u32>
     ensures { result ≡ option_map capped (total_words (sizes_of sizes.now) kinds.now) }
 {
@@ -63,7 +63,7 @@ fn total_words(sizes: &[Option<u32>], kinds: &[Option<DataType>]) -> Option<u32>
     total
 }
 
-// Looks for the words of a struct that has none yet, and tells whether it found them.
+// Looks for the number of words of a struct that has none yet. Returns whether it found it.
 fn settle_struct(sizes: &mut [Option<u32>], index: usize, kinds: &[Option<DataType>]) -> bool
     requires { index < length sizes.old }
     ensures found { OnTrue result (Settles sizes.old sizes.new index kinds.now) }
@@ -83,7 +83,7 @@ fn settle_struct(sizes: &mut [Option<u32>], index: usize, kinds: &[Option<DataTy
     }
 }
 
-// Looks for the words of each struct that has none yet, and tells whether it found some.
+// Looks for the number of words of each struct that has none yet. Returns whether it found any.
 fn settle(sizes: &mut [Option<u32>], structs: &[Vec<Option<DataType>>]) -> bool
     requires { length sizes.old ≡ length structs.now }
     ensures found { AreFound (types_of structs.now) sizes.old
@@ -100,7 +100,7 @@ fn settle(sizes: &mut [Option<u32>], structs: &[Vec<Option<DataType>>]) -> bool
     found
 }
 
-// Looks for the words of structs in an order.
+// Looks for the number of words of structs in an order.
 fn sweep(sizes: &mut [Option<u32>], structs: &[Vec<Option<DataType>>], order: &[usize])
     requires same_length { length sizes.old ≡ length structs.now }
     requires order { All (λ index. index < length structs.now) order.now }
@@ -112,7 +112,7 @@ fn sweep(sizes: &mut [Option<u32>], structs: &[Vec<Option<DataType>>], order: &[
     }
 }
 
-// Looks for the words of structs for as long as it finds some.
+// Looks for the number of words of structs as long as it finds any.
 fn settle_all(sizes: &mut [Option<u32>], structs: &[Vec<Option<DataType>>])
     requires same_length { length sizes.old ≡ length structs.now }
     requires found { AreFound (types_of structs.now) sizes.old }
@@ -121,7 +121,7 @@ fn settle_all(sizes: &mut [Option<u32>], structs: &[Vec<Option<DataType>>])
     while settle(sizes, structs) {}
 }
 
-/// The words of each struct, where it has any.
+/// The number of words of each struct, if it has one.
 pub(crate) fn struct_words(
     alloc: Global,
     structs: &[Vec<Option<DataType>>],
@@ -135,7 +135,7 @@ pub(crate) fn struct_words(
     Ok(sizes)
 }
 
-/// The words before each of some types, where they lie one after the other.
+/// The number of words before each of some types that follow each other.
 pub(crate) fn offsets(
     alloc: Global,
     sizes: &[Option<u32>],
