@@ -1,4 +1,4 @@
-//! Which expressions may be initial values of file scope.
+//! The expressions that may be initial values at file scope.
 
 ghost use Rattle.std.specs.Prelude.{◌≡◌, ◌||◌, map};
 ghost use Rattle.fk_syntax.specs.declared.place.Spot.{Spot};
@@ -13,7 +13,7 @@ use fk_syntax::{Expr, Link, Name, Sign};
 use fk_types_forms::Scope;
 use fk_types_forms::forms::name as name_part;
 
-// Whether a sign makes more of what it stands before: one that reaches into memory.
+// Whether a sign before an operand accesses memory, so that the expression isn't a constant.
 fn is_of_memory(sign: Sign) -> bool
     ensures { (env : Env) (spot : Spot) (operand : Term)
         → is_more env (prefix_term spot sign operand) ≡ (result || is_more env operand) }
@@ -24,15 +24,15 @@ fn is_of_memory(sign: Sign) -> bool
     }
 }
 
-// Whether a name has a type by itself.
-fn has_type(scope: &Scope, name: Name) -> bool
+// Whether a name has a value by itself.
+fn has_value(scope: &Scope, name: Name) -> bool
     ensures { result ≡ is_more (env_in scope.now) (Use (named name.entry)) }
 {
-    name_part(scope, name).kind.is_some()
+    name_part(scope, name).value().is_some()
 }
 
 /// Whether an expression holds more than numbers, `sizeof`, casts, signs that take values, `?` with
-/// its `:` and the comma. A name that means nothing, or no value, is no more.
+/// its `:` and the comma. A name without a value breaks another rule, and is no more.
 #[cycle(expression)]
 pub(crate) fn is_more(scope: &Scope, expression: &Expr) -> bool
     ensures { result ≡ is_more (env_in scope.now) (term_of (tree_of expression.now)) }
@@ -40,7 +40,7 @@ pub(crate) fn is_more(scope: &Scope, expression: &Expr) -> bool
     match expression {
         Expr::Number(_, _, _) | Expr::Sizeof(_, _) => false,
         Expr::Puts(_, _) | Expr::GroupNumber(_) | Expr::GroupRank(_) => true,
-        Expr::Named(name) => has_type(scope, *name),
+        Expr::Named(name) => has_value(scope, *name),
         Expr::Prefix(_, sign, operand) => is_of_memory(*sign) || is_more(scope, operand),
         Expr::Cast(_, _, operand) => is_more(scope, operand),
         Expr::Chain(first, links) => is_more(scope, first) || are_more(scope, links),
@@ -52,7 +52,7 @@ pub(crate) fn is_more(scope: &Scope, expression: &Expr) -> bool
     }
 }
 
-// Whether what stands behind signs that group to the left makes more of what stands before them.
+// Whether an expression isn't a constant because of these links.
 #[cycle(expression)]
 fn are_more(scope: &Scope, links: &[Link]) -> bool
     ensures { (before : Term)

@@ -329,7 +329,7 @@ module _ (structs : List StructTree) (meant other : Named → Meant) (types othe
   -- ---- what pieces break
 
   same-more : (x : Term) → InTerm IsSame x → is_more A x ≡ is_more B x
-  same-more (Use name) h = ap (λ thing. is_some (y.name_type thing)) h
+  same-more (Use name) h = ap (λ thing. is_some (y.value_in (y.name_type thing))) h
   same-more (Prefix spot sign operand) h = same-more operand h
   same-more (Cast spot type operand) h = same-more operand h
   same-more (Binary spot sign left right) h = two-same ◌||◌ (is_more A left) (is_more B left) (is_more A right) (is_more B right) (same-more left h.0) (same-more right h.1)

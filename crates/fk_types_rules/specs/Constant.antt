@@ -1,4 +1,4 @@
--- Which initial values may stand outside functions.
+-- The initial values that are allowed outside functions.
 use Rattle.std.specs.Prelude.{Bool, true, false, ◌||◌, is_some}
 use Rattle.fk_check_rules.specs.declared.rule.Rule.TheVariants as rules
 use Rattle.fk_check_rules.specs.Least.{Breaks}
@@ -6,16 +6,16 @@ use Rattle.fk_types_judgments.specs.Term.{Term, Number, Puts, Sizeof, Use, Group
 use Rattle.fk_types_judgments.specs.Term.{Prefix, Dereference, Address, Count, Cast, Binary, Comma}
 use Rattle.fk_types_judgments.specs.Term.{Index, Call, Member, Through, Assign, Choose, first_place}
 use Rattle.fk_types_judgments.specs.Names.{Env}
-use Rattle.fk_types_judgments.specs.Typing.{type_of}
+use Rattle.fk_types_judgments.specs.Typing.{value_in, type_of}
 use Rattle.fk_types_judgments.specs.Broken.{where_so}
 
 -- an expression holds more than numbers, `sizeof`, casts, signs that take values, `?` with its `:`
--- and the comma. A name that is broken itself breaks nothing more by it
+-- and the comma. A name without a value breaks another rule, and is no more
 abbrev pub is_more : Env → Term → Bool
 is_more env (Number spot value unsigned) = false
 is_more env (Puts spot) = true
 is_more env (Sizeof spot type) = false
-is_more env (Use name) = is_some (type_of env (Use name))
+is_more env (Use name) = is_some (value_in (type_of env (Use name)))
 is_more env (GroupNumber spot) = true
 is_more env (GroupRank spot) = true
 is_more env (Prefix spot sign operand) = is_more env operand
@@ -33,6 +33,6 @@ is_more env (Assign spot sign place value) = true
 is_more env (Choose spot condition first second) =
     is_more env condition || is_more env first || is_more env second
 
--- an initial value outside functions that holds more
+-- an initial value outside functions has more
 abbrev pub ConstantBreaks : Env → Term → Breaks
 ConstantBreaks env term = where_so rules.NotConstant (first_place term) (is_more env term)
