@@ -1,12 +1,12 @@
 //! Regions and their rules.
 
-ghost use Rattle.std.specs.Prelude.{◌≡◌, MatchResult, OnErr};
+ghost use Rattle.std.specs.Prelude.{◌≡◌, ◌≢◌, IfErr, MatchResult, OnErr};
+ghost use Rattle.fk_syntax.specs.Program.{ProgramTree};
 ghost use Rattle.fk_syntax.specs.ProgramView.{program_of};
-ghost use Rattle.fk_syntax.specs.WellFormed.{IsWellFormed};
 ghost use Rattle.fk_check_rules.specs.Least.{IsLeast, among};
 ghost use Rattle.fk_types_names.specs.Names.{AreNames};
 ghost use Rattle.fk_regions.specs.Broken.{AreRegions, IsRefusal};
-ghost use Rattle.fk_regions.specs.Found.{TokenBreaks};
+ghost use Rattle.fk_regions.specs.Found.{AreKept, TokenBreaks};
 
 use crate::callee::called_by;
 use crate::collect::Tokens;
@@ -15,7 +15,7 @@ use crate::marks::mark;
 use crate::token::Token;
 use fk_check_rules::{Fault, first_of};
 use fk_syntax::{CheckFault, Facts, Program};
-use fk_types_names::{Names, resolve};
+use fk_types_names::Names;
 use std::alloc::Global;
 
 // The first rule that one of the tokens breaks.
@@ -29,14 +29,36 @@ fn first_fault<'p, 'a>(names: &Names<'p, 'a>, tokens: &[Token]) -> Option<Fault>
     fault
 }
 
-/// Sets in each note of the facts whether its token stands in a synchronous region, by the names of
+// Sets in each note of the facts whether its token is in a synchronous region, or returns the first
+// rule that one of these tokens breaks. It takes no memory.
+fn set_regions<'p, 'a>(
+    names: &Names<'p, 'a>,
+    tokens: &[Token],
+    facts: &mut Facts,
+) -> Result<(), CheckFault>
+    ensures answer { (program : ProgramTree) → AreNames program names.now
+        → AreKept program tokens.now → MatchResult result
+        (λ _. AreRegions program facts.old facts.new) (λ fault. IsRefusal program fault) }
+    ensures refused { OnErr result (facts.new ≡ facts.old) }
+    ensures memory { IfErr result (λ fault. fault ≢ CheckFault.Memory) }
+{
+    match first_fault(names, tokens) {
+        Some(fault) => Err(CheckFault::Rule(fault.place, fault.rule.number())),
+        None => {
+            mark(&mut facts.notes, tokens);
+            Ok(())
+        }
+    }
+}
+
+/// Sets in each note of the facts whether its token is in a synchronous region, by the names of
 /// the program, in linear time.
 ///
 /// # Errors
 ///
 /// The first rule on regions that the program breaks, by its place and then by its number; or want
 /// of memory. The facts are then as they were.
-pub fn regions_by<'p, 'a>(
+pub fn regions<'p, 'a>(
     alloc: Global,
     program: &'p Program<'a>,
     names: &Names<'p, 'a>,
@@ -48,32 +70,8 @@ pub fn regions_by<'p, 'a>(
         (λ fault. IsRefusal (program_of program.now) fault) }
     ensures refused { OnErr result (facts.new ≡ facts.old) }
 {
-    let Ok(tokens) = Tokens::of(alloc, &program.items) else {
-        return Err(CheckFault::Memory);
-    };
-    match first_fault(names, &tokens) {
-        Some(fault) => Err(CheckFault::Rule(fault.place, fault.rule.number())),
-        None => {
-            mark(&mut facts.notes, &tokens);
-            Ok(())
-        }
-    }
-}
-
-/// Sets in each note of the facts whether its token stands in a synchronous region, in linear time.
-///
-/// # Errors
-///
-/// As `regions_by`.
-pub fn regions(alloc: Global, program: &Program, facts: &mut Facts) -> Result<(), CheckFault>
-    requires { IsWellFormed (program_of program.now) }
-    ensures answer { MatchResult result
-        (λ _. AreRegions (program_of program.now) facts.old facts.new)
-        (λ fault. IsRefusal (program_of program.now) fault) }
-    ensures refused { OnErr result (facts.new ≡ facts.old) }
-{
-    match resolve(alloc, program) {
-        Ok(names) => regions_by(alloc, program, &names, facts),
+    match Tokens::of(alloc, &program.items) {
+        Ok(tokens) => set_regions(names, &tokens, facts),
         Err(_) => Err(CheckFault::Memory),
     }
 }

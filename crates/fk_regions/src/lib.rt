@@ -1,5 +1,5 @@
-//! The regions of a Fork95 program: where groups run in lockstep, where each processor by itself,
-//! and which of the rules about them a program breaks.
+//! The regions of a Fork95 program: where groups run in lockstep, where each processor runs by
+//! itself, and which rules about regions a program breaks.
 #![tactic(auto)]
 
 mod around;
@@ -11,4 +11,4 @@ mod marks;
 mod token;
 
 pub use around::{Region, region_of};
-pub use check::{regions, regions_by};
+pub use check::regions;

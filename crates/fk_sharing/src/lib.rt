@@ -1,5 +1,5 @@
-//! What the processors of a Fork95 program share: the class of each expression, where a group
-//! splits, and which of the rules about both a program breaks.
+//! The sharing of a Fork95 program: the class of each expression, where a group splits, and which
+//! rules about both a program breaks.
 #![tactic(auto)]
 
 mod around;
@@ -10,4 +10,4 @@ pub mod laws;
 mod marks;
 mod token;
 
-pub use check::{sharing, sharing_by};
+pub use check::sharing;

@@ -1,6 +1,6 @@
 //! Rules 1 to 20 of a whole program, and its facts.
 
-ghost use Rattle.std.specs.Prelude.{◌≡◌, ◌≤◌, ◌^◌, IfOk, MatchResult};
+ghost use Rattle.std.specs.Prelude.{◌≡◌, ◌≢◌, ◌≤◌, ◌^◌, IfErr, IfOk, MatchResult};
 ghost use Rattle.fk_syntax.specs.ProgramView.{program_of};
 ghost use Rattle.fk_syntax.specs.WellFormed.{IsWellFormed};
 ghost use Rattle.fk_types_structs.specs.Types.{structs_of};
@@ -13,11 +13,12 @@ use crate::facts::facts;
 use fk_syntax::{CheckFault, Facts, Program};
 use fk_types_checker::program_fault;
 use fk_types_environment::Environment;
-use fk_types_names::{Names, resolve};
+use fk_types_names::Names;
 use fk_types_structs::Structs;
 use std::alloc::{AllocError, Global};
 
-// What is known of a program by its structs and names, or the first rule that it breaks.
+// The facts of a program, by its structs and names, or the first rule that it breaks. A lack of
+// memory is a result of its own.
 fn checked<'c, 'p, 'a>(
     alloc: Global,
     program: &'p Program<'a>,
@@ -29,9 +30,10 @@ fn checked<'c, 'p, 'a>(
     requires sound { IsSound structs.now }
     requires structs { structs_in structs.now ≡ structs_of (program_of program.now).items }
     requires names { AreNames (program_of program.now) names.now }
-    ensures { IfOk result (λ answer. MatchResult answer
+    ensures answer { IfOk result (λ answer. MatchResult answer
         (λ facts. AreFacts (program_of program.now) facts)
         (λ fault. IsRefusal (program_of program.now) fault)) }
+    ensures memory { IfOk result (λ answer. IfErr answer (λ fault. fault ≢ CheckFault.Memory)) }
 {
     let environment = Environment::of(alloc, structs, names)?;
     let scope = environment.scope(&*structs, &*names);
@@ -46,7 +48,7 @@ fn checked<'c, 'p, 'a>(
     }
 }
 
-// Checks a program whose names are known.
+// Checks a program whose names are resolved.
 fn checked_by<'p, 'a>(
     alloc: Global,
     program: &'p Program<'a>,
@@ -55,33 +57,34 @@ fn checked_by<'p, 'a>(
     requires well_formed { IsWellFormed (program_of program.now) }
     requires small { program.now.tokens ≤ 2 ^ 20 }
     requires names { AreNames (program_of program.now) names.now }
-    ensures { IfOk result (λ answer. MatchResult answer
+    ensures answer { IfOk result (λ answer. MatchResult answer
         (λ facts. AreFacts (program_of program.now) facts)
         (λ fault. IsRefusal (program_of program.now) fault)) }
+    ensures memory { IfOk result (λ answer. IfErr answer (λ fault. fault ≢ CheckFault.Memory)) }
 {
     let structs = Structs::new(alloc, &program.items)?;
     checked(alloc, program, &structs, names)
 }
 
-/// What is known of a program by its names, in linear time. Each token has a note:
+/// The facts of a program by its names, in linear time. Each token has a note:
 ///
-/// - Its kind is the index of the kind of its type in the list of kinds, in which each stands once,
-///   in the order in which they are first met from token to token. The main token of an expression,
-///   which is its sign, name or number, has the type of the expression. The name of a variable or
-///   parameter has, where that is declared, its type, and the name of a function the type that its
-///   calls have. A token that has no type has the number 0.
-/// - Its binding is for the name of a variable, a parameter or a function, where it is declared or
-///   in an expression, the number of the declaration that it means, from 0, of a function that of
-///   the header with the body; or 2^32 - 1 for a name that is declared before each text. For a
-///   member after `.` or `->` it is the words that lie before it in its struct, and for `sizeof`
-///   the bytes that it gives. For other tokens it is 0.
-/// - What is known of regions and sharing is false everywhere.
+/// - Its kind is the index of the kind of its type in the list of kinds. Each kind is once in that
+///   list, in the order of the first occurrences. The main token of an expression, which is its
+///   sign, name or number, has the type of the expression. The name of a declared variable or
+///   parameter has its type, and the name of a declared function has the type of its calls. A token
+///   without a type has the number 0.
+/// - Its binding depends on the token. The name of a variable, a parameter or a function, where it
+///   is declared or in an expression, has the number of the declaration that it denotes, from 0;
+///   for a function that is the header with the body. A predeclared name has 2^32 - 1. A member
+///   after `.` or `->` has the number of words before it in its struct. `sizeof` has the number of
+///   bytes that it gives. Any other token has 0.
+/// - The facts of regions and sharing are false everywhere.
 ///
 /// # Errors
 ///
 /// The first rule about names and types that the program breaks, one of 1 to 20, by its place and
 /// then by its number; or want of memory.
-pub fn types_by<'p, 'a>(
+pub fn types<'p, 'a>(
     alloc: Global,
     program: &'p Program<'a>,
     names: &Names<'p, 'a>,
@@ -95,24 +98,6 @@ pub fn types_by<'p, 'a>(
 {
     match checked_by(alloc, program, names) {
         Ok(answer) => answer,
-        Err(_) => Err(CheckFault::Memory),
-    }
-}
-
-/// What is known of a program, in linear time, as `types_by` says it.
-///
-/// # Errors
-///
-/// As `types_by`.
-pub fn types(alloc: Global, program: &Program) -> Result<Facts, CheckFault>
-    requires well_formed { IsWellFormed (program_of program.now) }
-    requires small { program.now.tokens ≤ 2 ^ 20 }
-    ensures { MatchResult result
-        (λ facts. AreFacts (program_of program.now) facts)
-        (λ fault. IsRefusal (program_of program.now) fault) }
-{
-    match resolve(alloc, program) {
-        Ok(names) => types_by(alloc, program, &names),
         Err(_) => Err(CheckFault::Memory),
     }
 }

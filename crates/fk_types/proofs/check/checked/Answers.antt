@@ -28,8 +28,8 @@ facts-requires-clause-tokens c =
     let before : length c.deref_mut.result.now ≡ c.args.program.now.tokens = ap length (empty d) ∙ length-replicate c.args.program.now.tokens None in
     omega (arith, ap length (c.deref.ensures.value ∙ filled d), c.program_fault.auto.types, before)
 
-pub returns-in-Some : goal.returns-in-Some
-returns-in-Some c =
+pub returns-in-Some-clause-answer : goal.returns-in-Some-clause-answer
+returns-in-Some-clause-answer c =
     let program = program_of c.args.program.now in
     let env = env_of c.args.structs.now c.args.names.now c.in_ok-environment.environment in
     let right = c.in_ok-environment.ensures program c.requires.structs c.requires.names in
@@ -37,14 +37,14 @@ returns-in-Some c =
     (subst (λ (e : Env). IsLeast (Broken e (program_of c.args.program.now)) c.in_ok-fault.fault) c.scope-scope.ensures.env c.in_ok-fault.ensures.least) in
     refused program env right c.in-Some.fault c.number.result least c.number.ensures
 
-pub returns : goal.returns
-returns c =
+pub returns-clause-answer : goal.returns-clause-answer
+returns-clause-answer c =
     let program = program_of c.args.program.now in
     let env = env_of c.args.structs.now c.args.names.now c.in_ok-environment.environment in
     let right = c.in_ok-environment.ensures program c.requires.structs c.requires.names in
     let least = subst (λ (f : Option Fault). IsLeast (Broken env program) f) c.in-None.is
     (subst (λ (e : Env). IsLeast (Broken e (program_of c.args.program.now)) c.in_ok-fault.fault) c.scope-scope.ensures.env c.in_ok-fault.ensures.least) in
     let told = subst (λ (e : Env). AreTypes e (program_of c.args.program.now) c.program_fault.new.types) c.scope-scope.ensures.env
-    (typed program (env_in c.scope-scope.result) c.requires.well_formed c.deref_mut.result.now c.program_fault.new.types (empty (goal.at.returns c).After-program_fault) c.in_ok-fault.ensures.types) in
+    (typed program (env_in c.scope-scope.result) c.requires.well_formed c.deref_mut.result.now c.program_fault.new.types (empty (goal.at.returns-clause-answer c).After-program_fault) c.in_ok-fault.ensures.types) in
     accepted program env right c.in_ok-facts-in-None.facts least
-    (c.in_ok-facts-in-None.ensures env refl (subst (AreTypes env program) (sym (c.deref.ensures.value ∙ filled (goal.at.returns c).After-program_fault)) told))
+    (c.in_ok-facts-in-None.ensures env refl (subst (AreTypes env program) (sym (c.deref.ensures.value ∙ filled (goal.at.returns-clause-answer c).After-program_fault)) told))
