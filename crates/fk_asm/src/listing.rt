@@ -3,6 +3,7 @@
 ghost use Rattle.std.specs.Prelude.{◌≡◌, ◌+◌, ◌<◌, ◌≤◌, ◌^◌, ◌++◌, length};
 ghost use Rattle.arrayvec.specs.ArrayVec.{array_vec_len};
 ghost use Rattle.fk_asm.specs.Listing.{line_of, listed, text_of, unknown};
+ghost use Rattle.fk_isa.specs.Computation.{IsComputation};
 ghost use Rattle.fk_isa.specs.Fits.{Fits};
 ghost use Rattle.fk_isa.specs.Row.{Row};
 ghost use Rattle.fk_isa.specs.declared.instruction.Instruction.{Instruction};
@@ -56,7 +57,7 @@ pub fn listing_line(address: u32, word: u32) -> ArrayVec<u8, 68>
     line
 }
 
-// The text of a word that has no row.
+// The text of a word that has no row in the table of instructions.
 #[tactic(auto, unfolding(crate::specs::Listing::unknown))]
 fn unknown(word: u32) -> ArrayVec<u8, 48>
     ensures text { result.items ≡ unknown word }
@@ -74,8 +75,6 @@ fn text_of(instruction: Instruction) -> ArrayVec<u8, 48>
     ensures short { array_vec_len result ≤ 47 }
 {
     match instruction {
-        Instruction::Lui(rd, imm) => upper(b"lui", rd, imm),
-        Instruction::Auipc(rd, imm) => upper(b"auipc", rd, imm),
         Instruction::Jal(rd, imm) => jump(b"jal", rd, imm),
         Instruction::Jalr(rd, rs1, imm) => at_offset(b"jalr", rd, rs1, imm),
         Instruction::Beq(rs1, rs2, imm) => with_immediate(b"beq", rs1, rs2, imm),
@@ -92,6 +91,34 @@ fn text_of(instruction: Instruction) -> ArrayVec<u8, 48>
         Instruction::Sb(rs1, rs2, imm) => at_offset(b"sb", rs2, rs1, imm),
         Instruction::Sh(rs1, rs2, imm) => at_offset(b"sh", rs2, rs1, imm),
         Instruction::Sw(rs1, rs2, imm) => at_offset(b"sw", rs2, rs1, imm),
+        Instruction::Fence(..) => plain(b"fence"),
+        Instruction::Ecall => plain(b"ecall"),
+        Instruction::Ebreak => plain(b"ebreak"),
+        Instruction::LrW(rd, rs1, aq, rl) => reserving(b"lr.w", aq, rl, rd, rs1),
+        Instruction::ScW(rd, rs1, rs2, aq, rl) => atomic(b"sc.w", aq, rl, rd, rs2, rs1),
+        Instruction::AmoSwapW(rd, rs1, rs2, aq, rl) => atomic(b"amoswap.w", aq, rl, rd, rs2, rs1),
+        Instruction::AmoAddW(rd, rs1, rs2, aq, rl) => atomic(b"amoadd.w", aq, rl, rd, rs2, rs1),
+        Instruction::AmoXorW(rd, rs1, rs2, aq, rl) => atomic(b"amoxor.w", aq, rl, rd, rs2, rs1),
+        Instruction::AmoAndW(rd, rs1, rs2, aq, rl) => atomic(b"amoand.w", aq, rl, rd, rs2, rs1),
+        Instruction::AmoOrW(rd, rs1, rs2, aq, rl) => atomic(b"amoor.w", aq, rl, rd, rs2, rs1),
+        Instruction::AmoMinW(rd, rs1, rs2, aq, rl) => atomic(b"amomin.w", aq, rl, rd, rs2, rs1),
+        Instruction::AmoMaxW(rd, rs1, rs2, aq, rl) => atomic(b"amomax.w", aq, rl, rd, rs2, rs1),
+        Instruction::AmoMinuW(rd, rs1, rs2, aq, rl) => atomic(b"amominu.w", aq, rl, rd, rs2, rs1),
+        Instruction::AmoMaxuW(rd, rs1, rs2, aq, rl) => atomic(b"amomaxu.w", aq, rl, rd, rs2, rs1),
+        _ => text_of_computation(instruction),
+    }
+}
+
+// The text of an instruction that computes.
+fn text_of_computation(instruction: Instruction) -> ArrayVec<u8, 48>
+    requires fits { Fits instruction }
+    requires computation { IsComputation instruction }
+    ensures text { result.items ≡ text_of instruction }
+    ensures short { array_vec_len result ≤ 47 }
+{
+    match instruction {
+        Instruction::Lui(rd, imm) => upper(b"lui", rd, imm),
+        Instruction::Auipc(rd, imm) => upper(b"auipc", rd, imm),
         Instruction::Addi(rd, rs1, imm) => with_immediate(b"addi", rd, rs1, imm),
         Instruction::Slti(rd, rs1, imm) => with_immediate(b"slti", rd, rs1, imm),
         Instruction::Sltiu(rd, rs1, imm) => with_immediate(b"sltiu", rd, rs1, imm),
@@ -119,19 +146,6 @@ fn text_of(instruction: Instruction) -> ArrayVec<u8, 48>
         Instruction::Divu(rd, rs1, rs2) => three_registers(b"divu", rd, rs1, rs2),
         Instruction::Rem(rd, rs1, rs2) => three_registers(b"rem", rd, rs1, rs2),
         Instruction::Remu(rd, rs1, rs2) => three_registers(b"remu", rd, rs1, rs2),
-        Instruction::Fence(_, _) => plain(b"fence"),
-        Instruction::Ecall => plain(b"ecall"),
-        Instruction::Ebreak => plain(b"ebreak"),
-        Instruction::LrW(rd, rs1, aq, rl) => reserving(b"lr.w", aq, rl, rd, rs1),
-        Instruction::ScW(rd, rs1, rs2, aq, rl) => atomic(b"sc.w", aq, rl, rd, rs2, rs1),
-        Instruction::AmoSwapW(rd, rs1, rs2, aq, rl) => atomic(b"amoswap.w", aq, rl, rd, rs2, rs1),
-        Instruction::AmoAddW(rd, rs1, rs2, aq, rl) => atomic(b"amoadd.w", aq, rl, rd, rs2, rs1),
-        Instruction::AmoXorW(rd, rs1, rs2, aq, rl) => atomic(b"amoxor.w", aq, rl, rd, rs2, rs1),
-        Instruction::AmoAndW(rd, rs1, rs2, aq, rl) => atomic(b"amoand.w", aq, rl, rd, rs2, rs1),
-        Instruction::AmoOrW(rd, rs1, rs2, aq, rl) => atomic(b"amoor.w", aq, rl, rd, rs2, rs1),
-        Instruction::AmoMinW(rd, rs1, rs2, aq, rl) => atomic(b"amomin.w", aq, rl, rd, rs2, rs1),
-        Instruction::AmoMaxW(rd, rs1, rs2, aq, rl) => atomic(b"amomax.w", aq, rl, rd, rs2, rs1),
-        Instruction::AmoMinuW(rd, rs1, rs2, aq, rl) => atomic(b"amominu.w", aq, rl, rd, rs2, rs1),
-        Instruction::AmoMaxuW(rd, rs1, rs2, aq, rl) => atomic(b"amomaxu.w", aq, rl, rd, rs2, rs1),
+        _ => unreachable!(),
     }
 }

@@ -2,6 +2,6 @@ pub mod Found
 pub mod Held
 pub mod OneWord
 pub mod InRange
-pub mod Plans
 pub mod Trapped
+pub mod Computation
 mod Assembled

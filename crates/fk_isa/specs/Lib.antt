@@ -4,6 +4,7 @@ pub mod Find
 pub mod Found
 pub mod Fits
 pub mod FitsProp
+pub mod Computation
 pub mod Tells
 pub mod Atomic
 pub mod Step

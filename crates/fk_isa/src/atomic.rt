@@ -3,9 +3,10 @@
 ghost use Rattle.std.specs.Prelude.{◌≡◌};
 ghost use Rattle.fk_isa.specs.Atomic.{combined, unless};
 
+use crate::funct5::{AMOADD, AMOAND, AMOMAX, AMOMIN, AMOMINU, AMOOR, AMOSWAP, AMOXOR};
 use fk_num::{Op, apply};
 
-/// A reservation, unless it is that of a word.
+/// A reservation, unless it is of this word.
 pub fn unless(word: u32, reservation: Option<u32>) -> Option<u32>
     ensures { result ≡ unless word reservation }
 {
@@ -15,21 +16,21 @@ pub fn unless(word: u32, reservation: Option<u32>) -> Option<u32>
     }
 }
 
-/// The word that an atomic instruction stores, by the bits 31 to 27 of its word, of the one that it
-/// found and its value.
+/// The word that an atomic instruction stores, by the bits 31 to 27 of the instruction, the word
+/// that it found, and its value.
 #[tactic(auto, unfolding(crate::specs::Atomic::combined))]
 pub fn combine(what: u8, old: u32, value: u32) -> u32
     ensures { result ≡ combined what old value }
 {
     let op = match what {
-        0b00001 => return value,
-        0b00000 => Op::Add,
-        0b00100 => Op::Xor,
-        0b01100 => Op::And,
-        0b01000 => Op::Or,
-        0b10000 => Op::MinS,
-        0b10100 => Op::MaxS,
-        0b11000 => Op::MinU,
+        AMOSWAP => return value,
+        AMOADD => Op::Add,
+        AMOXOR => Op::Xor,
+        AMOAND => Op::And,
+        AMOOR => Op::Or,
+        AMOMIN => Op::MinS,
+        AMOMAX => Op::MaxS,
+        AMOMINU => Op::MinU,
         _ => Op::MaxU,
     };
     apply(op, old, value)

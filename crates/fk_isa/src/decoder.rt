@@ -1,4 +1,4 @@
-//! The instruction of a word.
+//! Decodes words into instructions.
 
 ghost use Rattle.std.specs.Prelude.{◌≡◌, ◌↔◌, ◌<◌, ◌≤◌, ◌^◌, Some, IfSome};
 ghost use Rattle.fk_isa.specs.Bits.{bits, is_set, i_immediate, s_immediate, b_immediate};
@@ -12,6 +12,9 @@ ghost use Rattle.fk_isa.specs.Row.{Row};
 ghost use Rattle.fk_isa.specs.declared.instruction.Instruction.{Instruction};
 
 use crate::fields::{bits, extended};
+use crate::funct5::{
+    AMOADD, AMOAND, AMOMAX, AMOMAXU, AMOMIN, AMOMINU, AMOOR, AMOSWAP, AMOXOR, LR, SC,
+};
 use crate::instruction::Instruction;
 use crate::opcode::{
     AMO, AUIPC, BRANCH, JAL, JALR, LOAD, LUI, MISC_MEM, OP, OP_IMM, STORE, SYSTEM,
@@ -25,7 +28,7 @@ fn is_set(word: u32, low: u32) -> bool
     bits(word, low, 1) == 1
 }
 
-// The number of the register that stands in five bits.
+// The number of the register in five bits of a word.
 fn register(word: u32, low: u32) -> u8
     requires { low < 32 }
     ensures value { result ≡ bits word low 5 }
@@ -56,6 +59,12 @@ fn funct3(word: u32) -> u32
     ensures { result ≡ bits word 12 3 }
 {
     bits(word, 12, 3)
+}
+
+fn funct5(word: u32) -> u8
+    ensures { result ≡ bits word 27 5 }
+{
+    bits(word, 27, 5) as u8
 }
 
 fn funct7(word: u32) -> u32
@@ -93,11 +102,17 @@ fn j_immediate(word: u32) -> u32
 }
 
 /// The instruction of a word, or None where the table has no row for it.
-#[tactic(auto, unfolding(crate::specs::Find::row))]
 pub fn decode(word: u32) -> Option<Instruction>
     ensures row { result ≡ row word }
     ensures table { (i : Instruction) → (result ≡ Some i) ↔ Row word i }
     ensures fits { IfSome result Fits }
+{
+    row_of(word)
+}
+
+#[tactic(auto, unfolding(crate::specs::Find::row))]
+fn row_of(word: u32) -> Option<Instruction>
+    ensures { result ≡ row word }
 {
     match bits(word, 0, 7) {
         LUI => Some(Instruction::Lui(rd(word), bits(word, 12, 20))),
@@ -299,18 +314,18 @@ fn word_atomic(word: u32) -> Option<Instruction>
 {
     let (rd, rs1, rs2) = (rd(word), rs1(word), rs2(word));
     let (aq, rl) = (is_set(word, 26), is_set(word, 25));
-    match bits(word, 27, 5) {
-        0b00010 => reserved(word),
-        0b00011 => Some(Instruction::ScW(rd, rs1, rs2, aq, rl)),
-        0b00001 => Some(Instruction::AmoSwapW(rd, rs1, rs2, aq, rl)),
-        0b00000 => Some(Instruction::AmoAddW(rd, rs1, rs2, aq, rl)),
-        0b00100 => Some(Instruction::AmoXorW(rd, rs1, rs2, aq, rl)),
-        0b01100 => Some(Instruction::AmoAndW(rd, rs1, rs2, aq, rl)),
-        0b01000 => Some(Instruction::AmoOrW(rd, rs1, rs2, aq, rl)),
-        0b10000 => Some(Instruction::AmoMinW(rd, rs1, rs2, aq, rl)),
-        0b10100 => Some(Instruction::AmoMaxW(rd, rs1, rs2, aq, rl)),
-        0b11000 => Some(Instruction::AmoMinuW(rd, rs1, rs2, aq, rl)),
-        0b11100 => Some(Instruction::AmoMaxuW(rd, rs1, rs2, aq, rl)),
+    match funct5(word) {
+        LR => reserved(word),
+        SC => Some(Instruction::ScW(rd, rs1, rs2, aq, rl)),
+        AMOSWAP => Some(Instruction::AmoSwapW(rd, rs1, rs2, aq, rl)),
+        AMOADD => Some(Instruction::AmoAddW(rd, rs1, rs2, aq, rl)),
+        AMOXOR => Some(Instruction::AmoXorW(rd, rs1, rs2, aq, rl)),
+        AMOAND => Some(Instruction::AmoAndW(rd, rs1, rs2, aq, rl)),
+        AMOOR => Some(Instruction::AmoOrW(rd, rs1, rs2, aq, rl)),
+        AMOMIN => Some(Instruction::AmoMinW(rd, rs1, rs2, aq, rl)),
+        AMOMAX => Some(Instruction::AmoMaxW(rd, rs1, rs2, aq, rl)),
+        AMOMINU => Some(Instruction::AmoMinuW(rd, rs1, rs2, aq, rl)),
+        AMOMAXU => Some(Instruction::AmoMaxuW(rd, rs1, rs2, aq, rl)),
         _ => None,
     }
 }

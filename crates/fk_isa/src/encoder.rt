@@ -1,11 +1,15 @@
-//! The word of an instruction.
+//! Encodes instructions as words.
 
 ghost use Rattle.std.specs.Prelude.{◌≡◌, ℕ, ◌<◌, ◌^◌, ◌*◌, ◌/◌, ◌%◌, ◌+◌};
+ghost use Rattle.fk_isa.specs.Computation.{IsComputation};
 ghost use Rattle.fk_isa.specs.Fits.{Fits, IsRegister, IsShort, IsOffset};
 ghost use Rattle.fk_isa.specs.Row.{Row, RFormat, IFormat, SFormat, BFormat, UFormat, JFormat};
 ghost use Rattle.fk_isa.specs.Row.{AFormat, FenceFormat};
 
 use crate::fields::bits;
+use crate::funct5::{
+    AMOADD, AMOAND, AMOMAX, AMOMAXU, AMOMIN, AMOMINU, AMOOR, AMOSWAP, AMOXOR, LR, SC,
+};
 use crate::instruction::Instruction;
 use crate::opcode::{AMO, AUIPC, BRANCH, JAL, JALR, LOAD, LUI, MISC_MEM, OP, OP_IMM, STORE};
 
@@ -24,8 +28,6 @@ fn placed(instruction: Instruction) -> u32
     ensures { Row result instruction }
 {
     match instruction {
-        Instruction::Lui(rd, upper) => u_format(LUI, rd, upper),
-        Instruction::Auipc(rd, upper) => u_format(AUIPC, rd, upper),
         Instruction::Jal(rd, offset) => j_format(JAL, rd, offset),
         Instruction::Jalr(rd, rs1, offset) => i_format(0, JALR, rd, rs1, offset),
         Instruction::Beq(rs1, rs2, offset) => b_format(0, BRANCH, rs1, rs2, offset),
@@ -42,6 +44,33 @@ fn placed(instruction: Instruction) -> u32
         Instruction::Sb(rs1, rs2, offset) => s_format(0, STORE, rs1, rs2, offset),
         Instruction::Sh(rs1, rs2, offset) => s_format(1, STORE, rs1, rs2, offset),
         Instruction::Sw(rs1, rs2, offset) => s_format(2, STORE, rs1, rs2, offset),
+        Instruction::Fence(high, low) => fence_format(high, low),
+        Instruction::Ecall => 0x0000_0073,
+        Instruction::Ebreak => 0x0010_0073,
+        Instruction::LrW(rd, rs1, aq, rl) => amo_format(LR, aq, rl, rd, rs1, 0),
+        Instruction::ScW(rd, rs1, rs2, aq, rl) => amo_format(SC, aq, rl, rd, rs1, rs2),
+        Instruction::AmoSwapW(rd, rs1, rs2, aq, rl) => amo_format(AMOSWAP, aq, rl, rd, rs1, rs2),
+        Instruction::AmoAddW(rd, rs1, rs2, aq, rl) => amo_format(AMOADD, aq, rl, rd, rs1, rs2),
+        Instruction::AmoXorW(rd, rs1, rs2, aq, rl) => amo_format(AMOXOR, aq, rl, rd, rs1, rs2),
+        Instruction::AmoAndW(rd, rs1, rs2, aq, rl) => amo_format(AMOAND, aq, rl, rd, rs1, rs2),
+        Instruction::AmoOrW(rd, rs1, rs2, aq, rl) => amo_format(AMOOR, aq, rl, rd, rs1, rs2),
+        Instruction::AmoMinW(rd, rs1, rs2, aq, rl) => amo_format(AMOMIN, aq, rl, rd, rs1, rs2),
+        Instruction::AmoMaxW(rd, rs1, rs2, aq, rl) => amo_format(AMOMAX, aq, rl, rd, rs1, rs2),
+        Instruction::AmoMinuW(rd, rs1, rs2, aq, rl) => amo_format(AMOMINU, aq, rl, rd, rs1, rs2),
+        Instruction::AmoMaxuW(rd, rs1, rs2, aq, rl) => amo_format(AMOMAXU, aq, rl, rd, rs1, rs2),
+        _ => placed_computation(instruction),
+    }
+}
+
+// The fields of an instruction that computes, each where its row has it.
+fn placed_computation(instruction: Instruction) -> u32
+    requires fits { Fits instruction }
+    requires computation { IsComputation instruction }
+    ensures { Row result instruction }
+{
+    match instruction {
+        Instruction::Lui(rd, upper) => u_format(LUI, rd, upper),
+        Instruction::Auipc(rd, upper) => u_format(AUIPC, rd, upper),
         Instruction::Addi(rd, rs1, immediate) => i_format(0, OP_IMM, rd, rs1, immediate),
         Instruction::Slti(rd, rs1, immediate) => i_format(2, OP_IMM, rd, rs1, immediate),
         Instruction::Sltiu(rd, rs1, immediate) => i_format(3, OP_IMM, rd, rs1, immediate),
@@ -69,20 +98,7 @@ fn placed(instruction: Instruction) -> u32
         Instruction::Divu(rd, rs1, rs2) => r_format(1, 5, OP, rd, rs1, rs2),
         Instruction::Rem(rd, rs1, rs2) => r_format(1, 6, OP, rd, rs1, rs2),
         Instruction::Remu(rd, rs1, rs2) => r_format(1, 7, OP, rd, rs1, rs2),
-        Instruction::Fence(high, low) => fence_format(high, low),
-        Instruction::Ecall => 0x0000_0073,
-        Instruction::Ebreak => 0x0010_0073,
-        Instruction::LrW(rd, rs1, aq, rl) => amo_format(0b00010, aq, rl, rd, rs1, 0),
-        Instruction::ScW(rd, rs1, rs2, aq, rl) => amo_format(0b00011, aq, rl, rd, rs1, rs2),
-        Instruction::AmoSwapW(rd, rs1, rs2, aq, rl) => amo_format(0b00001, aq, rl, rd, rs1, rs2),
-        Instruction::AmoAddW(rd, rs1, rs2, aq, rl) => amo_format(0b00000, aq, rl, rd, rs1, rs2),
-        Instruction::AmoXorW(rd, rs1, rs2, aq, rl) => amo_format(0b00100, aq, rl, rd, rs1, rs2),
-        Instruction::AmoAndW(rd, rs1, rs2, aq, rl) => amo_format(0b01100, aq, rl, rd, rs1, rs2),
-        Instruction::AmoOrW(rd, rs1, rs2, aq, rl) => amo_format(0b01000, aq, rl, rd, rs1, rs2),
-        Instruction::AmoMinW(rd, rs1, rs2, aq, rl) => amo_format(0b10000, aq, rl, rd, rs1, rs2),
-        Instruction::AmoMaxW(rd, rs1, rs2, aq, rl) => amo_format(0b10100, aq, rl, rd, rs1, rs2),
-        Instruction::AmoMinuW(rd, rs1, rs2, aq, rl) => amo_format(0b11000, aq, rl, rd, rs1, rs2),
-        Instruction::AmoMaxuW(rd, rs1, rs2, aq, rl) => amo_format(0b11100, aq, rl, rd, rs1, rs2),
+        _ => unreachable!(),
     }
 }
 
@@ -176,14 +192,14 @@ fn j_format(opcode: u32, rd: u8, offset: u32) -> u32
 }
 
 // The R format with the bits aq and rl below funct5.
-fn amo_format(funct5: u32, aq: bool, rl: bool, rd: u8, rs1: u8, rs2: u8) -> u32
+fn amo_format(funct5: u8, aq: bool, rl: bool, rd: u8, rs1: u8, rs2: u8) -> u32
     requires funct5 { funct5 < 2 ^ 5 }
     requires rd { IsRegister rd }
     requires rs1 { IsRegister rs1 }
     requires rs2 { IsRegister rs2 }
     ensures { AFormat result funct5 aq rl 2 0x2f rd rs1 rs2 }
 {
-    (funct5 << 27)
+    (u32::from(funct5) << 27)
         + (u32::from(aq) << 26)
         + (u32::from(rl) << 25)
         + (u32::from(rs2) << 20)

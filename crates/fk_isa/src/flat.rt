@@ -8,15 +8,16 @@ ghost use Rattle.fk_isa.specs.Tells.{IsSize};
 use crate::atomic::{combine, unless};
 use crate::bus::Bus;
 use crate::effect::{ACCESS, Effect, MISALIGNED};
+use crate::funct5::{LR, SC};
 
-/// A bus of 256 bytes and two harts, each with its reservation of a word, by the word's number.
+/// A bus of 256 bytes and two harts, with the number of the word that each has reserved.
 #[derive(Drop)]
 pub struct FlatMemory {
     pub bytes: [u8; 256],
     pub reserved: [Option<u32>; 2],
 }
 
-// The trap of an access, if it is one.
+// The trap of an access, if it traps.
 fn trap_of(address: u32, size: u8) -> Option<u8>
     requires { IsSize size }
     ensures trap { result ≡ flat_trap address size }
@@ -56,7 +57,7 @@ impl FlatMemory {
         u32::from(self.bytes[at]) + u32::from(self.bytes[at + 1]) * 0x100
     }
 
-    // The number of so many bytes.
+    // The number of `size` bytes.
     fn number(&self, address: u32, size: u8) -> u32
         requires size { IsSize size }
         requires within { address + size ≤ 256 }
@@ -90,7 +91,7 @@ impl FlatMemory {
         self.set_byte(at + 1, value / 0x100 % 0x100);
     }
 
-    // Stores so many bytes, and clears the reservations of their word.
+    // Stores `size` bytes, and clears the reservations of their word.
     fn put(&mut self, address: u32, size: u8, value: u32)
         requires size { IsSize size }
         requires within { address + size ≤ 256 }
@@ -108,7 +109,8 @@ impl FlatMemory {
         clear(&mut self.reserved, address / 4);
     }
 
-    // The conditional store of a word: 0 where it is done, and 1 where no reservation was held.
+    // The conditional store of a word. It gives 0 if the hart had reserved the word, and else 1 and
+    // stores nothing.
     fn store_conditional(&mut self, hart: u32, address: u32, value: u32) -> u32
         requires hart { hart < 2 }
         requires within { address + 4 ≤ 256 }
@@ -166,11 +168,11 @@ impl Bus for FlatMemory {
             return Err(trap);
         }
         match what {
-            0b00010 => {
+            LR => {
                 self.reserved[hart as usize] = Some(address / 4);
                 Ok(self.number(address, 4))
             }
-            0b00011 => Ok(self.store_conditional(hart, address, value)),
+            SC => Ok(self.store_conditional(hart, address, value)),
             _ => {
                 let old = self.number(address, 4);
                 self.put(address, 4, combine(what, old, value));

@@ -8,6 +8,7 @@ mod effect;
 mod encoder;
 mod fields;
 mod flat;
+pub mod funct5;
 mod hart;
 mod instruction;
 pub mod laws;

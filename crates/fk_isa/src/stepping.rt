@@ -4,6 +4,7 @@ ghost use Rattle.std.specs.Prelude.{◌≡◌, ℕ, ◌<◌, ◌^◌, ◌*◌, �
 ghost use Rattle.fk_num.specs.Op.{applied};
 ghost use Rattle.fk_num.specs.Word.{word_sum, signed};
 ghost use Rattle.fk_isa.specs.Bits.{extended};
+ghost use Rattle.fk_isa.specs.Computation.{IsComputation};
 ghost use Rattle.fk_isa.specs.Fits.{Fits};
 ghost use Rattle.fk_isa.specs.Tells.{IsSize, IsAtomic};
 ghost use Rattle.fk_isa.specs.Step.{After, atomic, hart_of, load, step, store};
@@ -11,11 +12,14 @@ ghost use Rattle.fk_isa.specs.Step.{After, atomic, hart_of, load, step, store};
 use crate::bus::Bus;
 use crate::effect::{EBREAK, ECALL, Effect};
 use crate::fields::extended;
+use crate::funct5::{
+    AMOADD, AMOAND, AMOMAX, AMOMAXU, AMOMIN, AMOMINU, AMOOR, AMOSWAP, AMOXOR, LR, SC,
+};
 use crate::hart::Hart;
 use crate::instruction::Instruction;
 use fk_num::Op;
 
-/// One instruction of the hart with a number.
+/// Runs one instruction of the hart with this number.
 pub fn step<B: Bus>(instruction: Instruction, number: u32, hart: &mut Hart, bus: &mut B) -> Effect
     requires fits { Fits instruction }
     requires number { number < B.harts bus.old }
@@ -25,39 +29,57 @@ pub fn step<B: Bus>(instruction: Instruction, number: u32, hart: &mut Hart, bus:
     ensures keeps { B.keeps bus.old bus.new ⊎ (bus.new ≡ bus.old) }
 {
     match instruction {
-        Instruction::Lui(rd, upper) => hart.write(rd, upper << 12),
-        Instruction::Auipc(rd, upper) => hart.write(rd, hart.pc.wrapping_add(upper << 12)),
-        Instruction::Jal(rd, offset) => hart.jump(rd, hart.pc.wrapping_add(offset)),
-        Instruction::Jalr(rd, rs1, offset) => hart.jump(rd, hart.sum(rs1, offset) / 2 * 2),
-        Instruction::Beq(rs1, rs2, offset) => hart.branch(hart.word(rs1) == hart.word(rs2), offset),
-        Instruction::Bne(rs1, rs2, offset) => hart.branch(hart.word(rs1) != hart.word(rs2), offset),
-        Instruction::Blt(rs1, rs2, offset) => hart.branch(
-            hart.signed(rs1) < hart.signed(rs2),
-            offset,
-        ),
-        Instruction::Bge(rs1, rs2, offset) => hart.branch(
-            hart.signed(rs1) >= hart.signed(rs2),
-            offset,
-        ),
-        Instruction::Bltu(rs1, rs2, offset) => hart.branch(hart.word(rs1) < hart.word(rs2), offset),
-        Instruction::Bgeu(rs1, rs2, offset) => hart.branch(
-            hart.word(rs1) >= hart.word(rs2),
-            offset,
-        ),
-        Instruction::Lb(rd, rs1, offset) => load_signed(number, hart, bus, rd, rs1, offset, 1),
-        Instruction::Lh(rd, rs1, offset) => load_signed(number, hart, bus, rd, rs1, offset, 2),
-        Instruction::Lw(rd, rs1, offset) => load(number, hart, bus, rd, rs1, offset, 4),
-        Instruction::Lbu(rd, rs1, offset) => load(number, hart, bus, rd, rs1, offset, 1),
-        Instruction::Lhu(rd, rs1, offset) => load(number, hart, bus, rd, rs1, offset, 2),
-        Instruction::Sb(rs1, rs2, offset) => store(number, hart, bus, rs1, rs2, offset, 1),
-        Instruction::Sh(rs1, rs2, offset) => store(number, hart, bus, rs1, rs2, offset, 2),
-        Instruction::Sw(rs1, rs2, offset) => store(number, hart, bus, rs1, rs2, offset, 4),
-        Instruction::Addi(rd, rs1, immediate) => hart.operate(Op::Add, rd, rs1, immediate),
-        Instruction::Slti(rd, rs1, immediate) => hart.operate(Op::LtS, rd, rs1, immediate),
-        Instruction::Sltiu(rd, rs1, immediate) => hart.operate(Op::LtU, rd, rs1, immediate),
-        Instruction::Xori(rd, rs1, immediate) => hart.operate(Op::Xor, rd, rs1, immediate),
-        Instruction::Ori(rd, rs1, immediate) => hart.operate(Op::Or, rd, rs1, immediate),
-        Instruction::Andi(rd, rs1, immediate) => hart.operate(Op::And, rd, rs1, immediate),
+        Instruction::Jal(rd, imm) => hart.jump(rd, hart.pc.wrapping_add(imm)),
+        Instruction::Jalr(rd, rs1, imm) => hart.jump(rd, hart.sum(rs1, imm) / 2 * 2),
+        Instruction::Beq(rs1, rs2, imm) => hart.branch(hart.word(rs1) == hart.word(rs2), imm),
+        Instruction::Bne(rs1, rs2, imm) => hart.branch(hart.word(rs1) != hart.word(rs2), imm),
+        Instruction::Blt(rs1, rs2, imm) => hart.branch(hart.signed(rs1) < hart.signed(rs2), imm),
+        Instruction::Bge(rs1, rs2, imm) => hart.branch(hart.signed(rs1) >= hart.signed(rs2), imm),
+        Instruction::Bltu(rs1, rs2, imm) => hart.branch(hart.word(rs1) < hart.word(rs2), imm),
+        Instruction::Bgeu(rs1, rs2, imm) => hart.branch(hart.word(rs1) >= hart.word(rs2), imm),
+        Instruction::Lb(rd, rs1, imm) => load_signed(number, hart, bus, rd, rs1, imm, 1),
+        Instruction::Lh(rd, rs1, imm) => load_signed(number, hart, bus, rd, rs1, imm, 2),
+        Instruction::Lw(rd, rs1, imm) => load(number, hart, bus, rd, rs1, imm, 4),
+        Instruction::Lbu(rd, rs1, imm) => load(number, hart, bus, rd, rs1, imm, 1),
+        Instruction::Lhu(rd, rs1, imm) => load(number, hart, bus, rd, rs1, imm, 2),
+        Instruction::Sb(rs1, rs2, imm) => store(number, hart, bus, rs1, rs2, imm, 1),
+        Instruction::Sh(rs1, rs2, imm) => store(number, hart, bus, rs1, rs2, imm, 2),
+        Instruction::Sw(rs1, rs2, imm) => store(number, hart, bus, rs1, rs2, imm, 4),
+        Instruction::Fence(..) => hart.go_on(),
+        Instruction::Ecall => Effect::Trap(ECALL),
+        Instruction::Ebreak => Effect::Trap(EBREAK),
+        Instruction::LrW(rd, rs1, ..) => atomic(number, hart, bus, LR, rd, rs1, 0),
+        Instruction::ScW(rd, rs1, rs2, ..) => atomic(number, hart, bus, SC, rd, rs1, rs2),
+        Instruction::AmoSwapW(rd, rs1, rs2, ..) => atomic(number, hart, bus, AMOSWAP, rd, rs1, rs2),
+        Instruction::AmoAddW(rd, rs1, rs2, ..) => atomic(number, hart, bus, AMOADD, rd, rs1, rs2),
+        Instruction::AmoXorW(rd, rs1, rs2, ..) => atomic(number, hart, bus, AMOXOR, rd, rs1, rs2),
+        Instruction::AmoAndW(rd, rs1, rs2, ..) => atomic(number, hart, bus, AMOAND, rd, rs1, rs2),
+        Instruction::AmoOrW(rd, rs1, rs2, ..) => atomic(number, hart, bus, AMOOR, rd, rs1, rs2),
+        Instruction::AmoMinW(rd, rs1, rs2, ..) => atomic(number, hart, bus, AMOMIN, rd, rs1, rs2),
+        Instruction::AmoMaxW(rd, rs1, rs2, ..) => atomic(number, hart, bus, AMOMAX, rd, rs1, rs2),
+        Instruction::AmoMinuW(rd, rs1, rs2, ..) => atomic(number, hart, bus, AMOMINU, rd, rs1, rs2),
+        Instruction::AmoMaxuW(rd, rs1, rs2, ..) => atomic(number, hart, bus, AMOMAXU, rd, rs1, rs2),
+        _ => compute::<B>(instruction, hart),
+    }
+}
+
+// One instruction that computes. It does not reach the bus.
+#[inline(always)]
+fn compute<B: Bus>(instruction: Instruction, hart: &mut Hart) -> Effect
+    requires fits { Fits instruction }
+    requires computation { IsComputation instruction }
+    ensures { (number : ℕ) (bus : B.State) → step B.tells number instruction (hart_of hart.old) bus
+        ≡ After result (hart_of hart.new) bus }
+{
+    match instruction {
+        Instruction::Lui(rd, imm) => hart.write(rd, imm << 12),
+        Instruction::Auipc(rd, imm) => hart.write(rd, hart.pc.wrapping_add(imm << 12)),
+        Instruction::Addi(rd, rs1, imm) => hart.operate(Op::Add, rd, rs1, imm),
+        Instruction::Slti(rd, rs1, imm) => hart.operate(Op::LtS, rd, rs1, imm),
+        Instruction::Sltiu(rd, rs1, imm) => hart.operate(Op::LtU, rd, rs1, imm),
+        Instruction::Xori(rd, rs1, imm) => hart.operate(Op::Xor, rd, rs1, imm),
+        Instruction::Ori(rd, rs1, imm) => hart.operate(Op::Or, rd, rs1, imm),
+        Instruction::Andi(rd, rs1, imm) => hart.operate(Op::And, rd, rs1, imm),
         Instruction::Slli(rd, rs1, distance) => hart.operate(Op::Shl, rd, rs1, distance.into()),
         Instruction::Srli(rd, rs1, distance) => hart.operate(Op::ShrU, rd, rs1, distance.into()),
         Instruction::Srai(rd, rs1, distance) => hart.operate(Op::ShrS, rd, rs1, distance.into()),
@@ -79,40 +101,11 @@ pub fn step<B: Bus>(instruction: Instruction, number: u32, hart: &mut Hart, bus:
         Instruction::Divu(rd, rs1, rs2) => hart.operate_two(Op::DivU, rd, rs1, rs2),
         Instruction::Rem(rd, rs1, rs2) => hart.operate_two(Op::RemS, rd, rs1, rs2),
         Instruction::Remu(rd, rs1, rs2) => hart.operate_two(Op::RemU, rd, rs1, rs2),
-        Instruction::Fence(_, _) => hart.go_on(),
-        Instruction::Ecall => Effect::Trap(ECALL),
-        Instruction::Ebreak => Effect::Trap(EBREAK),
-        Instruction::LrW(rd, rs1, _, _) => atomic(number, hart, bus, 0b00010, rd, rs1, 0),
-        Instruction::ScW(rd, rs1, rs2, _, _) => atomic(number, hart, bus, 0b00011, rd, rs1, rs2),
-        Instruction::AmoSwapW(rd, rs1, rs2, _, _) => atomic(
-            number, hart, bus, 0b00001, rd, rs1, rs2,
-        ),
-        Instruction::AmoAddW(rd, rs1, rs2, _, _) => atomic(
-            number, hart, bus, 0b00000, rd, rs1, rs2,
-        ),
-        Instruction::AmoXorW(rd, rs1, rs2, _, _) => atomic(
-            number, hart, bus, 0b00100, rd, rs1, rs2,
-        ),
-        Instruction::AmoAndW(rd, rs1, rs2, _, _) => atomic(
-            number, hart, bus, 0b01100, rd, rs1, rs2,
-        ),
-        Instruction::AmoOrW(rd, rs1, rs2, _, _) => atomic(number, hart, bus, 0b01000, rd, rs1, rs2),
-        Instruction::AmoMinW(rd, rs1, rs2, _, _) => atomic(
-            number, hart, bus, 0b10000, rd, rs1, rs2,
-        ),
-        Instruction::AmoMaxW(rd, rs1, rs2, _, _) => atomic(
-            number, hart, bus, 0b10100, rd, rs1, rs2,
-        ),
-        Instruction::AmoMinuW(rd, rs1, rs2, _, _) => atomic(
-            number, hart, bus, 0b11000, rd, rs1, rs2,
-        ),
-        Instruction::AmoMaxuW(rd, rs1, rs2, _, _) => atomic(
-            number, hart, bus, 0b11100, rd, rs1, rs2,
-        ),
+        _ => unreachable!(),
     }
 }
 
-// A load of so many bytes, without sign.
+// A load of `size` bytes, without sign.
 #[inline(always)]
 fn load<B: Bus>(
     number: u32,
@@ -164,7 +157,7 @@ fn load_signed<B: Bus>(
     }
 }
 
-// A store of the low bytes of rs2, so many.
+// A store of the low `size` bytes of rs2.
 #[inline(always)]
 fn store<B: Bus>(
     number: u32,
@@ -192,7 +185,7 @@ fn store<B: Bus>(
     }
 }
 
-// An atomic instruction by its bits 31 to 27.
+// An atomic instruction, by its bits 31 to 27.
 #[inline(always)]
 fn atomic<B: Bus>(
     number: u32,

@@ -8,9 +8,10 @@ use crate::place::{Device, Location, place_at};
 use crate::setting::Setting;
 use crate::shared::SharedState;
 use crate::stand::{ACCESS, MISALIGNED};
+use fk_isa::funct5::{LR, SC};
 use fk_isa::{Bus, Effect, combine};
 
-// The bytes of a word from one on, so many, lowest first.
+// `size` bytes of a word, from byte `byte` on, lowest first.
 #[inline(always)]
 fn part(word: u32, byte: u32, size: u8) -> u32
     requires size { IsSize size }
@@ -25,7 +26,7 @@ fn part(word: u32, byte: u32, size: u8) -> u32
     }
 }
 
-// A word with these bytes replaced by the lowest ones of a value.
+// The word with these bytes replaced by the lowest ones of a value.
 #[inline(always)]
 fn with_part(word: u32, byte: u32, size: u8, value: u32) -> u32
     requires size { IsSize size }
@@ -58,7 +59,7 @@ impl HartBus<'_> {
     ghost use Rattle.fk_machine.specs.Reach.{conditional, is_of};
     ghost use Rattle.fk_machine.specs.Does.{IsReady, Keeps, reach_of};
 
-    // A load from a device, or the number of its trap.
+    // A load from a device: its word, or the number of the trap.
     #[inline(always)]
     fn load_device(&self, number: u32, device: Device) -> Result<u32, u8>
         ensures { Told (load_device (reach_of self.now) number device) result (reach_of self.now)
@@ -73,7 +74,7 @@ impl HartBus<'_> {
         }
     }
 
-    // A store to a device, or the number of its trap.
+    // A store to a device: its effect, or the number of the trap.
     #[inline(always)]
     fn store_device(&mut self, device: Device, value: u32) -> Result<Effect, u8>
         requires { IsReady self.old }
@@ -106,7 +107,7 @@ impl HartBus<'_> {
         }
     }
 
-    // Stores a word in a memory, and clears its reservations.
+    // Stores a word in a memory, and clears the word's reservations.
     #[inline(always)]
     fn store_word(&mut self, number: u32, word: u32, place: Location, value: u32)
         requires number { number < vec_len self.old.shared.now.reserved }
@@ -133,7 +134,8 @@ impl HartBus<'_> {
         }
     }
 
-    // The conditional store of a word: 0 where it is done, and 1 where no reservation was held.
+    // The conditional store of a word. It gives 0 if the hart had reserved the word, and else 1 and
+    // stores nothing.
     #[inline(always)]
     fn store_conditional(&mut self, number: u32, word: u32, place: Location, value: u32) -> u32
         requires number { number < vec_len self.old.shared.now.reserved }
@@ -218,8 +220,8 @@ impl Bus for HartBus<'_> {
             None => return Err(ACCESS),
         };
         match what {
-            0b00010 => self.shared.reserve(hart, Some(address)),
-            0b00011 => return Ok(self.store_conditional(hart, address, place, value)),
+            LR => self.shared.reserve(hart, Some(address)),
+            SC => return Ok(self.store_conditional(hart, address, place, value)),
             _ => self.store_word(hart, address, place, combine(what, word, value)),
         }
         Ok(word)
