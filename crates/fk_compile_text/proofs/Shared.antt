@@ -1,15 +1,16 @@
 -- The rows of shared variables of file scope end where all of them do.
-use Rattle.std.proofs.Common.{ℕ, ◌+◌, ◌≤◌, true, List, [], ◌∷◌, Contains, Option, Some, None, inl, inr, ap, arith}
+use Rattle.std.proofs.Common.{ℕ, ◌+◌, ◌≤◌, true, List, [], ◌∷◌, Contains, map, Option, Some, None, inl, inr, ap, subst, arith}
 use Rattle.std.specs.Prelude.{IfSome}
 use Rattle.std.specs.Option.{option_map}
 use Rattle.std.proofs.lemmas.List.Sums.{sum_by-cons}
 use Rattle.fk_syntax.specs.Program.{DeclaredTree, ItemTree}
 use Rattle.fk_meaning_forms.specs.Tables.{Tables}
+use Rattle.fk_layout_globals.specs.Constants.{told}
 use Rattle.fk_layout_globals.specs.Variables.{variables_of}
 use Rattle.fk_layout_globals.specs.Rows.{Row, words_of, row_at, rows_from, rows, total_of, total}
 use Rattle.fk_layout_globals.specs.View.{row_of}
 use Rattle.fk_layout_globals.specs.declared.rows.GlobalRow.{GlobalRow}
-use Rattle.fk_compile_text.specs.Text.{IsRowOf}
+use Rattle.fk_compile_text.specs.Text.{HasGlobal, HasRows, IsRowOf}
 use Rattle.fk_compile_text.proofs.Elements.{Contains-cons_cases, Contains-nil}
 
 row_fits : (tables : Tables) (variables : List DeclaredTree) (first : ℕ) (row : Row) → Contains (rows_from tables first variables) row → row.first + row.words ≤ first + total_of tables variables
@@ -21,7 +22,20 @@ row_fits tables (v ∷ vs) first row h =
       | inr rest ↦ omega (arith, row_fits tables vs (first + words_of tables v) row rest, sum)
     ]
 
-pub row_few : (tables : Tables) (items : List ItemTree) (name : List ℕ) (row : Option GlobalRow) → total tables items ≤ 524288 → IsRowOf (rows tables items) name (option_map row_of row)
-    → IfSome row (λ r. r.first + r.words ≤ 524288)
-row_few tables items name None few is = tt
-row_few tables items name (Some row) few is = omega (arith, row_fits tables (variables_of true items) 0 (row_of row) is.0, few)
+module _ (source name : List ℕ) (list : List GlobalRow) (has : HasRows source (map row_of list)) where
+  -- what is found among the rows of a text is what the text has
+  pub global_of : (row : Option GlobalRow) → IsRowOf (map row_of list) name (option_map row_of row) → HasGlobal source name (option_map row_of row)
+  global_of row is = record {
+    laid = has.built.laid;
+    built = has.built.built;
+    is = subst (λ (all : List Row). IsRowOf all name (option_map row_of row)) has.are is;
+  }
+
+  pub row_few : (row : Option GlobalRow) → IsRowOf (map row_of list) name (option_map row_of row) → IfSome row (λ r. r.first + r.words ≤ 524288)
+  row_few None is = tt
+  row_few (Some row) is =
+      let laid = has.built.laid in
+      let tables = told laid.facts.notes.items laid.facts.kinds.items in
+      let few : total tables laid.tree.items ≤ 524288 = laid.fits.words in
+      let among = subst (λ (all : List Row). Contains all (row_of row)) has.are is.0 in
+      omega (arith, row_fits tables (variables_of true laid.tree.items) 0 (row_of row) among, few)

@@ -17,8 +17,7 @@ returns-clause-refused c =
     (λ refusal. (source : List ℕ) → length source ≤ 1048576 → IsChecked source tree facts → Fits (tables_by tree facts) tree.items → IsRefusedText source refusal)
     (λ refusal told source short checked fits.
     let found =
-    one_unbuilt c.complete.result (tables_by tree facts) tree (c.complete.ensures.tables ∙ c.known_of-known.ensures.tables)
-    (c.complete.ensures.items ∙ c.known_of-known.ensures.items) (sym c.are_built.ensures ∙ told.0) in
+    one_unbuilt c.tables.result (tables_by tree facts) tree c.tables.ensures.tables c.tables.ensures.items (sym c.are_built.ensures ∙ told.0) in
     subst (IsRefusedText source) (sym told.1)
     (short, record { laid = record { tree = tree; facts = facts; checked = checked; fits = fits }; operation = found.0; among = found.1; unbuilt = found.2 }))
     c.told_by.ensures.not_built

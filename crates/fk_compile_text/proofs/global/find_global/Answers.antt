@@ -1,35 +1,25 @@
-use Rattle.std.proofs.Common.{◌≡◌, ℕ, List, Option, map, ap, subst, ◌∙◌}
-use Rattle.std.specs.Option.{option_map}
-use Rattle.fk_syntax.specs.ProgramView.{program_of}
-use Rattle.fk_layout_globals.specs.declared.rows.GlobalRow.{GlobalRow}
-use Rattle.fk_layout_globals.specs.Constants.{told}
-use Rattle.fk_layout_globals.specs.Rows.{Row, rows}
+use Rattle.std.proofs.Common.{get_or, arith}
+use Rattle.std.specs.Cmp.Lexicographic.{same_text, other_text}
+use Rattle.std.proofs.lemmas.List.{get_or_default}
 use Rattle.fk_layout_globals.specs.View.{row_of}
-use Rattle.fk_compile_text.specs.Text.{IsRowOf}
-use Rattle.fk_compile_text.proofs.Shared.{row_few}
+use Rattle.fk_compile_text.proofs.Searches.{no_row, has_it, lack_more, lack_at_all}
 use Rattle.fk_compile_text.proofs.global.find_global.Goals as goal
 
--- the row that was found among those of a layout
-found : (all : List Row) (list laid : List GlobalRow) (name : List ℕ) (row : Option GlobalRow) → list ≡ laid → map row_of laid ≡ all
-    → IsRowOf (map row_of list) name (option_map row_of row) → IsRowOf all name (option_map row_of row)
-found all list laid name row same is h = subst (λ (rs : List Row). IsRowOf rs name (option_map row_of row)) (ap (map row_of) same ∙ is) h
+pub returns-then-eq : goal.returns-then-eq
+returns-then-eq c =
+    let rows = c.args.rows.now in
+    let i = c.loop-row.row-index in
+    let row = get_or rows i no_row in
+    let is = get_or_default rows i no_row row c.loop-row-test.true in
+    (has_it row_of rows i row c.loop-row-test.true is, same_text row.name.now c.args.name.now c.if-eq.ensures)
 
-pub returns-clause-global : goal.returns-clause-global
-returns-clause-global c =
-    let text = c.in_ok-text.text in
-    let tree = program_of text.tree in
-    let facts = text.facts in
-    let all = rows (told facts.notes.items facts.kinds.items) tree.items in
-    record {
-      laid = record { tree = tree; facts = facts; checked = c.in_ok-text.ensures.checked; fits = c.in_ok-text.ensures.fits };
-      built = c.in_ok-text.ensures.built;
-      is = found all c.deref.result.now text.layout.rows.items c.args.name.now c.row_named.result c.deref.ensures.value c.in_ok-text.ensures.laid.rows c.row_named.ensures;
-    }
+pub loop-row-preserved : goal.loop-row-preserved
+loop-row-preserved c =
+    let rows = c.args.rows.now in
+    let i = c.loop-row.row-index in
+    let row = get_or rows i no_row in
+    let is = get_or_default rows i no_row row c.loop-row-test.true in
+    lack_more rows c.args.name.now i row c.loop-row-test.true is (other_text row.name.now c.args.name.now c.if-eq.ensures) c.loop-row.invariant
 
-pub returns-clause-few : goal.returns-clause-few
-returns-clause-few c =
-    let text = c.in_ok-text.text in
-    let tree = program_of text.tree in
-    let tables = told text.facts.notes.items text.facts.kinds.items in
-    row_few tables tree.items c.args.name.now c.row_named.result c.in_ok-text.ensures.fits.words
-    (found (rows tables tree.items) c.deref.result.now text.layout.rows.items c.args.name.now c.row_named.result c.deref.ensures.value c.in_ok-text.ensures.laid.rows c.row_named.ensures)
+pub returns : goal.returns
+returns c = lack_at_all c.args.rows.now c.args.name.now c.loop-row.row-index (omega arith) c.loop-row.invariant
