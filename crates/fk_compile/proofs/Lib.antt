@@ -3,6 +3,7 @@ pub mod LedTexts
 pub mod Led
 pub mod Evaluating
 pub mod OneProgram
+pub mod GroupSteps
 pub mod Sites
 pub mod PlainTexts
 -- the blocks of a list are few where its text has few operations

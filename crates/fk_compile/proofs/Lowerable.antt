@@ -1,12 +1,13 @@
 -- A text that keeps all rules and has a layout can be lowered.
-use Rattle.std.proofs.Common.{◌≤◌, ℕ, List, length, refl, sym, subst}
+use Rattle.std.proofs.Common.{◌≡◌, ◌≤◌, ◌^◌, ℕ, List, length, refl, sym, subst}
 use Rattle.std.specs.Prelude.{Result, Ok, Err, IfOk}
 use Rattle.fk_syntax.specs.declared.facts.Facts.{Facts}
 use Rattle.fk_syntax.specs.Program.{ItemTree, ProgramTree}
+use Rattle.fk_syntax.specs.WellFormed.{IsWellFormed}
 use Rattle.fk_meaning_forms.specs.Tables.{Tables}
 use Rattle.fk_meaning_forms.specs.Program.{functions_of, bodies_of, sites_in}
 use Rattle.fk_layout_walk.specs.declared.known.ProgramTables.{ProgramTables}
-use Rattle.fk_layout_walk.specs.Known.{tables_of}
+use Rattle.fk_layout_walk.specs.Known.{tables_of, items_in}
 use Rattle.fk_layout_walk_statements.specs.Texts.{functions_in, sites_of_text}
 use Rattle.fk_core.specs.declared.op.CoreOp.{CoreOp}
 use Rattle.fk_core_flat.specs.Laws.{AreShaped}
@@ -15,12 +16,15 @@ use Rattle.fk_layout.specs.Refusal.{Fits}
 use Rattle.fk_lower_text.specs.Whole.{AreWhole}
 use Rattle.fk_lower_text.specs.Lowered.{IsLowerable, HasSites}
 use Rattle.fk_core_flat.specs.Fitting.{FormsAreShaped}
-use Rattle.fk_parse_laws.specs.Trim.{ProgramIsTrim}
+use Rattle.fk_parse_laws.specs.Trim.{TextsAreTrim}
+use Rattle.fk_parse_laws.specs.Words.{TextsHaveWords}
 use Rattle.fk_check_laws.specs.Correct.{IsCorrect}
 use Rattle.fk_check_laws.specs.Laws.{CorrectProgramsFit}
 use Rattle.fk_lower_laws.specs.LoweringLaws.{IsKnownOf}
 use Rattle.fk_compile_text.specs.Plain.{ArePlain}
-use Rattle.fk_lower_laws.specs.Proper.{ProgramIsProper}
+use Rattle.fk_compile_text.specs.Text.{IsChecked}
+use Rattle.fk_lower_laws.specs.Proper.{TextsAreProper}
+use Rattle.fk_lower_laws.specs.WordLaws.{NumbersHaveRoom}
 use Rattle.fk_lower.specs.Depths.{AreTold}
 use Rattle.fk_lower_text.specs.Depths.{depths_of}
 use Rattle.fk_lower_laws.specs.Laws.{LoweredListsCanHaveGroups, count_of_file}
@@ -30,37 +34,55 @@ use Rattle.fk_compile.specs.PlainLists.{PlainListsHaveBlocks}
 use Rattle.fk_compile.specs.OneGroup.{PlainListsAreOfOneGroup}
 use Rattle.fk_compile.specs.Lists.{HasListOf, IsGrouped}
 
-module _ (program : ProgramTree) (facts : Facts) (known : ProgramTables) (of : IsKnownOf program facts known) where
-  pub lowerable : IsCorrect program facts → ProgramIsTrim program → CorrectProgramsFit → FormsAreShaped → AreWhole known (functions_in known) → IsLowerable known program
-  lowerable valid trim fit shaped whole = record {
-    items = sym of.items;
-    shaped = subst (λ (t : Tables). AreShaped (bodies_of t program)) (sym of.tables) (shaped (tables_by program facts) program (fit program facts valid trim));
-    whole = whole;
+-- what is so of a text that is built, where this is known of it
+pub record IsPrepared (program : ProgramTree) (facts : Facts) (known : ProgramTables) : Type 0 where
+  pub of : IsKnownOf program facts known
+  pub laid : IsLaidOut program facts
+  pub shaped : AreShaped (bodies_of (tables_by program facts) program)
+  pub whole : AreWhole known (functions_in known)
+
+pub prepared : (source : List ℕ) (program : ProgramTree) (facts : Facts) (known : ProgramTables) → tables_of known ≡ tables_by program facts → items_in known ≡ program.items
+    → IsChecked source program facts → IsWellFormed program → program.tokens ≤ 2 ^ 20 → Fits (tables_by program facts) program.items
+    → TextsAreTrim → TextsAreProper → TextsHaveWords → NumbersHaveRoom → CorrectProgramsFit → FormsAreShaped → IsPrepared program facts known
+prepared source program facts known tables items checked well_formed small fits trim proper words room fit shaped =
+    let text = checked.parsed in
+    let correct : IsCorrect program facts = record { well_formed = well_formed; small = small; known = checked.known } in
+    let is_trim = trim source text.tokens program text.spelled text.derived in
+    record {
+      of = record { tables = tables; items = items };
+      laid = record { correct = correct; trim = is_trim; proper = proper source text.tokens program text.spelled text.derived; fits = fits };
+      shaped = shaped (tables_by program facts) program (fit program facts correct is_trim);
+      whole = room program facts known correct fits (words source text.tokens program text.spelled text.derived) tables items;
+    }
+
+module _ (program : ProgramTree) (facts : Facts) (known : ProgramTables) (p : IsPrepared program facts known) where
+  -- it can be lowered
+  pub lowerable : IsLowerable known program
+  lowerable = record {
+    items = sym p.of.items;
+    shaped = subst (λ (t : Tables). AreShaped (bodies_of t program)) (sym p.of.tables) p.shaped;
+    whole = p.whole;
   }
 
-  pub few_sites : Fits (tables_by program facts) program.items → length (sites_of_text known) ≤ 16000
-  few_sites fits =
-      subst (λ (items : List ItemTree). length (sites_in (tables_of known) (functions_of items) (functions_of items)) ≤ 16000) (sym of.items)
-      (subst (λ (t : Tables). length (sites_in t (functions_of program.items) (functions_of program.items)) ≤ 16000) (sym of.tables) fits.sites)
+  pub few_sites : length (sites_of_text known) ≤ 16000
+  few_sites =
+      subst (λ (items : List ItemTree). length (sites_in (tables_of known) (functions_of items) (functions_of items)) ≤ 16000) (sym p.of.items)
+      (subst (λ (t : Tables). length (sites_in t (functions_of program.items) (functions_of program.items)) ≤ 16000) (sym p.of.tables) p.laid.fits.sites)
 
--- and its list has one group at a time
-pub grouped_list : (program : ProgramTree) (facts : Facts) (known : ProgramTables) → IsKnownOf program facts known
-    → LoweredListsCanHaveGroups → PlainListsHaveBlocks → PlainListsAreOfOneGroup → AreShaped (bodies_of (tables_by program facts) program)
-    → IsCorrect program facts → ProgramIsTrim program → ProgramIsProper program → Fits (tables_by program facts) program.items
-    → ArePlain (tables_by program facts) program
-    → (core : List CoreOp) (main : ℕ) → HasListOf (tables_of known) program core main → HasSites known core → AreTold (depths_of known (functions_in known)) core
-    → IsGrouped core main (count_of_file program facts)
-grouped_list program facts known of can_have have_blocks are_of_one_group shaped valid trim proper fits plain core main list sites told =
-    let tables = tables_by program facts in
-    let own = subst (λ (t : Tables). HasListOf t program core main) of.tables list in
-    let can = can_have program facts known of valid trim proper fits plain core own.entry own.flat told in
-    let laid : IsLaidOut program facts = record { correct = valid; trim = trim; proper = proper; fits = fits } in
-    subst (λ (m : ℕ). IsGrouped core m (count_of_file program facts)) (sym own.begins)
-    (record {
-      can = can;
-      blocks = have_blocks (bodies_of tables program) core own.entry shaped own.flat can.steady.plain can.steady.within.leads;
-      one_group = λ start. are_of_one_group program facts known of laid plain core own.entry own.flat told sites (none_saved start) (λ i. refl);
-    })
+  -- and its list has one group at a time
+  pub grouped_list : LoweredListsCanHaveGroups → PlainListsHaveBlocks → PlainListsAreOfOneGroup → ArePlain (tables_by program facts) program
+      → (core : List CoreOp) (main : ℕ) → HasListOf (tables_of known) program core main → HasSites known core → AreTold (depths_of known (functions_in known)) core
+      → IsGrouped core main (count_of_file program facts)
+  grouped_list can_have have_blocks are_of_one_group plain core main list sites told =
+      let tables = tables_by program facts in
+      let own = subst (λ (t : Tables). HasListOf t program core main) p.of.tables list in
+      let can = can_have program facts known p.of p.laid.correct p.laid.trim p.laid.proper p.laid.fits plain core own.entry own.flat told in
+      subst (λ (m : ℕ). IsGrouped core m (count_of_file program facts)) (sym own.begins)
+      (record {
+        can = can;
+        blocks = have_blocks (bodies_of tables program) core own.entry p.shaped own.flat can.steady.plain can.steady.within.leads;
+        one_group = λ start. are_of_one_group program facts known p.of p.laid plain core own.entry own.flat told sites (none_saved start) (λ i. refl);
+      })
 
 -- what is so of what is answered
 pub answered : {A E : Type 0} (P Q : A → Type 0) (r : Result A E) → ((a : A) → P a → Q a) → IfOk r P → IfOk r Q

@@ -1,7 +1,6 @@
 -- The image that is put together of the code of a text's list.
 use Rattle.std.proofs.Common.{◌≡◌, ℕ, ◌^◌, ◌<◌, ◌≤◌, true, List, [], ◌∷◌, All, length, refl, sym, ap, subst, ◌∙◌, arith}
-use Rattle.std.specs.Prelude.{map, vec_len, Result, Ok, Err, IfErr}
-use Rattle.std.specs.Result.{IsErrAnd}
+use Rattle.std.specs.Prelude.{map, vec_len}
 use Rattle.std.proofs.lemmas.List.{length-map}
 use Rattle.fk_syntax.specs.declared.facts.Facts.{Facts}
 use Rattle.fk_syntax.specs.declared.place.Place.{Place}
@@ -29,18 +28,11 @@ use Rattle.fk_compile.specs.PlainLists.{StepsFindValues}
 use Rattle.fk_sim_runs.specs.Follow.{CarriesGroups}
 use Rattle.fk_core_liveness.specs.declared.set.Set.{Set}
 use Rattle.fk_lower_laws.specs.Certain.{HasFrames}
-use Rattle.fk_compile_text.specs.declared.refusal.Refusal.{Refusal}
-use Rattle.fk_compile_text.specs.Refusal.{IsRefusedText}
 use Rattle.fk_gen_list.specs.Generable.{IsGenerable, HasCode}
 use Rattle.fk_compile.specs.Lists.{HasListOf, IsGrouped}
 use Rattle.fk_compile.specs.Faithful.{in_image, in_table, words_by}
 use Rattle.fk_compile.proofs.Limits.{sites_fit, commits_fit, commits_rise}
 use Rattle.fk_compile.proofs.Theorem.{IsCompiled}
-
--- a refusal is passed on as it is
-pub passes_on : {A : Type 0} (r : Result A Refusal) (refusal : Refusal) (source : List ℕ) → IsErrAnd r (λ z. z ≡ refusal) → IsRefusedText source refusal → IfErr r (IsRefusedText source)
-passes_on (Ok a) refusal source same h = tt
-passes_on (Err z) refusal source same h = subst (IsRefusedText source) (sym same) h
 
 -- the code of a list, of which the parts of a layout are handed over
 pub gives_the_law : (core ops : List CoreOp) (kept kept' : List Set) (main : ℕ) (firsts given : List ℕ) (count globals : ℕ) (code : Code) → ops ≡ core → kept' ≡ kept

@@ -93,7 +93,7 @@ forks_give_values program facts laid =
     all_functions tables (signature_in tables fs) (place_of tables program) (gives_in tables fs) fs
     (correct_programs_are_asked program facts laid.correct laid.trim laid.proper laid.fits)
 
-valid : (program : ProgramTree) (facts : Facts) → IsLaidOut program facts → IsValid program facts
+pub valid : (program : ProgramTree) (facts : Facts) → IsLaidOut program facts → IsValid program facts
 valid program facts laid = record {
   well_formed = laid.correct.well_formed;
   small = laid.correct.small;
@@ -105,7 +105,7 @@ pub correct_programs_have_one_program : CorrectProgramsHaveOneProgram
 correct_programs_have_one_program program facts laid = valid_programs_have_one_program program facts (valid program facts laid)
 
 module _ (trim : TextsAreTrim) (proper : TextsAreProper) where
-  laid_out : (source : List ℕ) (tokens : List Spelled) (program : ProgramTree) (facts : Facts) → Tokens source tokens → SpellsProgram tokens program
+  pub laid_out : (source : List ℕ) (tokens : List Spelled) (program : ProgramTree) (facts : Facts) → Tokens source tokens → SpellsProgram tokens program
       → IsCorrect program facts → Fits (tables_by program facts) program.items → IsLaidOut program facts
   laid_out source tokens program facts spelled spells correct fits = record {
     correct = correct;

@@ -1,5 +1,6 @@
 pub mod Led
 pub mod OneProgram
+pub mod GroupSteps
 pub mod PlainTexts
 pub mod PlainLists
 pub mod OneGroup

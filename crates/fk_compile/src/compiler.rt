@@ -1,35 +1,40 @@
 //! The whole compiler.
 
-ghost use Rattle.std.specs.Prelude.{◌≡◌, ◌≤◌, ◌<◌, ℕ, List, IfOk, IfErr, OnOk, length};
-ghost use Rattle.fk_syntax.specs.ProgramView.{program_of};
-ghost use Rattle.fk_syntax.specs.WellFormed.{IsWellFormed};
+ghost use Rattle.std.specs.Prelude.{IfErr, IfOk, map};
+ghost use Rattle.fk_layout_globals.specs.View.{row_of};
 ghost use Rattle.fk_compile_text.specs.Refusal.{IsRefusedText};
-ghost use Rattle.fk_compile_text.specs.Text.{HasLayout, IsBuilt, KeepsRules};
+ghost use Rattle.fk_compile_text.specs.Text.{HasRows};
 ghost use Rattle.fk_compile.specs.Faithful.{IsFaithful};
 
 use crate::image::{are_words, site_table};
 use crate::laws::steps_find_values;
 use crate::list::{kept_words, list_of};
-use fk_compile_text::{Refusal, built_text};
+use fk_compile_text::{GlobalRow, Refusal, built_text};
 use fk_gen_list::generate;
 use fk_image::Image;
 use fk_sim_rounds::laws::programs_are_followed;
 use fk_sim_runs::laws::machines_follow_groups;
 use std::alloc::Global;
 
-/// The image of a text. Every run of it, of up to 2^32 - 1 cycles, with 1 to 1,024 harts and an
-/// input of at most 65,536 words that leaves it within 524,288 words of globals and input, is a run
-/// of the text's program by a lawful schedule: it prints the same bytes, and shared data and its
-/// stand are the same, a fault at a site of the text included.
+/// A text that is compiled.
+#[derive(Drop)]
+pub struct Compiled<'a> {
+    pub image: Image,
+    /// The shared variables of file scope, in the order of the text.
+    pub rows: Vec<GlobalRow<'a>>,
+}
+
+/// The image of a text, and its shared variables of file scope. Every run of the image, of up to
+/// 2^32 - 1 cycles, with 1 to 1,024 harts and an input of at most 65,536 words that leaves it
+/// within 524,288 words of globals and input, is a run of the text's program by a lawful schedule:
+/// it prints the same bytes, and shared data and its status are the same, a fault at a site of the
+/// text included.
 ///
 /// # Errors
 /// Those of `built_text`, and of a text that is built `Memory` alone.
-pub fn compile(alloc: Global, source: &[u8]) -> Result<Image, Refusal>
-    ensures faithful { IfOk result (IsFaithful source.now) }
-    ensures kept { OnOk result (KeepsRules source.now) }
-    ensures laid { OnOk result (HasLayout source.now) }
-    ensures built { OnOk result (IsBuilt source.now) }
-    ensures short { OnOk result (length source.now ≤ 1048576) }
+pub fn compile<'a>(alloc: Global, source: &'a [u8]) -> Result<Compiled<'a>, Refusal>
+    ensures faithful { IfOk result (λ compiled. IsFaithful source.now compiled.image) }
+    ensures rows { IfOk result (λ compiled. HasRows source.now (map row_of compiled.rows.items)) }
     ensures refused { IfErr result (IsRefusedText source.now) }
 {
     let text = built_text(alloc, source)?;
@@ -41,15 +46,20 @@ pub fn compile(alloc: Global, source: &[u8]) -> Result<Image, Refusal>
         Refusal::Memory,
     )?;
     let sites = site_table(alloc, &layout.sites).map_err(Refusal::Memory)?;
+    // These calls are facts for the proof, and do nothing.
     are_words(&layout.firsts);
     are_words(&layout.words);
     steps_find_values();
     machines_follow_groups();
     programs_are_followed();
-    Ok(Image {
+    let image = Image {
         code: code.words,
         globals: layout.words,
         sites,
         commits: code.commits,
+    };
+    Ok(Compiled {
+        image,
+        rows: layout.rows,
     })
 }

@@ -4,6 +4,7 @@ ghost use Rattle.fk_compile.specs.Led.{ProgramsAreLed};
 ghost use Rattle.fk_compile.specs.OneProgram.{AskedEvaluates, TypedEvaluates, ForksGiveValues};
 ghost use Rattle.fk_compile.specs.OneProgram.{CorrectProgramsHaveOneProgram, TextsHaveOneProgram};
 ghost use Rattle.fk_compile.specs.OneProgram.{TextsHaveOneSpace};
+ghost use Rattle.fk_compile.specs.GroupSteps.{TextsStepAsOne};
 ghost use Rattle.fk_compile.specs.PlainTexts.{SitesAreOwn, PlainProgramsHaveOneGroup};
 ghost use Rattle.fk_compile.specs.PlainLists.{StraightHasNoTarget, PlainListsHaveBlocks};
 ghost use Rattle.fk_compile.specs.PlainLists.{StepsFindValues, GroupedListsAreGenerable};
@@ -20,8 +21,8 @@ pub fn programs_are_led()
     ensures { ProgramsAreLed }
 {}
 
-/// An expression that is as well typed code asks it leaves one value or none, whichever way is gone
-/// in it, and whatever it calls.
+/// An expression that is as well typed code asks leaves one value or none, whichever branch is
+/// taken in it, and whatever it calls.
 pub fn asked_expressions_evaluate()
     ensures { AskedEvaluates }
 {}
@@ -31,15 +32,16 @@ pub fn typed_expressions_evaluate()
     ensures { TypedEvaluates }
 {}
 
-/// In a program that keeps all rules and has a layout each part and rank that is told for a `fork`
-/// gives one value.
+/// In a program that keeps all rules and has a layout, each part and each rank of a `fork` gives
+/// one value.
 pub fn forks_give_values()
     ensures { ForksGiveValues }
 {}
 
-/// After every lawful schedule of such a program without a stopped last round all members of a
-/// group in lockstep have the same left to do, and where a branch stands in it, the same last
-/// value. They have the same `@` and the same sizes of their group and of all groups round it.
+/// After every lawful schedule, without a stopped last round, of a program that keeps all rules and
+/// has a layout, all members of a group in lockstep have the same left to do, and at a branch the
+/// same last value. They have the same `@` and the same sizes of their group and of all groups
+/// around it.
 pub fn correct_programs_have_one_program()
     ensures { CorrectProgramsHaveOneProgram }
 {}
@@ -54,14 +56,25 @@ pub fn texts_have_one_program()
 }
 
 /// In the program that a text spells, members of a group in lockstep have levels that differ in `$`
-/// alone: of their group and of each group round it they have the same `@`, size and space. The
-/// same holds of those who wait at one node.
+/// alone: they have the same `@`, size and space for their group and for each group around it. This
+/// also holds of those who wait at one node.
 pub fn texts_have_one_space()
     ensures { TextsHaveOneSpace }
 {
     texts_are_trim();
     texts_are_proper();
     frames_stand_behind_first();
+}
+
+/// In the program that a text spells, in a round without a fault in which the members of one group
+/// in lockstep alone touch a word, all who touch it do so by one operation. Reads answer the former
+/// word, writes leave the value of the highest writer, and each multiprefix answers the former word
+/// combined with the values of the lower members in ascending order.
+pub fn texts_step_as_one()
+    ensures { TextsStepAsOne }
+{
+    texts_are_trim();
+    texts_are_proper();
 }
 
 /// No two operations in the list of a text have one site.
@@ -78,8 +91,8 @@ pub fn plain_programs_have_one_group()
     ensures { PlainProgramsHaveOneGroup }
 {}
 
-/// The blocks of the list of a text of at most 16,000 operations have at most 256,000 words, each
-/// counted with as many as it has at most.
+/// The blocks of the list of a text of at most 16,000 operations have at most 256,000 words, if
+/// each block is counted with its greatest length.
 pub fn lists_are_small()
     ensures { ListsAreSmall }
 {}
@@ -89,26 +102,27 @@ pub fn straight_has_no_target()
     ensures { StraightHasNoTarget }
 {}
 
-/// Each operation of a flat list of plain operations, which goes on within itself, has a block, and
-/// its target is in the list.
+/// Each operation of a flat list of plain operations, whose operations go on in the list, has a
+/// block, and its target is in the list.
 pub fn plain_lists_have_blocks()
     ensures { PlainListsHaveBlocks }
 {}
 
 /// Where each operation of a list finds the values that it needs, each step of a group finds the
-/// one that it looks at.
+/// value that it looks at.
 pub fn steps_find_values()
     ensures { StepsFindValues }
 {}
 
-/// Code can be made of a flat list that is steady, with the words that are live in it.
+/// Code can be made of a flat list that can have groups, has blocks and leads on, with the words
+/// that are live in it.
 pub fn grouped_lists_are_generable()
     ensures { GroupedListsAreGenerable }
 {}
 
 /// The flat list of a plain program that keeps all rules and has a layout, with the depths and
-/// sites of its text, is one with one group at a time, as the laws of machines require. A plain
-/// program has no splits, no group frames, no `shalloc` and no `shmalloc`.
+/// sites of its text, has one group at a time, as the laws of machines require. A plain program has
+/// no splits, no group frames, no `shalloc` and no `shmalloc`.
 pub fn plain_lists_are_of_one_group()
     ensures { PlainListsAreOfOneGroup }
 {}

@@ -1,10 +1,10 @@
 //! The compiler: from a text to an image that is faithful to it.
 //!
-//! `list` makes the flat list of a text; `fk_gen_list` makes its code, and `image`
-//! puts that into an image with the sites and the globals.
+//! `list` makes the flat list of a text. `fk_gen_list` makes the list's code. `image` puts that
+//! into an image, with the sites and the globals.
 //!
-//! In `laws` stands why code can be made of the list of a text with one group at a time, and why
-//! its image is faithful.
+//! `laws` proves that code can be made of the list of a text with one group at a time, and that the
+//! image is faithful.
 #![tactic(auto)]
 
 mod compiler;
@@ -12,4 +12,4 @@ mod image;
 pub mod laws;
 mod list;
 
-pub use compiler::compile;
+pub use compiler::{Compiled, compile};

@@ -20,7 +20,7 @@ ghost use Rattle.fk_lower_laws.specs.Laws.{count_of_file};
 ghost use Rattle.fk_gen_list.specs.Generable.{IsGenerable, most_words};
 ghost use Rattle.fk_compile_text.specs.Plain.{ArePlain};
 ghost use Rattle.fk_compile_text.specs.Refusal.{IsRefusedText};
-ghost use Rattle.fk_compile_text.specs.Text.{IsChecked};
+ghost use Rattle.fk_compile_text.specs.Text.{Finds, IsChecked};
 ghost use Rattle.fk_compile.specs.Lists.{HasListOf, IsGrouped};
 
 use crate::image::are_words;
@@ -29,11 +29,10 @@ use crate::laws::{
     plain_lists_have_blocks,
 };
 use fk_check_laws::laws::correct_programs_fit;
-use fk_compile_text::{Built, Refusal, known_of};
+use fk_compile_text::{Built, Refusal};
 use fk_core::CoreOp;
 use fk_core_flat::laws::forms_are_shaped;
 use fk_core_liveness::{Set, live_words};
-use fk_layout_lookup::Lookup;
 use fk_layout_walk::ProgramTables;
 use fk_lower::LowerFault;
 use fk_lower_laws::laws::{
@@ -51,7 +50,7 @@ pub(crate) struct List {
     pub(crate) main: u32,
 }
 
-// The list of a text of which all is known.
+// The list of a text of which everything is known.
 fn lowered(alloc: Global, known: &ProgramTables) -> Result<List, Refusal>
     requires sound { IsSound known.now }
     requires laid { CanBeLaid known.now 0 0 (functions_in known.now) }
@@ -78,11 +77,13 @@ fn lowered(alloc: Global, known: &ProgramTables) -> Result<List, Refusal>
     }
 }
 
-/// The list of a text that keeps all rules and has a layout.
+/// The list of a text that keeps all rules and has a layout. Fails only if there isn't enough
+/// memory.
 pub(crate) fn list_of(alloc: Global, text: &Built) -> Result<List, Refusal>
     requires checked { (source : Listed ℕ)
         × IsChecked source (program_of text.now.tree) text.now.facts }
     requires laid { IsLayout (program_of text.now.tree) text.now.facts text.now.layout }
+    requires finds { Finds (program_of text.now.tree) text.now.facts text.now.lookup }
     requires fits { Fits (tables_by (program_of text.now.tree) text.now.facts)
         (program_of text.now.tree).items }
     requires well_formed { IsWellFormed (program_of text.now.tree) }
@@ -97,9 +98,8 @@ pub(crate) fn list_of(alloc: Global, text: &Built) -> Result<List, Refusal>
         (count_of_file (program_of text.now.tree) text.now.facts)) }
     ensures refused { IfErr result (λ refusal. (source : Listed ℕ) → IsRefusedText source refusal) }
 {
-    let bare = known_of(&text.tree, &text.facts, &text.layout);
-    let lookup = Lookup::of(alloc, &bare).map_err(Refusal::Memory)?;
-    let known = lookup.complete(bare);
+    let known = text.tables();
+    // These calls are facts for the proof, and do nothing.
     texts_have_words();
     texts_are_trim();
     texts_are_proper();
@@ -132,8 +132,9 @@ fn have_words(ops: &[CoreOp])
     }
 }
 
-/// The private words that calls keep at each index of a list. Code is made of it, with the first
-/// values of private variables of file scope. Fails only for want of memory.
+/// The private words that calls keep at each index of a list. Code can be made of the list with
+/// these, and with the first values of private variables of file scope. Fails only if there isn't
+/// enough memory.
 pub(crate) fn kept_words(alloc: Global, list: &List, firsts: &[u32]) -> Result<Vec<Set>, Refusal>
     requires { IsGrouped list.now.ops.items list.now.main (length firsts.now) }
     ensures held { IfOk result
@@ -142,6 +143,7 @@ pub(crate) fn kept_words(alloc: Global, list: &List, firsts: &[u32]) -> Result<V
         → IsGenerable list.now.ops.items kept.items list.now.main firsts.now) }
     ensures refused { IfErr result (λ refusal. (source : Listed ℕ) → IsRefusedText source refusal) }
 {
+    // These calls are facts for the proof, and do nothing.
     have_words(&list.ops);
     are_words(firsts);
     grouped_lists_are_generable();

@@ -4,12 +4,12 @@ use Rattle.std.specs.Prelude.{vec_len}
 use Rattle.fk_image.specs.declared.Image.{Image}
 use Rattle.fk_layout.specs.declared.listed.Site.{Site}
 use Rattle.fk_core.specs.declared.op.CoreOp.{CoreOp}
-use Rattle.fk_compile_text.proofs.Parts.{kept as passed}
+use Rattle.fk_compile_text.proofs.Parts.{kept as passed, passes_on}
 use Rattle.fk_lower_laws.specs.Certain.{HasFrames}
 use Rattle.fk_compile.specs.Lists.{IsGrouped}
 use Rattle.fk_gen_list.specs.Generable.{IsGenerable, most_words}
 use Rattle.fk_compile.specs.Faithful.{in_table}
-use Rattle.fk_compile.proofs.Made.{passes_on, gives_the_law, is_generable, few_words, is_compiled}
+use Rattle.fk_compile.proofs.Made.{gives_the_law, is_generable, few_words, is_compiled}
 use Rattle.fk_compile.proofs.Theorem.{is_faithful}
 use Rattle.fk_compile.proofs.compiler.compile.Goals as goal
 
@@ -50,17 +50,15 @@ pub generate-requires-clause-small : goal.generate-requires-clause-small
 generate-requires-clause-small c =
     subst (λ (ops : List CoreOp). sum_by most_words ops ≤ 256000) (sym c.deref-2.ensures.value) c.in_ok-list.ensures.small
 
-pub returns-clause-laid : goal.returns-clause-laid
-returns-clause-laid c =
-    let text = c.in_ok-text.text in
-    record { tree = program_of text.tree; facts = text.facts; checked = c.in_ok-text.ensures.checked; fits = c.in_ok-text.ensures.fits }
-
-pub returns-clause-built : goal.returns-clause-built
-returns-clause-built c =
+pub returns-clause-rows : goal.returns-clause-rows
+returns-clause-rows c =
     let text = c.in_ok-text.text in
     record {
-      laid = record { tree = program_of text.tree; facts = text.facts; checked = c.in_ok-text.ensures.checked; fits = c.in_ok-text.ensures.fits };
-      built = c.in_ok-text.ensures.built;
+      built = record {
+        laid = record { tree = program_of text.tree; facts = text.facts; checked = c.in_ok-text.ensures.checked; fits = c.in_ok-text.ensures.fits };
+        built = c.in_ok-text.ensures.built;
+      };
+      are = c.in_ok-text.ensures.laid.rows;
     }
 
 pub returns-clause-faithful : goal.returns-clause-faithful
@@ -76,9 +74,11 @@ returns-clause-faithful c =
     let kept = c.in_ok-kept.kept in
     let held = subst (λ (firsts : List ℕ). HasFrames list.ops.items kept.items list.main (length firsts)) c.deref.ensures.value c.in_ok-kept.ensures.held in
     record {
+      short = c.in_ok-text.ensures.short;
       program = tree;
       facts = text.facts;
       checked = c.in_ok-text.ensures.checked;
+      fits = c.in_ok-text.ensures.fits;
       built = c.in_ok-text.ensures.built;
       faithful =
           is_faithful tree text.facts list.ops.items list.main image c.machines_follow_groups.ensures c.programs_are_followed.ensures
