@@ -1,5 +1,6 @@
 -- From the ending of a call to its answer.
-use Rattle.std.proofs.Common.{◌≡◌, ◌≢◌, ℕ, List, Option, Some, None, refl, sym, ap, subst, ◌∙◌, ◌⊎◌, inl, inr}
+use Rattle.std.proofs.Common.{◌≡◌, ◌≢◌, ℕ, List, Option, Some, None, Result, Err, IsSome, refl, sym, ap, subst, ◌∙◌, ◌⊎◌, inl, inr}
+use Rattle.std.specs.Prelude.{IsOk}
 use Rattle.std.specs.Option.{option_map}
 use Rattle.fk_ports.specs.Files.{Files}
 use Rattle.fk_image.specs.declared.Image.{Image}
@@ -45,6 +46,11 @@ nothing_by words (Exec f p n) bytes text outcome reads (inl r) not = ap (λ (o :
 nothing_by words (Exec f p n) bytes text outcome reads (inr r) not = nothing_run r.image text p n None outcome r.ends
 nothing_by words (ListCode f) bytes text outcome reads (inl r) not = ap (λ (o : Outcome). o.put) r.is
 nothing_by words (ListCode f) bytes text outcome reads (inr r) not = ap (λ (o : Outcome). o.put) r.is
+
+-- what fails to be put is there
+pub some_file : {A E : Type 0} (put : Option PutFile) (r : Result A E) (e : E) → (put ≡ None → IsOk r) → r ≡ Err e → IsSome (option_map put_of put)
+some_file None r e nothing is = absurd (let bad = subst IsOk is (nothing refl) in cc)
+some_file (Some file) r e nothing is = refl
 
 no_file : (put : Option PutFile) → option_map put_of put ≡ None → put ≡ None
 no_file None e = refl

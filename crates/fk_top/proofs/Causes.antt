@@ -6,7 +6,7 @@ use Rattle.std.proofs.lemmas.List.{take_all, length-take}
 use Rattle.fk_syntax.specs.declared.facts.Facts.{Facts}
 use Rattle.fk_syntax.specs.Program.{ProgramTree}
 use Rattle.fk_ports.specs.Files.{Files, AppendsFile, FetchFaults, LacksFile, file}
-use Rattle.fk_ports.specs.Known.{MovesFirst}
+use Rattle.fk_ports.specs.Known.{GivesAtMost, MovesFirst}
 use Rattle.fk_image.specs.declared.Image.{Image}
 use Rattle.fk_image.specs.Spelling.{IsImageOf}
 use Rattle.fk_image.proofs.Same.{one_image}
@@ -21,9 +21,10 @@ use Rattle.fk_compile.specs.Faithful.{IsFaithful, words_by}
 use Rattle.fk_top.specs.declared.status.Status.{Status}
 use Rattle.fk_top.specs.declared.status.Status.TheVariants.{Done, Refused, Usage, ReadFault, WriteFault, Memory, SourceFault, CycleBound, Trap, ImageRefused, InputRefused}
 use Rattle.fk_top.specs.Words.{Runs, IsBuild, file_of, most_bytes, most_input}
-use Rattle.fk_top.specs.Outcome.{Outcome, EndsOn, ComesTo, RefusesSource, RefusesImage, LacksGlobal, IsShown, IsBuiltFrom, most_numbers}
+use Rattle.fk_top.specs.Outcome.{Outcome, EndsOn, ComesTo, RefusesSource, RefusesImage, LacksGlobal, IsShown, most_numbers}
 use Rattle.fk_top.specs.Refused.{IsRefusedBy, IsNoImageAs}
 use Rattle.fk_top.specs.Call.{Call, Request, Ends, IsUnread, IsFileUnread, IsInputUnread, IsCut, IsOutOfMemory, HasEnded, HasCause, IsInOrder, IsReadable, IsAccepted, IsInputBeside, IsOfStand, IsOfAccepted, IsOfUnreadable, IsOfUnaccepted, IsText, IsImage, Puts, AreCut}
+use Rattle.fk_top.proofs.Lost.{no_more, moved, few_input}
 use Rattle.fk_top.proofs.Readable.{whole, same_words, variable_there, text_accepted, image_accepted, image_short}
 
 -- ---- the read
@@ -121,6 +122,13 @@ puts_by request outcome (inl none) some = absurd (nothing_put outcome _ none.1 r
 puts_by request outcome (inr (inl unread)) some = absurd (nothing_put outcome _ unread.1 refl some)
 puts_by request outcome (inr (inr read)) some = build_by request.words read.command read.reads (put_by read.command read.bytes read.text outcome read.comes_to some)
 
+-- nor has it taken more of the input than one may
+pub put_takes : (request : Request) (outcome : Outcome) → Ends request outcome → IsSome outcome.put → GivesAtMost 1048577 request.input.left.before request.input.left.after
+put_takes request outcome (inl none) some = absurd (nothing_put outcome _ none.1 refl some)
+put_takes request outcome (inr (inl unread)) some = absurd (nothing_put outcome _ unread.1 refl some)
+put_takes request outcome (inr (inr read)) some =
+    no_more (most_input read.command) 1048577 _ _ (few_input read.command) (moved (most_input read.command) _ _ [] read.text read.first_input)
+
 not_cut : (call : Call) (command : Command) (bytes text : List ℕ) → IsInOrder call command bytes text → IsCut call → ⊥
 not_cut call command bytes text order cut = go cut.cut
   where
@@ -176,9 +184,12 @@ read_text source text = let short = text.short in take_all 1048577 source (omega
 read_short : (source : List ℕ) → length (take 1048577 source) ≤ 1048576 → take 1048577 source ≡ source
 read_short source short = whole 1048577 source (omega arith)
 
-read_built : (source : List ℕ) (image : Image) → IsBuiltFrom (take 1048577 source) image → IsText source
+read_built : (source : List ℕ) (image : Image) → IsFaithful (take 1048577 source) image → IsText source
 read_built source image b =
-    subst IsText (read_short source b.short) (record { short = b.short; built = b.built })
+    subst IsText (read_short source b.short) (record {
+      short = b.short;
+      built = record { laid = record { tree = b.program; facts = b.facts; checked = b.checked; fits = b.fits }; built = b.built };
+    })
 
 read_image : (bytes : List ℕ) (image : Image) → IsImageOf bytes image → take 5434905 bytes ≡ bytes
 read_image bytes image is = let short = image_short bytes image is in take_all 5434905 bytes (omega arith)
@@ -259,8 +270,8 @@ accepted_ends : (command : Command) (bytes text : List ℕ) (outcome : Outcome) 
 accepted_ends (Run f p n s) source text outcome status is input same (inl r) = absurd (not_refused source outcome is.0 r)
 accepted_ends (Run f p n s) source text outcome status is input same (inr (inl r)) = absurd (not_lacking source s outcome is.1 is.0 is.2 r)
 accepted_ends (Run f p n s) source text outcome status is input same (inr (inr r)) =
-    let built = subst (λ (b : List ℕ). IsBuiltFrom b r.image) (read_text source is.0) r.compiled in
-    let count = globals_of source r.image input.0 input.1 built.faithful input.2 in
+    let built = subst (λ (b : List ℕ). IsFaithful b r.image) (read_text source is.0) r.compiled in
+    let count = globals_of source r.image input.0 input.1 built input.2 in
     inr (r.image, built, accepted_run r.image text p n (length (words_by input.0 input.1)) r.shown outcome status count input.3 same r.ends)
 accepted_ends (Build f i) source text outcome status is input same (inl r) = absurd (not_refused source outcome is r)
 accepted_ends (Build f i) source text outcome status is input same (inr r) = inr (status-of outcome _ status r.is same)
@@ -291,15 +302,14 @@ unaccepted_ends (Run f p n s) source text outcome status is none same (inl r) = 
 unaccepted_ends (Run f p n s) source text outcome status is none same (inr (inl r)) = absurd (not_lacking source s outcome is.1 is.0 is.2 r)
 unaccepted_ends (Run f p n s) source text outcome status is none same (inr (inr r)) = by r.ends
   where
-    built : IsBuiltFrom source r.image
-    built = subst (λ (b : List ℕ). IsBuiltFrom b r.image) (read_text source is.0) r.compiled
+    faithful : IsFaithful source r.image
+    faithful = subst (λ (b : List ℕ). IsFaithful b r.image) (read_text source is.0) r.compiled
 
     by : EndsOn r.image (take 1048577 text) p n r.shown outcome → IsOfUnaccepted status
     by (inl refuses) = inr (status-of outcome _ status refuses.is same)
     by (inr runs) =
-        let whole = built.faithful in
-        let count = globals_of source r.image whole.program whole.facts whole whole.checked in
-        absurd (none (whole.program, whole.facts, whole.checked, beside (vec_len r.image.globals) _ text runs.input count runs.numbers))
+        let count = globals_of source r.image faithful.program faithful.facts faithful faithful.checked in
+        absurd (none (faithful.program, faithful.facts, faithful.checked, beside (vec_len r.image.globals) _ text runs.input count runs.numbers))
 unaccepted_ends (Build f i) source text outcome status is none same comes = absurd (none tt)
 unaccepted_ends (Exec f p n) bytes text outcome status is none same (inl r) = absurd (not_image_refused bytes outcome is r)
 unaccepted_ends (Exec f p n) bytes text outcome status is none same (inr r) = by r.ends

@@ -103,7 +103,7 @@ pub outcome_is_of : (words : List Text) (command : Command) (bytes text : List â
 outcome_is_of words (Run f p n show) bytes text outcome reads (inl r) = is_of (Run f p n show) outcome _ r.is tt
 outcome_is_of words (Run f p n show) bytes text outcome reads (inr (inl r)) = is_of (Run f p n show) outcome _ r.is tt
 outcome_is_of words (Run f p n show) bytes text outcome reads (inr (inr r)) =
-    of_source bytes text r.image f p n show r.shown outcome r.compiled.faithful (within_run words f p n show reads) r.ends
+    of_source bytes text r.image f p n show r.shown outcome r.compiled (within_run words f p n show reads) r.ends
 outcome_is_of words (Build f i) bytes text outcome reads (inl r) = is_of (Build f i) outcome _ r.is tt
 outcome_is_of words (Build f i) bytes text outcome reads (inr r) = is_of (Build f i) outcome _ r.is tt
 outcome_is_of words (Exec f p n) bytes text outcome reads (inl r) = is_of (Exec f p n) outcome _ r.is tt

@@ -1,4 +1,4 @@
--- Whole calls: why each ends as it does, and what the store and the sinks then have.
+-- Whole calls: why each ends as it does, and what the store and the sinks have after it.
 use Rattle.std.specs.Prelude.{◌≡◌, ◌≢◌, ℕ, ◌≤◌, ◌⊎◌, List, [], length, vec_len, Option, Some, None}
 use Rattle.std.specs.Prelude.{IsSome, Ok}
 use Rattle.std.specs.Io.KnownBytes.{append_known}
@@ -12,7 +12,7 @@ use Rattle.fk_image.specs.Spelling.{IsImageOf}
 use Rattle.fk_machine.specs.Run.{machine}
 use Rattle.fk_layout_globals.specs.Rows.{Row}
 use Rattle.fk_compile_text.specs.Text.{IsBuilt, IsChecked}
-use Rattle.fk_compile.specs.Faithful.{words_by}
+use Rattle.fk_compile.specs.Faithful.{IsFaithful, words_by}
 use Rattle.fk_top_input.specs.Input.{input_of}
 use Rattle.fk_top_words.specs.Command.{Command, Run, Build, Exec, ListCode, Reads}
 use Rattle.fk_top.specs.declared.report.Report.TheVariants as reports
@@ -23,11 +23,11 @@ use Rattle.fk_top.specs.declared.status.Status.TheVariants.{ImageRefused, InputR
 use Rattle.fk_top.specs.Words.{Runs, IsRun, IsBuild, IsExec, file_of, most_bytes, most_input}
 use Rattle.fk_top.specs.Report.{line_of}
 use Rattle.fk_top.specs.Outcome.{Put, Outcome, silent, status_of, IsShown, most_numbers}
-use Rattle.fk_top.specs.Outcome.{numbers_for, IsBuiltFrom, ComesTo}
+use Rattle.fk_top.specs.Outcome.{numbers_for, ComesTo}
 
 -- ---- the outside, before and after a call
 
--- what something tells of itself before a call and after it
+-- A fact before a call and after it.
 pub record Change (A : Type 0) : Type 0 where
   pub before : A
   pub after : A
@@ -38,11 +38,11 @@ change_of tells old new = record { before = tells old; after = tells new }
 abbrev pub IsSame : {A : Type 0} → Change A → Type 0
 IsSame change = change.after ≡ change.before
 
--- a count of faults rose
+-- A count of faults rose.
 abbrev pub Rose : Change ℕ → Type 0
 Rose count = HasRisen count.before count.after
 
--- what the input has left, where it tells that, and its faults
+-- What the input has left, if that is known, and its count of faults.
 pub record Given : Type 0 where
   pub left : Change (Option (List ℕ))
   pub faults : Change ℕ
@@ -51,16 +51,16 @@ abbrev pub given_of : {S : Type 0} → (S → Option (List ℕ)) → (S → ℕ)
 given_of left faults old new =
     record { left = change_of left old new; faults = change_of faults old new }
 
--- what a call reads: its words, what the store has before it, where it tells that, with its faults
--- of `fetch`, and the input
+-- What a call reads: its words; what the store has before it, if that is known; the store's count
+-- of faults of `fetch`; and the input.
 pub record Request : Type 0 where
   pub words : List (List ℕ)
   pub files : Option Files
   pub faults : Change ℕ
   pub input : Given
 
--- the request of these words over a store and an input, by the words in which the
--- store tells of itself
+-- The request of these words to a store and an input. The functions give the store's files and its
+-- count of faults.
 abbrev pub request_of : {S : Type 0} → (S → Option Files) → (S → ℕ) → List (List ℕ) → S → S
     → Given → Request
 request_of files fetch_faults words old new input =
@@ -71,7 +71,7 @@ request_of files fetch_faults words old new input =
       input = input;
     }
 
--- what a store has, where it tells that, and its faults of `put`
+-- What a store has, if that is known, and its count of faults of `put`.
 pub record Stored : Type 0 where
   pub files : Change (Option Files)
   pub faults : Change ℕ
@@ -80,7 +80,7 @@ abbrev pub stored_of : {S : Type 0} → (S → Option Files) → (S → ℕ) →
 stored_of files put_faults old new =
     record { files = change_of files old new; faults = change_of put_faults old new }
 
--- what a sink took, where it tells that, and its faults
+-- What a sink took, if that is known, and its count of faults.
 pub record Sunk : Type 0 where
   pub taken : Change (Option (List ℕ))
   pub faults : Change ℕ
@@ -98,12 +98,12 @@ pub record Call : Type 0 where
 abbrev pub call_of : Request → Stored → Sunk → Sunk → Call
 call_of request store out err = record { request = request; store = store; out = out; err = err }
 
--- the name of what is put has its bytes, and every other name has what it had
+-- The file that is put has its bytes, and every other name has what it had.
 abbrev pub HasPut : Stored → Option Put → Type 0
 HasPut store None = IsSame store.files
 HasPut store (Some put) = store.files.after ≡ with_file_known store.files.before put.name put.bytes
 
--- the put failed, and the files are as they were
+-- The put failed, and the files are as they were.
 pub record FailedToPut (store : Stored) (put : Option Put) : Type 0 where
   pub some : IsSome put
   pub rose : Rose store.faults
@@ -112,7 +112,7 @@ pub record FailedToPut (store : Stored) (put : Option Put) : Type 0 where
 abbrev pub Took : Sunk → List ℕ → Type 0
 Took sink bytes = sink.taken.after ≡ append_known sink.taken.before bytes
 
--- a sink failed, and what it took is the beginning of the bytes
+-- A sink failed, and what it took is a prefix of the bytes.
 pub record FailedIn (sink : Sunk) (bytes : List ℕ) : Type 0 where
   pub rose : Rose sink.faults
   pub prefix : TakesPrefix sink.taken.before sink.taken.after bytes
@@ -122,27 +122,27 @@ pub record FailedIn (sink : Sunk) (bytes : List ℕ) : Type 0 where
 abbrev pub IsNoCommand : List (List ℕ) → Type 0
 IsNoCommand words = (command : Command) → ¬ Reads words command
 
--- the file of a command could not be read, and nothing was taken from the input
+-- The file of a command could not be read, and nothing was taken from the input.
 pub record IsFileUnread (request : Request) (command : Command) : Type 0 where
   pub fault : FetchFaults request.files (file_of command) request.faults.before request.faults.after
   pub left : IsSame request.input.left
   pub steady : IsSame request.input.faults
 
--- the file of a command that runs was read, but its input could not be
+-- The file of a command that runs was read, but its input could not be read.
 pub record IsInputUnread (request : Request) (command : Command) : Type 0 where
   pub runs : Runs command
   pub fetched : IsSame request.faults
   pub rose : Rose request.input.faults
   pub lost : GivesAtMost (most_input command) request.input.left.before request.input.left.after
 
--- the words are a command, but its file could not be read, or its input
+-- The words are a command, but its file or its input could not be read.
 pub record IsUnread (request : Request) : Type 0 where
   pub command : Command
   pub reads : Reads request.words command
   pub cause : IsFileUnread request command ⊎ IsInputUnread request command
 
--- the words are a command, and its file was read: its first bytes, where the store tells them; and
--- then, where it runs, the first bytes of the input, where that tells them
+-- The words are a command, and its file was read: its first bytes, if the store's files are known.
+-- If the command runs, then the first bytes of the input were read too, if these are known.
 pub record HasRead (request : Request) (outcome : Outcome) : Type 0 where
   pub command : Command
   pub reads : Reads request.words command
@@ -154,14 +154,15 @@ pub record HasRead (request : Request) (outcome : Outcome) : Type 0 where
       (most_input command) request.input.left.before request.input.left.after [] text
   pub comes_to : ComesTo command bytes text outcome
 
--- why a call comes to an outcome
+-- Why a call has an outcome.
 abbrev pub Ends : Request → Outcome → Type 0
 Ends request outcome =
     (IsNoCommand request.words × (outcome ≡ silent Usage (line_of reports.CommandLine)))
     ⊎ (IsUnread request × (outcome ≡ silent ReadFault (line_of reports.ReadFault)))
     ⊎ HasRead request outcome
 
--- the call came to an outcome of this status; what it puts was put, and the sinks took all of it
+-- The call had an outcome of this status. The file of the outcome was put, and the sinks took all
+-- of its bytes.
 pub record HasEnded (call : Call) (status : Status) : Type 0 where
   pub outcome : Outcome
   pub status_is : outcome.status ≡ status
@@ -170,42 +171,45 @@ pub record HasEnded (call : Call) (status : Status) : Type 0 where
   pub out_took : Took call.out outcome.output
   pub err_took : Took call.err outcome.line
 
--- the put failed, and nothing was given; or it was done, if there was one, and `out` failed, and
--- nothing was reported; or `out` took all of the output, and `err` failed
+-- How a call is cut short. The put failed, and nothing was given. Or the put was done, if there was
+-- one, and `out` failed, and nothing was reported. Or `out` took all of the output, and `err`
+-- failed.
 abbrev pub AreCut : Stored → Sunk → Sunk → Outcome → Type 0
 AreCut store out err outcome =
     (FailedToPut store outcome.put × Took out [] × Took err [])
     ⊎ (HasPut store outcome.put × FailedIn out outcome.output × Took err [])
     ⊎ (HasPut store outcome.put × Took out outcome.output × FailedIn err outcome.line)
 
--- the call was to come to an outcome, but the store or a sink failed
+-- The call had an outcome, but the store or a sink failed.
 pub record IsCut (call : Call) : Type 0 where
   pub outcome : Outcome
   pub cause : Ends call.request outcome
   pub cut : AreCut call.store call.out call.err outcome
 
--- there was no memory: nothing was put and nothing given
+-- there was no memory: at most so much was taken from the input as an input text may have, and one
+-- byte more; nothing was put and nothing given
 pub record IsOutOfMemory (call : Call) : Type 0 where
+  pub took : GivesAtMost 1048577 call.request.input.left.before call.request.input.left.after
   pub put : HasPut call.store None
   pub out_took : Took call.out []
   pub err_took : Took call.err []
 
--- an answer has its cause
+-- A status has its cause.
 abbrev pub HasCause : Call → Status → Type 0
 HasCause call WriteFault = IsCut call
 HasCause call Memory = IsOutOfMemory call
 HasCause call status = HasEnded call status
 
--- ---- when answers come
+-- ---- when each status is answered
 
--- the store failed in the put of a build, or a sink failed
+-- The store failed in the put of a build, or a sink failed.
 abbrev pub FailsToWrite : Call → Type 0
 FailsToWrite call =
     (IsBuild call.request.words × Rose call.store.faults) ⊎ Rose call.out.faults
     ⊎ Rose call.err.faults
 
--- what failed is told: where the answer isn't WriteFault no count of `put`, `out` or `err` rose,
--- and where it is neither that nor ReadFault, those of `fetch` and of the input didn't either
+-- What failed is reported. If the status isn't WriteFault, no count of `put`, `out` or `err` rose.
+-- If it is neither that nor ReadFault, the counts of `fetch` and of the input didn't rise either.
 pub record TellsFaults (call : Call) (status : Status) : Type 0 where
   pub fetch : status ≢ WriteFault → status ≢ ReadFault → IsSame call.request.faults
   pub input : status ≢ WriteFault → status ≢ ReadFault → IsSame call.request.input.faults
@@ -213,27 +217,27 @@ pub record TellsFaults (call : Call) (status : Status) : Type 0 where
   pub out : status ≢ WriteFault → IsSame call.out.faults
   pub err : status ≢ WriteFault → IsSame call.err.faults
 
--- the words are a command, and the store tells its files and doesn't hold the one that it reads
+-- The words are a command, and the store's files are known and don't have the file that it reads.
 pub record IsAbsent (request : Request) : Type 0 where
   pub command : Command
   pub reads : Reads request.words command
   pub lacks : LacksFile request.files (file_of command)
 
--- the answers where it is absent
+-- The statuses where that file is absent.
 abbrev pub IsOfAbsent : Status → Type 0
 IsOfAbsent status = (status ≡ ReadFault) ⊎ (status ≡ WriteFault) ⊎ (status ≡ Memory)
 
--- the answers to words that are no command
+-- The statuses for words that are no command.
 abbrev pub IsOfNoCommand : Status → Type 0
 IsOfNoCommand status = (status ≡ Usage) ⊎ (status ≡ WriteFault) ⊎ (status ≡ Memory)
 
--- the command puts a file
+-- The command puts a file.
 abbrev pub Puts : Command → Type 0
 Puts (Build file image) = Unit {0}
 Puts command = ⊥
 
--- the words are a command whose file is held, with these bytes, what is left of the input is this
--- text, and no fault rose in the call
+-- The words are a command whose file the store has, with these bytes. What is left of the input is
+-- this text, and no count of faults rose in the call.
 pub record IsInOrder (call : Call) (command : Command) (bytes text : List ℕ) : Type 0 where
   pub reads : Reads call.request.words command
   pub files : Files
@@ -246,18 +250,18 @@ pub record IsInOrder (call : Call) (command : Command) (bytes text : List ℕ) :
   pub out_steady : ¬ Rose call.out.faults
   pub err_steady : ¬ Rose call.err.faults
 
--- a text of at most 1,048,576 bytes, which keeps the rules of the language, has a
--- layout and is built
+-- A text of at most 1,048,576 bytes, which keeps the rules of the language, has a layout and is
+-- built.
 pub record IsText (source : List ℕ) : Type 0 where
   pub short : length source ≤ 1048576
   pub built : IsBuilt source
 
--- the bytes of an image
+-- The bytes of an image.
 abbrev pub IsImage : List ℕ → Type 0
 IsImage bytes = (image : Image) × IsImageOf bytes image
 
--- the file that a command reads is in order: a text, which has the variable that is to be
--- shown, or an image
+-- The file that a command reads is in order: a text, which has the variable that is to be shown, or
+-- an image.
 abbrev pub IsReadable : Command → List ℕ → Type 0
 IsReadable (Run file harts cycles show) source = IsText source × (shown : Option Row)
     × IsShown source show shown
@@ -265,13 +269,13 @@ IsReadable (Build file image) source = IsText source
 IsReadable (Exec image harts cycles) bytes = IsImage bytes
 IsReadable (ListCode image) bytes = IsImage bytes
 
--- the text has numbers, and no more than there may be beside so many globals
+-- The text has numbers, and no more than there may be beside this many globals.
 abbrev pub IsInputBeside : ℕ → List ℕ → Type 0
 IsInputBeside globals text = (numbers : List ℕ)
     × (input_of (most_numbers globals) text ≡ Ok numbers)
 
--- the input of a command is in order beside the shared variables of its text, or beside the
--- globals of its image
+-- The input of a command is in order, beside the shared variables of its text or beside the globals
+-- of its image.
 abbrev pub IsAccepted : Command → List ℕ → List ℕ → Type 0
 IsAccepted (Run file harts cycles show) source text =
     (program : ProgramTree) × (facts : Facts) × IsChecked source program facts
@@ -281,57 +285,58 @@ IsAccepted (Exec image harts cycles) bytes text =
     (read : Image) × IsImageOf bytes read × IsInputBeside (vec_len read.globals) text
 IsAccepted (ListCode image) bytes text = Unit {0}
 
--- the status of how the machine of an image stands over the numbers of a text
+-- The status for the machine of an image on the numbers of a text.
 abbrev pub IsOfStand : Image → List ℕ → ℕ → ℕ → Status → Type 0
 IsOfStand image text harts cycles status =
     (input : List ℕ) × (numbers_for image text ≡ Ok input)
     × (status ≡ status_of (machine image input harts cycles).stand)
 
--- the answers where both are: want of memory, or that of the run of an image, of the source or of
--- the bytes, or Done
+-- The statuses where both are in order: Memory, that of the run of an image of the source or of the
+-- bytes, or Done.
 abbrev pub IsOfAccepted : Command → List ℕ → List ℕ → Status → Type 0
 IsOfAccepted (Run file harts cycles show) source text status =
     (status ≡ Memory)
-    ⊎ ((image : Image) × IsBuiltFrom source image × IsOfStand image text harts cycles status)
+    ⊎ ((image : Image) × IsFaithful source image × IsOfStand image text harts cycles status)
 IsOfAccepted (Build file image) source text status = (status ≡ Memory) ⊎ (status ≡ Done)
 IsOfAccepted (Exec image harts cycles) bytes text status =
     (status ≡ Memory)
     ⊎ ((read : Image) × IsImageOf bytes read × IsOfStand read text harts cycles status)
 IsOfAccepted (ListCode image) bytes text status = (status ≡ Memory) ⊎ (status ≡ Done)
 
--- where the file isn't
+-- The statuses where the file isn't in order.
 abbrev pub IsOfUnreadable : Command → Status → Type 0
 IsOfUnreadable (Run file harts cycles show) status = (status ≡ Memory) ⊎ (status ≡ Refused)
 IsOfUnreadable (Build file image) status = (status ≡ Memory) ⊎ (status ≡ Refused)
 IsOfUnreadable (Exec image harts cycles) status = (status ≡ Memory) ⊎ (status ≡ ImageRefused)
 IsOfUnreadable (ListCode image) status = (status ≡ Memory) ⊎ (status ≡ ImageRefused)
 
--- and where the input isn't
+-- The statuses where the file is in order and the input isn't.
 abbrev pub IsOfUnaccepted : Status → Type 0
 IsOfUnaccepted status = (status ≡ Memory) ⊎ (status ≡ InputRefused)
 
--- ---- what holds of a call and its answer
+-- ---- what holds of a call and its status
 
 pub record IsAnswer (call : Call) (status : Status) : Type 0 where
-  -- each answer has its cause; the status, the bytes that were put and those that `out` and `err`
-  -- got are those of one image, faithful to the bytes that were fetched, or which those bytes spell
+  -- Each status has its cause. The status, the bytes that were put, and those that `out` and `err`
+  -- got are those of one image. It is faithful to the bytes that were fetched, or these are its
+  -- bytes.
   pub answer : HasCause call status
-  -- words that are no command
+  -- Words that are no command.
   pub usage : status ≡ Usage → IsNoCommand call.request.words
   pub no_command : IsNoCommand call.request.words → IsOfNoCommand status
-  -- a file that can't be read, and a write that fails
+  -- A file that can't be read, and a write that fails.
   pub read_fault : status ≡ ReadFault → IsUnread call.request
   pub absent : IsAbsent call.request → IsOfAbsent status
   pub write_fault : status ≡ WriteFault → FailsToWrite call
   pub told : TellsFaults call status
-  -- only what runs faults, and no image of a text traps
+  -- Only a command that runs something faults, and no image of a text traps.
   pub source_fault : status ≡ SourceFault → IsRun call.request.words
   pub trap : status ≡ Trap → IsExec call.request.words
-  -- only a command that runs has an input
+  -- Only a command that runs has an input.
   pub input : status ≡ InputRefused → IsRun call.request.words
   pub left : ¬ IsRun call.request.words → IsSame call.request.input.left
   pub input_faults : ¬ IsRun call.request.words → IsSame call.request.input.faults
-  -- what is in order is not refused, and what isn't is: the file before the input
+  -- What is in order is not refused, and what isn't in order is refused, the file before the input.
   pub complete : (command : Command) (bytes text : List ℕ) → IsInOrder call command bytes text
       → IsReadable command bytes
       → IsAccepted command bytes text → IsOfAccepted command bytes text status
@@ -341,6 +346,6 @@ pub record IsAnswer (call : Call) (status : Status) : Type 0 where
   pub input_refused : (command : Command) (bytes text : List ℕ) → IsInOrder call command bytes text
       → IsReadable command bytes
       → ¬ IsAccepted command bytes text → IsOfUnaccepted status
-  -- only a build puts
+  -- Only a build puts a file.
   pub files : ¬ IsBuild call.request.words → IsSame call.store.files
   pub put_faults : ¬ IsBuild call.request.words → IsSame call.store.faults

@@ -1,4 +1,4 @@
--- What a command comes to over the file and the input that it reads.
+-- The outcome of a command, for the file and the input that it reads.
 use Rattle.std.specs.Prelude.{◌≡◌, ℕ, ◌+◌, ◌-◌, ◌≤◌, ◌⊎◌, List, [], ◌∷◌, ◌++◌, length, map, min}
 use Rattle.std.specs.Prelude.{vec_len, slice_get, Option, Some, None, Result, Ok, Err}
 use Rattle.std.specs.List.{range_with_len}
@@ -14,7 +14,7 @@ use Rattle.fk_machine.specs.declared.stand.Stand.TheVariants.{Running, Finished,
 use Rattle.fk_machine.specs.Cycle.{Machine}
 use Rattle.fk_machine.specs.Run.{machine, output_of}
 use Rattle.fk_layout_globals.specs.Rows.{Row}
-use Rattle.fk_compile_text.specs.Text.{HasGlobal, IsBuilt}
+use Rattle.fk_compile_text.specs.Text.{HasGlobal}
 use Rattle.fk_compile.specs.Faithful.{IsFaithful}
 use Rattle.fk_top.specs.declared.kinds.FaultKind.TheVariants as fault
 use Rattle.fk_top.specs.declared.report.Report.{Report}
@@ -25,40 +25,41 @@ use Rattle.fk_top.specs.declared.status.Status.TheVariants.{Trap, ImageRefused, 
 use Rattle.fk_top.specs.Report.{fault_kind, trap_kind, line_of, no_global_line, show_line}
 use Rattle.fk_top.specs.Refused.{IsRefusedBy, IsNoImageAs, input_report_of}
 
--- a file that is put: its name and its bytes
+-- A file that is put: its name and its bytes.
 pub record Put : Type 0 where
   pub name : List ℕ
   pub bytes : List ℕ
 
--- what a call comes to: its status, the file that it puts, if it puts one, the bytes for `out`, and
--- the line for `err`
+-- The outcome of a call: its status, the file that it puts, if any, the bytes for `out`, and the
+-- line for `err`.
 pub record Outcome : Type 0 where
   pub status : Status
   pub put : Option Put
   pub output : List ℕ
   pub line : List ℕ
 
--- nothing is put and nothing printed
+-- An outcome in which nothing is put and nothing printed.
 abbrev pub silent : Status → List ℕ → Outcome
 silent status line = record { status = status; put = None; output = []; line = line }
 
 -- ---- a run of an image
 
--- the status, by how the machine stands
+-- The status for the status of the machine.
 abbrev pub status_of : Stand → Status
 status_of Finished = Done
 status_of Running = CycleBound
 status_of (Faulted site hart) = SourceFault
 status_of (Trapped hart pc kind) = Trap
 
--- the report of a fault at a site, which has a kind, a line and a column; there may be no such site
+-- The report of a fault at a site, which has a kind, a line and a column. There may be no such
+-- site.
 abbrev pub fault_report : Option (ℕ × ℕ × ℕ) → ℕ → ℕ → Report
 fault_report None processor cycles =
     reports.Fault fault.Other (record { line = 0; column = 0 }) processor cycles
 fault_report (Some site) processor cycles =
     reports.Fault (fault_kind site.0) (record { line = site.1; column = site.2 }) processor cycles
 
--- the report, by how the machine stands after so many cycles of at most `bound`
+-- The report for the status of the machine, after this many cycles of at most `bound`.
 abbrev pub stand_report : Image → ℕ → Stand → ℕ → Report
 stand_report image bound Finished cycles = reports.Finished cycles
 stand_report image bound Running cycles = reports.Stopped bound
@@ -67,16 +68,16 @@ stand_report image bound (Faulted site hart) cycles =
 stand_report image bound (Trapped hart pc kind) cycles =
     reports.Trap (trap_kind kind) pc hart cycles
 
--- the words of a variable, as the machine has them
+-- The words of a variable in the machine.
 abbrev pub words_in : Machine → Row → List ℕ
 words_in m row = map m.shared.words (range_with_len row.first row.words)
 
--- the line of a variable behind the output, if one is shown, as the machine has it
+-- The output, followed by the line of a variable in the machine, if one is shown.
 abbrev pub with_shown : List ℕ → Option Row → Machine → List ℕ
 with_shown output None m = output
 with_shown output (Some row) m = output ++ show_line row.name row.signed (words_in m row)
 
--- what the machine of an image comes to over these input numbers after at most so many cycles
+-- The outcome of running the machine of an image on these input numbers for at most `bound` cycles.
 abbrev pub ran : Image → List ℕ → ℕ → ℕ → Option Row → Outcome
 ran image input harts bound shown =
     let m = machine image input harts bound in
@@ -89,7 +90,7 @@ ran image input harts bound shown =
 
 -- ---- an image that is put or listed
 
--- the bytes of an image are put under a name
+-- The bytes of an image are put under a name.
 abbrev pub built : List ℕ → List ℕ → Image → Outcome
 built name bytes image =
     record {
@@ -99,7 +100,7 @@ built name bytes image =
       line = line_of (reports.Built (vec_len image.code));
     }
 
--- one line for each word of code, from an address on
+-- One line for each word of code, from an address on.
 abbrev pub listing : ℕ → List ℕ → List ℕ
 listing address [] = []
 listing address (word ∷ words) = lines.line_of address word ++ listing (address + 4) words
@@ -115,24 +116,17 @@ listed image =
 
 -- ---- each command
 
--- the source is refused, and so is the call
+-- The source is refused, and so is the call.
 pub record RefusesSource (source : List ℕ) (outcome : Outcome) : Type 0 where
   pub line : List ℕ
   pub refused : IsRefusedBy source line
   pub is : outcome ≡ silent Refused line
 
--- the bytes are no image, and the call is refused
+-- The bytes are no image, and the call is refused.
 pub record RefusesImage (bytes : List ℕ) (outcome : Outcome) : Type 0 where
   pub report : Report
   pub refused : IsNoImageAs bytes report
   pub is : outcome ≡ silent ImageRefused (line_of report)
-
--- the image is faithful to the source, which isn't too long, keeps the rules of the language, has a
--- layout and is built
-pub record IsBuiltFrom (source : List ℕ) (image : Image) : Type 0 where
-  pub short : length source ≤ 1048576
-  pub built : IsBuilt source
-  pub faithful : IsFaithful source image
 
 -- a name is asked for, but the source, which has an image, has no shared variable of that name
 pub record LacksGlobal (source : List ℕ) (show : Option Text) (outcome : Outcome) : Type 0 where
@@ -142,22 +136,21 @@ pub record LacksGlobal (source : List ℕ) (show : Option Text) (outcome : Outco
   pub none : HasGlobal source name None
   pub is : outcome ≡ silent Refused (no_global_line name)
 
--- the variable of the name that is asked for, if one is
+-- The variable of the given name, if a name is given.
 abbrev pub IsShown : List ℕ → Option Text → Option Row → Type 0
 IsShown source None None = Unit {0}
 IsShown source (Some name) (Some row) = HasGlobal source name (Some row)
 IsShown source _ _ = ⊥
 
--- where there are so many globals an input has at most so many numbers: 65,536, and with
--- the globals 524,288
+-- The most numbers of an input, beside this many globals: 65,536, and with the globals 524,288.
 abbrev pub most_numbers : ℕ → ℕ
 most_numbers globals = min 65536 (524288 - globals)
 
--- the numbers that an input text gives to the machine of an image, or why it is refused
+-- The numbers that an input text gives to the machine of an image, or why it is refused.
 abbrev pub numbers_for : Image → List ℕ → Result (List ℕ) InputFault
 numbers_for image text = input_of (most_numbers (vec_len image.globals)) text
 
--- the input text is refused for an image, and so is the call
+-- The input text is refused for an image, and so is the call.
 pub record RefusesInput (image : Image) (text : List ℕ) (outcome : Outcome) : Type 0 where
   pub fault : InputFault
   pub refused : numbers_for image text ≡ Err fault
@@ -165,48 +158,48 @@ pub record RefusesInput (image : Image) (text : List ℕ) (outcome : Outcome) : 
   pub says : input_report_of fault ≡ Some report
   pub is : outcome ≡ silent InputRefused (line_of report)
 
--- the machine of an image ran over the numbers of the text, and the variable was shown
+-- The machine of an image ran on the numbers of the text, and the variable was shown.
 pub record RunsOn (image : Image) (text : List ℕ) (harts cycles : ℕ) (shown : Option Row)
     (outcome : Outcome) : Type 0 where
   pub input : List ℕ
   pub numbers : numbers_for image text ≡ Ok input
   pub is : outcome ≡ ran image input harts cycles shown
 
--- what comes of an image and an input text
+-- The outcome for an image and an input text.
 abbrev pub EndsOn : Image → List ℕ → ℕ → ℕ → Option Row → Outcome → Type 0
 EndsOn image text harts cycles shown outcome = RefusesInput image text outcome
     ⊎ RunsOn image text harts cycles shown outcome
 
--- an image of the source was run, and the variable was shown; or the input was refused
+-- An image of the source was run, and the variable was shown; or the input was refused.
 pub record RunsSource (source text : List ℕ) (harts cycles : ℕ) (show : Option Text)
     (outcome : Outcome) : Type 0 where
   pub image : Image
-  pub compiled : IsBuiltFrom source image
+  pub compiled : IsFaithful source image
   pub shown : Option Row
   pub is_shown : IsShown source show shown
   pub ends : EndsOn image text harts cycles shown outcome
 
--- the bytes of an image of the source are put under a name
+-- The bytes of an image of the source are put under a name.
 pub record PutsImage (source name : List ℕ) (outcome : Outcome) : Type 0 where
   pub image : Image
-  pub compiled : IsBuiltFrom source image
+  pub compiled : IsFaithful source image
   pub bytes : List ℕ
   pub spelled : IsImageOf bytes image
   pub is : outcome ≡ built name bytes image
 
--- the image of the bytes was run; or the input was refused
+-- The image of the bytes was run, or the input was refused.
 pub record RunsImage (bytes text : List ℕ) (harts cycles : ℕ) (outcome : Outcome) : Type 0 where
   pub image : Image
   pub spelled : IsImageOf bytes image
   pub ends : EndsOn image text harts cycles None outcome
 
--- the code of the image of the bytes is listed
+-- The code of the image of the bytes is listed.
 pub record ListsImage (bytes : List ℕ) (outcome : Outcome) : Type 0 where
   pub image : Image
   pub spelled : IsImageOf bytes image
   pub is : outcome ≡ listed image
 
--- what a command comes to over the bytes that it read, and those of the input
+-- The outcome of a command, for the bytes that it read and those of the input.
 abbrev pub ComesTo : Command → List ℕ → List ℕ → Outcome → Type 0
 ComesTo (Run file harts cycles show) source text outcome =
     RefusesSource source outcome ⊎ LacksGlobal source show outcome

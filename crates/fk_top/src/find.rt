@@ -1,6 +1,7 @@
-//! What a call comes to, before anything is put or given.
+//! The ending of a call, before anything is put or given.
 
 ghost use Rattle.std.specs.Prelude.{◌≡◌, ◌⊎◌, map, string_bytes, IfOk, IsErr, IsOkAnd, OnErr};
+ghost use Rattle.fk_ports.specs.Known.{GivesAtMost};
 ghost use Rattle.fk_top_words.specs.Command.{command_of};
 ghost use Rattle.fk_top.specs.Words.{IsRun};
 ghost use Rattle.fk_top.specs.Outcome.{ComesTo, silent};
@@ -19,9 +20,9 @@ use fk_ports::{Source, Store, StoreFault};
 use fk_top_words::{CommandWords, WordsFault, read_words};
 use std::alloc::{AllocError, Global};
 
-/// What the words come to over a store and an input. In the store it changes nothing, and it
-/// gives nothing to anybody. A file or an input that could not be read is an ending too, and
-/// no want of memory.
+/// The ending of a call with these words, for a store and an input. It changes nothing in the
+/// store, and gives nothing to any sink. A file or an input that could not be read is an ending
+/// too. It fails only if there isn't enough memory.
 pub fn find_ending<'a, F: Store, S: Source>(
     alloc: Global,
     words: &'a [String],
@@ -37,6 +38,7 @@ pub fn find_ending<'a, F: Store, S: Source>(
         × (S.faults input.new ≡ S.faults input.old))) }
     ensures unread { OnErr result ((F.fetch_faults files.new ≡ F.fetch_faults files.old)
         × (S.faults input.new ≡ S.faults input.old)) }
+    ensures lost { OnErr result (GivesAtMost 1048577 (S.left input.old) (S.left input.new)) }
     ensures files { F.files files.new ≡ F.files files.old }
     ensures put_faults { F.put_faults files.new ≡ F.put_faults files.old }
     ensures left { ¬ IsRun (map string_bytes words.now) → S.left input.new ≡ S.left input.old }
@@ -45,10 +47,7 @@ pub fn find_ending<'a, F: Store, S: Source>(
 {
     let command = match read_words(alloc, words) {
         Ok(command) => command,
-        Err(WordsFault::Usage) => {
-            return Ok(silent(alloc, Status::Usage, Report::CommandLine));
-        }
-        Err(WordsFault::Memory) => return Err(AllocError),
+        Err(fault) => return no_command(alloc, fault),
     };
     let mut bytes = Vec::new(alloc);
     if let Err(fault) = files.fetch(file_of(command), most_bytes(command), &mut bytes) {
@@ -60,7 +59,19 @@ pub fn find_ending<'a, F: Store, S: Source>(
     }
 }
 
-// The ending where the file or the input could not be read. Want of memory has none.
+// The ending if the words are no command. A lack of memory has none.
+fn no_command<'a>(alloc: Global, fault: WordsFault) -> Result<Ending<'a>, AllocError>
+    ensures usage { fault ≡ WordsFault.Usage
+        → IsOkAnd result (λ e. outcome_of e ≡ silent Status.Usage (line_of Report.CommandLine)) }
+    ensures memory { fault ≡ WordsFault.Memory → IsErr result }
+{
+    match fault {
+        WordsFault::Usage => Ok(silent(alloc, Status::Usage, Report::CommandLine)),
+        WordsFault::Memory => Err(AllocError),
+    }
+}
+
+// The ending if the file or the input can't be read. A lack of memory has none.
 fn unread<'a>(alloc: Global, fault: StoreFault) -> Result<Ending<'a>, AllocError>
     ensures fault { fault ≡ StoreFault.Fault
         → IsOkAnd result (λ e. outcome_of e ≡ silent Status.ReadFault (line_of Report.ReadFault)) }
@@ -72,7 +83,7 @@ fn unread<'a>(alloc: Global, fault: StoreFault) -> Result<Ending<'a>, AllocError
     }
 }
 
-// What a command comes to over the bytes that it read, and the input text.
+// The ending of a command, for the bytes that it read and the input text.
 fn command_ending<'a>(
     alloc: Global,
     command: CommandWords<'a>,

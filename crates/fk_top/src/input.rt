@@ -1,6 +1,6 @@
-//! What a command takes of the input.
+//! The input of a command.
 
-ghost use Rattle.std.specs.Prelude.{◌≡◌, [], IfOk, IsErrOf, OnOk};
+ghost use Rattle.std.specs.Prelude.{◌≡◌, [], IfOk, IsErrOf, OnErr, OnOk};
 ghost use Rattle.fk_ports.specs.Faults.{HasRisen};
 ghost use Rattle.fk_ports.specs.Known.{GivesAtMost, MovesFirst};
 ghost use Rattle.fk_top_words.specs.Command.{command_of};
@@ -11,8 +11,8 @@ use fk_ports::{Source, StoreFault, take_all};
 use fk_top_words::CommandWords;
 use std::alloc::Global;
 
-/// The input text of a command that runs: the first bytes that the input has left. Of one that
-/// doesn't run it is empty, and nothing is asked of the input.
+/// The input text of a command that runs: the first bytes that the input has left. That of a
+/// command that doesn't run is empty, and nothing is taken from the input.
 pub fn take_input<S: Source>(
     alloc: Global,
     command: CommandWords,
@@ -21,8 +21,8 @@ pub fn take_input<S: Source>(
     ensures taken { IfOk result (λ text. MovesFirst (most_input (command_of command.entry))
         (S.left input.old) (S.left input.new) [] text.items) }
     ensures runs { IsErrOf result StoreFault.Fault → Runs (command_of command.entry) }
-    ensures lost { IsErrOf result StoreFault.Fault → GivesAtMost
-        (most_input (command_of command.entry)) (S.left input.old) (S.left input.new) }
+    ensures lost { OnErr result (GivesAtMost
+        (most_input (command_of command.entry)) (S.left input.old) (S.left input.new)) }
     ensures fault { IsErrOf result StoreFault.Fault
         → HasRisen (S.faults input.old) (S.faults input.new) }
     ensures memory { IsErrOf result StoreFault.Memory → S.faults input.new ≡ S.faults input.old }

@@ -1,8 +1,11 @@
-//! What a command comes to over a source.
+//! The outcome of a command for a source.
 
-ghost use Rattle.std.specs.Prelude.{◌⊎◌, option_map, IfOk};
-ghost use Rattle.fk_top.specs.Outcome.{IsBuiltFrom, LacksGlobal, PutsImage, RefusesSource};
-ghost use Rattle.fk_top.specs.Outcome.{RunsSource};
+ghost use Rattle.std.specs.Prelude.{◌⊎◌, ℕ, List, map, option_map, IfOk};
+ghost use Rattle.fk_image.specs.Limits.{IsWithinLimits};
+ghost use Rattle.fk_layout_globals.specs.View.{row_of};
+ghost use Rattle.fk_compile_text.specs.Text.{HasRows};
+ghost use Rattle.fk_compile.specs.Faithful.{IsFaithful};
+ghost use Rattle.fk_top.specs.Outcome.{LacksGlobal, PutsImage, RefusesSource, RunsSource};
 ghost use Rattle.fk_top.specs.Ending.{outcome_of};
 
 use crate::ending::{Ending, LastLine, PutFile, no_global, refused_source};
@@ -11,14 +14,14 @@ use crate::report::Report;
 use crate::run::run_ending;
 use crate::status::Status;
 use crate::variable::Variable;
-use fk_compile::compile;
+use fk_compile::{Compiled, compile};
 use fk_compile_text::find_global;
-use fk_image::{Image, write_image};
+use fk_image::write_image;
 use fk_top_words::RunWords;
 use std::alloc::{AllocError, Global};
 
-/// Compiles a source, runs it over an input text, and shows the variable of a name,
-/// if one is named.
+/// Compiles a source, runs it on an input text, and shows the variable of a name, if one is given.
+/// Fails if there isn't enough memory.
 pub fn run_source<'a>(
     alloc: Global,
     source: &[u8],
@@ -32,45 +35,45 @@ pub fn run_source<'a>(
         (option_map (λ s. s.now) show.entry) (outcome_of e)) }
 {
     match compile(alloc, source) {
-        Ok(image) => run_and_show(alloc, source, &image, text, run, show),
+        Ok(compiled) => run_and_show(alloc, &compiled, text, run, show),
         Err(refusal) => refused_source(alloc, last_line_of(refusal)),
     }
 }
 
-// Runs the image of a source, and shows the variable of a name, if one is named.
+// Runs the image of a source, and shows the variable of a name, if one is given.
 fn run_and_show<'a>(
     alloc: Global,
-    source: &[u8],
-    image: &Image,
+    compiled: &Compiled,
     text: &[u8],
     run: RunWords,
     show: Option<&'a str>,
 ) -> Result<Ending<'a>, AllocError>
-    requires { IsBuiltFrom source.now image.now }
-    ensures { IfOk result (λ e. RefusesSource source.now (outcome_of e)
-        ⊎ LacksGlobal source.now (option_map (λ s. s.now) show.entry) (outcome_of e)
-        ⊎ RunsSource source.now text.now run.entry.harts run.entry.cycles
+    requires limits { IsWithinLimits compiled.now.image }
+    requires rows { (source : List ℕ) × HasRows source (map row_of compiled.now.rows.items) }
+    ensures { (source : List ℕ) → IsFaithful source compiled.now.image
+        → HasRows source (map row_of compiled.now.rows.items)
+        → IfOk result (λ e. LacksGlobal source (option_map (λ s. s.now) show.entry) (outcome_of e)
+        ⊎ RunsSource source text.now run.entry.harts run.entry.cycles
         (option_map (λ s. s.now) show.entry) (outcome_of e)) }
 {
     let Some(name) = show else {
-        return run_ending(alloc, image, text, run, None);
+        return run_ending(alloc, &compiled.image, text, run, None);
     };
-    match find_global(alloc, source, name.as_bytes()) {
-        Ok(Some(row)) => {
+    match find_global(&compiled.rows, name.as_bytes()) {
+        Some(row) => {
             let variable = Variable {
                 name,
                 first: row.first,
                 words: row.words,
                 signed: row.signed,
             };
-            run_ending(alloc, image, text, run, Some(variable))
+            run_ending(alloc, &compiled.image, text, run, Some(variable))
         }
-        Ok(None) => Ok(no_global(alloc, name)),
-        Err(refusal) => refused_source(alloc, last_line_of(refusal)),
+        None => Ok(no_global(alloc, name)),
     }
 }
 
-/// Compiles a source and makes the bytes of its image.
+/// Compiles a source and makes the bytes of its image. Fails if there isn't enough memory.
 pub fn build_source<'a>(
     alloc: Global,
     source: &[u8],
@@ -80,7 +83,8 @@ pub fn build_source<'a>(
         ⊎ PutsImage source.now name.now (outcome_of e)) }
 {
     match compile(alloc, source) {
-        Ok(image) => {
+        Ok(compiled) => {
+            let image = compiled.image;
             let bytes = write_image(alloc, &image)?;
             Ok(Ending {
                 status: Status::Done,

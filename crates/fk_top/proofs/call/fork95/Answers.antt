@@ -35,7 +35,7 @@ pub returns-in-Err : goal.returns-in-Err
 returns-in-Err g c =
     record {
       call = answer_of _ _
-          (record { put = c.find_ending.ensures.files; out_took = sym (append_known-nil _); err_took = sym (append_known-nil _) })
+          (record { took = c.in-Err.ensures.lost; put = c.find_ending.ensures.files; out_took = sym (append_known-nil _); err_took = sym (append_known-nil _) })
           (record {
             fetch = λ _ _. c.in-Err.ensures.unread.0;
             input = λ _ _. c.in-Err.ensures.unread.1;

@@ -1,20 +1,29 @@
-use Rattle.std.proofs.Common.{Err, map, string_bytes, Global, refl, ap, inl, inr}
+use Rattle.std.proofs.Common.{[], Err, map, string_bytes, Global, refl, ap, inl, inr}
 use Rattle.fk_top_words.specs.Command.{command_of}
 use Rattle.fk_top.specs.Call.{given_of, request_of}
-use Rattle.fk_top.proofs.Unread.{file_unread, unread_ends}
+use Rattle.fk_top.specs.Words.{most_input}
+use Rattle.fk_top.proofs.Lost.{none_lost, no_more, moved, few_input, lost_or_not}
+use Rattle.fk_top.proofs.Unread.{file_unread, no_command_ends, unread_ends}
 use Rattle.fk_top.proofs.find.find_ending.Goals as goal
 
 pub returns-in-Err-clause-ends : goal.returns-in-Err-clause-ends
 returns-in-Err-clause-ends g c =
     let words = map (string_bytes {Z = Global}) c.args.words.now in
     let input = given_of g.S.Source.left g.S.Source.faults c.args.input.now c.args.input.now in
+    let request = request_of g.F.Store.files g.F.Store.fetch_faults words c.args.files.now c.args.files.now input in
+    no_command_ends c.no_command.result c.in-Err.fault request (λ is. c.in-Err.ensures.usage is) c.no_command.ensures.usage c.no_command.ensures.memory
+
+pub returns-in-Err-fetch-clause-ends : goal.returns-in-Err-fetch-clause-ends
+returns-in-Err-fetch-clause-ends g c =
+    let words = map (string_bytes {Z = Global}) c.args.words.now in
+    let input = given_of g.S.Source.left g.S.Source.faults c.args.input.now c.args.input.now in
     let request = request_of g.F.Store.files g.F.Store.fetch_faults words c.args.files.now c.fetch.new.self input in
     let command = command_of c.in-Ok.command in
-    unread_ends c.unread.result c.in-Err.fault request
+    unread_ends c.unread.result c.in-Err-fetch.fault request
     (λ is. record {
       command = command;
       reads = c.in-Ok.ensures.reads;
-      cause = inl (file_unread request command c.file_of.result.now c.file_of.ensures (c.in-Err.ensures.fault (ap Err is)) refl refl);
+      cause = inl (file_unread request command c.file_of.result.now c.file_of.ensures (c.in-Err-fetch.ensures.fault (ap Err is)) refl refl);
     })
     c.unread.ensures.fault c.unread.ensures.memory
 
@@ -34,7 +43,7 @@ returns-clause-ends g c =
         runs = c.in-Err-take_input.ensures.runs (ap Err is);
         fetched = c.in_default.ensures.steady;
         rose = c.in-Err-take_input.ensures.fault (ap Err is);
-        lost = c.in-Err-take_input.ensures.lost (ap Err is);
+        lost = c.in-Err-take_input.ensures.lost;
       });
     })
     c.unread-in-Err-take_input.ensures.fault c.unread-in-Err-take_input.ensures.memory
@@ -44,3 +53,19 @@ returns-clause-left g c = λ not. c.take_input.ensures.left (λ runs. not (comma
 
 pub returns-clause-input_faults : goal.returns-clause-input_faults
 returns-clause-input_faults g c = λ not. c.take_input.ensures.input_faults (λ runs. not (command_of c.in-Ok.command, c.in-Ok.ensures.reads, runs))
+
+pub returns-in-Err-clause-lost : goal.returns-in-Err-clause-lost
+returns-in-Err-clause-lost g c = lost_or_not c.no_command.result 1048577 _ _ (none_lost 1048577 (g.S.Source.left c.args.input.now))
+
+pub returns-in-Err-fetch-clause-lost : goal.returns-in-Err-fetch-clause-lost
+returns-in-Err-fetch-clause-lost g c = lost_or_not c.unread.result 1048577 _ _ (none_lost 1048577 (g.S.Source.left c.args.input.now))
+
+pub returns-in-Ok-take_input-clause-lost : goal.returns-in-Ok-take_input-clause-lost
+returns-in-Ok-take_input-clause-lost g c =
+    let command = command_of c.in-Ok.command in
+    lost_or_not c.command_ending.result 1048577 _ _ (no_more (most_input command) 1048577 _ _ (few_input command) (moved (most_input command) _ _ [] _ c.in-Ok-take_input.ensures.taken))
+
+pub returns-clause-lost : goal.returns-clause-lost
+returns-clause-lost g c =
+    let command = command_of c.in-Ok.command in
+    lost_or_not c.unread-in-Err-take_input.result 1048577 _ _ (no_more (most_input command) 1048577 _ _ (few_input command) c.in-Err-take_input.ensures.lost)

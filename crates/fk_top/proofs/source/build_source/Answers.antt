@@ -5,8 +5,8 @@ use Rattle.fk_top.proofs.source.build_source.Goals as goal
 pub returns-in_ok-bytes-in-Ok : goal.returns-in_ok-bytes-in-Ok
 returns-in_ok-bytes-in-Ok c =
     inr (record {
-      image = c.in-Ok.image;
-      compiled = record { short = c.in-Ok.ensures.short; built = c.in-Ok.ensures.built; faithful = c.in-Ok.ensures.faithful };
+      image = c.in-Ok.compiled.image;
+      compiled = c.in-Ok.ensures.faithful;
       bytes = c.in_ok-bytes-in-Ok.bytes.items;
       spelled = c.in_ok-bytes-in-Ok.ensures;
       is = let empty = c.new.ensures.items in let words = c.len.ensures in cc;
