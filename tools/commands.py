@@ -129,6 +129,13 @@ RULES = [
     (22, ALONE, "int ib[2]; void main(void) { »farm ; }"),
     (33, ALONE, "sync void f(void) { if ($) »return; } void main(void) { start f(); }"),
     (26, ALONE, "sync void f(void) { } void main(void) { start farm »f(); }"),
+    # a struct as an initial value of file scope, and a member of `void`, which takes no words
+    (19, BESIDE, "sh int v = -»st;"),
+    (19, BESIDE, "sh int v = »st;"),
+    (19, BESIDE, "sh int v = 1 + »st;"),
+    (17, BESIDE, "sh int v = »st ? 1 : 2;"),
+    (6, BESIDE, "sh int v = sizeof(struct »U) && st;"),
+    (8, BESIDE, "struct »T { void v; int a[524289]; };"),
 ]
 
 
