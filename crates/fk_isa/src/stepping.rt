@@ -4,7 +4,6 @@ ghost use Rattle.std.specs.Prelude.{◌≡◌, ℕ, ◌<◌, ◌^◌, ◌*◌, �
 ghost use Rattle.fk_num.specs.Op.{applied};
 ghost use Rattle.fk_num.specs.Word.{word_sum, signed};
 ghost use Rattle.fk_isa.specs.Bits.{extended};
-ghost use Rattle.fk_isa.specs.Computation.{IsComputation};
 ghost use Rattle.fk_isa.specs.Fits.{Fits};
 ghost use Rattle.fk_isa.specs.Tells.{IsSize, IsAtomic};
 ghost use Rattle.fk_isa.specs.Step.{After, atomic, hart_of, load, step, store};
@@ -29,6 +28,8 @@ pub fn step<B: Bus>(instruction: Instruction, number: u32, hart: &mut Hart, bus:
     ensures keeps { B.keeps bus.old bus.new ⊎ (bus.new ≡ bus.old) }
 {
     match instruction {
+        Instruction::Lui(rd, imm) => hart.write(rd, imm << 12),
+        Instruction::Auipc(rd, imm) => hart.write(rd, hart.pc.wrapping_add(imm << 12)),
         Instruction::Jal(rd, imm) => hart.jump(rd, hart.pc.wrapping_add(imm)),
         Instruction::Jalr(rd, rs1, imm) => hart.jump(rd, hart.sum(rs1, imm) / 2 * 2),
         Instruction::Beq(rs1, rs2, imm) => hart.branch(hart.word(rs1) == hart.word(rs2), imm),
@@ -45,35 +46,6 @@ pub fn step<B: Bus>(instruction: Instruction, number: u32, hart: &mut Hart, bus:
         Instruction::Sb(rs1, rs2, imm) => store(number, hart, bus, rs1, rs2, imm, 1),
         Instruction::Sh(rs1, rs2, imm) => store(number, hart, bus, rs1, rs2, imm, 2),
         Instruction::Sw(rs1, rs2, imm) => store(number, hart, bus, rs1, rs2, imm, 4),
-        Instruction::Fence(..) => hart.go_on(),
-        Instruction::Ecall => Effect::Trap(ECALL),
-        Instruction::Ebreak => Effect::Trap(EBREAK),
-        Instruction::LrW(rd, rs1, ..) => atomic(number, hart, bus, LR, rd, rs1, 0),
-        Instruction::ScW(rd, rs1, rs2, ..) => atomic(number, hart, bus, SC, rd, rs1, rs2),
-        Instruction::AmoSwapW(rd, rs1, rs2, ..) => atomic(number, hart, bus, AMOSWAP, rd, rs1, rs2),
-        Instruction::AmoAddW(rd, rs1, rs2, ..) => atomic(number, hart, bus, AMOADD, rd, rs1, rs2),
-        Instruction::AmoXorW(rd, rs1, rs2, ..) => atomic(number, hart, bus, AMOXOR, rd, rs1, rs2),
-        Instruction::AmoAndW(rd, rs1, rs2, ..) => atomic(number, hart, bus, AMOAND, rd, rs1, rs2),
-        Instruction::AmoOrW(rd, rs1, rs2, ..) => atomic(number, hart, bus, AMOOR, rd, rs1, rs2),
-        Instruction::AmoMinW(rd, rs1, rs2, ..) => atomic(number, hart, bus, AMOMIN, rd, rs1, rs2),
-        Instruction::AmoMaxW(rd, rs1, rs2, ..) => atomic(number, hart, bus, AMOMAX, rd, rs1, rs2),
-        Instruction::AmoMinuW(rd, rs1, rs2, ..) => atomic(number, hart, bus, AMOMINU, rd, rs1, rs2),
-        Instruction::AmoMaxuW(rd, rs1, rs2, ..) => atomic(number, hart, bus, AMOMAXU, rd, rs1, rs2),
-        _ => compute::<B>(instruction, hart),
-    }
-}
-
-// One instruction that computes. It does not reach the bus.
-#[inline(always)]
-fn compute<B: Bus>(instruction: Instruction, hart: &mut Hart) -> Effect
-    requires fits { Fits instruction }
-    requires computation { IsComputation instruction }
-    ensures { (number : ℕ) (bus : B.State) → step B.tells number instruction (hart_of hart.old) bus
-        ≡ After result (hart_of hart.new) bus }
-{
-    match instruction {
-        Instruction::Lui(rd, imm) => hart.write(rd, imm << 12),
-        Instruction::Auipc(rd, imm) => hart.write(rd, hart.pc.wrapping_add(imm << 12)),
         Instruction::Addi(rd, rs1, imm) => hart.operate(Op::Add, rd, rs1, imm),
         Instruction::Slti(rd, rs1, imm) => hart.operate(Op::LtS, rd, rs1, imm),
         Instruction::Sltiu(rd, rs1, imm) => hart.operate(Op::LtU, rd, rs1, imm),
@@ -101,7 +73,20 @@ fn compute<B: Bus>(instruction: Instruction, hart: &mut Hart) -> Effect
         Instruction::Divu(rd, rs1, rs2) => hart.operate_two(Op::DivU, rd, rs1, rs2),
         Instruction::Rem(rd, rs1, rs2) => hart.operate_two(Op::RemS, rd, rs1, rs2),
         Instruction::Remu(rd, rs1, rs2) => hart.operate_two(Op::RemU, rd, rs1, rs2),
-        _ => unreachable!(),
+        Instruction::Fence(..) => hart.go_on(),
+        Instruction::Ecall => Effect::Trap(ECALL),
+        Instruction::Ebreak => Effect::Trap(EBREAK),
+        Instruction::LrW(rd, rs1, ..) => atomic(number, hart, bus, LR, rd, rs1, 0),
+        Instruction::ScW(rd, rs1, rs2, ..) => atomic(number, hart, bus, SC, rd, rs1, rs2),
+        Instruction::AmoSwapW(rd, rs1, rs2, ..) => atomic(number, hart, bus, AMOSWAP, rd, rs1, rs2),
+        Instruction::AmoAddW(rd, rs1, rs2, ..) => atomic(number, hart, bus, AMOADD, rd, rs1, rs2),
+        Instruction::AmoXorW(rd, rs1, rs2, ..) => atomic(number, hart, bus, AMOXOR, rd, rs1, rs2),
+        Instruction::AmoAndW(rd, rs1, rs2, ..) => atomic(number, hart, bus, AMOAND, rd, rs1, rs2),
+        Instruction::AmoOrW(rd, rs1, rs2, ..) => atomic(number, hart, bus, AMOOR, rd, rs1, rs2),
+        Instruction::AmoMinW(rd, rs1, rs2, ..) => atomic(number, hart, bus, AMOMIN, rd, rs1, rs2),
+        Instruction::AmoMaxW(rd, rs1, rs2, ..) => atomic(number, hart, bus, AMOMAX, rd, rs1, rs2),
+        Instruction::AmoMinuW(rd, rs1, rs2, ..) => atomic(number, hart, bus, AMOMINU, rd, rs1, rs2),
+        Instruction::AmoMaxuW(rd, rs1, rs2, ..) => atomic(number, hart, bus, AMOMAXU, rd, rs1, rs2),
     }
 }
 
