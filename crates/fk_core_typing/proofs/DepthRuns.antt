@@ -1,71 +1,29 @@
 -- Runs keep the values of processors.
-use Rattle.std.proofs.Common.{◌≡◌, ℕ, zero, suc, Bool, true, false, if◌then◌else◌, List, [], ◌∷◌, length, map, slice_get, Option, Some, None, refl, sym, ap, ◌∙◌, subst}
-use Rattle.fk_meaning_operation.specs.declared.operation.Operation.{Operation}
-use Rattle.fk_meaning_operation.specs.declared.kinds.Class.{Class}
+use Rattle.std.proofs.Common.{◌≡◌, ℕ, zero, suc, true, List, [], Some, sym, ap, ◌∙◌, subst}
 use Rattle.fk_meaning_operation.specs.declared.kinds.Class.TheVariants.{Local, Request, Tree}
 use Rattle.fk_meaning_operation.specs.Kinds.{class_of}
 use Rattle.fk_num.specs.Word.{Memory}
 use Rattle.fk_meaning_store.specs.Store.{Store}
-use Rattle.fk_meaning_store.specs.Serve.{Answer, Served, Faults, serve}
-use Rattle.fk_tree.specs.Tree as t
-use Rattle.fk_meaning.specs.Processor.{Processor, Setting, setting_of, values}
+use Rattle.fk_meaning_store.specs.Serve.{Served, serve}
+use Rattle.fk_meaning.specs.Processor.{Processor, Setting, setting_of}
 use Rattle.fk_meaning.specs.Local.{local, is_onward}
 use Rattle.fk_meaning.specs.Request.{request, with_answer}
-use Rattle.fk_meaning.specs.Group.{does, goes_onward, has_room}
-use Rattle.fk_meaning.specs.Round.{Step, Runner, Fault, State, Round, Acting, Phase, Passes, Breaks, Phases, taking, done, runner_of, answered, do_request, request_phase, after_phase, all_requests, lowest, agreed, settled_by, settled, tree_phase, do_local, local_phase, after_one, after_locals, begin, begin_all, all_locals, asking, all_changes, result}
-use Rattle.fk_meaning.specs.Schedule.{Schedule, run, beginners, first_processor}
+use Rattle.fk_meaning.specs.Group.{does, goes_onward}
+use Rattle.fk_meaning.specs.Round.{Step, Runner}
+use Rattle.fk_meaning.specs.Schedule.{beginners}
 use Rattle.fk_core.specs.declared.op.CoreOp.{CoreOp}
-use Rattle.fk_core.specs.Numbers.{operation_of}
-use Rattle.fk_core.specs.Next.{Position, position, landing, follows, step_by, step_of, next, list_opening}
+use Rattle.fk_core.specs.Next.{Position, position, landing, next, list_opening}
 use Rattle.fk_core_typing.specs.declared.places.Within.{Within}
 use Rattle.fk_core_typing.specs.declared.places.Within.TheVariants.{Main}
 use Rattle.fk_core_typing.specs.LocalDepths.{GoesOn, HasLocalDepths, LocalDepthsAreDepths}
 use Rattle.fk_core_typing.proofs.DepthSteps.{Fits, Ready, by_local, by_request, by_tree}
-
-abbrev AllAre : {X : Type 0} → (X → Type 0) → List X → Type 0
-AllAre P [] = Unit {0}
-AllAre P (x ∷ xs) = P x × AllAre P xs
-
-all_at : {X : Type 0} (P : X → Type 0) (xs : List X) (i : ℕ) (x : X) → AllAre P xs → slice_get xs i ≡ Some x → P x
-all_at P [] i x all e = absurd (cc)
-all_at P (y ∷ ys) zero x all e = let same : y ≡ x = cc in subst P same all.0
-all_at P (y ∷ ys) (suc i) x all e = all_at P ys i x all.1 e
+use Rattle.fk_core_typing.proofs.Runs.{AllAre, all_at, Found, found, RunnerFits, runs}
 
 module _ (core : List CoreOp) (main : ℕ) (local_depths : HasLocalDepths core main) where
   abbrev FitsAt : Position → Processor → Type 0
   FitsAt left p = Fits core local_depths.within left p
 
-  abbrev IsDue : Position → Step Position → Type 0
-  IsDue left step = next core left ≡ Some step
-
-  -- what the next operation of a processor is
-  record Found (left : Position) (step : Step Position) : Type 0 where
-    op : CoreOp
-    operation : Operation
-    stands : slice_get core (landing core left.at) ≡ Some op
-    reads : operation_of op.kind op.number ≡ Some operation
-    is : step ≡ record { operation = operation; site = op.site; rest = follows core operation (landing core left.at) op.target left.callers }
-
-  found_by : (left : Position) (step : Step Position) (op : CoreOp) (read : Option Operation) → slice_get core (landing core left.at) ≡ Some op
-      → operation_of op.kind op.number ≡ read → step_by core (landing core left.at) left.callers op read ≡ Some step → Found left step
-  found_by left step op None stands reads e = absurd (cc)
-  found_by left step op (Some operation) stands reads e = record {
-    op = op;
-    operation = operation;
-    stands = stands;
-    reads = reads;
-    is = (let same : record { operation = operation; site = op.site; rest = follows core operation (landing core left.at) op.target left.callers } ≡ step = cc in sym same);
-  }
-
-  found_in : (left : Position) (step : Step Position) (slot : Option CoreOp) → slice_get core (landing core left.at) ≡ slot
-      → step_of core (landing core left.at) left.callers slot ≡ Some step → Found left step
-  found_in left step None stands e = absurd (cc)
-  found_in left step (Some op) stands e = found_by left step op (operation_of op.kind op.number) stands refl e
-
-  found : (left : Position) (step : Step Position) → IsDue left step → Found left step
-  found left step e = found_in left step (slice_get core (landing core left.at)) refl e
-
-  ready : (left : Position) (step : Step Position) (f : Found left step) (p : Processor) → FitsAt left p
+  ready : (left : Position) (step : Step Position) (f : Found core left step) (p : Processor) → FitsAt left p
       → Ready core local_depths.within f.operation (landing core left.at) f.op.target left.callers p
   ready left step f p fits =
       let here = fits.comes f.op f.stands in
@@ -79,186 +37,46 @@ module _ (core : List CoreOp) (main : ℕ) (local_depths : HasLocalDepths core m
         waits = fits.waits;
       }
 
-  module _ (left : Position) (p : Processor) (fits : FitsAt left p) (step : Step Position) (due : IsDue left step) where
-    after_local : (set : Setting) → class_of step.operation ≡ Local → FitsAt (step.rest (is_onward step.operation p)) (local set step.operation p)
-    after_local set e =
-        let x = found left step due in
-        subst (λ (s : Step Position). FitsAt (s.rest (is_onward s.operation p)) (local set s.operation p)) (sym x.is)
-        (by_local core local_depths.within (landing core left.at) x.op.target left.callers p set x.operation (ready left step x p fits)
-        (sym (ap (λ (s : Step Position). class_of s.operation) x.is) ∙ e))
+  after_local : (set : Setting) (left : Position) (p : Processor) (step : Step Position) → FitsAt left p → next core left ≡ Some step
+      → class_of step.operation ≡ Local → FitsAt (step.rest (is_onward step.operation p)) (local set step.operation p)
+  after_local set left p step fits due e =
+      let x = found core left step due in
+      subst (λ (s : Step Position). FitsAt (s.rest (is_onward s.operation p)) (local set s.operation p)) (sym x.is)
+      (by_local core local_depths.within (landing core left.at) x.op.target left.callers p set x.operation (ready left step x p fits)
+      (sym (ap (λ (s : Step Position). class_of s.operation) x.is) ∙ e))
 
-    after_request : (v : ℕ) → class_of step.operation ≡ Request → FitsAt (step.rest true) (with_answer step.operation v p)
-    after_request v e =
-        let x = found left step due in
-        subst (λ (s : Step Position). FitsAt (s.rest true) (with_answer s.operation v p)) (sym x.is)
-        (by_request core local_depths.within (landing core left.at) x.op.target left.callers p v x.operation (ready left step x p fits)
-        (sym (ap (λ (s : Step Position). class_of s.operation) x.is) ∙ e))
+  after_request : (s s' : Store) (v : ℕ) (left : Position) (p : Processor) (step : Step Position) → FitsAt left p → next core left ≡ Some step
+      → class_of step.operation ≡ Request → serve (request step.operation p) s p.number ≡ Served s' v → FitsAt (step.rest true) (with_answer step.operation v p)
+  after_request s s' v left p step fits due e served =
+      let x = found core left step due in
+      subst (λ (t : Step Position). FitsAt (t.rest true) (with_answer t.operation v p)) (sym x.is)
+      (by_request core local_depths.within (landing core left.at) x.op.target left.callers p v x.operation (ready left step x p fits)
+      (sym (ap (λ (t : Step Position). class_of t.operation) x.is) ∙ e))
 
-    after_tree : (highest lowest size : ℕ) → class_of step.operation ≡ Tree
-        → FitsAt (step.rest (goes_onward step.operation highest lowest p)) (does step.operation highest size p)
-    after_tree highest lowest size e =
-        let x = found left step due in
-        subst (λ (s : Step Position). FitsAt (s.rest (goes_onward s.operation highest lowest p)) (does s.operation highest size p)) (sym x.is)
-        (by_tree core local_depths.within (landing core left.at) x.op.target left.callers p highest lowest size x.operation (ready left step x p fits)
-        (sym (ap (λ (s : Step Position). class_of s.operation) x.is) ∙ e))
+  after_tree : (highest lowest size : ℕ) (left : Position) (p : Processor) (step : Step Position) → FitsAt left p → next core left ≡ Some step
+      → class_of step.operation ≡ Tree → FitsAt (step.rest (goes_onward step.operation highest lowest p)) (does step.operation highest size p)
+  after_tree highest lowest size left p step fits due e =
+      let x = found core left step due in
+      subst (λ (s : Step Position). FitsAt (s.rest (goes_onward s.operation highest lowest p)) (does s.operation highest size p)) (sym x.is)
+      (by_tree core local_depths.within (landing core left.at) x.op.target left.callers p highest lowest size x.operation (ready left step x p fits)
+      (sym (ap (λ (s : Step Position). class_of s.operation) x.is) ∙ e))
 
-  abbrev RunnerFits : Runner Position → Type 0
-  RunnerFits r = FitsAt r.left r.has
+  abbrev AllFit : List (Runner Position) → Type 0
+  AllFit rs = AllAre (RunnerFits core FitsAt after_local after_request after_tree) rs
 
-  -- what a processor has taken is its next operation, of some classes
-  abbrev DueIs : (Class → Type 0) → Position → Option (Step Position) → Type 0
-  DueIs C left None = Unit {0}
-  DueIs C left (Some step) = IsDue left step × C (class_of step.operation)
-
-  record ActingFits (C : Class → Type 0) (a : Acting Position) : Type 0 where
-    fits : RunnerFits a.runner
-    due : DueIs C a.runner.left a.due
-
-  abbrev Any : Class → Type 0
-  Any c = Unit {0}
-
-  abbrev Later : Class → Type 0
-  Later Local = ⊥
-  Later c = Unit {0}
-
-  abbrev OnlyTree : Class → Type 0
-  OnlyTree Tree = Unit {0}
-  OnlyTree c = ⊥
-
-  taken : (r : Runner Position) (step : Option (Step Position)) → next core r.left ≡ step → RunnerFits r → ActingFits Any (taking r step)
-  taken r None e fits = record { fits = fits; due = tt }
-  taken r (Some step) e fits = record { fits = fits; due = (e, tt) }
-
-  module _ (set : Setting) where
-    locally : (r : Runner Position) (step : Step Position) (c : Class) → class_of step.operation ≡ c → RunnerFits r → IsDue r.left step
-        → ActingFits Later (do_local (next core) set (taking r (Some step)) c step)
-    locally r step Local e fits due = record { fits = after_local r.left r.has fits step due set e; due = tt }
-    locally r step Request e fits due = record { fits = fits; due = (due, subst Later (sym e) tt) }
-    locally r step Tree e fits due = record { fits = fits; due = (due, subst Later (sym e) tt) }
-
-    in_locals : (r : Runner Position) (step : Option (Step Position)) → ActingFits Any (taking r step) → ActingFits Later (local_phase (next core) set (taking r step) step)
-    in_locals r None x = record { fits = x.fits; due = tt }
-    in_locals r (Some step) x = locally r step (class_of step.operation) refl x.fits x.due.0
-
-    one_more : (r : Runner Position) → RunnerFits r → RunnerFits (after_one (next core) set r)
-    one_more r fits = let x = in_locals r (next core r.left) (taken r (next core r.left) refl fits) in x.fits
-
-    some_more : (count : ℕ) (r : Runner Position) → RunnerFits r → RunnerFits (after_locals (next core) set count r)
-    some_more zero r fits = fits
-    some_more (suc c) r fits = some_more c (after_one (next core) set r) (one_more r fits)
-
-    begins : (count : ℕ) (r : Runner Position) → RunnerFits r → ActingFits Later (let a = begin (next core) set count r in local_phase (next core) set a a.due)
-    begins zero r fits = in_locals r None (record { fits = fits; due = tt })
-    begins (suc c) r fits =
-        let q = after_locals (next core) set c r in
-        in_locals q (next core q.left) (taken q (next core q.left) refl (some_more c r fits))
-
-    all_begin : (round : Round) (rs : List (Runner Position)) → AllAre RunnerFits rs → AllAre (ActingFits Later) (asking (next core) set round rs)
-    all_begin [] rs fits = tt
-    all_begin (c ∷ round) [] fits = tt
-    all_begin (c ∷ round) (r ∷ rs) fits = (begins c r fits.0, all_begin round rs fits.1)
-
-  -- who passes the phase of requests
-  PassesFit : Phase Position → Type 0
-  PassesFit (Passes s a) = ActingFits OnlyTree a
-  PassesFit (Breaks site) = Unit {0}
-
-  answers : (r : Runner Position) (step : Step Position) → RunnerFits r → IsDue r.left step → class_of step.operation ≡ Request → (answer : Answer) → PassesFit (answered step r.has answer)
-  unfolding PassesFit
-  answers r step fits due e (Served s v) = record { fits = after_request r.left r.has fits step due v e; due = tt }
-  answers r step fits due e (Faults kind) = tt
-
-  rooms : (s : Store) (a : Acting Position) (site : ℕ) (room : Bool) → ActingFits OnlyTree a → PassesFit (if room then Passes s a else Breaks site)
-  unfolding PassesFit
-  rooms s a site true x = x
-  rooms s a site false x = tt
-
-  asks : (s : Store) (r : Runner Position) (step : Step Position) (c : Class) → class_of step.operation ≡ c → Later c → RunnerFits r → IsDue r.left step
-      → PassesFit (do_request s (taking r (Some step)) c step)
-  unfolding PassesFit
-  asks s r step Local e later fits due = absurd later
-  asks s r step Request e later fits due = answers r step fits due e _
-  asks s r step Tree e later fits due =
-      rooms s (taking r (Some step)) step.site (has_room step.operation r.has) (record { fits = fits; due = (due, subst OnlyTree (sym e) tt) })
-
-  requests : (s : Store) (r : Runner Position) (due : Option (Step Position)) → RunnerFits r → DueIs Later r.left due → PassesFit (request_phase s (taking r due) due)
-  unfolding PassesFit
-  requests s r None fits due = record { fits = fits; due = tt }
-  requests s r (Some step) fits due = asks s r step (class_of step.operation) refl due.1 fits due.0
-
-  -- all of them, up to the first fault
-  abbrev HasRunner : Acting Position → Type 0
-  HasRunner a = RunnerFits a.runner
-
-  record PhasesFit (phases : Phases Position) : Type 0 where
-    runners : AllAre HasRunner phases.acting
-    whole : phases.fault ≡ None → AllAre (ActingFits OnlyTree) phases.acting
-
-  runners_of : (C : Class → Type 0) (actings : List (Acting Position)) → AllAre (ActingFits C) actings → AllAre HasRunner actings
-  runners_of C [] fits = tt
-  runners_of C (a ∷ actings) fits = (fits.0.fits, runners_of C actings fits.1)
-
-  after : (number : ℕ) (s : Store) (a : Acting Position) (actings : List (Acting Position)) (others : Store → Phases Position) (phase : Phase Position)
-      → AllAre (ActingFits Later) (a ∷ actings) → ((s' : Store) → PhasesFit (others s')) → PassesFit phase → PhasesFit (after_phase number s a actings others phase)
-  unfolding PassesFit
-  after number s a actings others (Passes s' b) fits more x =
-      let rest = more s' in record { runners = (x.fits, rest.runners); whole = λ e. (x, rest.whole e) }
-  after number s a actings others (Breaks site) fits more x = record { runners = runners_of Later (a ∷ actings) fits; whole = λ e. absurd (cc) }
-
-  all_ask : (number : ℕ) (actings : List (Acting Position)) (s : Store) → AllAre (ActingFits Later) actings → PhasesFit (all_requests number actings s)
-  all_ask number [] s fits = record { runners = tt; whole = λ e. tt }
-  all_ask number (a ∷ actings) s fits =
-      after number s a actings (all_requests (suc number) actings) (request_phase s a a.due) fits (λ s'. all_ask (suc number) actings s' fits.1)
-      (requests s a.runner a.due fits.0.fits fits.0.due)
-
-  -- the steps of the tree
-  settles : (actings : List (Acting Position)) (old new : t.Tree) (r : Runner Position) (due : Option (Step Position)) → RunnerFits r → DueIs OnlyTree r.left due
-      → RunnerFits (settled_by actings old new r due)
-  settles actings old new r None fits due = fits
-  settles actings old new r (Some step) fits due = after_tree r.left r.has fits step due.0 _ _ _ (is_tree (class_of step.operation) due.1)
-    where
-      is_tree : (c : Class) → OnlyTree c → c ≡ Tree
-      is_tree Local x = absurd x
-      is_tree Request x = absurd x
-      is_tree Tree x = refl
-
-  all_settle : (actings : List (Acting Position)) (old new : t.Tree) (others : List (Acting Position)) → AllAre (ActingFits OnlyTree) others
-      → AllAre RunnerFits (settled actings old new others)
-  all_settle actings old new [] fits = tt
-  all_settle actings old new (a ∷ others) fits = (settles actings old new a.runner a.due fits.0.fits fits.0.due, all_settle actings old new others fits.1)
-
-  only_runners : (actings : List (Acting Position)) → AllAre HasRunner actings → AllAre RunnerFits (map runner_of actings)
-  only_runners [] fits = tt
-  only_runners (a ∷ actings) fits = (fits.0, only_runners actings fits.1)
-
-  in_tree : (tree : t.Tree) (s : Store) (actings : List (Acting Position)) (fault : Option Fault) → AllAre HasRunner actings
-      → (fault ≡ None → AllAre (ActingFits OnlyTree) actings) → AllAre RunnerFits (tree_phase tree s actings fault).runners
-  in_tree tree s actings None runners whole = all_settle actings tree (all_changes actings tree actings tree) actings (whole refl)
-  in_tree tree s actings (Some fault) runners whole = only_runners actings runners
-
-  abbrev StateFits : State Position → Type 0
-  StateFits s = AllAre RunnerFits s.runners
-
-  module _ (set : Setting) where
-    one_round : (round : Round) (s : State Position) → StateFits s → StateFits (result (next core) set round s)
-    one_round round s fits =
-        let asked = asking (next core) set round s.runners in
-        let r = all_requests 0 asked s.store in
-        let x = all_ask 0 asked s.store (all_begin set round s.runners fits) in
-        in_tree s.tree r.store r.acting r.fault x.runners x.whole
-
-    runs : (schedule : Schedule) (s : State Position) → StateFits s → StateFits (run (next core) set schedule s)
-    runs [] s fits = fits
-    runs (round ∷ schedule) s fits = runs schedule (result (next core) set round s) (one_round round s fits)
-
-    first : (firsts : Memory) (h count : ℕ) → AllAre RunnerFits (beginners set firsts (position main []) h count)
-    first firsts h zero = tt
-    first firsts h (suc count) = (record { place = Main; comes = local_depths.begins; waits = tt }, first firsts (suc h) count)
+  first : (set : Setting) (firsts : Memory) (h count : ℕ) → AllFit (beginners set firsts (position main []) h count)
+  first set firsts h zero = tt
+  first set firsts h (suc count) = (record { place = Main; comes = local_depths.begins; waits = tt }, first set firsts (suc h) count)
 
 pub local_depths_are_depths : LocalDepthsAreDepths
 local_depths_are_depths core main local_depths words firsts input p schedule lawful fault h r op here stands =
     let set = setting_of p words input in
     let start = list_opening main words firsts input p in
-    let fits = all_at (RunnerFits core main local_depths) _ h r (runs core main local_depths set schedule start (first core main local_depths set _ 0 p)) here in
+    let at = FitsAt core main local_depths in
+    let local' = after_local core main local_depths in
+    let request' = after_request core main local_depths in
+    let tree' = after_tree core main local_depths in
+    let all = runs core at local' request' tree' set schedule start (first core main local_depths set _ 0 p) in
+    let fits = all_at (RunnerFits core at local' request' tree') _ h r all here in
     let comes = fits.comes op stands in
     comes.0

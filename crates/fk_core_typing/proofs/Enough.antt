@@ -1,6 +1,5 @@
 -- Knowledge is enough in every run.
-use Rattle.std.proofs.Common.{◌≡◌, ℕ, zero, suc, true, List, [], slice_get, Option, Some, None, refl, sym, ap, ◌∙◌, subst}
-use Rattle.fk_meaning_operation.specs.declared.operation.Operation.{Operation}
+use Rattle.std.proofs.Common.{◌≡◌, ℕ, zero, suc, true, List, [], Some, sym, ap, ◌∙◌, subst}
 use Rattle.fk_meaning_operation.specs.declared.kinds.Class.TheVariants.{Local, Request, Tree}
 use Rattle.fk_meaning_operation.specs.Kinds.{class_of}
 use Rattle.fk_num.specs.Word.{Memory}
@@ -13,50 +12,19 @@ use Rattle.fk_meaning.specs.Group.{does, goes_onward}
 use Rattle.fk_meaning.specs.Round.{Step, Runner}
 use Rattle.fk_meaning.specs.Schedule.{beginners, first_processor}
 use Rattle.fk_core.specs.declared.op.CoreOp.{CoreOp}
-use Rattle.fk_core.specs.Numbers.{operation_of}
-use Rattle.fk_core.specs.Next.{Position, position, landing, follows, step_by, step_of, next, list_opening}
+use Rattle.fk_core.specs.Next.{Position, position, landing, next, list_opening}
 use Rattle.fk_core_liveness.specs.declared.places.FunctionKind.{FunctionKind}
 use Rattle.fk_core_typing.specs.LocalAddresses.{HasKnowledge, KnowledgeIsEnough, Fits}
 use Rattle.fk_core_typing.specs.AddressValues.{no_constants}
 use Rattle.fk_core_typing.proofs.AddressValues.{nothing, no_constant, fewer_constants}
 use Rattle.fk_core_typing.proofs.AddressSteps.{Waits, Stands, lands, by_local, by_request, by_tree, may_do}
-use Rattle.fk_core_typing.proofs.AddressRuns.{AllAre, all_at, RunnerFits, runs}
+use Rattle.fk_core_typing.proofs.Runs.{AllAre, all_at, Found, found, RunnerFits, runs}
 
 module _ (core : List CoreOp) (main : ℕ) (known : HasKnowledge core main) where
   abbrev StandsAt : Position → Processor → Type 0
   StandsAt left p = Stands core main known left.at left.callers p
 
-  abbrev IsDue : Position → Step Position → Type 0
-  IsDue left step = next core left ≡ Some step
-
-  -- what the next operation of a processor is
-  record Found (left : Position) (step : Step Position) : Type 0 where
-    op : CoreOp
-    operation : Operation
-    stands : slice_get core (landing core left.at) ≡ Some op
-    reads : operation_of op.kind op.number ≡ Some operation
-    is : step ≡ record { operation = operation; site = op.site; rest = follows core operation (landing core left.at) op.target left.callers }
-
-  found_by : (left : Position) (step : Step Position) (op : CoreOp) (read : Option Operation) → slice_get core (landing core left.at) ≡ Some op
-      → operation_of op.kind op.number ≡ read → step_by core (landing core left.at) left.callers op read ≡ Some step → Found left step
-  found_by left step op None stands reads e = absurd (cc)
-  found_by left step op (Some operation) stands reads e = record {
-    op = op;
-    operation = operation;
-    stands = stands;
-    reads = reads;
-    is = (let same : record { operation = operation; site = op.site; rest = follows core operation (landing core left.at) op.target left.callers } ≡ step = cc in sym same);
-  }
-
-  found_in : (left : Position) (step : Step Position) (slot : Option CoreOp) → slice_get core (landing core left.at) ≡ slot
-      → step_of core (landing core left.at) left.callers slot ≡ Some step → Found left step
-  found_in left step None stands e = absurd (cc)
-  found_in left step (Some op) stands e = found_by left step op (operation_of op.kind op.number) stands refl e
-
-  found : (left : Position) (step : Step Position) → IsDue left step → Found left step
-  found left step e = found_in left step (slice_get core (landing core left.at)) refl e
-
-  fitting : (left : Position) (step : Step Position) (x : Found left step) → Fits core known.within known.known known.constants (landing core left.at) x.op.target x.operation
+  fitting : (left : Position) (step : Step Position) (x : Found core left step) → Fits core known.within known.known known.constants (landing core left.at) x.op.target x.operation
   fitting left step x = known.fits (landing core left.at) x.op x.operation x.stands x.reads
 
   landed : (left : Position) (p : Processor) → StandsAt left p → Stands core main known (landing core left.at) left.callers p
@@ -65,7 +33,7 @@ module _ (core : List CoreOp) (main : ℕ) (known : HasKnowledge core main) wher
   after_local : (set : Setting) (left : Position) (p : Processor) (step : Step Position) → StandsAt left p → next core left ≡ Some step
       → class_of step.operation ≡ Local → StandsAt (step.rest (is_onward step.operation p)) (local set step.operation p)
   after_local set left p step stands due e =
-      let x = found left step due in
+      let x = found core left step due in
       subst (λ (s : Step Position). StandsAt (s.rest (is_onward s.operation p)) (local set s.operation p)) (sym x.is)
       (by_local core main known (landing core left.at) x.op.target left.callers p (landed left p stands) set x.operation (fitting left step x)
       (sym (ap (λ (s : Step Position). class_of s.operation) x.is) ∙ e))
@@ -73,7 +41,7 @@ module _ (core : List CoreOp) (main : ℕ) (known : HasKnowledge core main) wher
   after_request : (s s' : Store) (v : ℕ) (left : Position) (p : Processor) (step : Step Position) → StandsAt left p → next core left ≡ Some step
       → class_of step.operation ≡ Request → serve (request step.operation p) s p.number ≡ Served s' v → StandsAt (step.rest true) (with_answer step.operation v p)
   after_request s s' v left p step stands due e served =
-      let x = found left step due in
+      let x = found core left step due in
       subst (λ (t : Step Position). StandsAt (t.rest true) (with_answer t.operation v p)) (sym x.is)
       (by_request core main known (landing core left.at) x.op.target left.callers p (landed left p stands) s s' v x.operation (fitting left step x)
       (sym (ap (λ (t : Step Position). class_of t.operation) x.is) ∙ e)
@@ -82,7 +50,7 @@ module _ (core : List CoreOp) (main : ℕ) (known : HasKnowledge core main) wher
   after_tree : (highest lowest size : ℕ) (left : Position) (p : Processor) (step : Step Position) → StandsAt left p → next core left ≡ Some step
       → class_of step.operation ≡ Tree → StandsAt (step.rest (goes_onward step.operation highest lowest p)) (does step.operation highest size p)
   after_tree highest lowest size left p step stands due e =
-      let x = found left step due in
+      let x = found core left step due in
       subst (λ (s : Step Position). StandsAt (s.rest (goes_onward s.operation highest lowest p)) (does s.operation highest size p)) (sym x.is)
       (by_tree core main known (landing core left.at) x.op.target left.callers p (landed left p stands) highest lowest size x.operation (fitting left step x)
       (sym (ap (λ (s : Step Position). class_of s.operation) x.is) ∙ e))

@@ -1,10 +1,10 @@
+mod Runs
 mod DepthValues
 mod DepthSteps
 pub mod DepthRuns
 pub mod Asked
 mod AddressValues
 mod AddressSteps
-mod AddressRuns
 pub mod Enough
 pub mod Granting
 pub mod Examples

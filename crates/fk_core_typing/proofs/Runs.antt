@@ -1,5 +1,6 @@
 -- Runs keep what each operation keeps.
 use Rattle.std.proofs.Common.{◌≡◌, ℕ, zero, suc, Bool, true, false, if◌then◌else◌, List, [], ◌∷◌, map, slice_get, Option, Some, None, refl, sym, subst}
+use Rattle.fk_meaning_operation.specs.declared.operation.Operation.{Operation}
 use Rattle.fk_meaning_operation.specs.declared.kinds.Class.{Class}
 use Rattle.fk_meaning_operation.specs.declared.kinds.Class.TheVariants.{Local, Request, Tree}
 use Rattle.fk_meaning_operation.specs.Kinds.{class_of}
@@ -13,7 +14,8 @@ use Rattle.fk_meaning.specs.Group.{does, goes_onward, has_room}
 use Rattle.fk_meaning.specs.Round.{Step, Runner, Fault, State, Round, Acting, Phase, Passes, Breaks, Phases, taking, runner_of, answered, do_request, request_phase, after_phase, all_requests, settled_by, settled, tree_phase, do_local, local_phase, after_one, after_locals, begin, asking, all_changes, result}
 use Rattle.fk_meaning.specs.Schedule.{Schedule, run}
 use Rattle.fk_core.specs.declared.op.CoreOp.{CoreOp}
-use Rattle.fk_core.specs.Next.{Position, next}
+use Rattle.fk_core.specs.Numbers.{operation_of}
+use Rattle.fk_core.specs.Next.{Position, landing, follows, step_by, step_of, next}
 
 abbrev pub AllAre : {X : Type 0} → (X → Type 0) → List X → Type 0
 AllAre P [] = Unit {0}
@@ -23,6 +25,34 @@ pub all_at : {X : Type 0} (P : X → Type 0) (xs : List X) (i : ℕ) (x : X) →
 all_at P [] i x all e = absurd (cc)
 all_at P (y ∷ ys) zero x all e = let same : y ≡ x = cc in subst P same all.0
 all_at P (y ∷ ys) (suc i) x all e = all_at P ys i x all.1 e
+
+-- what the next operation of a processor is
+module _ (core : List CoreOp) where
+  pub record Found (left : Position) (step : Step Position) : Type 0 where
+    pub op : CoreOp
+    pub operation : Operation
+    pub stands : slice_get core (landing core left.at) ≡ Some op
+    pub reads : operation_of op.kind op.number ≡ Some operation
+    pub is : step ≡ record { operation = operation; site = op.site; rest = follows core operation (landing core left.at) op.target left.callers }
+
+  found_by : (left : Position) (step : Step Position) (op : CoreOp) (read : Option Operation) → slice_get core (landing core left.at) ≡ Some op
+      → operation_of op.kind op.number ≡ read → step_by core (landing core left.at) left.callers op read ≡ Some step → Found left step
+  found_by left step op None stands reads e = absurd (cc)
+  found_by left step op (Some operation) stands reads e = record {
+    op = op;
+    operation = operation;
+    stands = stands;
+    reads = reads;
+    is = (let same : record { operation = operation; site = op.site; rest = follows core operation (landing core left.at) op.target left.callers } ≡ step = cc in sym same);
+  }
+
+  found_in : (left : Position) (step : Step Position) (slot : Option CoreOp) → slice_get core (landing core left.at) ≡ slot
+      → step_of core (landing core left.at) left.callers slot ≡ Some step → Found left step
+  found_in left step None stands e = absurd (cc)
+  found_in left step (Some op) stands e = found_by left step op (operation_of op.kind op.number) stands refl e
+
+  pub found : (left : Position) (step : Step Position) → next core left ≡ Some step → Found left step
+  found left step e = found_in left step (slice_get core (landing core left.at)) refl e
 
 -- what stands for a processor and what it has left to do, and is kept by each operation
 module _ (core : List CoreOp) (FitsAt : Position → Processor → Type 0)
