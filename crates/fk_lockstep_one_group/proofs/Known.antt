@@ -29,10 +29,6 @@ use Rattle.fk_lockstep_one_group.proofs.Acts.{does_at, Acts, acts, counts_as, du
 
 -- ---- trees
 
-pub option_kind : (x : Option Kind) → (x ≡ None) ⊎ ((k : Kind) × (x ≡ Some k))
-option_kind None = inl refl
-option_kind (Some k) = inr (k, refl)
-
 none_kind : (x : Option Node) → t.kind_of x ≡ None → x ≡ None
 none_kind None e = refl
 none_kind (Some node) e = absurd (cc)

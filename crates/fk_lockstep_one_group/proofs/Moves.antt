@@ -144,9 +144,6 @@ joint_is_step op alone = absurd (alone refl)
 abbrev pub SameLevels : Processor → Processor → Type 0
 SameLevels p q = (q.number ≡ p.number) × (q.level ≡ p.level) × (q.outer ≡ p.outer)
 
-pub same_levels : (p : Processor) → SameLevels p p
-same_levels p = (refl, refl, refl)
-
 either_same : (b : Bool) (p x y : Processor) → SameLevels p x → SameLevels p y → SameLevels p (if b then x else y)
 either_same true p x y one other = one
 either_same false p x y one other = other

@@ -30,14 +30,6 @@ pub const EBREAK: u8 = 6;
 impl Stand {
     ghost use Rattle.std.specs.Prelude.{◌≡◌};
     ghost use Rattle.fk_machine.specs.declared.stand.Stand.TheVariants.{Running};
-    ghost use Rattle.fk_machine.specs.Cycle.{is_running};
-
-    /// Whether some hart has not ended, and no fault or trap has ended the machine.
-    pub fn is_running(&self) -> bool
-        ensures { result ≡ is_running self.now }
-    {
-        *self == Stand::Running
-    }
 
     // Changes the status from `Running`. Nothing is written if the next status is `Running` again.
     #[inline(always)]

@@ -1,6 +1,6 @@
 //! Classes of operations, joint operations, and faults.
 
-/// The phase of a round in which an operation is done.
+/// When in a round an operation is done. Definitions of runs say it; no program asks.
 #[derive(Clone, Copy, PartialEq, Eq)]
 pub enum Class {
     /// The operation involves its processor alone.
@@ -11,7 +11,7 @@ pub enum Class {
     Tree,
 }
 
-/// What the processors at a joint operation do together.
+/// What those who do a joint operation do together. Definitions of runs say it; no program asks.
 #[derive(Clone, Copy, PartialEq, Eq)]
 pub enum Joint {
     /// Nothing: the operation isn't joint.

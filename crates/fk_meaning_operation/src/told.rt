@@ -1,10 +1,10 @@
-//! The kind, the class, the joint operation and the fault of an operation.
+//! What is told of an operation: its kind, and how it may fault.
 
 ghost use Rattle.std.specs.Prelude.{◌≡◌};
-ghost use Rattle.fk_meaning_operation.specs.Kinds.{kind_of, class_of, joint_of, fault_of};
+ghost use Rattle.fk_meaning_operation.specs.Kinds.{kind_of, fault_of};
 ghost use Rattle.fk_meaning_operation.specs.Kinds.{multiprefix_kind, multiprefix_of};
 
-use crate::kinds::{Class, FaultKind, Joint};
+use crate::kinds::FaultKind;
 use crate::operation::{Multiprefix, Operation};
 
 impl Multiprefix {
@@ -74,31 +74,7 @@ impl Operation {
         }
     }
 
-    /// The class: local, a request to what all processors share, or a step of the tree.
-    pub fn class(&self) -> Class
-        ensures { result ≡ class_of self.now }
-    {
-        match self.kind() {
-            0..12 => Class::Local,
-            12..23 => Class::Request,
-            _ => Class::Tree,
-        }
-    }
-
-    /// What the processors at this operation do together.
-    pub fn joint(&self) -> Joint
-        ensures { result ≡ joint_of self.now }
-    {
-        match self {
-            Operation::Begin => Joint::Starting,
-            Operation::Meet(false) => Joint::AtBarrier,
-            Operation::Meet(true) => Joint::Closing,
-            Operation::Resume => Joint::Resuming,
-            _ => Joint::Alone,
-        }
-    }
-
-    /// The fault that the operation can have, if any.
+    /// How it may fault, if it may.
     pub fn fault(&self) -> Option<FaultKind>
         ensures { result ≡ fault_of (kind_of self.now) }
     {

@@ -1,6 +1,6 @@
--- What a list needs, besides being well formed, for a law of blocks to cover its runs.
-use Rattle.std.specs.Prelude.{◌≡◌, ℕ, ◌<◌, List, [], length, Bool, true, false, All, slice_get}
-use Rattle.std.specs.Prelude.{Some, None, ◌⊎◌}
+-- Lists whose runs a law of blocks carries, beside that they are well formed.
+use Rattle.std.specs.Prelude.{◌≡◌, ℕ, ◌<◌, List, length, Bool, true, false, All, slice_get, Some}
+use Rattle.std.specs.Prelude.{None}
 use Rattle.fk_meaning_operation.specs.declared.operation.Operation.{Operation}
 use Rattle.fk_meaning_operation.specs.declared.operation.Operation.TheVariants.{Leave, Halt}
 use Rattle.fk_meaning.specs.Processor.{setting_of}
@@ -8,9 +8,8 @@ use Rattle.fk_meaning.specs.Round.{Runner}
 use Rattle.fk_meaning.specs.Schedule.{Schedule, run, IsLawful}
 use Rattle.fk_core.specs.declared.op.CoreOp.{CoreOp}
 use Rattle.fk_core.specs.Numbers.{operation_of}
-use Rattle.fk_core.specs.Next.{Position, is_jump, landing, follows, next, list_opening}
-use Rattle.fk_core.specs.WellFormed.{IsOperation}
-use Rattle.fk_sim_block.specs.Ready.{is_alone, MayDo}
+use Rattle.fk_core.specs.Next.{Position, landing, next, list_opening}
+use Rattle.fk_sim_block.specs.Ready.{MayDo}
 
 -- The index of a processor, and those to which its calls return, are in the list.
 pub record StaysInList (core : List CoreOp) (w : Position) : Type 0 where
@@ -23,21 +22,7 @@ is_end (Leave gives framed) = true
 is_end Halt = true
 is_end operation = false
 
--- A list of operations that processors do without groups.
-pub record IsFree (core : List CoreOp) : Type 0 where
-  -- A jump leads to an operation.
-  pub jumps : (i : ℕ) (op : CoreOp) → slice_get core i ≡ Some op → is_jump op ≡ true
-      → IsOperation core op.target
-  -- Every entry that is read as an operation is a halt, or one that a processor does alone.
-  pub alone : (i : ℕ) (op : CoreOp) (operation : Operation) → slice_get core i ≡ Some op
-      → operation_of op.kind op.number ≡ Some operation
-      → (is_alone operation ≡ true) ⊎ (operation ≡ Halt)
-  -- Every operation that isn't an end goes on inside the list.
-  pub within : (i : ℕ) (op : CoreOp) (operation : Operation) → slice_get core i ≡ Some op
-      → operation_of op.kind op.number ≡ Some operation → is_end operation ≡ false
-      → (onward : Bool) → StaysInList core (follows core operation i op.target [] onward)
-
--- In every lawful run without a fault, a processor that is about to do an operation may do it.
+-- in every run, whenever a processor is about to do an operation, it may
 abbrev pub AlwaysMay : List CoreOp → (main : ℕ) → Type 0
 AlwaysMay core main =
     (words firsts input : List ℕ) (p : ℕ) (schedule : Schedule)
