@@ -5,7 +5,6 @@ use Rattle.fk_syntax.specs.declared.sign.Sign.{Sign}
 use Rattle.fk_syntax.specs.declared.sign.Sign.TheVariants as g
 use Rattle.fk_syntax.specs.Tree as t
 use Rattle.fk_syntax.specs.Tree.{Named, Tree, Links, Trees, Suffixes}
-use Rattle.fk_syntax.specs.Program.{DeclaredTree}
 use Rattle.fk_types_structs.specs.declared.types.DataType.{DataType}
 use Rattle.fk_types_operators.specs.declared.values.ExpressionType.{ExpressionType}
 use Rattle.fk_types_operators.specs.declared.values.ExpressionType.TheVariants.{Stored, Computed, Nothing}
@@ -123,7 +122,7 @@ module _ (tables : Tables) (functions : (binding : ℕ) → Signature) (place_of
 
   -- who is called, with its arguments, gives what it says
   gives_by : (predeclared : Bool) (name : Named) (given : Trees) → a.NameTakes tables functions place_of predeclared name given
-      → c.call_gives tables functions predeclared name ≡ (if predeclared then w.predeclared_gives name else w.place_gives (place_of (note tables name.at).binding))
+      → c.call_gives tables functions predeclared name ≡ (if predeclared then c.predeclared_gives name else w.place_gives (place_of (note tables name.at).binding))
   gives_by true name given h = refl
   gives_by false name given h = sym (results (note tables name.at).binding h.called)
 
@@ -132,14 +131,9 @@ module _ (tables : Tables) (functions : (binding : ℕ) → Signature) (place_of
       ap c.result (gives_by ((note tables name.at).binding == no_binding) name given h) ∙ result_same (w.call_gives tables place_of name)
   calls_same y given h = absurd h
 
-  enough_same : (xs : List DeclaredTree) (given : Trees) → a.AreEnough xs given → c.AreEnough xs given
-  enough_same [] given h = tt
-  enough_same (x ∷ xs) t.no_trees h = h
-  enough_same (x ∷ xs) (t.tree e es) h = enough_same xs es h
-
   takes_same : (predeclared : Bool) (name : Named) (given : Trees) → a.NameTakes tables functions place_of predeclared name given → c.NameTakes tables functions predeclared name given
   takes_same true name given h = h
-  takes_same false name given h = enough_same (functions (note tables name.at).binding).parameters given h.enough
+  takes_same false name given h = h.enough
 
   call_needs : (y : w.Way) (given : Trees) → a.CallAsks tables functions place_of y given → c.CallNeeds tables functions (coarse y) given
   call_needs (w.Function name) given h = takes_same ((note tables name.at).binding == no_binding) name given h

@@ -38,7 +38,8 @@ use Rattle.fk_check_laws.proofs.Named.{IsKnown, meant_at, declared_low}
 use Rattle.fk_check_laws.proofs.Declared.{IsHomeFor, header_at}
 use Rattle.fk_check_laws.proofs.Homes.{home_of}
 use Rattle.fk_check_laws.proofs.Things.{thing_tells}
-use Rattle.fk_lower_laws.specs.Ways.{Way, Valued, Array, Word, Function, placed_way, predeclared_gives, predeclared_way, named_way}
+use Rattle.fk_lockstep_structure.specs.Valued.{predeclared_gives}
+use Rattle.fk_lower_laws.specs.Ways.{Way, Valued, Array, Word, Function, placed_way, predeclared_way, named_way}
 use Rattle.fk_lower_laws.specs.Asked.{NameAsks}
 use Rattle.fk_lower_laws.specs.Typed.{StandsAs, IsNoWord}
 use Rattle.fk_lower_laws.proofs.Sizes.{IsSound, has_sound}

@@ -37,8 +37,9 @@ use Rattle.fk_check_laws.proofs.Typed.{Unbroken, Not}
 use Rattle.fk_check_laws.proofs.Named.{known}
 use Rattle.fk_check_laws.proofs.Declared.{function_number}
 use Rattle.fk_check_laws.proofs.Bodies.{takes_of}
-use Rattle.fk_lower_laws.specs.Ways.{Way, Valued, Absent, Function, result, predeclared_gives, predeclared_way, place_gives, called_way}
-use Rattle.fk_lower_laws.specs.Asked.{AreEnough, IsCalled, TakesAll, NameTakes, NameAsks, CallAsks, place_by, place_in}
+use Rattle.fk_lockstep_structure.specs.Valued.{AreEnough, predeclared_gives}
+use Rattle.fk_lower_laws.specs.Ways.{Way, Valued, Absent, Function, result, predeclared_way, place_gives, called_way}
+use Rattle.fk_lower_laws.specs.Asked.{IsCalled, TakesAll, NameTakes, NameAsks, CallAsks, place_by, place_in}
 use Rattle.fk_lower_laws.proofs.Valid.{IsGiven, about}
 use Rattle.fk_lower_laws.proofs.AskedNames as n
 use Rattle.fk_lower_laws.proofs.Members.{map_some}

@@ -35,8 +35,9 @@ use Rattle.fk_core_liveness.specs.declared.places.FunctionKind.TheVariants.{Main
 use Rattle.fk_core_typing.specs.AddressValues.{constants}
 use Rattle.fk_core_typing.specs.Values.{Value, Unknown, Usable, Shared, State}
 use Rattle.fk_core_typing.proofs.Granting.{none_asked, good_as_itself, as_long}
-use Rattle.fk_lower_laws.specs.Ways.{Way, Valued, Absent, Unchecked, Constant, Array, Grouped, Word, Function, gives, result, predeclared_gives, place_gives, predeclared_way, placed_way, prefix_way, joined_way, named_way, called_way, dotted_way, way, chain_way, suffixed_way}
-use Rattle.fk_lower_laws.specs.Asked.{IsTarget, HasAddress, PrefixAsks, AreEnough, IsCalled, NameAsks, DotAsks, JoinAsks, TakesAll, NameTakes, CallAsks, Asked, LinksAsked, SuffixesAsked, AllAsked}
+use Rattle.fk_lockstep_structure.specs.Valued.{AreEnough, predeclared_gives}
+use Rattle.fk_lower_laws.specs.Ways.{Way, Valued, Absent, Unchecked, Constant, Array, Grouped, Word, Function, gives, result, place_gives, predeclared_way, placed_way, prefix_way, joined_way, named_way, called_way, dotted_way, way, chain_way, suffixed_way}
+use Rattle.fk_lower_laws.specs.Asked.{IsTarget, HasAddress, PrefixAsks, IsCalled, NameAsks, DotAsks, JoinAsks, TakesAll, NameTakes, CallAsks, Asked, LinksAsked, SuffixesAsked, AllAsked}
 use Rattle.fk_lower_laws.proofs.TypedOk.{level, noted, Acts, Ok, as_unknown, weaken, ended, on, not_plain, branch, enters}
 use Rattle.fk_lower_laws.proofs.Acting.{simply, push, push_address, push_offset, add_offset, join, copy, check, check_shared, read, write, combine, get, set, drop_last, apply, index, agree}
 

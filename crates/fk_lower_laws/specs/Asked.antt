@@ -15,6 +15,7 @@ use Rattle.fk_meaning_forms.specs.Expressions.{Signature, token}
 use Rattle.fk_meaning_forms.specs.Statements.{is_nothing, is_scalar}
 use Rattle.fk_meaning_forms.specs.Program.{functions_of, binding_of, signature_in, is_main}
 use Rattle.fk_meaning.specs.Calls.{TakesEnough}
+use Rattle.fk_lockstep_structure.specs.Valued.{AreEnough}
 use Rattle.fk_core_liveness.specs.declared.places.FunctionKind.{FunctionKind}
 use Rattle.fk_core_liveness.specs.declared.places.FunctionKind.TheVariants.{Main, Called}
 use Rattle.fk_lower_laws.specs.Ways.{Way, Unchecked, Constant, Array, Grouped, Word, Function}
@@ -42,12 +43,6 @@ PrefixAsks g.Ampersand w = HasAddress w
 PrefixAsks g.Increment w = IsTarget w
 PrefixAsks g.Decrement w = IsTarget w
 PrefixAsks sign w = gives w ≡ true
-
--- There are as many arguments as parameters.
-abbrev pub AreEnough : List DeclaredTree → Trees → Type 0
-AreEnough [] es = Unit {0}
-AreEnough (x ∷ xs) t.no_trees = ⊥
-AreEnough (x ∷ xs) (t.tree e es) = AreEnough xs es
 
 abbrev pub IsCalled : FunctionKind → Type 0
 IsCalled Main = ⊥

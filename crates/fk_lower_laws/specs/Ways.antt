@@ -1,5 +1,5 @@
--- What an expression is when its operations are done, given its tree.
-use Rattle.std.specs.Prelude.{ℕ, ◌+◌, ◌*◌, ◌==◌, Bool, true, false, not, ◌||◌, codes, if◌then◌else◌}
+-- How an expression stands when its operations are done, told of its tree.
+use Rattle.std.specs.Prelude.{ℕ, ◌+◌, ◌*◌, ◌==◌, Bool, true, false, codes, if◌then◌else◌}
 use Rattle.fk_num.specs.Word.{word}
 use Rattle.fk_num.specs.Op.{applied}
 use Rattle.fk_num.specs.declared.operator.Op.TheVariants as f
@@ -11,7 +11,7 @@ use Rattle.fk_meaning_forms.specs.declared.tables.Home.{Home}
 use Rattle.fk_meaning_forms.specs.declared.tables.Home.TheVariants as h
 use Rattle.fk_meaning_forms.specs.Tables.{Tables, no_binding, note, slot}
 use Rattle.fk_meaning_forms.specs.Expressions.{is_name}
-use Rattle.fk_meaning.specs.Calls.{takes_two}
+use Rattle.fk_lockstep_structure.specs.Valued.{predeclared_gives}
 use Rattle.fk_core_liveness.specs.declared.places.FunctionKind.{FunctionKind}
 use Rattle.fk_core_liveness.specs.declared.places.FunctionKind.TheVariants.{Main, Called}
 
@@ -38,12 +38,6 @@ gives way = true
 abbrev pub result : (gives : Bool) → Way
 result true = Valued
 result false = Absent
-
--- A predeclared function gives a value, except those that print.
-abbrev pub predeclared_gives : Named → Bool
-predeclared_gives name =
-    takes_two name || (is_name name (codes "groupsize")
-    || not (is_name name (codes "putint") || is_name name (codes "putchar")))
 
 abbrev pub place_gives : FunctionKind → Bool
 place_gives Main = false
