@@ -1,14 +1,12 @@
 -- Members of a group in lockstep do one operation in a round, so what they alone touch takes one step.
-use Rattle.std.proofs.Common.{◌≡◌, ⊎_elim, ℕ, zero, suc, ◌≤◌, ◌&&◌, Bool, true, List, [], ◌∷◌, slice_get, Option, Some, None, refl, sym, ap, ◌∙◌, subst}
+use Rattle.std.proofs.Common.{◌≡◌, ℕ, zero, suc, ◌&&◌, true, List, slice_get, Option, Some, None, refl, sym, ap, ◌∙◌}
 use Rattle.std.specs.Prelude.{slice_index, is_none}
 use Rattle.std.proofs.lemmas.Bool.{and_parts}
 use Rattle.fk_syntax.specs.declared.facts.Facts.{Facts}
 use Rattle.fk_syntax.specs.Program.{ProgramTree}
 use Rattle.fk_tree.specs.Tree.{kind}
 use Rattle.fk_tree.specs.Sound.{Has}
-use Rattle.fk_tree.specs.declared.node.Kind.{Kind}
 use Rattle.fk_tree.specs.declared.node.Kind.TheVariants.{Lockstep}
-use Rattle.fk_tree.proofs.Turns.{leaf_by, idle-lockstep}
 use Rattle.fk_meaning_operation.specs.Kinds.{class_of}
 use Rattle.fk_meaning_operation.specs.declared.operation.Operation.{Operation}
 use Rattle.fk_meaning_operation.specs.declared.operation.Operation.TheVariants as o
@@ -17,7 +15,7 @@ use Rattle.fk_meaning_operation.specs.declared.kinds.Class.TheVariants as class
 use Rattle.fk_meaning_store.specs.declared.request.Request.{Request}
 use Rattle.fk_meaning.specs.Processor.{Setting}
 use Rattle.fk_meaning.specs.Round.{Step, Runner, State, Round, Acting, taking, do_local, local_phase, after_locals, begin, begin_all, asking, is_allowed, is_possible, result}
-use Rattle.fk_meaning.specs.Schedule.{Schedule, ArePossible, run}
+use Rattle.fk_meaning.specs.Schedule.{run}
 use Rattle.fk_meaning.specs.Program.{next_in, main_work, program_opening}
 use Rattle.fk_meaning.specs.Touch.{operation_due, touch, touch_of, Touches, IsGroupStep}
 use Rattle.fk_meaning.proofs.GroupSteps.{reads, writes, combines}
@@ -27,11 +25,10 @@ use Rattle.fk_lower_laws.specs.Proper.{TextsAreProper}
 use Rattle.fk_check_laws.specs.Valid.{may_call}
 use Rattle.fk_check_laws.proofs.PlacedPrograms.{valid_programs_are_in_place}
 use Rattle.fk_lockstep.specs.Counts.{Counts}
-use Rattle.fk_lockstep.proofs.Acting.{untrue, Here, told, Is, Grouped, Parted, Apart, after_passing, passing_is}
-use Rattle.fk_lockstep.proofs.Trees.{NodeIs, IsThere, ThereAt, leaf_place}
+use Rattle.fk_lockstep.proofs.Acting.{untrue, Here, after_passing, passing_is}
 use Rattle.fk_lockstep.proofs.Rounds.{begin_at, map_at}
 use Rattle.fk_lockstep.proofs.Round.{first_is, Ordered, Acts, acts, one_count}
-use Rattle.fk_lockstep.proofs.ProgramRuns.{Good, good_round, good_start, not_stopped}
+use Rattle.fk_lockstep.proofs.ProgramRuns.{Good, grouped_at, member_is, good_run, good_start}
 use Rattle.fk_lockstep_structure.specs.Ahead.{all_outs}
 use Rattle.fk_lockstep_structure.specs.Pending.{fork_counts}
 use Rattle.fk_lockstep_structure.proofs.Programs.{programs_follow, gives_of, none_pending, programs_are_counted}
@@ -43,16 +40,6 @@ none_of None e = refl
 none_of (Some a) e = untrue e
 
 module _ {W : Type 0} (next : W → Option (Step W)) (outs : W → List W) (counts : Counts W) where
-  -- ---- the runs of a program whose groups stay together
-
-  good_run : (set : Setting) (schedule : Schedule) (p : ℕ) (s : State W) → Good next outs counts p s → ArePossible next set schedule s → (run next set schedule s).fault ≡ None
-      → Good next outs counts p (run next set schedule s)
-  good_run set [] p s good possible none = good
-  good_run set (round ∷ []) p s good possible none =
-      ⊎_elim (λ is. good_round next outs counts set round s p good is) (λ stopped. not_stopped next outs counts set round s stopped none) possible
-  good_run set (round ∷ other ∷ schedule) p s good possible none =
-      good_run set (other ∷ schedule) p (result next set round s) (good_round next outs counts set round s p good possible.0) possible.1 none
-
   -- ---- one round
 
   module _ (set : Setting) (round : Round) (s : State W) (p : ℕ) (good : Good next outs counts p s) (possible : is_possible next set round s ≡ true) where
@@ -96,18 +83,6 @@ module _ {W : Type 0} (next : W → Option (Step W)) (outs : W → List W) (coun
     -- ---- a group in lockstep
 
     module _ (n : ℕ) (locked : kind s.tree n ≡ Some Lockstep) where
-      grouped : Grouped next outs counts (good.behind n) (good.here n)
-      grouped = subst (λ (k : Option Kind). NodeIs (told {W = W}) (Grouped next outs counts) (Parted next outs counts) (Apart next outs counts) (Is next outs counts) p n k (good.behind n) (good.here n)) locked (good.inv.node n)
-
-      member_is : (h : ℕ) → Has s.tree n h → (r : Runner W) → slice_get s.runners h ≡ Some r → Is next outs counts (good.here n) r
-      member_is h in_h r at =
-          let inv = good.inv in
-          let leaf = leaf_by p n Lockstep s.tree inv.sound idle-lockstep locked in
-          let place = leaf_place (told {W = W}) (Grouped next outs counts) (Parted next outs counts) (Apart next outs counts) (Is next outs counts) p s.tree (λ j. slice_get s.runners j) good.here good.behind inv n leaf h in_h in
-          subst (λ (k : Option Kind). IsThere (told {W = W}) (Grouped next outs counts) (Parted next outs counts) (Apart next outs counts) (Is next outs counts) p n k (good.behind n) (good.here n) r) locked
-          (subst (λ (m : ℕ). ThereAt (told {W = W}) (Grouped next outs counts) (Parted next outs counts) (Apart next outs counts) (Is next outs counts) p s.tree good.here good.behind m r) place
-          (inv.there h r (inv.sound.within n h in_h) at))
-
       -- what its members have still due after so many operations
       abbrev due_of : (count : ℕ) → Here W → Option Operation
       due_of zero x = None
@@ -118,7 +93,7 @@ module _ {W : Type 0} (next : W → Option (Step W)) (outs : W → List W) (coun
       asked_due (suc c) h in_h r at =
           let q = after_locals next set c r in
           due_left q (next q.left)
-          ∙ ap (λ (w : W). left_due (next w)) (passing_is next outs counts set c (good.behind n) (good.here n) grouped r (member_is h in_h r at)).left
+          ∙ ap (λ (w : W). left_due (next w)) (passing_is next outs counts set c (good.behind n) (good.here n) (grouped_at next outs counts p s good n locked) r (member_is next outs counts p s good n locked h in_h r at)).left
 
       due_is : (h : ℕ) (b : Acting W) → Has s.tree n h → slice_get (asking next set round s.runners) h ≡ Some b → (a : ActsHere h) → operation_due b.due ≡ due_of a.count (good.here n)
       due_is h b in_h at a =

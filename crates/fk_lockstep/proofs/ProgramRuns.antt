@@ -84,26 +84,33 @@ module _ {W : Type 0} (next : W → Option (Step W)) (outs : W → List W) (coun
     pub groups : (h : ℕ) (r : Runner W) → slice_get s.runners h ≡ Some r → groups_of r.has ≡ sizes (s.tree.places h)
 
   -- what it says of a group
+  pub grouped_at : (p : ℕ) (s : State W) (good : Good p s) (n : ℕ) → kind s.tree n ≡ Some Lockstep → Grouped next outs counts (good.behind n) (good.here n)
+  grouped_at p s good n locked =
+      subst (λ (o' : Option Kind). NodeIs (told {W = W}) (Grouped next outs counts) (Parted next outs counts) (Apart next outs counts) (Is next outs counts) p n o' (good.behind n) (good.here n)) locked (good.inv.node n)
+
+  -- and of each member
+  member_place : (p : ℕ) (s : State W) (good : Good p s) (n : ℕ) → kind s.tree n ≡ Some Lockstep → (k : ℕ) → Has s.tree n k → s.tree.places k ≡ n
+  member_place p s good n locked =
+      leaf_place (told {W = W}) (Grouped next outs counts) (Parted next outs counts) (Apart next outs counts) (Is next outs counts) p s.tree (λ j. slice_get s.runners j) good.here good.behind good.inv n
+      (leaf_by p n Lockstep s.tree good.inv.sound idle-lockstep locked)
+
+  pub member_is : (p : ℕ) (s : State W) (good : Good p s) (n : ℕ) → kind s.tree n ≡ Some Lockstep → (k : ℕ) → Has s.tree n k → (u : Runner W) → slice_get s.runners k ≡ Some u
+      → Is next outs counts (good.here n) u
+  member_is p s good n locked k in_k u u_is =
+      subst (λ (o' : Option Kind). IsThere (told {W = W}) (Grouped next outs counts) (Parted next outs counts) (Apart next outs counts) (Is next outs counts) p n o' (good.behind n) (good.here n) u) locked
+      (subst (λ (m : ℕ). ThereAt (told {W = W}) (Grouped next outs counts) (Parted next outs counts) (Apart next outs counts) (Is next outs counts) p s.tree good.here good.behind m u) (member_place p s good n locked k in_k)
+      (good.inv.there k u (good.inv.sound.within n k in_k) u_is))
+
   good_together : (p : ℕ) (s : State W) → Good p s → HaveOneProgram next s
   good_together p s good n g h r q locked in_g in_h r_is q_is =
       let inv = good.inv in
-      let leaf = leaf_by p n Lockstep s.tree inv.sound idle-lockstep locked in
-      let is_there : (k : ℕ) → Has s.tree n k → (u : Runner W) → slice_get s.runners k ≡ Some u → (Is next outs counts) (good.here n) u
-      = λ k in_k u u_is.
-      let place = leaf_place (told {W = W}) (Grouped next outs counts) (Parted next outs counts) (Apart next outs counts) (Is next outs counts) p s.tree (λ j. slice_get s.runners j) good.here good.behind inv n leaf k in_k in
-      subst (λ (o' : Option Kind). IsThere (told {W = W}) (Grouped next outs counts) (Parted next outs counts) (Apart next outs counts) (Is next outs counts) p n o' (good.behind n) (good.here n) u) locked
-      (subst (λ (m : ℕ). ThereAt (told {W = W}) (Grouped next outs counts) (Parted next outs counts) (Apart next outs counts) (Is next outs counts) p s.tree good.here good.behind m u) place
-      (inv.there k u (inv.sound.within n k in_k) u_is)) in
-      let grouped : Grouped next outs counts (good.behind n) (good.here n)
-      = subst (λ (o' : Option Kind). NodeIs (told {W = W}) (Grouped next outs counts) (Parted next outs counts) (Apart next outs counts) (Is next outs counts) p n o' (good.behind n) (good.here n)) locked (inv.node n) in
-      let place_at : (k : ℕ) → Has s.tree n k → s.tree.places k ≡ n
-      = leaf_place (told {W = W}) (Grouped next outs counts) (Parted next outs counts) (Apart next outs counts) (Is next outs counts) p s.tree (λ j. slice_get s.runners j) good.here good.behind inv n leaf in
-      let r_groups : groups_of r.has ≡ good.sizes n = good.groups g r r_is ∙ ap good.sizes (place_at g in_g) in
-      let q_groups : groups_of q.has ≡ good.sizes n = good.groups h q q_is ∙ ap good.sizes (place_at h in_h) in
+      let grouped = grouped_at p s good n locked in
+      let r_groups : groups_of r.has ≡ good.sizes n = good.groups g r r_is ∙ ap good.sizes (member_place p s good n locked g in_g) in
+      let q_groups : groups_of q.has ≡ good.sizes n = good.groups h q q_is ∙ ap good.sizes (member_place p s good n locked h in_h) in
       let lower : n ≢ 0 = λ e. inv.sound.free (sym (ap (kind s.tree) e) ∙ locked) in
       let whole = r_groups ∙ good.sized.chain n lower (has_some s.tree n g in_g) in
-      let first = is_there g in_g r r_is in
-      let second = is_there h in_h q q_is in
+      let first = member_is p s good n locked g in_g r r_is in
+      let second = member_is p s good n locked h in_h q q_is in
       record {
         left = first.left ∙ sym second.left;
         branch = λ step onward stands branch.
@@ -270,7 +277,7 @@ module _ {W : Type 0} (next : W → Option (Step W)) (outs : W → List W) (coun
   pub not_stopped : {A : Type 0} (set : Setting) (round : Round) (s : State W) → IsStopped next set round s → (result next set round s).fault ≡ None → A
   not_stopped set round s stopped none = let clash : Some stopped.fault ≡ None = sym (stopped_faults next set round s stopped) ∙ none in absurd (cc)
 
-  good_run : (set : Setting) (schedule : Schedule) (p : ℕ) (s : State W) → Good p s → ArePossible next set schedule s → (run next set schedule s).fault ≡ None → Good p (run next set schedule s)
+  pub good_run : (set : Setting) (schedule : Schedule) (p : ℕ) (s : State W) → Good p s → ArePossible next set schedule s → (run next set schedule s).fault ≡ None → Good p (run next set schedule s)
   good_run set [] p s good possible none = good
   good_run set (round ∷ []) p s good possible none =
       ⊎_elim (λ is. good_round set round s p good is) (λ stopped. not_stopped set round s stopped none) possible
