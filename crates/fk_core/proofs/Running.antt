@@ -34,7 +34,7 @@ step_is_open (continue more) t b s rest e = absurd (cc)
 step_is_open (call n op f opening more) t b s rest e = refl
 step_is_open (ends n op more) t b s rest e = refl
 
-first_before : (code more : Code ℕ) → is_first code ≡ true → is_first (append code more) ≡ true
+pub first_before : (code more : Code ℕ) → is_first code ≡ true → is_first (append code more) ≡ true
 first_before done more e = absurd (cc)
 first_before (perform n op rest) more e = refl
 first_before (choose n op x y rest) more e = refl

@@ -185,7 +185,7 @@ module _ (entry : ℕ → ℕ) where
         let q = entering_at entry f opening rest near c i k in
         few_both (act n op (entry f) ∷ q.openings ++ q.jumps) q.others
         (few_call n op (entry f) (entry f) q.openings q.here q.next p.0
-        (few opening false (opening_is_shaped [] entry has_body opening p.2) true None (suc i) q.back))
+        (few opening false (opening_is_shaped has_body opening p.2) true None (suc i) q.back))
         (few rest l p.3 near c q.behind k)
     few (ends n op rest) l p near c i k =
         few_both (act n op 0 ∷ []) (flat entry near c (suc i) k rest) (few_skip n op true 0 0) (few rest l p.1 near c (suc i) k)

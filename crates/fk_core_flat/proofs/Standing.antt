@@ -26,6 +26,21 @@ both_true true true e = (refl, refl)
 both_true true false e = absurd (cc)
 both_true false b e = absurd (cc)
 
+module _ (has_body : ℕ → Bool) where
+  pub opening_is_shaped : (code : Code ℕ) → IsOpening code → IsShaped has_body false code
+  opening_is_shaped done h = tt
+  opening_is_shaped (perform n op rest) h = (inl h.0, opening_is_shaped rest h.1)
+  opening_is_shaped (choose n op x y rest) h = absurd h
+  opening_is_shaped (while t b s rest) h = absurd h
+  opening_is_shaped (until b t rest) h = absurd h
+  opening_is_shaped (turn t b s rest) h = absurd h
+  opening_is_shaped (again t b s rest) h = absurd h
+  opening_is_shaped (quit n op rest) h = absurd h
+  opening_is_shaped (break rest) h = absurd h
+  opening_is_shaped (continue rest) h = absurd h
+  opening_is_shaped (call n op f opening rest) h = absurd h
+  opening_is_shaped (ends n op rest) h = absurd h
+
 module _ (core : List CoreOp) (entry : ℕ → ℕ) where
   abbrev earlier : {i j site : ℕ} {op : Operation} → Leads core entry i j → OpFrom core entry j site op → OpFrom core entry i site op
   earlier l o = record { at = o.at; op = o.op; leads = onto core entry l o.leads; stands = o.stands; is_read = o.is_read; has_site = o.has_site }
@@ -100,21 +115,6 @@ module _ (core : List CoreOp) (entry : ℕ → ℕ) where
       at_beginning : (xs : List CoreOp) → suc (past_jump xs) ≡ suc (behind_jump xs zero)
       at_beginning xs = refl
   behind_jump_on (x ∷ xs) (suc i) op e z = ap (λ n. suc n) (behind_jump_on xs i op e z)
-
-  module _ (has_body : ℕ → Bool) where
-    pub opening_is_shaped : (code : Code ℕ) → IsOpening code → IsShaped has_body false code
-    opening_is_shaped done h = tt
-    opening_is_shaped (perform n op rest) h = (inl h.0, opening_is_shaped rest h.1)
-    opening_is_shaped (choose n op x y rest) h = absurd h
-    opening_is_shaped (while t b s rest) h = absurd h
-    opening_is_shaped (until b t rest) h = absurd h
-    opening_is_shaped (turn t b s rest) h = absurd h
-    opening_is_shaped (again t b s rest) h = absurd h
-    opening_is_shaped (quit n op rest) h = absurd h
-    opening_is_shaped (break rest) h = absurd h
-    opening_is_shaped (continue rest) h = absurd h
-    opening_is_shaped (call n op f opening rest) h = absurd h
-    opening_is_shaped (ends n op rest) h = absurd h
 
   pub opening_begins : (code : Code ℕ) → IsOpening code → begins_here true code ≡ true
   opening_begins done h = refl

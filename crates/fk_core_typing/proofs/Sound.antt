@@ -457,7 +457,7 @@ module _ (core : List CoreOp) (entry : ℕ → ℕ) (place_of : ℕ → Function
           let end_r : near ≡ true → k ≡ suc a + gap q.here + extent near rest = λ z. (let g = is z in omega arith) in
           let end_o : true ≡ true → a ≡ suc i + extent true opening = λ z. refl in
           let ga = at_index o a j.0 mj.0 j.1 in
-          let go = begins opening true None None o o (suc i) a (opening_is_shaped core entry has_body opening p.2) t.3 has.opening mo (λ z. ga) tt in
+          let go = begins opening true None None o o (suc i) a (opening_is_shaped has_body opening p.2) t.3 has.opening mo (λ z. ga) tt in
           let first : label None (suc i) a opening ≡ suc i = begins_at opening true None (suc i) a (opening_begins core entry opening p.2) end_o in
           let back : behind_jump core (suc i) ≡ suc a = behind_opening core entry opening (suc i) a p.2 has.opening ∙ behind_jump_at core entry core a j.0 j.1 j.2.0 in
           let fr = followed q.here rest near c l b e (suc a) k refl p.3 t.4 has.jumps.1 has.others mj.1 mr end_r end ls in
@@ -514,7 +514,7 @@ module _ (core : List CoreOp) (entry : ℕ → ℕ) (place_of : ℕ → Function
       sound (call n op f' opening rest) near c l s e i k p t end ls h m hh is =
           let o = sys.begin op f' t.1 in
           calls n op f' opening rest near c l s e i k p t end ls
-          (λ r k g. sound opening true None None o o r k (opening_is_shaped core entry has_body opening p.2) t.3 (λ z. g) tt)
+          (λ r k g. sound opening true None None o o r k (opening_is_shaped has_body opening p.2) t.3 (λ z. g) tt)
           (λ r. sound rest near c l (sys.behind_call op t.1 s) e r k p.3 t.4 end ls) h m hh is
       sound (ends n op rest) near c l s e i k p t end ls h m hh is =
           let b = sys.behind op true s in

@@ -3,6 +3,7 @@ use Rattle.std.proofs.Common.{◌≡◌, ◌≢◌, ◌⊎◌, inl, inr, ⊎_eli
 use Rattle.std.specs.Prelude.{slice_index, option_map, is_none}
 use Rattle.std.specs.List.{list_all}
 use Rattle.std.proofs.lemmas.Bool.{cases_eq, and_parts, eqb-true, eq-eqb}
+use Rattle.std.proofs.lemmas.List.{length-map}
 use Rattle.std.proofs.lemmas.Option.{get_or_from_slice_get}
 use Rattle.fk_meaning_operation.specs.Kinds.{class_of, joint_of}
 use Rattle.fk_meaning_operation.specs.declared.operation.Operation.{Operation}
@@ -63,7 +64,7 @@ lowest_member h (m ∷ ms) is = ap (λ (b : Bool). b || is_member m ms) (eq-eqb 
 pub index_at : (round : List ℕ) (h c : ℕ) → slice_get round h ≡ Some c → slice_index round h ≡ c
 index_at round h c e = get_or_from_slice_get round h c 0 e
 
-fit_at : (round : Round) (does_at : ℕ → Joint) (tree : Tree) (counts : List ℕ) (h j c : ℕ) → all_fit round does_at tree h counts ≡ true → slice_get counts j ≡ Some c
+pub fit_at : (round : Round) (does_at : ℕ → Joint) (tree : Tree) (counts : List ℕ) (h j c : ℕ) → all_fit round does_at tree h counts ≡ true → slice_get counts j ≡ Some c
     → fits round does_at tree (h + j) c ≡ true
 fit_at round does_at tree [] h j c e at = absurd (cc)
 fit_at round does_at tree (d ∷ counts) h zero c e at =
@@ -75,7 +76,7 @@ fit_at round does_at tree (d ∷ counts) h (suc j) c e at =
     subst (λ (i : ℕ). fits round does_at tree i c ≡ true) next_one
     (fit_at round does_at tree counts (suc h) j c (and_parts (fits round does_at tree h d) (all_fit round does_at tree (suc h) counts) e).1 at)
 
-requests_length : {W : Type 0} (number : ℕ) (actings : List (Acting W)) (s : Store) → length (all_requests number actings s).acting ≡ length actings
+pub requests_length : {W : Type 0} (number : ℕ) (actings : List (Acting W)) (s : Store) → length (all_requests number actings s).acting ≡ length actings
 requests_length number [] s = refl
 requests_length {W = W} number (a ∷ actings) s = by (λ s'. requests_length (suc number) actings s') (request_phase s a a.due)
   where
@@ -83,10 +84,6 @@ requests_length {W = W} number (a ∷ actings) s = by (λ s'. requests_length (s
         → length (after_phase number s a actings (all_requests (suc number) actings) phase).acting ≡ length (a ∷ actings)
     by others (Passes s' b) = ap (λ (n : ℕ). suc n) (others s')
     by others (Breaks site) = refl
-
-map_length : {A B : Type 0} (f : A → B) (xs : List A) → length (map f xs) ≡ length xs
-map_length f [] = refl
-map_length f (x ∷ xs) = ap (λ (n : ℕ). suc n) (map_length f xs)
 
 pub settled_length : {W : Type 0} (actings : List (Acting W)) (old new : Tree) (others : List (Acting W)) → length (settled actings old new others) ≡ length others
 settled_length actings old new [] = refl
@@ -97,7 +94,7 @@ who_is [] h b e = absurd (cc)
 who_is (a ∷ actings) zero b e = let same : a ≡ b = cc in ap (λ (x : Acting _). x.runner.has) same
 who_is (a ∷ actings) (suc h) b e = who_is actings h b e
 
-joint_is : {W : Type 0} (actings : List (Acting W)) (h : ℕ) (b : Acting W) → slice_get actings h ≡ Some b → joint_at actings h ≡ joint_due b.due
+pub joint_is : {W : Type 0} (actings : List (Acting W)) (h : ℕ) (b : Acting W) → slice_get actings h ≡ Some b → joint_at actings h ≡ joint_due b.due
 joint_is [] h b e = absurd (cc)
 joint_is (a ∷ actings) zero b e = let same : a ≡ b = cc in ap (λ (x : Acting _). joint_due x.due) same
 joint_is (a ∷ actings) (suc h) b e = joint_is actings h b e
@@ -113,13 +110,13 @@ at_below (y ∷ xs) zero x e = omega arith
 at_below (y ∷ xs) (suc i) x e = let lt = at_below xs i x e in omega arith
 
 module _ {W : Type 0} (next : W → Option (Step W)) (set : Setting) where
-  counts_there : (round : Round) (rs : List (Runner W)) → all_may_act next set round rs ≡ true → length round ≡ length rs
+  pub counts_there : (round : Round) (rs : List (Runner W)) → all_may_act next set round rs ≡ true → length round ≡ length rs
   counts_there [] [] e = refl
   counts_there (c ∷ round) (r ∷ rs) e = ap (λ (n : ℕ). suc n) (counts_there round rs (and_parts (may_act next set c r) (all_may_act next set round rs) e).1)
   counts_there [] (r ∷ rs) e = untrue e
   counts_there (c ∷ round) [] e = untrue e
 
-  begin_length : (round : Round) (rs : List (Runner W)) → length round ≡ length rs → length (begin_all next set round rs) ≡ length rs
+  pub begin_length : (round : Round) (rs : List (Runner W)) → length round ≡ length rs → length (begin_all next set round rs) ≡ length rs
   begin_length [] [] e = refl
   begin_length (c ∷ round) (r ∷ rs) e = ap (λ (n : ℕ). suc n) (begin_length round rs (omega (arith, e)))
   begin_length [] (r ∷ rs) e = e
@@ -227,7 +224,7 @@ module _ {W : Type 0} (next : W → Option (Step W)) (outs : W → List W) (coun
     pub acting_length : length actings ≡ p
     acting_length =
         requests_length 0 (asking next set round s.runners) s.store
-        ∙ map_length (λ (a : Acting W). local_phase next set a a.due) (begin_all next set round s.runners)
+        ∙ length-map (begin_all next set round s.runners) (λ (a : Acting W). local_phase next set a a.due)
         ∙ begin_length next set round s.runners counts_length
         ∙ ordered.many
 

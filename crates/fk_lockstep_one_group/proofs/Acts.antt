@@ -1,67 +1,24 @@
 -- What each processor has done in a round, before the steps of the tree.
-use Rattle.std.proofs.Common.{◌≡◌, ◌⊎◌, inl, inr, ℕ, zero, suc, ◌+◌, ◌<◌, ◌≤◌, ◌&&◌, Bool, true, List, [], ◌∷◌, length, map, slice_get, Option, Some, None, refl, sym, ap, ◌∙◌, subst, subst₂, arith}
+use Rattle.std.proofs.Common.{◌≡◌, ◌⊎◌, inl, inr, ℕ, zero, suc, ◌+◌, ◌<◌, ◌≤◌, ◌&&◌, Bool, true, length, slice_get, Option, Some, None, refl, sym, ap, ◌∙◌, subst, subst₂, arith}
 use Rattle.std.specs.Prelude.{slice_index, is_none}
 use Rattle.std.proofs.lemmas.Bool.{and_parts, false≢true}
+use Rattle.std.proofs.lemmas.List.{length-map}
 use Rattle.fk_meaning_operation.specs.Kinds.{class_of}
 use Rattle.fk_meaning_operation.specs.declared.kinds.Class.{Class}
 use Rattle.fk_meaning_operation.specs.declared.kinds.Class.TheVariants as class
 use Rattle.fk_meaning_operation.specs.declared.kinds.Joint.{Joint}
-use Rattle.fk_meaning_store.specs.Store.{Store}
 use Rattle.fk_tree.specs.Tree.{Tree}
 use Rattle.fk_meaning.specs.Processor.{Setting}
 use Rattle.fk_meaning.specs.Local.{is_onward}
-use Rattle.fk_meaning.specs.Round.{Step, Runner, Fault, State, Round, Acting, Phase, Passes, Breaks, Phases, taking, joint_due, joint_at, fits, all_fit, after_phase, all_requests, request_phase, do_local, local_phase, begin, begin_all, asking, may_act, all_may_act, tree_phase, result, is_allowed, is_possible}
+use Rattle.fk_meaning.specs.Round.{Step, Runner, Fault, State, Round, Acting, Phases, taking, joint_due, joint_at, fits, all_fit, all_requests, do_local, local_phase, begin, begin_all, asking, all_may_act, tree_phase, result, is_allowed, is_possible}
 use Rattle.fk_meaning.proofs.Stopped.{phase_fault}
 use Rattle.fk_lockstep.proofs.Rounds.{OutcomeBy, Outcome, begin_at, map_at, asked_at}
-use Rattle.fk_lockstep.proofs.Round.{index_at, some_at}
+use Rattle.fk_lockstep.proofs.Round.{index_at, fit_at, requests_length, joint_is, some_at, counts_there, begin_length}
 use Rattle.fk_lockstep_one_group.specs.Where.{Where, goes}
 use Rattle.fk_lockstep_one_group.specs.Rounds.{IsSingle, stepping}
 use Rattle.fk_lockstep_one_group.proofs.Moves.{SameLevels, local_same, answer_same}
 
--- lists
-requests_length : {W : Type 0} (number : ℕ) (actings : List (Acting W)) (s : Store) → length (all_requests number actings s).acting ≡ length actings
-requests_length number [] s = refl
-requests_length {W = W} number (a ∷ actings) s = by (λ s'. requests_length (suc number) actings s') (request_phase s a a.due)
-  where
-    by : ((s' : Store) → length (all_requests (suc number) actings s').acting ≡ length actings) → (phase : Phase W)
-        → length (after_phase number s a actings (all_requests (suc number) actings) phase).acting ≡ length (a ∷ actings)
-    by others (Passes s' b) = ap (λ (n : ℕ). suc n) (others s')
-    by others (Breaks site) = refl
-
-map_length : {A B : Type 0} (f : A → B) (xs : List A) → length (map f xs) ≡ length xs
-map_length f [] = refl
-map_length f (x ∷ xs) = ap (λ (n : ℕ). suc n) (map_length f xs)
-
-joint_is : {W : Type 0} (actings : List (Acting W)) (h : ℕ) (b : Acting W) → slice_get actings h ≡ Some b → joint_at actings h ≡ joint_due b.due
-joint_is [] h b e = absurd (cc)
-joint_is (a ∷ actings) zero b e = let same : a ≡ b = cc in ap (λ (x : Acting _). joint_due x.due) same
-joint_is (a ∷ actings) (suc h) b e = joint_is actings h b e
-
-fit_at : (round : Round) (does_at : ℕ → Joint) (tree : Tree) (counts : List ℕ) (h j c : ℕ) → all_fit round does_at tree h counts ≡ true → slice_get counts j ≡ Some c
-    → fits round does_at tree (h + j) c ≡ true
-fit_at round does_at tree [] h j c e at = absurd (cc)
-fit_at round does_at tree (d ∷ counts) h zero c e at =
-    let same : d ≡ c = cc in
-    let zero_more : h ≡ h + 0 = omega arith in
-    subst₂ (λ (i d' : ℕ). fits round does_at tree i d' ≡ true) zero_more same (and_parts (fits round does_at tree h d) (all_fit round does_at tree (suc h) counts) e).0
-fit_at round does_at tree (d ∷ counts) h (suc j) c e at =
-    let next_one : suc h + j ≡ h + suc j = omega arith in
-    subst (λ (i : ℕ). fits round does_at tree i c ≡ true) next_one
-    (fit_at round does_at tree counts (suc h) j c (and_parts (fits round does_at tree h d) (all_fit round does_at tree (suc h) counts) e).1 at)
-
 module _ {W : Type 0} (next : W → Option (Step W)) (set : Setting) where
-  counts_there : (round : Round) (rs : List (Runner W)) → all_may_act next set round rs ≡ true → length round ≡ length rs
-  counts_there [] [] e = refl
-  counts_there (c ∷ round) (r ∷ rs) e = ap (λ (n : ℕ). suc n) (counts_there round rs (and_parts (may_act next set c r) (all_may_act next set round rs) e).1)
-  counts_there [] (r ∷ rs) e = absurd (false≢true e)
-  counts_there (c ∷ round) [] e = absurd (false≢true e)
-
-  begin_length : (round : Round) (rs : List (Runner W)) → length round ≡ length rs → length (begin_all next set round rs) ≡ length rs
-  begin_length [] [] e = refl
-  begin_length (c ∷ round) (r ∷ rs) e = ap (λ (n : ℕ). suc n) (begin_length round rs (omega (arith, e)))
-  begin_length [] (r ∷ rs) e = e
-  begin_length (c ∷ round) [] e = refl
-
   -- a local operation or a request is done; or a step of the tree is due
   pub record Moved (r : Runner W) (b : Acting W) : Type 0 where
     pub step : Step W
@@ -154,13 +111,13 @@ module _ {W : Type 0} (next : W → Option (Step W)) (set : Setting) where
     parts = and_parts (all_may_act next set round s.runners) (all_fit round does_at s.tree 0 round) allowed
 
     counts_length : length round ≡ length s.runners
-    counts_length = counts_there round s.runners parts.0
+    counts_length = counts_there next set round s.runners parts.0
 
     pub stepping_length : length (stepping next set round s) ≡ length s.runners
     stepping_length =
         requests_length 0 (asking next set round s.runners) s.store
-        ∙ map_length (λ (a : Acting W). local_phase next set a a.due) (begin_all next set round s.runners)
-        ∙ begin_length round s.runners counts_length
+        ∙ length-map (begin_all next set round s.runners) (λ (a : Acting W). local_phase next set a a.due)
+        ∙ begin_length next set round s.runners counts_length
 
     pub record Acts (h : ℕ) : Type 0 where
       pub runner : Runner W

@@ -1,6 +1,7 @@
 -- Runs of a list have one group at a time, where those of the program that stands in it do.
 use Rattle.std.proofs.Common.{◌≡◌, ◌≢◌, ℕ, zero, suc, ◌≤◌, true, false, List, [], ◌∷◌, ◌++◌, length, map, Option, Some, None, ap, ◌∙◌, sym, refl, subst, arith}
 use Rattle.std.specs.Prelude.{option_map, slice_get}
+use Rattle.std.proofs.lemmas.List.{length-map}
 use Rattle.fk_meaning_operation.specs.declared.operation.Operation.TheVariants as o
 use Rattle.fk_tree.specs.Tree as t
 use Rattle.fk_tree.specs.Tree.{Tree}
@@ -85,13 +86,9 @@ module _ {V : Type 0} (next_in : V → Option (Step V)) (core : List CoreOp) (le
         subst (λ (q : Runner Position). IsPlaced (next core) set s.tree h q) x.is
         (record { number_is = p.number_is; place = p.place; there = p.there; goes = λ n. goes_raw n p.place x.runner.left (p.goes n); levels = p.levels })
 
-    map_length : {A B : Type 0} (f : A → B) (xs : List A) → length (map f xs) ≡ length xs
-    map_length f [] = refl
-    map_length f (x ∷ xs) = ap suc (map_length f xs)
-
     list_has_one : HasOneGroup (next_held next_in core) set with_seats → HasOneGroup (next core) set of_list
     list_has_one has = record {
-      many = map_length (runner_by (place_of next_in core)) s.runners ∙ sym (map_length (runner_by (seated next_in core)) s.runners) ∙ has.many;
+      many = length-map s.runners (runner_by (place_of next_in core)) ∙ sym (length-map s.runners (runner_by (seated next_in core))) ∙ has.many;
       tree = has.tree;
       placed = placed has;
     }

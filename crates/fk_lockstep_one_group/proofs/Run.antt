@@ -8,25 +8,12 @@ use Rattle.fk_meaning_forms.specs.Code.{Code, done, perform, choose, while, unti
 use Rattle.fk_meaning.specs.Left.{broken}
 use Rattle.fk_meaning.specs.Next.{Work, going, returned, step, step_of, next}
 use Rattle.fk_core.specs.Stands.{is_first}
+use Rattle.fk_core.proofs.Running.{first_before}
 use Rattle.fk_core_flat.specs.Shape.{is_closed}
 use Rattle.fk_lockstep_one_group.specs.Where.{Where, InRoot, Waits, InGroup, InBody, BehindBody, goes, GoesNext, GoesFor}
 use Rattle.fk_lockstep_one_group.specs.Leads.{is_in_group, Comes}
 use Rattle.fk_lockstep_one_group.specs.Led.{AreLed, CodeGoes}
 use Rattle.fk_lockstep_one_group.proofs.Whole.{Part, Led, joined, nothing_left, whole, Ready, breaks, settles}
-
-first_before : (code more : Code ℕ) → is_first code ≡ true → is_first (append code more) ≡ true
-first_before done more e = absurd (cc)
-first_before (perform n op rest) more e = refl
-first_before (choose n op x y rest) more e = refl
-first_before (while t b s rest) more e = absurd (cc)
-first_before (until b t rest) more e = absurd (cc)
-first_before (turn t b s rest) more e = absurd (cc)
-first_before (again t b s rest) more e = absurd (cc)
-first_before (quit n op rest) more e = refl
-first_before (break rest) more e = absurd (cc)
-first_before (continue rest) more e = absurd (cc)
-first_before (call n op f opening rest) more e = refl
-first_before (ends n op rest) more e = refl
 
 -- who waits, and who is behind a body, doesn't stay there
 waits_not : (op : Operation) → goes Waits op true ≡ Some Waits → ⊥

@@ -4,7 +4,8 @@ use Rattle.std.proofs.lemmas.Bool.{or_cases}
 use Rattle.fk_meaning_forms.specs.Code.{Code, done, perform, choose, while, until, turn, again, quit, break, continue, call, ends, append}
 use Rattle.fk_meaning.specs.Left.{broken, continued, opened, settled}
 use Rattle.fk_core.specs.Stands.{is_first, is_start}
-use Rattle.fk_core_flat.specs.Shape.{is_done, is_closed, IsOpening, IsShaped}
+use Rattle.fk_core_flat.specs.Shape.{is_done, is_closed, IsShaped}
+use Rattle.fk_core_flat.proofs.Standing.{opening_is_shaped}
 use Rattle.fk_lockstep_one_group.specs.Where.{Where, InRoot, goes}
 use Rattle.fk_lockstep_one_group.specs.Leads.{is_in_group, Comes, Leads}
 
@@ -62,20 +63,6 @@ module _ (may_call : (in_group : Bool) → (function : ℕ) → Bool) (has_body 
   part : (f : Where) (l : Option Where) (p : Where) (code : Code ℕ) (q : Where) (b : Bool) → Leads may_call f l p code q → IsShaped has_body b code → Part f l p code q
   part f l p code q b h s = record { leads = h; in_loop = b; shaped = s }
 
-  opening_is : (code : Code ℕ) → IsOpening code → IsShaped has_body false code
-  opening_is done s = tt
-  opening_is (perform n op rest) s = (inl s.0, opening_is rest s.1)
-  opening_is (choose n op x y rest) s = absurd s
-  opening_is (while t b step rest) s = absurd s
-  opening_is (until b t rest) s = absurd s
-  opening_is (turn t b step rest) s = absurd s
-  opening_is (again t b step rest) s = absurd s
-  opening_is (quit n op rest) s = absurd s
-  opening_is (break rest) s = absurd s
-  opening_is (continue rest) s = absurd s
-  opening_is (call n op f' opening rest) s = absurd s
-  opening_is (ends n op rest) s = absurd s
-
   a_while : (f p : Where) (test body step : Code ℕ) → is_first test ≡ true → is_start step ≡ true
       → Leads may_call f (Some p) p test p → Leads may_call f (Some p) p body p → Leads may_call f (Some p) p step p
       → IsShaped has_body true test → IsShaped has_body true body → IsShaped has_body true step → IsLoop f p test body step
@@ -114,7 +101,7 @@ module _ (may_call : (in_group : Bool) → (function : ℕ) → Bool) (has_body 
   joined f l p q b (break rest) more h s m = (h.0, joined f l p q b rest more h.1 s.1 m)
   joined f l p q b (continue rest) more h s m = (h.0, joined f l p q b rest more h.1 s.1 m)
   joined f l p q b (call t op function opening rest) more h s m =
-      (h.0, h.1, s.1, part p None p opening p false h.2 (opening_is opening s.2), joined f l p q b rest more h.3 s.3 m)
+      (h.0, h.1, s.1, part p None p opening p false h.2 (opening_is_shaped has_body opening s.2), joined f l p q b rest more h.3 s.3 m)
   joined f l p q b (ends t op rest) more h s m =
       (h.0, h.1, inr (joined f l p q b rest more h.2 s.1 m))
 
@@ -146,7 +133,7 @@ module _ (may_call : (in_group : Bool) → (function : ℕ) → Bool) (has_body 
   whole f p q b (break rest) h s c = (h.0, whole f p q b rest h.1 s.1 c)
   whole f p q b (continue rest) h s c = (h.0, whole f p q b rest h.1 s.1 c)
   whole f p q b (call t op function opening rest) h s c =
-      (h.0, h.1, s.1, part p None p opening p false h.2 (opening_is opening s.2), whole f p q b rest h.3 s.3 c)
+      (h.0, h.1, s.1, part p None p opening p false h.2 (opening_is_shaped has_body opening s.2), whole f p q b rest h.3 s.3 c)
   whole f p q b (ends t op rest) h s c =
       (h.0, h.1, ⊎_elim (λ e. inl (nothing_left rest e, refl)) (λ closed. inr (whole f p q b rest h.2 s.1 closed)) (or_cases (is_done rest) (is_closed rest) c))
 
