@@ -16,6 +16,7 @@ pub mod Round
 pub mod Changes
 pub mod Sizes
 pub mod KeptSizes
+pub mod Settled
 pub mod ProgramRuns
 mod ProgramExample
 pub mod Tiers

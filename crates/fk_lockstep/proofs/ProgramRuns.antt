@@ -1,73 +1,29 @@
 -- The law of one remaining program, round after round.
-use Rattle.std.proofs.Common.{◌≡◌, ◌≢◌, ⊎_elim, inr, ℕ, zero, suc, ◌+◌, ◌<◌, ◌≤◌, ◌==◌, ◌&&◌, nat_lt, Bool, true, false, not, List, [], ◌∷◌, length, slice_get, Option, Some, None, is_some, refl, sym, ap, ◌∙◌, subst, arith, if◌then◌else◌}
-use Rattle.std.specs.Prelude.{option_map}
-use Rattle.std.proofs.lemmas.Bool.{lt-ltb}
+use Rattle.std.proofs.Common.{◌≡◌, ◌≢◌, ⊎_elim, inr, ℕ, zero, suc, ◌+◌, ◌<◌, ◌≤◌, true, false, List, [], ◌∷◌, length, slice_get, Option, Some, None, is_some, refl, sym, ap, ◌∙◌, subst, arith}
 use Rattle.fk_num.specs.Word.{Memory}
 use Rattle.fk_meaning_operation.specs.declared.operation.Operation.{Operation}
 use Rattle.fk_meaning_operation.specs.declared.operation.Operation.TheVariants as o
 use Rattle.fk_tree.specs.declared.node.Kind.{Kind}
 use Rattle.fk_tree.specs.declared.node.Kind.TheVariants.{Lockstep, Waiting, Asynchronous}
 use Rattle.fk_tree.specs.Tree as t
-use Rattle.fk_tree.specs.Tree.{Tree, members, kind, is_member, below, root, with_node, node_of}
+use Rattle.fk_tree.specs.Tree.{members, kind, below, root, node_of}
 use Rattle.fk_tree.specs.Sound.{Has}
 use Rattle.fk_tree.proofs.Shapes.{with_same, with_other, has_some, kind-node_of}
 use Rattle.fk_tree.proofs.RootSound.{root_sound}
 use Rattle.fk_tree.proofs.Turns.{leaf_by, idle-lockstep}
-use Rattle.fk_space.specs.Space.{Space, frame, block}
-use Rattle.fk_meaning_store.specs.Serve.{words_of}
-use Rattle.fk_meaning_operation.specs.declared.operation.SplitKind.{SplitKind}
-use Rattle.fk_meaning.specs.Processor.{Level, Processor, Setting, setting_of, values, last, drop_last, in_place, enter_level, to_outer, leave_level}
-use Rattle.fk_meaning.specs.Group.{does, with_block, with_size, allotted, framed, part, divided, start_level, is_taken, stays}
-use Rattle.fk_meaning.specs.Round.{Step, Runner, Fault, State, Round, Acting, lowest, tree_phase, result, is_possible, IsStopped}
+use Rattle.fk_meaning.specs.Processor.{Processor, Setting, setting_of, values, last}
+use Rattle.fk_meaning.specs.Round.{Step, Runner, State, Round, Acting, result, is_possible, IsStopped}
 use Rattle.fk_meaning.specs.Schedule.{Schedule, beginners, opening, run, ArePossible}
 use Rattle.fk_meaning.proofs.Stopped.{stopped_faults}
-use Rattle.fk_lockstep.proofs.Rounds.{settled_at}
 use Rattle.fk_lockstep.specs.Counts.{Counts, ArePending, IsCounted}
 use Rattle.fk_lockstep.specs.Course.{InGroup, Waits, ByItself, Does, FollowsFor, Follows}
 use Rattle.fk_lockstep.specs.OneProgram.{groups_of, HaveOneProgram, WaitersHaveOneProgram, BeginnersHaveOneProgram, GroupsHaveOneProgram}
-use Rattle.fk_lockstep.proofs.Acting.{untrue, Here, Out, told, lefts, bare, lefts_bare, HasValue, within, Is, AtNode, without, Grouped, Parted, Apart, does_so, going_on, is_changing}
+use Rattle.fk_lockstep.proofs.Acting.{untrue, Here, Out, told, lefts, bare, lefts_bare, HasValue, within, Is, AtNode, without, Grouped, Parted, Apart, does_so, going_on}
 use Rattle.fk_lockstep.proofs.Trees.{IsThere, NodeIs, ThereAt, Inv, leaf_place}
-use Rattle.fk_lockstep.proofs.Round.{first_is, some_at, at_below, lowest_member, actings as actings_of, phases as phases_of, settle as settle_of, settled_length, Ordered, number_at, groups_at, acting_length, no_fault}
+use Rattle.fk_lockstep.proofs.Round.{first_is, some_at, at_below, actings as actings_of, Ordered, groups_at, acting_length}
+use Rattle.fk_lockstep.proofs.Settled.{after as after_of, result_is, many_after, same_has, settled_from, numbers_after}
 use Rattle.fk_lockstep.proofs.KeptSizes.{Sized, new_sizes, new_sized, new_groups}
-use Rattle.fk_lockstep.proofs.Changes.{ends_none, mids, last_stage}
-
--- steps of the tree leave a processor its number
-divided_number : (by : SplitKind) (size : ℕ) (p : Processor) (o' : Option ℕ) → (divided by size p o').number ≡ p.number
-divided_number by size p None = refl
-divided_number by size p (Some i) = refl
-
-outer_number : (p : Processor) (ls : List Level) → (to_outer p ls).number ≡ p.number
-outer_number p [] = refl
-outer_number p (l ∷ ls) = refl
-
-framed_number : (nesting : ℕ) (p : Processor) (o' : Option Space) → (framed nesting p o').number ≡ p.number
-framed_number nesting p None = refl
-framed_number nesting p (Some sp) = refl
-
-allotted_number : (p : Processor) (o' : Option (ℕ × Space)) → (allotted p o').number ≡ p.number
-allotted_number p None = refl
-allotted_number p (Some sp) = refl
-
-block_number : (words : ℕ) (p : Processor) → (with_block words p).number ≡ p.number
-block_number words p = by (words == 0)
-  where
-    by : (none : Bool) → (if none then in_place 0 p else allotted p (block p.level.space words)).number ≡ p.number
-    by true = refl
-    by false = allotted_number p (block p.level.space words)
-
-either_number : (c : Bool) (p q : Processor) (n : ℕ) → p.number ≡ n → q.number ≡ n → (if c then p else q).number ≡ n
-either_number true p q n e f = e
-either_number false p q n e f = f
-
-pub does_number : (op : Operation) (highest size : ℕ) (p : Processor) → (does op highest size p).number ≡ p.number
-does_number o.Begin highest size p = either_number (is_taken highest p) (enter_level (start_level p size) (drop_last 1 p)) (drop_last 1 p) p.number refl refl
-does_number (o.Frame nesting words) highest size p = framed_number nesting p (frame p.level.space words)
-does_number o.Block highest size p = block_number (words_of (last (values p))) p
-does_number (o.Split by) highest size p = divided_number by size p (part by (values p))
-does_number o.Shrink highest size p =
-    either_number (stays p) (with_size size (drop_last 1 p)) (leave_level (drop_last 1 p)) p.number refl (outer_number (drop_last 1 p) p.outer)
-does_number o.End highest size p = outer_number p p.outer
-does_number op highest size p = refl
+use Rattle.fk_lockstep.proofs.Changes.{ends_none, last_stage}
 
 module _ {W : Type 0} (next : W → Option (Step W)) (outs : W → List W) (counts : Counts W) where
   abbrev pub Sound : (p : ℕ) → State W → (here : ℕ → Here W) (behind : ℕ → List (Out W)) → Type 0
@@ -194,44 +150,11 @@ module _ {W : Type 0} (next : W → Option (Step W)) (outs : W → List W) (coun
     abbrev actings : List (Acting W)
     actings = actings_of next outs counts set round s
 
-    abbrev settle : Runner W → Option (Step W) → Runner W
-    settle r due = settle_of next outs counts set round s r due
-
-    result_is : result next set round s ≡ tree_phase s.tree (phases_of next outs counts set round s).store actings None
-    result_is = ap (λ (fault : Option Fault). tree_phase s.tree (phases_of next outs counts set round s).store actings fault) (no_fault next outs counts set round s p good.here good.behind good.inv ordered possible)
-
     abbrev after : State W
-    after = tree_phase s.tree (phases_of next outs counts set round s).store actings None
+    after = after_of next outs counts set round s p good.here good.behind good.inv ordered possible
 
     many : length actings ≡ p
     many = acting_length next outs counts set round s p good.here good.behind good.inv ordered possible
-
-    abbrev low : ℕ → ℕ
-    low h = lowest (members s.tree (s.tree.places h))
-
-    settled_is : (h : ℕ) (b : Acting W) → slice_get actings h ≡ Some b → slice_get after.runners h ≡ Some (settle b.runner b.due)
-    settled_is h b at = settled_at actings s.tree after.tree actings h b at
-
-    all_gone : (b : Acting W) (changing gone : Bool) → gone ≡ true → (if changing && not gone then b.runner else settle b.runner b.due) ≡ settle b.runner b.due
-    all_gone b changing gone e = subst (λ (g : Bool). (if changing && not g then b.runner else settle b.runner b.due) ≡ settle b.runner b.due) (sym e) (by changing)
-      where
-        by : (c : Bool) → (if c && false then b.runner else settle b.runner b.due) ≡ settle b.runner b.due
-        by true = refl
-        by false = refl
-
-    same_has : (h : ℕ) → h < p → slice_get after.runners h ≡ mids next outs counts set round s p good.here good.behind good.inv ordered possible p h
-    same_has h lt =
-        let b = some_at actings h (omega (arith, many)) in
-        let in_low = lowest_member h (members s.tree (s.tree.places h)) (good.inv.sound.placed h lt).member in
-        let below_p = good.inv.sound.within (s.tree.places h) (low h) in_low in
-        let gone : nat_lt (low h) p ≡ true = lt-ltb (low h) p below_p in
-        settled_is h b.0 b.1
-        ∙ ap (λ (r : Runner W). Some r) (sym (all_gone b.0 (is_changing b.0.due) (nat_lt (low h) p) gone))
-        ∙ sym (ap (option_map (λ (c : Acting W). if is_changing c.due && not (nat_lt (low h) p) then c.runner else settle c.runner c.due)) b.1)
-
-    settled_number : (r : Runner W) (due : Option (Step W)) → (settle r due).has.number ≡ r.has.number
-    settled_number r None = refl
-    settled_number r (Some step) = does_number step.operation _ _ r.has
 
     sizes_are : (h : ℕ) (b : Acting W) → slice_get actings h ≡ Some b → h < p → groups_of b.runner.has ≡ good.sizes (s.tree.places h)
     sizes_are h b at lt =
@@ -249,29 +172,23 @@ module _ {W : Type 0} (next : W → Option (Step W)) (outs : W → List W) (coun
             sound = st.inv.sound;
             chain = st.inv.chain;
             node = st.inv.node;
-            there = λ h r lt e. st.inv.there h r lt (sym (same_has h lt) ∙ e);
+            there = λ h r lt e. st.inv.there h r lt (sym (same_has next outs counts set round s p good.here good.behind good.inv ordered possible h lt) ∙ e);
           };
-          many = settled_length actings s.tree after.tree actings ∙ many;
-          numbers = λ h r e.
-              let size = settled_length actings s.tree after.tree actings in
-              let lt = at_below after.runners h r e in
-              let b = some_at actings h (omega (arith, size, lt)) in
-              let same : r ≡ settle b.0.runner b.0.due = first_is r (settle b.0.runner b.0.due) (sym e ∙ settled_is h b.0 b.1) in
-              ap (λ (u : Runner W). u.has.number) same ∙ settled_number b.0.runner b.0.due ∙ number_at next outs counts set round s p good.here good.behind good.inv ordered possible h b.0 b.1;
+          many = many_after next outs counts set round s p good.here good.behind good.inv ordered possible;
+          numbers = numbers_after next outs counts set round s p good.here good.behind good.inv ordered possible;
           sizes = new_sizes next outs counts set round s p good.here good.behind good.inv ordered possible good.sizes good.sized sizes_are;
           sized = new_sized next outs counts set round s p good.here good.behind good.inv ordered possible good.sizes good.sized sizes_are;
           groups = λ h r e.
-              let size = settled_length actings s.tree after.tree actings in
+              let size = many_after next outs counts set round s p good.here good.behind good.inv ordered possible in
               let lt = at_below after.runners h r e in
-              let lt' : h < p = omega (arith, size, lt, many) in
-              let b = some_at actings h (omega (arith, size, lt)) in
-              let same : r ≡ settle b.0.runner b.0.due = first_is r (settle b.0.runner b.0.due) (sym e ∙ settled_is h b.0 b.1) in
-              ap (λ (u : Runner W). groups_of u.has) same
-              ∙ new_groups next outs counts set round s p good.here good.behind good.inv ordered possible good.sizes good.sized sizes_are h lt' b.0 b.1;
+              let lt' : h < p = omega (arith, size, lt) in
+              let f = settled_from next outs counts set round s p good.here good.behind good.inv ordered possible h r e in
+              ap (λ (u : Runner W). groups_of u.has) f.is
+              ∙ new_groups next outs counts set round s p good.here good.behind good.inv ordered possible good.sizes good.sized sizes_are h lt' f.acting f.at;
         }
 
     pub good_round : Good p (result next set round s)
-    good_round = subst (Good p) (sym result_is) good_after
+    good_round = subst (Good p) (sym (result_is next outs counts set round s p good.here good.behind good.inv ordered possible)) good_after
 
   -- a stopped round has a fault
   pub not_stopped : {A : Type 0} (set : Setting) (round : Round) (s : State W) → IsStopped next set round s → (result next set round s).fault ≡ None → A

@@ -1,7 +1,5 @@
 -- The law of one space, round after round.
-use Rattle.std.proofs.Common.{◌≡◌, ◌≢◌, ⊎_elim, inr, ℕ, zero, suc, ◌+◌, ◌<◌, ◌≤◌, ◌&&◌, nat_lt, Bool, true, false, not, List, [], ◌∷◌, length, map, slice_get, Option, Some, None, refl, sym, ap, ◌∙◌, subst, arith, if◌then◌else◌}
-use Rattle.std.specs.Prelude.{option_map}
-use Rattle.std.proofs.lemmas.Bool.{lt-ltb}
+use Rattle.std.proofs.Common.{◌≡◌, ◌≢◌, ⊎_elim, inr, ℕ, zero, suc, ◌+◌, ◌<◌, ◌≤◌, Bool, true, false, List, [], ◌∷◌, length, map, slice_get, Option, Some, None, refl, sym, ap, ◌∙◌, subst, arith}
 use Rattle.fk_num.specs.Word.{Memory}
 use Rattle.fk_tree.specs.declared.node.Kind.{Kind}
 use Rattle.fk_tree.specs.declared.node.Kind.TheVariants.{Lockstep, Waiting, Asynchronous}
@@ -11,17 +9,17 @@ use Rattle.fk_tree.specs.Sound.{Has}
 use Rattle.fk_tree.proofs.RootSound.{root_sound}
 use Rattle.fk_tree.proofs.Turns.{leaf_by, idle-lockstep}
 use Rattle.fk_meaning.specs.Processor.{Level, Processor, Setting, setting_of, group_space}
-use Rattle.fk_meaning.specs.Round.{Step, Runner, Fault, State, Round, Acting, lowest, tree_phase, result, is_possible}
+use Rattle.fk_meaning.specs.Round.{Step, Runner, State, Round, result, is_possible}
 use Rattle.fk_meaning.specs.Schedule.{Schedule, beginners, opening, run, ArePossible}
 use Rattle.fk_lockstep.specs.Together.{SameLevels}
-use Rattle.fk_lockstep.proofs.Rounds.{settled_at}
 use Rattle.fk_lockstep.specs.Counts.{Counts, ArePending, IsCounted}
 use Rattle.fk_lockstep.specs.Course.{ByItself, Follows}
 use Rattle.fk_lockstep.specs.OneProgram.{groups_of, KeepOneProgram}
-use Rattle.fk_lockstep.proofs.Acting.{Here, Out, told, bare, lefts_bare, Is, without, Grouped, Parted, Apart, is_changing}
+use Rattle.fk_lockstep.proofs.Acting.{Here, Out, told, bare, lefts_bare, Is, without, Grouped, Parted, Apart}
 use Rattle.fk_lockstep.proofs.Trees.{NodeIs, IsThere, ThereAt, Inv, inv_same, leaf_place}
-use Rattle.fk_lockstep.proofs.Round.{first_is, some_at, at_below, lowest_member, actings as actings_of, phases as phases_of, settle as settle_of, settled_length, Ordered, number_at, acting_length, no_fault}
+use Rattle.fk_lockstep.proofs.Round.{first_is, at_below, Ordered}
 use Rattle.fk_lockstep.proofs.Changes.{ends_none, mids}
+use Rattle.fk_lockstep.proofs.Settled.{after as after_of, result_is, many_after, same_has, numbers_after}
 use Rattle.fk_lockstep.proofs.ProgramRuns as together
 use Rattle.fk_lockstep.specs.Frames.{IsFramed}
 use Rattle.fk_lockstep.specs.OneSpace.{HaveSameLevels, spaces_of, MembersHaveOneSpace, WaitersHaveOneSpace, NodesHaveOneSpace, GroupsHaveOneSpace}
@@ -129,47 +127,11 @@ module _ {W : Type 0} (next : W → Option (Step W)) (outs : W → List W) (coun
     ordered : Ordered next outs counts set round s p
     ordered = record { many = good.many; numbers = good.numbers }
 
-    abbrev actings : List (Acting W)
-    actings = actings_of next outs counts set round s
-
-    abbrev settle : Runner W → Option (Step W) → Runner W
-    settle r due = settle_of next outs counts set round s r due
-
-    result_is : result next set round s ≡ tree_phase s.tree (phases_of next outs counts set round s).store actings None
-    result_is = ap (λ (fault : Option Fault). tree_phase s.tree (phases_of next outs counts set round s).store actings fault) (no_fault next outs counts set round s p good.here good.behind good.inv ordered possible)
-
     abbrev after : State W
-    after = tree_phase s.tree (phases_of next outs counts set round s).store actings None
+    after = after_of next outs counts set round s p good.here good.behind good.inv ordered possible
 
-    many : length actings ≡ p
-    many = acting_length next outs counts set round s p good.here good.behind good.inv ordered possible
-
-    abbrev low : ℕ → ℕ
-    low h = lowest (members s.tree (s.tree.places h))
-
-    settled_is : (h : ℕ) (b : Acting W) → slice_get actings h ≡ Some b → slice_get after.runners h ≡ Some (settle b.runner b.due)
-    settled_is h b at = settled_at actings s.tree after.tree actings h b at
-
-    all_gone : (b : Acting W) (changing gone : Bool) → gone ≡ true → (if changing && not gone then b.runner else settle b.runner b.due) ≡ settle b.runner b.due
-    all_gone b changing gone e = subst (λ (g : Bool). (if changing && not g then b.runner else settle b.runner b.due) ≡ settle b.runner b.due) (sym e) (by changing)
-      where
-        by : (c : Bool) → (if c && false then b.runner else settle b.runner b.due) ≡ settle b.runner b.due
-        by true = refl
-        by false = refl
-
-    same_has : (h : ℕ) → h < p → slice_get after.runners h ≡ mids next outs counts set round s p good.here good.behind good.inv ordered possible p h
-    same_has h lt =
-        let b = some_at actings h (omega (arith, many)) in
-        let in_low = lowest_member h (members s.tree (s.tree.places h)) (good.inv.sound.placed h lt).member in
-        let below_p = good.inv.sound.within (s.tree.places h) (low h) in_low in
-        let gone : nat_lt (low h) p ≡ true = lt-ltb (low h) p below_p in
-        settled_is h b.0 b.1
-        ∙ ap (λ (r : Runner W). Some r) (sym (all_gone b.0 (is_changing b.0.due) (nat_lt (low h) p) gone))
-        ∙ sym (ap (option_map (λ (c : Acting W). if is_changing c.due && not (nat_lt (low h) p) then c.runner else settle c.runner c.due)) b.1)
-
-    settled_number : (r : Runner W) (due : Option (Step W)) → (settle r due).has.number ≡ r.has.number
-    settled_number r None = refl
-    settled_number r (Some step) = together.does_number step.operation _ _ r.has
+    same : (h : ℕ) → h < p → slice_get after.runners h ≡ mids next outs counts set round s p good.here good.behind good.inv ordered possible p h
+    same = same_has next outs counts set round s p good.here good.behind good.inv ordered possible
 
     last : Tiered next outs counts depth set round s p good.here good.behind good.inv ordered possible good.keeps good.round_it good.levels p after.tree
     last = last_tiered next outs counts depth set round s p good.here good.behind good.inv ordered possible good.keeps good.round_it good.levels
@@ -181,21 +143,16 @@ module _ {W : Type 0} (next : W → Option (Step W)) (outs : W → List W) (coun
     good_after = record {
       here = last.stage.here;
       behind = last.stage.behind;
-      inv = inv_same (told {W = W}) (Grouped next outs counts) (Parted next outs counts) (Apart next outs counts) (Is next outs counts) p after.tree middle (λ h. slice_get after.runners h) last.stage.here last.stage.behind same_has last.stage.inv;
-      many = settled_length actings s.tree after.tree actings ∙ many;
-      numbers = λ h r e.
-          let size = settled_length actings s.tree after.tree actings in
-          let lt = at_below after.runners h r e in
-          let b = some_at actings h (omega (arith, size, lt)) in
-          let same : r ≡ settle b.0.runner b.0.due = first_is r (settle b.0.runner b.0.due) (sym e ∙ settled_is h b.0 b.1) in
-          ap (λ (u : Runner W). u.has.number) same ∙ settled_number b.0.runner b.0.due ∙ number_at next outs counts set round s p good.here good.behind good.inv ordered possible h b.0 b.1;
+      inv = inv_same (told {W = W}) (Grouped next outs counts) (Parted next outs counts) (Apart next outs counts) (Is next outs counts) p after.tree middle (λ h. slice_get after.runners h) last.stage.here last.stage.behind same last.stage.inv;
+      many = many_after next outs counts set round s p good.here good.behind good.inv ordered possible;
+      numbers = numbers_after next outs counts set round s p good.here good.behind good.inv ordered possible;
       keeps = last.keeps;
       round_it = last.round_it;
-      levels = inv_same all_of (Ordinary next outs counts depth set) (Outer next outs counts depth set) (Single next outs counts depth set) (InIt next outs depth) p after.tree middle (λ h. slice_get after.runners h) last.keeps last.round_it same_has last.levelled;
+      levels = inv_same all_of (Ordinary next outs counts depth set) (Outer next outs counts depth set) (Single next outs counts depth set) (InIt next outs depth) p after.tree middle (λ h. slice_get after.runners h) last.keeps last.round_it same last.levelled;
     }
 
     good_round : Good p (result next set round s)
-    good_round = subst (Good p) (sym result_is) good_after
+    good_round = subst (Good p) (sym (result_is next outs counts set round s p good.here good.behind good.inv ordered possible)) good_after
 
   good_run : (schedule : Schedule) (p : ℕ) (s : State W) → Good p s → ArePossible next set schedule s → (run next set schedule s).fault ≡ None → Good p (run next set schedule s)
   good_run [] p s good possible none = good
