@@ -1,7 +1,7 @@
 -- The steps of a round that change the tree, one node after the other, and what nodes keep of spaces and frames.
-use Rattle.std.proofs.Common.{◌≡◌, ◌≢◌, ⊎_elim, ℕ, zero, suc, ◌+◌, ◌<◌, ◌≤◌, ◌==◌, ◌&&◌, nat_lt, min, Bool, true, false, not, true≢false, List, [], ◌∷◌, length, slice_get, Option, Some, None, is_some, refl, sym, ap, ◌∙◌, subst, subst₂, arith, if◌then◌else◌}
+use Rattle.std.proofs.Common.{◌≡◌, ◌≢◌, ⊎_elim, ℕ, zero, suc, ◌<◌, ◌==◌, ◌&&◌, nat_lt, min, Bool, true, false, not, true≢false, List, [], ◌∷◌, length, slice_get, Option, Some, None, is_some, refl, sym, ap, ◌∙◌, subst, subst₂, arith, if◌then◌else◌}
 use Rattle.std.specs.Prelude.{option_map}
-use Rattle.std.proofs.lemmas.Bool.{cases_Bool, cases_eq, cases_lt, eqb-true, eq-eqb, lt-ltb, le-ltb, cond-true}
+use Rattle.std.proofs.lemmas.Bool.{cases_Bool, cases_eq, eqb-true, eq-eqb, lt-ltb, le-ltb, cond-true}
 use Rattle.fk_meaning_operation.specs.declared.operation.Operation.{Operation}
 use Rattle.fk_meaning_operation.specs.declared.operation.Operation.TheVariants as o
 use Rattle.fk_meaning_operation.specs.declared.operation.SplitKind.{SplitKind}
@@ -24,7 +24,7 @@ use Rattle.fk_lockstep.specs.Counts.{Counts, ArePending, CountsGoOn}
 use Rattle.fk_lockstep.specs.Course.{InGroup, Waits, ByItself, Parts, Does, FollowsFor}
 use Rattle.fk_lockstep.proofs.Acting.{untrue, Here, Out, told, within, is_changing, Is, Grouped, Parted, Apart, AtNode, ahead_of, does_so, counts_so, going_on}
 use Rattle.fk_lockstep.proofs.Trees.{NodeIs, IsThere, ThereAt, inv_same, turned_here, turned_inv, shrunk_here, shrunk_inv, parted_here, parted_behind, parted_inv}
-use Rattle.fk_lockstep.proofs.Round.{first_is, who_is, lowest_member, settle as settle_of, new as new_of, quiet as quiet_of, has_at, Sound, Ordered, Moving, all_move, number_at, acting_length}
+use Rattle.fk_lockstep.proofs.Round.{all_keep, first_is, who_is, lowest_member, settle as settle_of, new as new_of, quiet as quiet_of, has_at, Sound, Ordered, Moving, all_move, number_at}
 use Rattle.fk_lockstep.proofs.Changes.{Stage, low, mid, mids, there, first_stage, clash, moves, in_i, had, has, low_of, place_of, leaf as leaf_of, Allowed, allowed, brought, stage_after, step_of_none, first_same, one_of_none, lt_suc}
 use Rattle.fk_lockstep.specs.Frames.{is_none_round, AsDeep}
 use Rattle.fk_lockstep.proofs.Tiers.{Tier}
@@ -812,21 +812,5 @@ module _ {W : Type 0} (next : W → Option (Step W)) (outs : W → List W) (coun
           by_low false e' after =
               same_tiered i a at (λ changing low_i. absurd (true≢false (sym (eq-eqb i (lowest (members s.tree n)) (sym low_i)) ∙ e'))) tree k after
 
-  all_tiered : (others' : List (Acting W)) (i : ℕ) (tree : Tree) → ((j : ℕ) → slice_get others' j ≡ slice_get actings (i + j)) → i + length others' ≡ p
-      → Tiered i tree → Tiered p (all_changes actings s.tree others' tree)
-  all_tiered [] i tree same size k = let e : i ≡ p = omega (arith, size) in subst (λ (j : ℕ). Tiered j tree) e k
-  all_tiered (a ∷ others') i tree same size k =
-      let zero_more : i + 0 ≡ i = omega arith in
-      let at : slice_get actings i ≡ Some a = ap (slice_get actings) (sym zero_more) ∙ sym (same 0) in
-      let lt : i < p = omega (arith, size) in
-      let number : a.runner.has.number ≡ i = number_at next outs counts set round s p here0 behind0 inv0 ordered possible i a at in
-      let one : Tiered (suc i) (change_by actings s.tree a.runner.has.number a.due tree)
-      = subst (λ (j : ℕ). Tiered (suc i) (change_by actings s.tree j a.due tree)) (sym number) (tiered_then i lt a at tree k) in
-      all_tiered others' (suc i) (change_by actings s.tree a.runner.has.number a.due tree)
-      (λ j. let e : i + suc j ≡ suc i + j = omega arith in same (suc j) ∙ ap (slice_get actings) e)
-      (omega (arith, size)) one
-
   pub last_tiered : Tiered p (all_changes actings s.tree actings s.tree)
-  last_tiered =
-      let many = acting_length next outs counts set round s p here0 behind0 inv0 ordered possible in
-      all_tiered actings 0 s.tree (λ j. let e : j ≡ 0 + j = omega arith in ap (slice_get actings) e) (omega (arith, many)) first_tiered
+  last_tiered = all_keep next outs counts set round s p here0 behind0 inv0 ordered possible Tiered tiered_then first_tiered

@@ -27,7 +27,7 @@ use Rattle.fk_lockstep.specs.Course.{InGroup, Waits, ByItself, after_waiting, Pa
 use Rattle.fk_lockstep.proofs.Acting.{untrue, Here, Out, told, lefts, bare, lefts_bare, Ends, HasValue, Is, AtNode, without, within, is_changing, Grouped, Parted, Loner, ahead_of, Apart, does_so, counts_so, counts_on, going_on}
 use Rattle.fk_lockstep.proofs.Nodes.{Frame, kind_frame, shrink_frame, split_frame}
 use Rattle.fk_lockstep.proofs.Trees.{NodeIs, IsThere, ThereAt, inv_same, turned_here, turned_inv, shrunk_here, shrunk_inv, parted_here, parted_behind, parted_inv}
-use Rattle.fk_lockstep.proofs.Round.{first_is, some_at, who_is, lowest_member, actings as actings_of, settle as settle_of, new as new_of, has_at, quiet as quiet_of, now_has as now_has_of, now_here, now_inv, Sound, Ordered, Moving, all_move, number_at, acting_length}
+use Rattle.fk_lockstep.proofs.Round.{all_keep, first_is, some_at, who_is, lowest_member, actings as actings_of, settle as settle_of, new as new_of, has_at, quiet as quiet_of, now_has as now_has_of, now_here, now_inv, Sound, Ordered, Moving, all_move, number_at, acting_length}
 
 -- splits other than `fork`
 one_of_one : (b : Bool) (j : ℕ) → (if b then None else Some 0) ≡ Some j → j < 1
@@ -1157,21 +1157,5 @@ module _ {W : Type 0} (next : W → Option (Step W)) (outs : W → List W) (coun
           by_low false e' =
               same_stage i a at (λ changing low_i. absurd (true≢false (sym (eq-eqb i (lowest (members s.tree n)) (sym low_i)) ∙ e'))) tree st
 
-  all_stages : (others' : List (Acting W)) (i : ℕ) (tree : Tree) → ((j : ℕ) → slice_get others' j ≡ slice_get actings (i + j)) → i + length others' ≡ p
-      → Stage i tree → Stage p (all_changes actings s.tree others' tree)
-  all_stages [] i tree same size st = let e : i ≡ p = omega (arith, size) in subst (λ (k : ℕ). Stage k tree) e st
-  all_stages (a ∷ others') i tree same size st =
-      let zero_more : i + 0 ≡ i = omega arith in
-      let at : slice_get actings i ≡ Some a = ap (slice_get actings) (sym zero_more) ∙ sym (same 0) in
-      let lt : i < p = omega (arith, size) in
-      let number : a.runner.has.number ≡ i = number_at next outs counts set round s p here0 behind0 inv0 ordered possible i a at in
-      let one : Stage (suc i) (change_by actings s.tree a.runner.has.number a.due tree)
-      = subst (λ (k : ℕ). Stage (suc i) (change_by actings s.tree k a.due tree)) (sym number) (stage_after i lt a at tree st) in
-      all_stages others' (suc i) (change_by actings s.tree a.runner.has.number a.due tree)
-      (λ j. let e : i + suc j ≡ suc i + j = omega arith in same (suc j) ∙ ap (slice_get actings) e)
-      (omega (arith, size)) one
-
   pub last_stage : Stage p (all_changes actings s.tree actings s.tree)
-  last_stage =
-      let many = acting_length next outs counts set round s p here0 behind0 inv0 ordered possible in
-      all_stages actings 0 s.tree (λ j. let e : j ≡ 0 + j = omega arith in ap (slice_get actings) e) (omega (arith, many)) first_stage
+  last_stage = all_keep next outs counts set round s p here0 behind0 inv0 ordered possible Stage stage_after first_stage

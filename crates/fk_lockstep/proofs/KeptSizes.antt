@@ -7,20 +7,20 @@ use Rattle.fk_meaning_operation.specs.declared.operation.SplitKind.{SplitKind}
 use Rattle.fk_tree.specs.declared.node.Kind.{Kind}
 use Rattle.fk_tree.specs.declared.node.Kind.TheVariants.{Lockstep, Asynchronous}
 use Rattle.fk_tree.specs.Tree as t
-use Rattle.fk_tree.specs.Tree.{Node, Tree, members, members_of, parent, parent_of, kind, is_member, node_of, with_node, with_kind, is_from, is_in, place_in, left_by, first_part, kind_after}
+use Rattle.fk_tree.specs.Tree.{Tree, members, members_of, parent, parent_of, is_member, node_of, with_kind, is_from, is_in, place_in, first_part, kind_after}
 use Rattle.fk_tree.specs.Sound.{Has}
 use Rattle.fk_tree.proofs.Lists.{member_kept, below-has}
 use Rattle.fk_tree.proofs.Shapes.{kind_members, from_within, has_some, some-given, awaits-some}
 use Rattle.fk_tree.proofs.Begins.{length-root}
 use Rattle.fk_meaning.specs.Processor.{Level, Processor, Setting, values, drop_last, enter_level, to_outer, leave_level}
 use Rattle.fk_meaning.specs.Group.{not_negative, parts, part, part_number, divided, does, start_level, is_taken, stays, with_size, changes}
-use Rattle.fk_meaning.specs.Round.{Step, Runner, State, Round, Acting, lowest, agreed, who, change_by, all_changes, is_possible}
+use Rattle.fk_meaning.specs.Round.{Step, Runner, State, Round, Acting, lowest, agreed, who, change_by, is_possible}
 use Rattle.fk_lockstep.specs.Untouched.{changes_tree}
 use Rattle.fk_lockstep.specs.Counts.{Counts}
 use Rattle.fk_lockstep.specs.OneProgram.{groups_of}
 use Rattle.fk_lockstep.proofs.Acting.{untrue, Here, Out, is_changing}
 use Rattle.fk_lockstep.proofs.Nodes.{Turn, Numbered, kind_turn, still, gone, shrink_turn, new_nodes, new_parent, split_places, split_members, split_turn}
-use Rattle.fk_lockstep.proofs.Round.{first_is, who_is, lowest_member, actings as actings_of, settle as settle_of, new as new_of, has_at, Sound, Ordered, Moving, all_move, number_at, acting_length}
+use Rattle.fk_lockstep.proofs.Round.{all_keep, first_is, who_is, lowest_member, actings as actings_of, settle as settle_of, new as new_of, has_at, Sound, Ordered, Moving, all_move, number_at}
 use Rattle.fk_lockstep.proofs.Changes.{Stage, low, clash, moves, in_i, n_given, nodes_n, had, has, low_of, place_of, Allowed, allowed, brought, stage_after, first_stage, step_of_none, first_same, one_of_none}
 use Rattle.fk_lockstep.proofs.Sizes.{round_it, left_groups, plain_groups}
 
@@ -564,24 +564,8 @@ module _ {W : Type 0} (next : W → Option (Step W)) (outs : W → List W) (coun
           by_low false e' after =
               same_kept i a at (λ changing low_i. absurd (true≢false (sym (eq-eqb i (lowest (members s.tree n)) (sym low_i)) ∙ e'))) tree k after
 
-  all_kept : (others' : List (Acting W)) (i : ℕ) (tree : Tree) → ((j : ℕ) → slice_get others' j ≡ slice_get actings (i + j)) → i + length others' ≡ p
-      → Kept i tree → Kept p (all_changes actings s.tree others' tree)
-  all_kept [] i tree same size k = let e : i ≡ p = omega (arith, size) in subst (λ (j : ℕ). Kept j tree) e k
-  all_kept (a ∷ others') i tree same size k =
-      let zero_more : i + 0 ≡ i = omega arith in
-      let at : slice_get actings i ≡ Some a = ap (slice_get actings) (sym zero_more) ∙ sym (same 0) in
-      let lt : i < p = omega (arith, size) in
-      let number : a.runner.has.number ≡ i = number_at next outs counts set round s p here0 behind0 inv0 ordered possible i a at in
-      let one : Kept (suc i) (change_by actings s.tree a.runner.has.number a.due tree)
-      = subst (λ (j : ℕ). Kept (suc i) (change_by actings s.tree j a.due tree)) (sym number) (kept_after i lt a at tree k) in
-      all_kept others' (suc i) (change_by actings s.tree a.runner.has.number a.due tree)
-      (λ j. let e : i + suc j ≡ suc i + j = omega arith in same (suc j) ∙ ap (slice_get actings) e)
-      (omega (arith, size)) one
-
   pub last_kept : Kept p new
-  last_kept =
-      let many = acting_length next outs counts set round s p here0 behind0 inv0 ordered possible in
-      all_kept actings 0 s.tree (λ j. let e : j ≡ 0 + j = omega arith in ap (slice_get actings) e) (omega (arith, many)) first_kept
+  last_kept = all_keep next outs counts set round s p here0 behind0 inv0 ordered possible Kept kept_after first_kept
 
   -- the numbers and sizes after the round
   abbrev kept_sizes : ℕ → List (ℕ × ℕ)

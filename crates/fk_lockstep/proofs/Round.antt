@@ -22,7 +22,7 @@ use Rattle.fk_tree.proofs.Shapes.{has_some}
 use Rattle.fk_tree.proofs.Turns.{IsLeaf, leaf_by, leaf_ready, idle-lockstep, idle-asynchronous}
 use Rattle.fk_meaning.specs.Processor.{Setting}
 use Rattle.fk_meaning.specs.Group.{does}
-use Rattle.fk_meaning.specs.Round.{Step, Runner, Fault, State, Round, Acting, Phase, Passes, Breaks, Phases, taking, joint_due, joint_at, same_joint, all_do, joins, do_local, fits_kind, fits, all_fit, after_phase, all_requests, request_phase, lowest, agreed, who, all_changes, settled_by, settled, local_phase, after_locals, begin, begin_all, asking, may_act, all_may_act, result, is_allowed, is_possible}
+use Rattle.fk_meaning.specs.Round.{Step, Runner, Fault, State, Round, Acting, Phase, Passes, Breaks, Phases, taking, joint_due, joint_at, same_joint, all_do, joins, do_local, fits_kind, fits, all_fit, after_phase, all_requests, request_phase, lowest, agreed, who, change_by, all_changes, settled_by, settled, local_phase, after_locals, begin, begin_all, asking, may_act, all_may_act, result, is_allowed, is_possible}
 use Rattle.fk_meaning.proofs.Stopped.{phase_fault}
 use Rattle.fk_lockstep.specs.Untouched.{changes_tree}
 use Rattle.fk_lockstep.proofs.Rounds.{Outcome, begin_at, map_at, asked_at}
@@ -282,6 +282,25 @@ module _ {W : Type 0} (next : W → Option (Step W)) (outs : W → List W) (coun
         (λ step e c. q_number h a d.0)
         (takes h a d.0 d.1))
         (cases_count a.count))
+
+    -- what each step of the tree keeps, one after the other, all of them keep
+    module _ (K : ℕ → Tree → Type 0)
+        (one : (i : ℕ) → i < p → (a : Acting W) → slice_get actings i ≡ Some a → (tree : Tree) → K i tree → K (suc i) (change_by actings old i a.due tree)) where
+      others_keep : (others : List (Acting W)) (i : ℕ) (tree : Tree) → ((j : ℕ) → slice_get others j ≡ slice_get actings (i + j)) → i + length others ≡ p
+          → K i tree → K p (all_changes actings old others tree)
+      others_keep [] i tree same size k = let e : i ≡ p = omega (arith, size) in subst (λ (j : ℕ). K j tree) e k
+      others_keep (a ∷ others) i tree same size k =
+          let zero_more : i + 0 ≡ i = omega arith in
+          let at : slice_get actings i ≡ Some a = ap (slice_get actings) (sym zero_more) ∙ sym (same 0) in
+          let lt : i < p = omega (arith, size) in
+          let next_one : K (suc i) (change_by actings old a.runner.has.number a.due tree)
+          = subst (λ (j : ℕ). K (suc i) (change_by actings old j a.due tree)) (sym (number_at i a at)) (one i lt a at tree k) in
+          others_keep others (suc i) (change_by actings old a.runner.has.number a.due tree)
+          (λ j. let e : i + suc j ≡ suc i + j = omega arith in same (suc j) ∙ ap (slice_get actings) e)
+          (omega (arith, size)) next_one
+
+      pub all_keep : K 0 old → K p new
+      all_keep first = others_keep actings 0 old (λ j. let e : j ≡ 0 + j = omega arith in ap (slice_get actings) e) (omega (arith, acting_length)) first
 
     pub groups_at : (h : ℕ) (b : Acting W) (r : Runner W) → slice_get actings h ≡ Some b → slice_get s.runners h ≡ Some r → groups_of b.runner.has ≡ groups_of r.has
     groups_at h b r at is =
