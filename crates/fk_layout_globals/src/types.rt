@@ -4,6 +4,7 @@ ghost use Rattle.std.specs.Prelude.{◌≡◌};
 ghost use Rattle.fk_meaning_forms.specs.Tables as t;
 ghost use Rattle.fk_layout_globals.specs.View.{tables_of};
 
+use fk_meaning_forms::{kind_of, note_of};
 use fk_syntax::{Kind, Note};
 
 /// The facts of a program that constants and variables need.
@@ -15,40 +16,19 @@ pub struct Types<'n, 'k> {
     pub kinds: &'k [Kind],
 }
 
-const NO_NOTE: Note = Note {
-    kind: 0,
-    binding: 0,
-    sync: false,
-    shared: false,
-    splits: false,
-};
-
-const NO_KIND: Kind = Kind {
-    words: 0,
-    unsigned: false,
-    array: false,
-    step: 0,
-};
-
 impl<'n, 'k> Types<'n, 'k> {
     /// The note of a token.
     pub(crate) fn note(&self, at: u32) -> Note
         ensures { result ≡ t.note (tables_of self.now) at }
     {
-        match self.notes.get(at as usize) {
-            Some(note) => *note,
-            None => NO_NOTE,
-        }
+        note_of(self.notes, at)
     }
 
     /// The type in the note of a token.
     pub(crate) fn kind_at(&self, at: u32) -> Kind
         ensures { result ≡ t.kind_at (tables_of self.now) at }
     {
-        match self.kinds.get(self.note(at).kind as usize) {
-            Some(kind) => *kind,
-            None => NO_KIND,
-        }
+        kind_of(self.notes, self.kinds, at)
     }
 
     /// Whether the numbers of a token's type are unsigned. An array counts as the pointer to its

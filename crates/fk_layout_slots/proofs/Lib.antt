@@ -1,4 +1,3 @@
-pub mod Lookups
 pub mod Alike
 pub mod Stepping
 mod Laid

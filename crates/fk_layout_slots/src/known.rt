@@ -4,6 +4,7 @@ ghost use Rattle.std.specs.Prelude.{◌≡◌};
 ghost use Rattle.fk_layout_slots.specs.Told.{note_at, words_at, splits_at};
 ghost use Rattle.fk_layout_slots.specs.KnownView.{told_by};
 
+use fk_meaning_forms::{kind_of, note_of};
 use fk_syntax::{Kind, Note};
 
 /// The facts of a program that the layout needs.
@@ -15,33 +16,19 @@ pub(crate) struct TypeNotes<'p> {
     pub(crate) kinds: &'p [Kind],
 }
 
-const NO_NOTE: Note = Note {
-    kind: 0,
-    binding: 0,
-    sync: false,
-    shared: false,
-    splits: false,
-};
-
 impl<'p> TypeNotes<'p> {
     // The note of a token.
     fn note(&self, at: u32) -> Note
         ensures { result ≡ note_at (told_by self.now) at }
     {
-        match self.notes.get(at as usize) {
-            Some(note) => *note,
-            None => NO_NOTE,
-        }
+        note_of(self.notes, at)
     }
 
     /// The number of words of the variable that the name at a token declares.
     pub(crate) fn words(&self, at: u32) -> u32
         ensures { result ≡ words_at (told_by self.now) at }
     {
-        match self.kinds.get(self.note(at).kind as usize) {
-            Some(kind) => kind.words,
-            None => 0,
-        }
+        kind_of(self.notes, self.kinds, at).words
     }
 
     /// Whether a group splits at the statement of a token.

@@ -1,5 +1,4 @@
 pub mod Arguments
 pub mod Last
-pub mod Lookups
 pub mod Printed
 pub mod Stepwise

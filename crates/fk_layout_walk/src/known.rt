@@ -7,7 +7,7 @@ ghost use Rattle.fk_syntax.specs.ProgramView.{function_of};
 ghost use Rattle.fk_layout_walk.specs.Known.{tables_of, items_in, called, framed_in};
 ghost use Rattle.fk_layout_walk.specs.Shown.{as_word};
 
-use fk_meaning_forms::{Home, Region, Slot};
+use fk_meaning_forms::{Home, Region, Slot, kind_of, note_of};
 use fk_syntax::{Function, Item, Kind, Note};
 
 /// The binding of every predeclared name.
@@ -40,21 +40,6 @@ pub struct ProgramTables<'p, 't> {
     pub framed: &'p [Framed],
 }
 
-const NO_NOTE: Note = Note {
-    kind: 0,
-    binding: 0,
-    sync: false,
-    shared: false,
-    splits: false,
-};
-
-const NO_KIND: Kind = Kind {
-    words: 0,
-    unsigned: false,
-    array: false,
-    step: 0,
-};
-
 const NO_SLOT: Slot = Slot {
     home: Home::NoWord,
     index: 0,
@@ -72,20 +57,14 @@ impl<'p, 't> ProgramTables<'p, 't> {
     pub fn note(&self, at: u32) -> Note
         ensures { result ≡ t.note (tables_of self.now) at }
     {
-        match self.notes.get(at as usize) {
-            Some(note) => *note,
-            None => NO_NOTE,
-        }
+        note_of(self.notes, at)
     }
 
     /// The type in the note of a token.
     pub(crate) fn kind_at(&self, at: u32) -> Kind
         ensures { result ≡ t.kind_at (tables_of self.now) at }
     {
-        match self.kinds.get(self.note(at).kind as usize) {
-            Some(kind) => *kind,
-            None => NO_KIND,
-        }
+        kind_of(self.notes, self.kinds, at)
     }
 
     /// Whether the type of a token is an array.

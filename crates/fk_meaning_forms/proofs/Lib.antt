@@ -1,3 +1,4 @@
+pub mod Lookups
 pub mod Ranks
 pub mod Short
 mod Functions

@@ -1,6 +1,6 @@
 use Rattle.std.proofs.Common.{sym, ◌∙◌, arith}
 use Rattle.fk_meaning_forms.specs.Tables.{no_region}
-use Rattle.fk_layout_walk.proofs.Lookups.{nth-get_or}
+use Rattle.fk_meaning_forms.proofs.Lookups.{nth-get_or}
 use Rattle.fk_layout_walk.proofs.known.ProgramTables.region.Goals as goal
 
 pub returns-in-Some : goal.returns-in-Some
