@@ -166,7 +166,8 @@ impl<'l, 'a> fmt::Display for Tables<'l, 'a> {
         let layout = self.0;
         let (words, firsts) = (Words(&layout.words), Words(&layout.firsts));
         write!(f, "{}words{words}\nfirsts{firsts}\n", Rows(&layout.rows))?;
-        let (slots, regions) = (Slots(&layout.slots), Regions(&layout.regions));
+        let places = &layout.places;
+        let (slots, regions) = (Slots(&places.slots), Regions(&places.regions));
         write!(f, "{slots}{regions}")
     }
 }

@@ -15,7 +15,7 @@ use crate::building::are_built;
 use crate::laid::layout_of;
 use crate::refusal::Refusal;
 use crate::text::{Checked, checked_text};
-use fk_layout::Layout;
+use fk_layout::{Layout, known_of};
 use fk_layout_lookup::Lookup;
 use fk_layout_walk::ProgramTables;
 use fk_syntax::{Facts, Program};
@@ -40,29 +40,8 @@ impl<'a> Built<'a> {
         ensures tables { tables_of result ≡ tables_by (program_of self.now.tree) self.now.facts }
         ensures items { items_in result ≡ (program_of self.now.tree).items }
     {
-        let known = known_of(&self.tree, &self.facts, &self.layout);
+        let known = known_of(&self.tree, &self.facts, &self.layout.places);
         self.lookup.complete(known)
-    }
-}
-
-// What is known of a text of which nothing is looked up yet.
-fn known_of<'p, 'a>(
-    tree: &'p Program<'a>,
-    facts: &'p Facts,
-    layout: &'p Layout<'a>,
-) -> ProgramTables<'p, 'a>
-    requires { IsLayout (program_of tree.now) facts.now layout.now }
-    ensures tables { tables_of result ≡ tables_by (program_of tree.now) facts.now }
-    ensures items { items_in result ≡ (program_of tree.now).items }
-{
-    ProgramTables {
-        notes: &facts.notes,
-        kinds: &facts.kinds,
-        slots: &layout.slots,
-        regions: &layout.regions,
-        items: &tree.items,
-        callees: &[],
-        framed: &[],
     }
 }
 
@@ -72,7 +51,7 @@ fn lookup_of<'a>(alloc: Global, text: &Checked<'a>, layout: &Layout<'a>) -> Resu
     ensures finds { IfOk result (Finds (program_of text.now.tree) text.now.facts) }
     ensures memory { IfErr result (λ refusal. (e : AllocError) × (refusal ≡ Refusal.Memory e)) }
 {
-    let known = known_of(&text.tree, &text.facts, layout);
+    let known = known_of(&text.tree, &text.facts, &layout.places);
     match Lookup::of(alloc, &known) {
         Ok(lookup) => Ok(lookup),
         Err(error) => Err(Refusal::Memory(error)),

@@ -31,7 +31,13 @@ tables_by program facts = record {
 }
 
 module _ (program : ProgramTree) (facts : Facts) where
-  -- each table of the layout is that of the program
+  -- where words are, as the crates below give it
+  pub record ArePlaces (places : Slots) : Type 0 where
+    pub slots : places.slots.items ≡ slots_of (told_by facts) program.items
+    pub regions : places.regions.items ≡ regions_of (told_by facts) program.items
+    pub owns : places.owns.items ≡ owns_of (told_by facts) program.items
+
+  -- each table of it
   pub record IsLayout (layout : Layout) : Type 0 where
     pub rows : map row_of layout.rows.items
         ≡ g.rows (told facts.notes.items facts.kinds.items) program.items
@@ -39,17 +45,11 @@ module _ (program : ProgramTree) (facts : Facts) where
         ≡ g.words (told facts.notes.items facts.kinds.items) program.items
     pub firsts : layout.firsts.items
         ≡ g.firsts (told facts.notes.items facts.kinds.items) program.items
-    pub slots : layout.slots.items ≡ slots_of (told_by facts) program.items
-    pub regions : layout.regions.items ≡ regions_of (told_by facts) program.items
+    pub places : ArePlaces layout.places
     pub frames : layout.frames.items ≡ frame_sizes (tables_by program facts) program.items
     pub sites : layout.sites.items ≡ map site (sites_of (tables_by program facts) program)
 
-  -- the tables that the crates below give
-  pub record ArePlaces (places : Slots) : Type 0 where
-    pub slots : places.slots.items ≡ slots_of (told_by facts) program.items
-    pub regions : places.regions.items ≡ regions_of (told_by facts) program.items
-    pub owns : places.owns.items ≡ owns_of (told_by facts) program.items
-
+  -- the variables of file scope, as the crates below give them
   pub record AreGlobals (globals : Globals) : Type 0 where
     pub rows : map row_of globals.rows.items
         ≡ g.rows (told facts.notes.items facts.kinds.items) program.items

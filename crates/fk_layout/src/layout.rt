@@ -15,7 +15,7 @@ use fk_layout_globals::{GlobalRow, Globals, GlobalsFault, lay_globals};
 use fk_layout_lookup::Lookup;
 use fk_layout_slots::{Own, Slots, slots};
 use fk_layout_walk::ProgramTables;
-use fk_meaning_forms::{FrameSize, Region, Slot};
+use fk_meaning_forms::FrameSize;
 use fk_syntax::{Facts, Program};
 use std::alloc::Global;
 
@@ -28,10 +28,8 @@ pub struct Layout<'a> {
     pub words: Vec<u32>,
     /// The initial values of the private variables of file scope, in the order of the text.
     pub firsts: Vec<u32>,
-    /// A slot for each variable, parameter and function, in the order of their names.
-    pub slots: Vec<Slot>,
-    /// The group frames that have words, in the order of their tokens.
-    pub regions: Vec<Region>,
+    /// Where the words of declarations, group frames and functions are.
+    pub places: Slots,
     /// The frames of all functions with a body, in the order of the text.
     pub frames: Vec<FrameSize>,
     /// All operations, in the order of the code.
@@ -83,8 +81,8 @@ fn of_globals(fault: GlobalsFault) -> LayoutFault
     }
 }
 
-// The tables of a program before the lookup tables are made.
-fn known_of<'p, 'a>(
+/// What is known of a program of which nothing is looked up yet.
+pub fn known_of<'p, 'a>(
     program: &'p Program<'a>,
     facts: &'p Facts,
     places: &'p Slots,
@@ -161,8 +159,7 @@ pub fn lay_out<'a>(
         rows: globals.rows,
         words: globals.words,
         firsts: globals.firsts,
-        slots: places.slots,
-        regions: places.regions,
+        places,
         frames: sizes.frames,
         sites: sizes.sites,
     })
