@@ -6,6 +6,7 @@ pub mod Declared
 pub mod Named
 pub mod Things
 pub mod Shut
+pub mod Marks
 pub mod Level
 pub mod Homes
 pub mod Expressions

@@ -1,16 +1,14 @@
 -- The marks of statements never close more scopes than they have opened.
-use Rattle.std.proofs.Common.{◌≡◌, inl, inr, ℕ, zero, suc, ◌+◌, ◌-◌, ◌<◌, ◌≤◌, Bool, false, cond, List, [], ◌∷◌, ◌++◌, length, take, Option, Some, None, refl, sym, ap, subst, ◌∙◌, arith}
+use Rattle.std.proofs.Common.{◌≡◌, inl, inr, ℕ, zero, suc, ◌+◌, ◌-◌, ◌<◌, ◌≤◌, Bool, false, cond, List, [], ◌∷◌, ◌++◌, length, take, refl, sym, ap, subst, ◌∙◌, arith}
 use Rattle.std.specs.Prelude.{count_by}
 use Rattle.std.proofs.Math.Seq.{take-append-add}
 use Rattle.std.proofs.lemmas.Bool.{cases_lt}
 use Rattle.std.proofs.lemmas.List.{take-append-le}
 use Rattle.std.proofs.lemmas.List.Sums.{sum_by-cons, sum_by-append}
-use Rattle.fk_syntax.specs.Tree as t
-use Rattle.fk_syntax.specs.Tree.{Tree, Links, Trees, Suffixes}
-use Rattle.fk_syntax.specs.Program as p
-use Rattle.fk_syntax.specs.Program.{DeclaredTree, Statement, Statements, FunctionTree}
-use Rattle.fk_types_names.specs.Outline.{MarkTree, Header, Opens, Closes, Declares, Uses, tree_marks, links_marks, trees_marks, suffixes_marks, optional_marks, variable_marks, variables_marks, scope, statement_marks, statements_marks, body_marks, function_marks}
+use Rattle.fk_syntax.specs.Program.{FunctionTree}
+use Rattle.fk_types_names.specs.Outline.{MarkTree, Header, Opens, Closes, Declares, variables_marks, scope, body_marks, function_marks}
 use Rattle.fk_types_names.specs.Visible.{is_opening, is_closing}
+use Rattle.fk_check_laws.proofs.Marks.{Grows, of_variables, of_body}
 use Rattle.fk_check_laws.proofs.Shut.{opened, closed}
 
 count_one : (test : MarkTree → Bool) (mark : MarkTree) (marks : List MarkTree) → count_by test (mark ∷ marks) ≡ cond (test mark) 1 0 + count_by test marks
@@ -97,90 +95,15 @@ safe_scope marks h = record { whole = whole_one (Closes ∷ []) (let c : count_b
           (sym (ap (λ i. take i (marks ++ Closes ∷ [])) sum ∙ take-append-add marks (Closes ∷ []) n)) (whole_one (take n (Closes ∷ [])) (last_close n))
     ]
 
-mutual
-  of_tree : (x : Tree) → IsSafe (tree_marks x)
-  of_tree (t.Number spot value unsigned) = safe_none
-  of_tree (t.Puts spot text) = safe_none
-  of_tree (t.Sizeof spot type) = safe_none
-  of_tree (t.Variable name) = safe_one (Uses name) refl [] safe_none
-  of_tree (t.GroupNumber spot) = safe_none
-  of_tree (t.GroupRank spot) = safe_none
-  of_tree (t.Prefix spot sign operand) = of_tree operand
-  of_tree (t.Cast spot type operand) = of_tree operand
-  of_tree (t.Chain first links) = safe_both (tree_marks first) (links_marks links) (of_tree first) (of_links links)
-  of_tree (t.Postfix whole suffixes) = safe_both (tree_marks whole) (suffixes_marks suffixes) (of_tree whole) (of_suffixes suffixes)
-  of_tree (t.Assign spot sign target value) = safe_both (tree_marks target) (tree_marks value) (of_tree target) (of_tree value)
-  of_tree (t.Choose spot condition first second) = safe_both (tree_marks condition ++ tree_marks first) (tree_marks second)
-      (safe_both (tree_marks condition) (tree_marks first) (of_tree condition) (of_tree first)) (of_tree second)
-
-  of_links : (x : Links) → IsSafe (links_marks x)
-  of_links t.no_links = safe_none
-  of_links (t.link spot sign right others) = safe_both (tree_marks right) (links_marks others) (of_tree right) (of_links others)
-
-  of_trees : (x : Trees) → IsSafe (trees_marks x)
-  of_trees t.no_trees = safe_none
-  of_trees (t.tree first others) = safe_both (tree_marks first) (trees_marks others) (of_tree first) (of_trees others)
-
-  of_suffixes : (x : Suffixes) → IsSafe (suffixes_marks x)
-  of_suffixes t.no_suffixes = safe_none
-  of_suffixes (t.index spot by others) = safe_both (tree_marks by) (suffixes_marks others) (of_tree by) (of_suffixes others)
-  of_suffixes (t.call spot arguments others) = safe_both (trees_marks arguments) (suffixes_marks others) (of_trees arguments) (of_suffixes others)
-  of_suffixes (t.dot spot member others) = of_suffixes others
-  of_suffixes (t.arrow spot member others) = of_suffixes others
-  of_suffixes (t.up spot others) = of_suffixes others
-  of_suffixes (t.down spot others) = of_suffixes others
-
-of_option : (x : Option Tree) → IsSafe (optional_marks x)
-of_option None = safe_none
-of_option (Some x) = of_tree x
-
-of_variables : (xs : List DeclaredTree) → IsSafe (variables_marks xs)
-of_variables [] = safe_none
-of_variables (x ∷ xs) = safe_both (variable_marks x) (variables_marks xs) (safe_one (Declares _) refl (optional_marks x.first) (of_option x.first)) (of_variables xs)
-
-mutual
-  of_statement : (x : Statement) → IsSafe (statement_marks x)
-  of_statement p.Empty = safe_none
-  of_statement (p.Expression value) = of_tree value
-  of_statement (p.Block statements) = safe_scope (statements_marks statements) (of_statements statements)
-  of_statement (p.Declare variables) = of_variables variables
-  of_statement (p.If spot condition body) = safe_both (tree_marks condition) (scope (statement_marks body)) (of_tree condition) (safe_scope _ (of_statement body))
-  of_statement (p.IfElse spot condition body otherwise) =
-      safe_both (tree_marks condition ++ scope (statement_marks body)) (scope (statement_marks otherwise))
-      (safe_both (tree_marks condition) (scope (statement_marks body)) (of_tree condition) (safe_scope _ (of_statement body))) (safe_scope _ (of_statement otherwise))
-  of_statement (p.While spot condition body) = safe_both (tree_marks condition) (scope (statement_marks body)) (of_tree condition) (safe_scope _ (of_statement body))
-  of_statement (p.DoWhile spot body condition) = safe_both (scope (statement_marks body)) (tree_marks condition) (safe_scope _ (of_statement body)) (of_tree condition)
-  of_statement (p.For spot before condition after body) =
-      safe_both (optional_marks before ++ optional_marks condition ++ optional_marks after) (scope (statement_marks body))
-      (safe_both (optional_marks before ++ optional_marks condition) (optional_marks after)
-      (safe_both (optional_marks before) (optional_marks condition) (of_option before) (of_option condition)) (of_option after))
-      (safe_scope _ (of_statement body))
-  of_statement (p.Start spot count body) = safe_both (optional_marks count) (scope (statement_marks body)) (of_option count) (safe_scope _ (of_statement body))
-  of_statement (p.Farm spot body) = safe_scope _ (of_statement body)
-  of_statement (p.Seq spot body) = safe_scope _ (of_statement body)
-  of_statement (p.Fork spot parts part rank body) =
-      safe_both (tree_marks parts ++ tree_marks part ++ optional_marks rank) (scope (statement_marks body))
-      (safe_both (tree_marks parts ++ tree_marks part) (optional_marks rank) (safe_both (tree_marks parts) (tree_marks part) (of_tree parts) (of_tree part)) (of_option rank))
-      (safe_scope _ (of_statement body))
-  of_statement (p.Barrier spot) = safe_none
-  of_statement (p.Break spot) = safe_none
-  of_statement (p.Continue spot) = safe_none
-  of_statement (p.Return spot value) = of_option value
-
-  of_statements : (x : Statements) → IsSafe (statements_marks x)
-  of_statements p.no_statements = safe_none
-  of_statements (p.statement first others) = safe_both (statement_marks first) (statements_marks others) (of_statement first) (of_statements others)
-
-of_body : (x : Option Statements) → IsSafe (body_marks x)
-of_body None = safe_none
-of_body (Some body) = of_statements body
+grows : Grows IsSafe
+grows = record { none = safe_none; one = λ mark opens closes. safe_one mark closes; both = safe_both; scoped = safe_scope }
 
 -- within a function a scope is open
 pub in_function : (f : FunctionTree) (k : ℕ) → let inner = variables_marks f.parameters ++ body_marks f.body in
     k ≤ length inner → closed (function_marks f) (suc (suc k)) < opened (function_marks f) (suc (suc k))
 in_function f k within =
     let inner = variables_marks f.parameters ++ body_marks f.body in
-    let safe = safe_both (variables_marks f.parameters) (body_marks f.body) (of_variables f.parameters) (of_body f.body) in
+    let safe = safe_both (variables_marks f.parameters) (body_marks f.body) (of_variables IsSafe grows f.parameters) (of_body IsSafe grows f.body) in
     let here = safe.parts k in
     let taken = take-append-le k inner (Closes ∷ []) within in
     let rest = take k (inner ++ Closes ∷ []) in
