@@ -7,36 +7,14 @@ use Rattle.fk_syntax.specs.declared.program.Mode.TheVariants as m
 use Rattle.fk_syntax.specs.declared.sign.Sign.TheVariants as g
 use Rattle.fk_syntax.specs.Tree as t
 use Rattle.fk_syntax.specs.Program as p
-use Rattle.fk_syntax.specs.Program.{ItemTree, Statements, FunctionTree}
+use Rattle.fk_syntax.specs.Program.{ItemTree}
 use Rattle.fk_meaning_forms.specs.declared.tables.Home.TheVariants as h
 use Rattle.fk_meaning_forms.specs.declared.tables.Slot.{Slot}
 use Rattle.fk_meaning_forms.specs.declared.tables.Region.{Region}
 use Rattle.fk_meaning_forms.proofs.Short.{sp, nm, ty, dc, nn, nt, kd, sl, rg, function}
+use Rattle.fk_meaning_forms.proofs.Functions.{before, first_notes, first_kinds, first_slots, first_regions}
 use Rattle.fk_layout_slots.specs.Places.{behind_frame, within, outside, behind_private, slot_in, file_slot, behind_words, behind_variable, behind_parameter}
 use Rattle.fk_layout_slots.proofs.Laid.{laid}
-
-abbrev before : List ItemTree → List ItemTree
-before more =
-    (p.StructItem (nm (codes "In") 1 1 8) [])
-    ∷ (p.StructItem (nm (codes "S") 9 2 8) [])
-    ∷ (p.VariablesItem ((dc true (ty (t.Struct (nm (codes "S") 33 3 11)) 0) (nm (codes "st") 34 3 13) None None) ∷ []))
-    ∷ (p.VariablesItem ((dc true (ty (t.Struct (nm (codes "S") 38 3 27)) 0) (nm (codes "so") 39 3 29) (Some 2) None) ∷ []))
-    ∷ (p.VariablesItem ((dc true (ty t.Int 0) (nm (codes "x0") 46 3 43) None None) ∷ (dc true (ty t.Int 0) (nm (codes "ar") 48 3 47) (Some 4) None) ∷ []))
-    ∷ (p.VariablesItem ((dc true (ty t.Unsigned 0) (nm (codes "x1") 55 3 66) None None) ∷ []))
-    ∷ (p.VariablesItem ((dc false (ty t.Int 0) (nm (codes "f0") 58 3 74) None None) ∷ []))
-    ∷ more
-
-abbrev first_notes : List Note
-first_notes = nn ∷ nn ∷ nn ∷ nn ∷ nn ∷ nn ∷ nn ∷ nn ∷ nn ∷ nn ∷ nn ∷ nn ∷ nn ∷ nn ∷ nn ∷ nn ∷ nn ∷ nn ∷ nn ∷ nn ∷ nn ∷ nn ∷ nn ∷ nn ∷ nn ∷ nn ∷ nn ∷ nn ∷ nn ∷ nn ∷ nn ∷ nn ∷ nn ∷ nn ∷ nt 0 0 false false false ∷ nn ∷ nn ∷ nn ∷ nn ∷ nt 1 1 false false false ∷ nn ∷ nn ∷ nn ∷ nn ∷ nn ∷ nn ∷ nt 2 2 false false false ∷ nn ∷ nt 3 3 false false false ∷ nn ∷ nn ∷ nn ∷ nn ∷ nn ∷ nn ∷ nt 4 4 false false false ∷ nn ∷ nn ∷ nt 2 5 false false false ∷ nn ∷ nn ∷ []
-
-abbrev first_kinds : List Kind
-first_kinds = kd 6 false false 0 ∷ kd 12 false true 24 ∷ kd 1 false false 0 ∷ kd 4 false true 4 ∷ kd 1 true false 0 ∷ []
-
-abbrev first_slots : List Slot
-first_slots = sl h.Global 0 ∷ sl h.Global 6 ∷ sl h.Global 18 ∷ sl h.Global 19 ∷ sl h.Global 23 ∷ sl h.FilePrivate 0 ∷ []
-
-abbrev first_regions : List Region
-first_regions = []
 
 abbrev laid_with : (items : List ItemTree) → (notes : List Note) → (kinds : List Kind) → (slots : List Slot) → (regions : List Region) → Type 0
 laid_with items notes kinds slots regions = laid (before items) (first_notes ++ notes) (first_kinds ++ kinds) (first_slots ++ slots) (first_regions ++ regions)

@@ -14,7 +14,7 @@ use Rattle.fk_meaning_forms.specs.declared.tables.Slot.{Slot}
 use Rattle.fk_meaning_forms.specs.declared.tables.Region.{Region}
 use Rattle.fk_meaning_forms.proofs.Short.{sp, nm, ty, dc, nn, nt, kd, sl, rg, k, at, function, sites}
 
-abbrev before : List ItemTree → List ItemTree
+abbrev pub before : List ItemTree → List ItemTree
 before more =
     (p.StructItem (nm (codes "In") 1 1 8) [])
     ∷ (p.StructItem (nm (codes "S") 9 2 8) [])
@@ -25,16 +25,16 @@ before more =
     ∷ (p.VariablesItem ((dc false (ty t.Int 0) (nm (codes "f0") 58 3 74) None None) ∷ []))
     ∷ more
 
-abbrev first_notes : List Note
+abbrev pub first_notes : List Note
 first_notes = nn ∷ nn ∷ nn ∷ nn ∷ nn ∷ nn ∷ nn ∷ nn ∷ nn ∷ nn ∷ nn ∷ nn ∷ nn ∷ nn ∷ nn ∷ nn ∷ nn ∷ nn ∷ nn ∷ nn ∷ nn ∷ nn ∷ nn ∷ nn ∷ nn ∷ nn ∷ nn ∷ nn ∷ nn ∷ nn ∷ nn ∷ nn ∷ nn ∷ nn ∷ nt 0 0 false false false ∷ nn ∷ nn ∷ nn ∷ nn ∷ nt 1 1 false false false ∷ nn ∷ nn ∷ nn ∷ nn ∷ nn ∷ nn ∷ nt 2 2 false false false ∷ nn ∷ nt 3 3 false false false ∷ nn ∷ nn ∷ nn ∷ nn ∷ nn ∷ nn ∷ nt 4 4 false false false ∷ nn ∷ nn ∷ nt 2 5 false false false ∷ nn ∷ nn ∷ []
 
-abbrev first_kinds : List Kind
+abbrev pub first_kinds : List Kind
 first_kinds = kd 6 false false 0 ∷ kd 12 false true 24 ∷ kd 1 false false 0 ∷ kd 4 false true 4 ∷ kd 1 true false 0 ∷ []
 
-abbrev first_slots : List Slot
+abbrev pub first_slots : List Slot
 first_slots = sl h.Global 0 ∷ sl h.Global 6 ∷ sl h.Global 18 ∷ sl h.Global 19 ∷ sl h.Global 23 ∷ sl h.FilePrivate 0 ∷ []
 
-abbrev first_regions : List Region
+abbrev pub first_regions : List Region
 first_regions = []
 
 abbrev sites_with : (items : List ItemTree) → (notes : List Note) → (kinds : List Kind) → (slots : List Slot) → (regions : List Region) → List (ℕ × Place)

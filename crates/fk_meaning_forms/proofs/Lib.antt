@@ -1,6 +1,6 @@
 pub mod Lookups
 pub mod Ranks
 pub mod Short
-mod Functions
+pub mod Functions
 mod Asynchronous
-mod Synchronous
+pub mod Synchronous
