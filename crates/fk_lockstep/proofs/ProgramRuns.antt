@@ -20,7 +20,7 @@ use Rattle.fk_lockstep.specs.Course.{InGroup, Waits, ByItself, Does, FollowsFor,
 use Rattle.fk_lockstep.specs.OneProgram.{groups_of, HaveOneProgram, WaitersHaveOneProgram, BeginnersHaveOneProgram, GroupsHaveOneProgram}
 use Rattle.fk_lockstep.proofs.Acting.{untrue, Here, Out, told, lefts, bare, lefts_bare, HasValue, within, Is, AtNode, without, Grouped, Parted, Apart, does_so, going_on}
 use Rattle.fk_lockstep.proofs.Trees.{IsThere, NodeIs, ThereAt, Inv, leaf_place}
-use Rattle.fk_lockstep.proofs.Round.{first_is, some_at, at_below, actings as actings_of, Ordered, groups_at, acting_length}
+use Rattle.fk_lockstep.proofs.Round.{first_is, some_at, at_below, actings as actings_of, Ordered, groups_at}
 use Rattle.fk_lockstep.proofs.Settled.{after as after_of, result_is, many_after, same_has, settled_from, numbers_after}
 use Rattle.fk_lockstep.proofs.KeptSizes.{Sized, new_sizes, new_sized, new_groups}
 use Rattle.fk_lockstep.proofs.Changes.{ends_none, last_stage}
@@ -152,9 +152,6 @@ module _ {W : Type 0} (next : W → Option (Step W)) (outs : W → List W) (coun
 
     abbrev after : State W
     after = after_of next outs counts set round s p good.here good.behind good.inv ordered possible
-
-    many : length actings ≡ p
-    many = acting_length next outs counts set round s p good.here good.behind good.inv ordered possible
 
     sizes_are : (h : ℕ) (b : Acting W) → slice_get actings h ≡ Some b → h < p → groups_of b.runner.has ≡ good.sizes (s.tree.places h)
     sizes_are h b at lt =

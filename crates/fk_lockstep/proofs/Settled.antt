@@ -13,7 +13,7 @@ use Rattle.fk_meaning.specs.Group.{does, with_block, with_size, allotted, framed
 use Rattle.fk_meaning.specs.Round.{Step, Runner, Fault, State, Round, Acting, lowest, tree_phase, result, is_possible}
 use Rattle.fk_lockstep.proofs.Rounds.{settled_at}
 use Rattle.fk_lockstep.specs.Counts.{Counts}
-use Rattle.fk_lockstep.proofs.Acting.{Here, Out, within, is_changing}
+use Rattle.fk_lockstep.proofs.Acting.{Here, Out, is_changing}
 use Rattle.fk_lockstep.proofs.Round.{first_is, some_at, at_below, lowest_member, actings as actings_of, phases as phases_of, settle as settle_of, Sound, settled_length, Ordered, number_at, acting_length, no_fault}
 use Rattle.fk_lockstep.proofs.Changes.{mids}
 
