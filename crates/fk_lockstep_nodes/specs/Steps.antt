@@ -1,6 +1,6 @@
 -- What a round makes of each node of the tree, where the members of several nodes do steps.
 use Rattle.std.specs.Prelude.{◌≡◌, ◌≢◌, ℕ, suc, ◌<◌, ◌≤◌, false, List, [], ◌∷◌, length, Option}
-use Rattle.std.specs.Prelude.{Some, None, ◌⊎◌}
+use Rattle.std.specs.Prelude.{Some, None, ◌==◌, if◌then◌else◌, ◌⊎◌}
 use Rattle.fk_tree.specs.Tree as t
 use Rattle.fk_tree.specs.Tree.{Tree}
 use Rattle.fk_tree.specs.Sound.{Has, IsSound}
@@ -34,6 +34,10 @@ module _ {W : Type 0} where
   StepsBy old does number (a ∷ actings) =
       (a.runner.has.number ≡ number) × KeepsOrDoes (does (old.places number)) a.due
       × StepsBy old does (suc number) actings
+
+-- the members of one node step
+abbrev pub only : (g : ℕ) → Operation → ℕ → Option Operation
+only g operation k = if k == g then Some operation else None
 
 -- all members of a node that steps stand there; and a group of `start` begins in the root
 pub record MayStep (old : Tree) (g : ℕ) (operation : Operation) : Type 0 where

@@ -24,7 +24,6 @@ use Rattle.fk_sim_match.specs.Behind.{HaveParted, HaveEnded, HaveBegun, AllHaveG
 use Rattle.fk_sim_rounds.specs.After.{DoesStep, ArePlaces}
 use Rattle.fk_sim_rounds.proofs.Lists.{run_end}
 use Rattle.fk_sim_rounds.proofs.Harts.{AllAre}
-use Rattle.fk_sim_rounds.proofs.Moved.{one, at_one}
 use Rattle.fk_sim_rounds.proofs.Changed.{Here}
 use Rattle.fk_sim_rounds.proofs.Close.{AllDo}
 
@@ -40,15 +39,38 @@ both_parts : (Own : Member → Doing → Type 0) (b : Bool) (m : Member) (ms : L
 both_parts Own true m ms d ds all = (λ e. all.0, all.1)
 both_parts Own false m ms d ds all = (λ e. absurd (false≢true e), all)
 
+pub both_are : (A B : Member → Doing → Type 0) → ((m : Member) (d : Doing) → A m d → B m d) → (ms : List Member) (ds : List Doing) → Both A ms ds → Both B ms ds
+both_are A B each [] [] both = tt
+both_are A B each (m ∷ ms) (d ∷ ds) both = (each m d both.0, both_are A B each ms ds both.1)
+both_are A B each ms ds both = absurd (assumption both)
+
+-- they are as many
+pub both_there : (g number : ℕ) (ns : List ℕ) (hs : List Hart) (ds : List Doing) → AreAsMany ns hs ds → Both (λ m d. Unit {0}) (of_node g ns (numbered number hs)) (of_node g ns ds)
+both_there g number [] [] [] many = tt
+both_there g number (n ∷ ns) (h ∷ hs) (d ∷ ds) many = both_add (n == g) (both_there g (suc number) ns hs ds many)
+  where
+    both_add : (b : Bool) → Both (λ m d. Unit {0}) (of_node g ns (numbered (suc number) hs)) (of_node g ns ds)
+        → Both (λ m d. Unit {0}) (add b (record { number = number; hart = h }) (of_node g ns (numbered (suc number) hs))) (add b d (of_node g ns ds))
+    both_add true both = (tt, both)
+    both_add false both = both
+both_there g number ns hs ds many = absurd (assumption many)
+
 -- what is so of those of a node is so of each hart that stands there
-pub spread : (old : Tree) (operation : Operation) (Own : Member → Doing → Type 0) (g number : ℕ) (ns : List ℕ) (hs : List Hart) (ds : List Doing) → ArePlaces old number ns → AreAsMany ns hs ds
-    → Both Own (of_node g ns (numbered number hs)) (of_node g ns ds) → AllAre (Here old (one g operation) Own) number hs ds
-spread old operation Own g number [] [] [] places many all = tt
-spread old operation Own g number (n ∷ ns) (h ∷ hs) (d ∷ ds) places many all =
+pub spread : (old : Tree) (does : ℕ → Option Operation) (Own : Member → Doing → Type 0) (number : ℕ) (ns : List ℕ) (hs : List Hart) (ds : List Doing) → ArePlaces old number ns → AreAsMany ns hs ds
+    → ((g : ℕ) (operation : Operation) → does g ≡ Some operation → Both (λ m d. old.places m.number ≡ g → Own m d) (of_node g ns (numbered number hs)) (of_node g ns ds))
+    → AllAre (Here old does Own) number hs ds
+spread old does Own number [] [] [] places many all = tt
+spread old does Own number (n ∷ ns) (h ∷ hs) (d ∷ ds) places many all =
     let m : Member = record { number = number; hart = h } in
-    let parts = both_parts Own (n == g) m (of_node g ns (numbered (suc number) hs)) d (of_node g ns ds) all in
-    (λ x e. parts.0 (eq-eqb n g (places.0 ∙ (at_one g (old.places number) operation x e).0)), spread old operation Own g (suc number) ns hs ds places.1 many parts.1)
-spread old operation Own g number ns hs ds places many all = absurd (assumption many)
+    let At : ℕ → Member → Doing → Type 0 = λ g m' d'. old.places m'.number ≡ g → Own m' d' in
+    (
+      λ operation e.
+          let g = old.places number in
+          (both_parts (At g) (n == g) m (of_node g ns (numbered (suc number) hs)) d (of_node g ns ds) (all g operation e)).0 (eq-eqb n g places.0) refl,
+      spread old does Own (suc number) ns hs ds places.1 many
+          (λ g operation e. (both_parts (At g) (n == g) m (of_node g ns (numbered (suc number) hs)) d (of_node g ns ds) (all g operation e)).1),
+    )
+spread old does Own number ns hs ds places many all = absurd (assumption many)
 
 -- ---- what the step has left
 

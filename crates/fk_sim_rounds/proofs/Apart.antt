@@ -1,4 +1,4 @@
--- After the round in which a group comes to a body, where each goes on by itself, all are bound again.
+-- Behind the round in which a group comes to a body each of its members is by itself.
 use Rattle.std.proofs.Common.{◌≡◌, ◌≢◌, ℕ, zero, suc, ◌+◌, ◌≤◌, ◌<◌, List, [], ◌∷◌, length, Option, Some, None, Bool, true, false, sym, ap, subst, ◌∙◌, refl, arith, inr, ⊎_elim, eq-eqb}
 use Rattle.std.specs.Prelude.{◌==◌, ◌||◌, map, is_some, slice_get, if◌then◌else◌}
 use Rattle.std.proofs.lemmas.Bool.{ne_eqb, eqb-true, false≢true, and_parts, or_cases, or_left}
@@ -7,10 +7,10 @@ use Rattle.fk_num.specs.Word.{Memory}
 use Rattle.fk_space.specs.Space.{Space}
 use Rattle.fk_tree.specs.declared.node.Kind.TheVariants.{Lockstep, Asynchronous}
 use Rattle.fk_tree.specs.Tree as trees
-use Rattle.fk_tree.specs.Tree.{Tree, Node, turned, with_kind, is_member}
+use Rattle.fk_tree.specs.Tree.{Tree, kind_of, members_of, turned, is_member}
 use Rattle.fk_tree.specs.Sound.{is_below_all, is_ascending, IsSound}
 use Rattle.fk_tree.proofs.Lists.{below_all-member}
-use Rattle.fk_tree.proofs.Shapes.{with_other, kind_members, kind_same, some-given}
+use Rattle.fk_tree.proofs.Shapes.{members-turned, kind-turned, some-given}
 use Rattle.fk_meaning_operation.specs.declared.operation.Operation.{Operation}
 use Rattle.fk_meaning_operation.specs.declared.operation.Operation.TheVariants.{Begin, Farm, Seq, End}
 use Rattle.fk_meaning.specs.Processor.{Setting}
@@ -24,7 +24,8 @@ use Rattle.fk_sim_nodes.specs.Alone.{later, RunsPrivately}
 use Rattle.fk_sim_match.specs.Stage.{Stage}
 use Rattle.fk_sim_match.specs.Plan.{Plan, Blocks, IsOpen}
 use Rattle.fk_sim_match.specs.Cycle.{AllHaveCommitted, NodeIsLeft, GroupIsLeft, IsLeft}
-use Rattle.fk_sim_match.specs.Change.{MeetingOpens}
+use Rattle.fk_sim_match.specs.Change.{HasSame, AllChange, MeetingOpens}
+use Rattle.fk_sim_match.proofs.Changes.{same_of}
 use Rattle.fk_lockstep.specs.Untouched.{changes_tree}
 use Rattle.fk_sim_block.specs.Owner.{Owner, Doing, number_of, core_source}
 use Rattle.fk_sim_block.specs.Stands as law
@@ -36,19 +37,19 @@ use Rattle.fk_sim_block.specs.Law.{Cycles, GroupLaw, runs_behind, IsAskedOf}
 use Rattle.fk_sim_match.specs.Nodes.{first_of, is_arrival, is_lockstep, body_at, meeters_at, plan_of}
 use Rattle.fk_sim_match.specs.Behind.{runs_of, HaveParted, blocks_of}
 use Rattle.fk_sim_match.proofs.Nodes.{tells, open_at}
-use Rattle.fk_sim_match.proofs.Rounds.{not_none, leaf_place}
+use Rattle.fk_sim_match.proofs.Rounds.{not_none}
 use Rattle.fk_sim_rounds.specs.Next.{JumpsLead, all_landed}
-use Rattle.fk_sim_rounds.specs.After.{actings, tree_after, owner_after, owners_after, halts, is_halt, DoesStep, StepsAt, AllGoOn, GroupsGoOn, BindsAgain}
-use Rattle.fk_sim_rounds.specs.Rounds.{IsBefore, IsTree, AllStandIn, RoundsSetFree, RoundsSendOne}
+use Rattle.fk_lockstep_nodes.specs.Steps.{StepsBy}
+use Rattle.fk_sim_rounds.specs.After.{actings, owner_after, owners_after, halts, is_halt, DoesStep, AllGoOn, GroupsGoOn}
+use Rattle.fk_sim_rounds.specs.Rounds.{IsBefore, IsTree}
 use Rattle.fk_sim_rounds.proofs.Agreed.{member_place, place_member}
 use Rattle.fk_sim_rounds.proofs.Keep.{AllOn, AllAtHome}
-use Rattle.fk_sim_rounds.proofs.Harts.{AllAre, LockLeft, HartsGo, steps_apart}
+use Rattle.fk_sim_rounds.proofs.Harts.{LockLeft, steps_apart}
 use Rattle.fk_sim_rounds.proofs.Groups.{Stands, somebody, there_are, at_home, many_length}
-use Rattle.fk_sim_rounds.proofs.Changed.{Here, Steps, known_at, running, At, near, AnyGoes, all, bound_at}
-use Rattle.fk_sim_rounds.proofs.Moved.{one, by_one, TreeMoves, one_node, only}
-use Rattle.fk_sim_rounds.proofs.Resume.{kind_there, lowest_there, is_busy, step_is_brought}
+use Rattle.fk_sim_rounds.proofs.Changed.{running, At, near, AtNode}
+use Rattle.fk_sim_rounds.proofs.Moved.{kind_there, lowest_there, is_busy, many_moved, TreeMoves}
 use Rattle.fk_sim_rounds.proofs.Close.{AllDo, all_do}
-use Rattle.fk_sim_rounds.proofs.Acted.{Both, spread, acted}
+use Rattle.fk_sim_rounds.proofs.Acted.{Both, acted}
 use Rattle.fk_sim_rounds.proofs.Counts.{count_is, phases_count, all_new, all_fine}
 
 -- ---- the lowest of a node
@@ -101,17 +102,24 @@ or_none : (b : Bool) → (b || false) ≡ b
 or_none true = refl
 or_none false = refl
 
-module _ (core : List CoreOp) (image : Image) (places : Places) (nestings : Nestings) (cycles : Cycles) (firsts : List ℕ) (main : ℕ) (setting : Setting) (old : Tree) (spaces : ℕ → Space) (nodes : List ℕ)
+-- how a member of a node that is a body now goes on by itself: so many private instructions lead it to where its processor goes on
+pub record GoesApart (image : Image) (places : Places) (nestings : Nestings) (setting : Setting) (t : MachineSetting) (plan' : Plan) (first : ℕ) (settle : Doing → Owner) (m : Member) (d : Doing) : Type 0 where
+  pub cycles_behind : ℕ
+  pub few : cycles_behind ≤ most_behind
+  pub hart : Hart
+  pub private : RunsPrivately image t m.number cycles_behind m.hart hart
+  pub at : law.StandsAt places (settle d) hart
+  pub node : StandsInNode places nestings setting (runs_of plan' first m.number) (settle d) hart
+
+module _ (core : List CoreOp) (image : Image) (places : Places) (nestings : Nestings) (cycles : Cycles) (firsts : List ℕ) (main : ℕ) (setting : Setting) (old new : Tree) (spaces : ℕ → Space) (nodes nodes' : List ℕ)
     (t : MachineSetting) (stages : List Stage) (hs : List Hart) (ps : List Owner) (ds : List Doing) (own own' : ℕ → Memory) (control : Memory)
     (the_law : GroupLaw core image places nestings cycles firsts main) (leads : JumpsLead core) (before : IsBefore core image setting old spaces nodes t stages hs ps)
     (left : IsLeft (core_source core setting) image (plan_of old spaces nodes) (blocks_of core image places nestings setting (plan_of old spaces nodes) (first_of spaces)) t stages hs ps ds own own')
-    (has : (g : ℕ) → Has ((plan_of old spaces nodes).words g) control (own' g)) (g : ℕ) (alone : Bool) (operation : Operation) (is : runs_alone operation ≡ Some alone)
-    (kind : trees.kind old g ≡ Some Lockstep) (steps : StepsAt old g 0 operation ds) (behind : IsTree setting (with_kind g (Asynchronous alone) old) spaces)
-    (on : AllGoOn core nestings setting (with_kind g (Asynchronous alone) old) spaces 0 left.afters ds (owners_after old (with_kind g (Asynchronous alone) old) ds))
-    (next : GroupsGoOn core nestings (with_kind g (Asynchronous alone) old) nodes left.afters (owners_after old (with_kind g (Asynchronous alone) old) ds)) where
-  abbrev new : Tree
-  new = with_kind g (Asynchronous alone) old
-
+    (has : (g : ℕ) → Has ((plan_of old spaces nodes).words g) control (own' g)) (behind : IsTree setting new spaces)
+    (does : ℕ → Option Operation) (steps : StepsBy old does 0 (actings ds)) (changed : ℕ → Bool) (move : TreeMoves old new setting.processors does nodes nodes' changed)
+    (on : AllGoOn core nestings setting new spaces 0 left.afters ds (owners_after old new ds)) (next : GroupsGoOn core nestings new nodes' left.afters (owners_after old new ds))
+    (g : ℕ) (alone : Bool) (operation : Operation) (is : runs_alone operation ≡ Some alone) (here : does g ≡ Some operation) (kind : trees.kind old g ≡ Some Lockstep)
+    (turns : new.nodes g ≡ turned (Asynchronous alone) (old.nodes g)) (stay : (h : ℕ) → h < setting.processors → old.places h ≡ g → new.places h ≡ g) (alike : HasSame g nodes nodes') where
   abbrev plan : Plan
   plan = plan_of old spaces nodes
 
@@ -119,28 +127,25 @@ module _ (core : List CoreOp) (image : Image) (places : Places) (nestings : Nest
   blocks = blocks_of core image places nestings setting (plan_of old spaces nodes) (first_of spaces)
 
   abbrev plan' : Plan
-  plan' = plan_of (with_kind g (Asynchronous alone) old) spaces nodes
+  plan' = plan_of new spaces nodes'
 
   abbrev blocks' : Blocks Owner Doing
-  blocks' = blocks_of core image places nestings setting (plan_of (with_kind g (Asynchronous alone) old) spaces nodes) (first_of spaces)
+  blocks' = blocks_of core image places nestings setting (plan_of new spaces nodes') (first_of spaces)
 
   abbrev settle : Doing → Owner
-  settle d = owner_after (actings ds) old (with_kind g (Asynchronous alone) old) d
-
-  others : (k : ℕ) → k ≢ g → (with_kind g (Asynchronous alone) old).nodes k ≡ old.nodes k
-  others k ne = with_other g (turned (Asynchronous alone) (old.nodes g)) old.nodes k ne
+  settle d = owner_after (actings ds) old new d
 
   there : is_some (old.nodes g) ≡ true
   there = kind_there (old.nodes g) Lockstep kind
 
   kind' : trees.kind new g ≡ Some (Asynchronous alone)
-  kind' = kind_same g (Asynchronous alone) old (not_none (old.nodes g) there)
+  kind' = ap kind_of turns ∙ kind-turned (Asynchronous alone) (old.nodes g) (not_none (old.nodes g) there)
 
-  there' : is_some ((with_kind g (Asynchronous alone) old).nodes g) ≡ true
-  there' = kind_there ((with_kind g (Asynchronous alone) old).nodes g) (Asynchronous alone) kind'
+  there' : is_some (new.nodes g) ≡ true
+  there' = kind_there (new.nodes g) (Asynchronous alone) kind'
 
   same_members : trees.members new g ≡ trees.members old g
-  same_members = kind_members g (Asynchronous alone) old g
+  same_members = ap members_of turns ∙ members-turned (Asynchronous alone) (old.nodes g)
 
   given : g < old.given
   given = some-given setting.processors old before.sound g (not_none (old.nodes g) there)
@@ -154,13 +159,10 @@ module _ (core : List CoreOp) (image : Image) (places : Places) (nestings : Nest
   free : plan'.in_lockstep g ≡ false
   free = ap is_lockstep kind'
 
-  move : TreeMoves old (with_kind g (Asynchronous alone) old) setting.processors (one g operation) nodes nodes (λ k. k == g)
-  move = one_node old (with_kind g (Asynchronous alone) old) setting.processors g operation nodes others (λ h. refl) before.stand
-
   abbrev run : IsRunning image setting (later t)
   run =
-      running core image places nestings cycles firsts main setting old (with_kind g (Asynchronous alone) old) spaces nodes nodes t stages hs ps ds own own' control the_law leads before left has behind.sound
-      behind.spaced (one g operation) (by_one old g operation 0 ds steps) (λ k. k == g) move on next
+      running core image places nestings cycles firsts main setting old new spaces nodes nodes' t stages hs ps ds own own' control the_law leads before left has behind.sound
+      behind.spaced does steps changed move on next
 
   -- ---- its members
 
@@ -172,13 +174,13 @@ module _ (core : List CoreOp) (image : Image) (places : Places) (nestings : Nest
 
   abbrev Home : List Member → List Doing → Type 0
   Home ms xs =
-      AllAtHome core image places nestings cycles firsts main setting old (with_kind g (Asynchronous alone) old) spaces nodes nodes the_law leads behind.spaced behind.sound (later t) run (actings ds) g ms xs
+      AllAtHome core image places nestings cycles firsts main setting old new spaces nodes nodes' the_law leads behind.spaced behind.sound (later t) run (actings ds) g ms xs
 
   home : Home the_members doings
   home =
       let many = before.many in
-      at_home core image places nestings cycles firsts main setting old (with_kind g (Asynchronous alone) old) spaces nodes nodes the_law leads behind.spaced behind.sound (later t) run ds g 0 nodes hs left.afters
-      ds before.stand (λ h lt at. at) (omega (arith, many)) left.as_many left.done_as_many on
+      at_home core image places nestings cycles firsts main setting old new spaces nodes nodes' the_law leads behind.spaced behind.sound (later t) run ds g 0 nodes hs left.afters
+      ds before.stand stay (omega (arith, many)) left.as_many left.done_as_many on
 
   stands : Stands nodes g
   stands = somebody setting.processors old before.sound nodes before.stand before.many g kind
@@ -187,7 +189,7 @@ module _ (core : List CoreOp) (image : Image) (places : Places) (nestings : Nest
   some_doings = there_are nodes g ds stands (many_length nodes hs ds left.done_as_many).1
 
   all_step : AllDo operation doings
-  all_step = all_do old g 0 operation nodes ds before.stand steps
+  all_step = all_do old does g 0 operation nodes ds here before.stand steps
 
   -- what its commit has left
   record Parted : Type 0 where
@@ -220,16 +222,11 @@ module _ (core : List CoreOp) (image : Image) (places : Places) (nestings : Nest
 
   -- ---- each by itself
 
-  pub record GoesApart (m : Member) (d : Doing) : Type 0 where
-    pub cycles_behind : ℕ
-    pub few : cycles_behind ≤ most_behind
-    pub hart : Hart
-    pub private : RunsPrivately image (later t) m.number cycles_behind m.hart hart
-    pub at : law.StandsAt places (settle d) hart
-    pub node : StandsInNode places nestings setting (runs_of plan' (first_of spaces g) m.number) (settle d) hart
+  abbrev Apart : Member → Doing → Type 0
+  Apart m d = GoesApart image places nestings setting (later t) plan' (first_of spaces g) settle m d
 
   goes_apart : (b : ℕ) (runs : Option ℕ) (m : Member) (d : Doing) (p : Owner) → b ≤ most_behind → ComesAlone places nestings setting image (later t) b runs (first_of spaces g) m p
-      → settle d ≡ p → runs ≡ runs_of plan' (first_of spaces g) m.number → GoesApart m d
+      → settle d ≡ p → runs ≡ runs_of plan' (first_of spaces g) m.number → Apart m d
   goes_apart b runs m d p few come settles same_runs = record {
     cycles_behind = b;
     few = few;
@@ -246,7 +243,7 @@ module _ (core : List CoreOp) (image : Image) (places : Places) (nestings : Nest
   runs_by : (number : ℕ) (body : List ℕ) → trees.runs (Asynchronous alone) (trees.members new g) ≡ body
       → runs_of plan' (first_of spaces g) number ≡ (if is_member number body then Some (length body) else None)
   runs_by number body e =
-      let tell = tells new spaces behind.spaced nodes g 0 there' given' (omega arith) in
+      let tell = tells new spaces behind.spaced nodes' g 0 there' given' (omega arith) in
       let w = first_of spaces g + 0 in
       ap (λ b. if b then Some (plan'.size w) else None) (tell.member number ∙ ap (λ l. is_member number l) (body_is ∙ e))
       ∙ ap (λ n. if is_member number body then Some n else None) (tell.size ∙ ap (λ l. length l) (body_is ∙ e))
@@ -258,7 +255,7 @@ module _ (core : List CoreOp) (image : Image) (places : Places) (nestings : Nest
   -- a `farm`
   all_free : (i : ℕ) (op : CoreOp) (value least size b : ℕ) (ms : List Member) (xs : List Owner) → alone ≡ false → b ≤ most_behind → Home ms (map (is_due core i op Farm) xs) → AreOfSize size xs
       → AllComeAlone places nestings setting image (later t) b (λ p. Some size) (first_of spaces g) ms (map (stepped core i op Farm value least size) xs)
-      → Both GoesApart ms (map (is_due core i op Farm) xs)
+      → Both Apart ms (map (is_due core i op Farm) xs)
   all_free i op value least size b [] [] every few home sized come = tt
   all_free i op value least size b (m ∷ ms) (p ∷ xs) every few home sized come =
       let here = home.0 in
@@ -299,7 +296,7 @@ module _ (core : List CoreOp) (image : Image) (places : Places) (nestings : Nest
 
   all_sent : (i : ℕ) (op : CoreOp) (value least size b : ℕ) (ms : List Member) (xs : List Owner) → alone ≡ true → b ≤ most_behind → Home ms (map (is_due core i op Seq) xs) → least ≡ low
       → AllComeAlone places nestings setting image (later t) b (one_runs least) (first_of spaces g) ms (map (stepped core i op Seq value least size) xs)
-      → Both GoesApart ms (map (is_due core i op Seq) xs)
+      → Both Apart ms (map (is_due core i op Seq) xs)
   all_sent i op value least size b [] [] one few home e come = tt
   all_sent i op value least size b (m ∷ ms) (p ∷ xs) one few home e come =
       let here = home.0 in
@@ -317,7 +314,7 @@ module _ (core : List CoreOp) (image : Image) (places : Places) (nestings : Nest
       )
   all_sent i op value least size b ms xs one few home e come = absurd (assumption come)
 
-  all_apart : (done : Operation) → runs_alone done ≡ Some alone → (x : Parted) → x.parted.operation ≡ done → Both GoesApart the_members doings
+  all_apart : (done : Operation) → runs_alone done ≡ Some alone → (x : Parted) → x.parted.operation ≡ done → Both Apart the_members doings
   all_apart Farm e x same =
       let y = x.parted in
       let due : doings ≡ map (is_due core y.i y.op Farm) y.ps = y.due ∙ ap (λ o. map (is_due core y.i y.op o) y.ps) same in
@@ -326,7 +323,7 @@ module _ (core : List CoreOp) (image : Image) (places : Places) (nestings : Nest
       (λ o.
       AllComeAlone places nestings setting image (later t) x.cycles_behind (runs_behind o y.lowest y.size) (first_of spaces g) the_members (map (stepped core y.i y.op o (highest_value y.ps) y.lowest y.size) y.ps))
       same y.come in
-      subst (Both GoesApart the_members) (sym due)
+      subst (Both Apart the_members) (sym due)
       (all_free y.i y.op (highest_value y.ps) y.lowest y.size x.cycles_behind the_members y.ps (cc) x.few (subst (Home the_members) due home) asked come)
   all_apart Seq e x same =
       let y = x.parted in
@@ -338,7 +335,7 @@ module _ (core : List CoreOp) (image : Image) (places : Places) (nestings : Nest
       same y.come in
       let home' = subst (Home the_members) due home in
       let some : length y.ps ≡ 0 → ⊥ = λ none. some_doings (ap (λ l. length l) due ∙ length-map y.ps (is_due core y.i y.op Seq) ∙ none) in
-      subst (Both GoesApart the_members) (sym due)
+      subst (Both Apart the_members) (sym due)
       (all_sent y.i y.op (highest_value y.ps) y.lowest y.size x.cycles_behind the_members y.ps (cc) x.few home'
       (lowest_is y.i y.op y.lowest the_members y.ps some (first_low 0) home' asked) come)
   all_apart done e x same = absurd (cc)
@@ -368,17 +365,12 @@ module _ (core : List CoreOp) (image : Image) (places : Places) (nestings : Nest
 
   -- ---- all of it
 
-  own_here : AllAre (Here old (one g operation) GoesApart) 0 hs ds
-  own_here = spread old operation GoesApart g 0 nodes hs ds before.stand left.done_as_many (all_apart operation is all_parted all_parted.same)
-
-  at_group : (k : ℕ) → (k == g) ≡ true → plan'.in_lockstep k ≡ true
-      → At core image places nestings cycles firsts main setting old (with_kind g (Asynchronous alone) old) spaces nodes nodes t stages hs ps ds own own' control the_law leads before left has behind.sound
-      behind.spaced (one g operation) (by_one old g operation 0 ds steps) (λ k. k == g) move on next k
-  at_group k is' locked = absurd (false≢true (sym (ap (λ j. plan'.in_lockstep j) (eqb-true k g is') ∙ free) ∙ locked))
+  pub own_apart : Both (GoesApart image places nestings setting (later t) plan' (first_of spaces g) settle) (of_node g nodes (numbered 0 hs)) (of_node g nodes ds)
+  own_apart = all_apart operation is all_parted all_parted.same
 
   on_by : (operation : Operation) (due : Option (Step Position)) → runs_alone operation ≡ Some alone → DoesStep operation due → halts due ≡ false
-  on_by operation None is' does = absurd does
-  on_by operation (Some step) is' does = ap is_halt does ∙ no_halt operation is'
+  on_by operation None is' does' = absurd does'
+  on_by operation (Some step) is' does' = ap is_halt does' ∙ no_halt operation is'
     where
       no_halt : (operation : Operation) → runs_alone operation ≡ Some alone → is_halt operation ≡ false
       no_halt Farm is' = refl
@@ -389,95 +381,52 @@ module _ (core : List CoreOp) (image : Image) (places : Places) (nestings : Nest
   on_all [] do' = tt
   on_all (d ∷ xs) do' = (on_by operation d.acting.due is do'.0, on_all xs do'.1)
 
-  lock_group : (k : ℕ) → (k == g) ≡ true → plan.in_lockstep k ≡ true → LockLeft (of_node k nodes left.afters) (of_node k nodes ps) (of_node k nodes ds)
-  lock_group =
-      only g (λ k. plan.in_lockstep k ≡ true → LockLeft (of_node k nodes left.afters) (of_node k nodes ps) (of_node k nodes ds))
-      (λ locked. inr (all_parted.committed, on_all doings all_step))
+  pub apart_left : LockLeft (of_node g nodes left.afters) (of_node g nodes ps) (of_node g nodes ds)
+  apart_left = inr (all_parted.committed, on_all doings all_step)
 
-  each_member : AnyGoes core image places nestings cycles firsts main setting old (with_kind g (Asynchronous alone) old) spaces nodes nodes t stages hs ps ds own own' control the_law leads before left has
-      behind.sound behind.spaced (one g operation) (by_one old g operation 0 ds steps) (λ k. k == g) move on next at_group lock_group (Steps old (one g operation) GoesApart)
-  each_member m p d step lt land home' s0 a locks alone' due remains on' =
-      let known = known_at old g operation GoesApart m d step in
-      let apart = known.2 in
-      steps_apart core image places nestings cycles firsts main setting old (with_kind g (Asynchronous alone) old) spaces nodes nodes the_law leads behind.spaced behind.sound (later t) run (actings ds)
-      (λ k. (near core image places nestings cycles firsts main setting old (with_kind g (Asynchronous alone) old) spaces nodes nodes t stages hs ps ds own own' control the_law leads before left has
-      behind.sound behind.spaced (one g operation) (by_one old g operation 0 ds steps) (λ k. k == g) move on next at_group lock_group k).distance)
-      (λ k. (near core image places nestings cycles firsts main setting old (with_kind g (Asynchronous alone) old) spaces nodes nodes t stages hs ps ds own own' control the_law leads before left has
-      behind.sound behind.spaced (one g operation) (by_one old g operation 0 ds steps) (λ k. k == g) move on next at_group lock_group k).soon)
-      m p d lt home' (is_busy operation d p known.1) a (ap (λ k. plan'.in_lockstep k) known.0 ∙ free) (locks (ap (λ k. plan.in_lockstep k) known.0 ∙ lock)) apart.cycles_behind apart.hart apart.few apart.private
-      apart.at (subst (λ k. StandsInNode places nestings setting (runs_of plan' (first_of spaces k) m.number) (settle d) apart.hart) (sym known.0) apart.node) on'
+  module _ (at_changed : (k : ℕ) → changed k ≡ true → plan'.in_lockstep k ≡ true
+      → At core image places nestings cycles firsts main setting old new spaces nodes nodes' t stages hs ps ds own own' control the_law leads before left has behind.sound behind.spaced does steps changed move on next k)
+      (lock_changed : (k : ℕ) → changed k ≡ true → plan.in_lockstep k ≡ true → LockLeft (of_node k nodes left.afters) (of_node k nodes ps) (of_node k nodes ds)) where
+    pub apart_each : AtNode core image places nestings cycles firsts main setting old new spaces nodes nodes' t stages hs ps ds own own' control the_law leads before left has behind.sound
+        behind.spaced does steps changed move on next at_changed lock_changed g operation (GoesApart image places nestings setting (later t) plan' (first_of spaces g) settle)
+    apart_each m p d known lt land home' s0 a locks alone' due remains on' =
+        let x = known.2 in
+        let now = stay m.number lt known.0 in
+        steps_apart core image places nestings cycles firsts main setting old new spaces nodes nodes' the_law leads behind.spaced behind.sound (later t) run (actings ds)
+        (λ k. (near core image places nestings cycles firsts main setting old new spaces nodes nodes' t stages hs ps ds own own' control the_law leads before left has behind.sound behind.spaced
+        does steps changed move on next at_changed lock_changed k).distance)
+        (λ k. (near core image places nestings cycles firsts main setting old new spaces nodes nodes' t stages hs ps ds own own' control the_law leads before left has behind.sound behind.spaced
+        does steps changed move on next at_changed lock_changed k).soon)
+        m p d lt home' (is_busy operation d p known.1) a (ap (λ k. plan'.in_lockstep k) now ∙ free) (locks (ap (λ k. plan.in_lockstep k) known.0 ∙ lock)) x.cycles_behind x.hart x.few x.private
+        x.at (subst (λ k. StandsInNode places nestings setting (runs_of plan' (first_of spaces k) m.number) (settle d) x.hart) (sym now) x.node) on'
 
-  abbrev everybody : HartsGo core image places nestings cycles firsts main setting old (with_kind g (Asynchronous alone) old) spaces nodes nodes the_law leads behind.spaced behind.sound (later t) run (actings ds)
-      (λ k. (near core image places nestings cycles firsts main setting old (with_kind g (Asynchronous alone) old) spaces nodes nodes t stages hs ps ds own own' control the_law leads before left has
-      behind.sound behind.spaced (one g operation) (by_one old g operation 0 ds steps) (λ k. k == g) move on next at_group lock_group k).distance)
-      (λ k. (near core image places nestings cycles firsts main setting old (with_kind g (Asynchronous alone) old) spaces nodes nodes t stages hs ps ds own own' control the_law leads before left has
-      behind.sound behind.spaced (one g operation) (by_one old g operation 0 ds steps) (λ k. k == g) move on next at_group lock_group k).soon)
-      0 nodes nodes left.afters hs ps ds
-  everybody =
-      all core image places nestings cycles firsts main setting old (with_kind g (Asynchronous alone) old) spaces nodes nodes t stages hs ps ds own own' control the_law leads before left has behind.sound
-      behind.spaced (one g operation) (by_one old g operation 0 ds steps) (λ k. k == g) move on next at_group lock_group GoesApart own_here each_member
+  -- all harts have stages
+  module _ (stages' : List Stage)
+      (change : AllChange (core_source core setting) image plan blocks plan' blocks' (later t) (numbered 0 hs) nodes nodes' left.afters stages' ps (all_landed core (owners_after old new ds))) where
+    abbrev Opens : ℕ → Type 0
+    Opens w = MeetingOpens (core_source core setting) image plan blocks plan' blocks' g w left.afters stages' control
 
-  abbrev Opens : ℕ → Type 0
-  Opens w = MeetingOpens (core_source core setting) image plan blocks plan' blocks' g w left.afters everybody.stages control
+    gone : AllHaveCommitted (of_node g nodes' left.afters)
+    gone = subst AllHaveCommitted (sym (same_of g nodes nodes' left.afters alike)) all_parted.committed
 
-  opens_at : (offset : ℕ) → offset < 8 → is_arrival offset ≡ true → Opens (first_of spaces g + offset)
-  opens_at offset lt arrival =
-      let w = first_of spaces g + offset in
-      let tell = tells new spaces behind.spaced nodes g offset there' given' lt in
-      let many = before.many in
-      record {
-        empty = word_is_zero offset lt arrival;
-        size =
-            phases_count plan' g w 0 nodes everybody.stages (meeters_at new g offset) tell.member
-            (all_fine (core_source core setting) image plan blocks plan' blocks' (later t) g 0 hs nodes nodes left.afters everybody.stages ps (all_landed core (owners_after old new ds)) free
-            all_parted.committed everybody.changes)
-            ∙ count_is 0 nodes (meeters_at new g offset) (meeters_up offset)
-            (λ h member. let below = behind.sound.within g h (meeters_among offset h member) in (omega arith, omega (arith, below, many)))
-            ∙ sym tell.size;
-        new = all_new g nodes hs left.afters left.as_many all_parted.committed;
-      }
+    opens_at : (offset : ℕ) → offset < 8 → is_arrival offset ≡ true → Opens (first_of spaces g + offset)
+    opens_at offset lt arrival =
+        let w = first_of spaces g + offset in
+        let tell = tells new spaces behind.spaced nodes' g offset there' given' lt in
+        let many = before.many in
+        let many' = move.many in
+        record {
+          empty = word_is_zero offset lt arrival;
+          size =
+              phases_count plan' g w 0 nodes' stages' (meeters_at new g offset) tell.member
+              (all_fine (core_source core setting) image plan blocks plan' blocks' (later t) g 0 hs nodes nodes' left.afters stages' ps (all_landed core (owners_after old new ds)) free gone change)
+              ∙ count_is 0 nodes' (meeters_at new g offset) (meeters_up offset)
+              (λ h member. let below = behind.sound.within g h (meeters_among offset h member) in (omega arith, omega (arith, below, many, many')))
+              ∙ sym tell.size;
+          new = all_new g nodes' hs left.afters (many_moved nodes nodes' hs left.afters move.many left.as_many) gone;
+        }
 
-  opens : (w : ℕ) → IsOpen plan' g w → Opens w
-  opens w is_open =
-      let x = open_at new spaces behind.spaced nodes g w given' is_open in
-      subst Opens x.word (opens_at x.offset x.few x.arrival)
-
-  pub apart : BindsAgain core image places nestings setting old spaces nodes (with_kind g (Asynchronous alone) old) spaces nodes t hs left.afters ps
-      (all_landed core (owners_after old (with_kind g (Asynchronous alone) old) ds)) control
-  apart =
-      bound_at core image places nestings cycles firsts main setting old (with_kind g (Asynchronous alone) old) spaces nodes nodes t stages hs ps ds own own' control the_law leads before left has behind.sound
-      behind.spaced (one g operation) (by_one old g operation 0 ds steps) (λ k. k == g) move on next at_group lock_group GoesApart own_here each_member g (λ k is'. eqb-true k g is') (λ w free' is_open. inr (opens w is_open))
-
--- all members of a group stand in its node
-all_stand : (p : ℕ) (tree : Tree) → IsSound p tree → (g : ℕ) → trees.kind tree g ≡ Some Lockstep → AllStandIn tree g
-all_stand p tree sound g kind h member = leaf_place p tree sound g h kind member
-
-pub rounds_set_free : RoundsSetFree
-rounds_set_free core image places nestings cycles firsts main setting tree spaces nodes t stages hs ps ds own own' control g the_law leads before left has kind steps behind on next =
-    let many = before.many in
-    let lengths = many_length nodes hs ds left.done_as_many in
-    let long = lengths.1 in
-    let same : tree_after tree ds ≡ trees.farm g tree
-    = step_is_brought setting.processors tree before.sound g Lockstep Farm ds kind (all_stand setting.processors tree before.sound g kind) (omega (arith, many, long)) steps in
-    subst
-    (λ x.
-    IsTree setting x spaces → AllGoOn core nestings setting x spaces 0 left.afters ds (owners_after tree x ds) → GroupsGoOn core nestings x nodes left.afters (owners_after tree x ds)
-    → BindsAgain core image places nestings setting tree spaces nodes x spaces nodes t hs left.afters ps (all_landed core (owners_after tree x ds)) control) (sym same)
-    (λ behind' on' next'.
-    apart core image places nestings cycles firsts main setting tree spaces nodes t stages hs ps ds own own' control the_law leads before left has g false Farm refl kind steps behind' on' next')
-    behind on next
-
-pub rounds_send_one : RoundsSendOne
-rounds_send_one core image places nestings cycles firsts main setting tree spaces nodes t stages hs ps ds own own' control g the_law leads before left has kind steps behind on next =
-    let many = before.many in
-    let lengths = many_length nodes hs ds left.done_as_many in
-    let long = lengths.1 in
-    let same : tree_after tree ds ≡ trees.single g tree
-    = step_is_brought setting.processors tree before.sound g Lockstep Seq ds kind (all_stand setting.processors tree before.sound g kind) (omega (arith, many, long)) steps in
-    subst
-    (λ x.
-    IsTree setting x spaces → AllGoOn core nestings setting x spaces 0 left.afters ds (owners_after tree x ds) → GroupsGoOn core nestings x nodes left.afters (owners_after tree x ds)
-    → BindsAgain core image places nestings setting tree spaces nodes x spaces nodes t hs left.afters ps (all_landed core (owners_after tree x ds)) control) (sym same)
-    (λ behind' on' next'.
-    apart core image places nestings cycles firsts main setting tree spaces nodes t stages hs ps ds own own' control the_law leads before left has g true Seq refl kind steps behind' on' next')
-    behind on next
+    pub opens : (w : ℕ) → IsOpen plan' g w → MeetingOpens (core_source core setting) image plan blocks plan' blocks' g w left.afters stages' control
+    opens w is_open =
+        let x = open_at new spaces behind.spaced nodes' g w given' is_open in
+        subst Opens x.word (opens_at x.offset x.few x.arrival)

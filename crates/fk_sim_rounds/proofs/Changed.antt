@@ -38,7 +38,8 @@ use Rattle.fk_sim_rounds.proofs.Same.{SameNode, same_node, own_there, opened_bef
 use Rattle.fk_sim_rounds.proofs.Harts.{AllAre, LockLeft, HartsGo, EachGoes, hart_goes, harts_go}
 use Rattle.fk_sim_rounds.proofs.Groups.{GroupAt, group_at, lock_left}
 use Rattle.fk_sim_rounds.proofs.Trees.{many_become, many_landed, some_kind, some_there}
-use Rattle.fk_sim_rounds.proofs.Moved.{one, at_one, TreeMoves, many_moved, many_nodes}
+use Rattle.fk_sim_rounds.proofs.Moved.{TreeMoves, many_moved, many_nodes}
+use Rattle.fk_sim_rounds.proofs.TreeAfter.{none_or_some}
 
 -- who does not stand at the node keeps the tree
 keep_add : (b : Bool) (d : Doing) (ds : List Doing) → (b ≡ true → Keeps d.acting.due) → AllKeep ds → AllKeep (add b d ds)
@@ -72,25 +73,9 @@ facts old does number Own (h ∷ hs) (d ∷ ds) steps own = ((steps.1, own.0), f
 abbrev pub Steps : (old : Tree) (does : ℕ → Option Operation) (Own : Member → Doing → Type 0) → Member → Doing → Type 0
 Steps old does Own m d = (operation : Operation) × (does (old.places m.number) ≡ Some operation) × DoesStep operation d.acting.due × Own m d
 
--- where that is one node
-pub known_at : (old : Tree) (g : ℕ) (operation : Operation) (Own : Member → Doing → Type 0) (m : Member) (d : Doing) → Steps old (one g operation) Own m d
-    → (old.places m.number ≡ g) × DoesStep operation d.acting.due × Own m d
-known_at old g operation Own m d x =
-    let at = at_one g (old.places m.number) operation x.0 x.1 in
-    (at.0, subst (λ y. DoesStep y d.acting.due) (sym at.1) x.2, x.3)
-
-none_or_some : (x : Option Operation) → (x ≡ None) ⊎ ((operation : Operation) × (x ≡ Some operation))
-none_or_some None = inl refl
-none_or_some (Some operation) = inr (operation, refl)
-
 -- nothing more is known there
 abbrev pub Nothing : Member → Doing → Type 0
 Nothing m d = Unit {0}
-
-pub nothing_here : (old : Tree) (does : ℕ → Option Operation) (number : ℕ) (hs : List Hart) (ds : List Doing) → AllAre (Here old does Nothing) number hs ds
-nothing_here old does number [] ds = tt
-nothing_here old does number (h ∷ hs) [] = tt
-nothing_here old does number (h ∷ hs) (d ∷ ds) = (λ operation e. tt, nothing_here old does (suc number) hs ds)
 
 module _ (core : List CoreOp) (image : Image) (places : Places) (nestings : Nestings) (cycles : Cycles) (firsts : List ℕ) (main : ℕ) (setting : Setting) (old tree : Tree) (spaces : ℕ → Space) (nodes nodes' : List ℕ)
     (t : MachineSetting) (stages : List Stage) (hs : List Hart) (ps : List Owner) (ds : List Doing) (own own' : ℕ → Memory) (control : Memory)
@@ -172,6 +157,10 @@ module _ (core : List CoreOp) (image : Image) (places : Places) (nestings : Nest
     AnyGoes Known =
         EachGoes core image places nestings cycles firsts main setting old tree spaces nodes nodes' the_law leads spaced sound (later t) running (actings ds) distances (λ g. (near g).soon) Known
 
+    -- how those go on who stood at one node, and did its step
+    abbrev pub AtNode : (g : ℕ) → Operation → (Member → Doing → Type 0) → Type 0
+    AtNode g operation Own = AnyGoes (λ m d. (old.places m.number ≡ g) × DoesStep operation d.acting.due × Own m d)
+
     module _ (Own : Member → Doing → Type 0) (own_here : AllAre (Here old does Own) 0 hs ds) (each_here : AnyGoes (Steps old does Own)) where
       each : AnyGoes (Fact old does Own)
       each m p d fact lt land home s0 a lock alone due remains on' =
@@ -250,12 +239,3 @@ module _ (core : List CoreOp) (image : Image) (places : Places) (nestings : Nest
         due = all.due;
         soon = all.soon;
       }
-
-      -- where one node changes
-      pub bound_at : (g : ℕ) → ((k : ℕ) → changed k ≡ true → k ≡ g) → ((w : ℕ) → plan'.in_lockstep g ≡ false → IsOpen plan' g w → Meetings g w)
-          → BindsAgain core image places nestings setting old spaces nodes tree spaces nodes' t hs left.afters ps (all_landed core (owners_after old tree ds)) control
-      bound_at g alone meets =
-          bound
-          (λ k yes w free is_open.
-          let e = alone k yes in
-          subst (λ j. Meetings j w) (sym e) (meets w (subst (λ j. plan'.in_lockstep j ≡ false) e free) (subst (λ j. IsOpen plan' j w) e is_open)))

@@ -1,13 +1,12 @@
 -- What processors have of their groups stays that of their nodes.
 use Rattle.std.proofs.Common.{◌≡◌, ◌≢◌, ℕ, zero, suc, ◌+◌, ◌-◌, ◌<◌, List, [], ◌∷◌, length, Option, Some, None, Bool, true, false, sym, ap, subst, ◌∙◌, refl, arith, ⊎_elim}
-use Rattle.std.specs.Prelude.{◌==◌, ◌&&◌, map, nat_lt, if◌then◌else◌}
-use Rattle.std.proofs.lemmas.Bool.{cases_Bool, cases_eq, false≢true}
+use Rattle.std.specs.Prelude.{◌==◌, map, nat_lt, if◌then◌else◌}
+use Rattle.std.proofs.lemmas.Bool.{false≢true}
 use Rattle.fk_space.specs.Space.{Space, free}
-use Rattle.fk_tree.specs.declared.node.Kind.TheVariants.{Lockstep}
 use Rattle.fk_tree.specs.Tree as trees
-use Rattle.fk_tree.specs.Tree.{Tree, kind_of, members_of, parent_of, is_member}
+use Rattle.fk_tree.specs.Tree.{Tree}
 use Rattle.fk_tree.specs.Sound.{awaits, IsSound}
-use Rattle.fk_tree.proofs.Shapes.{kind_members, kind_parent, awaits-some, has_some, with_other}
+use Rattle.fk_tree.proofs.Shapes.{awaits-some, has_some}
 use Rattle.fk_meaning_operation.specs.Kinds.{class_of}
 use Rattle.fk_meaning_operation.specs.declared.kinds.Class.{Class}
 use Rattle.fk_meaning_operation.specs.declared.kinds.Class.TheVariants.{Local, Request, Tree as TreeStep}
@@ -20,8 +19,8 @@ use Rattle.fk_meaning_store.specs.Serve as store
 use Rattle.fk_meaning.specs.Processor.{Level, Call, Processor, Setting, values, last, to_outer}
 use Rattle.fk_meaning.specs.Local.{stored, taken, unframed, to_caller, local}
 use Rattle.fk_meaning.specs.Request.{request, with_answer}
-use Rattle.fk_meaning.specs.Group.{does, changes, has_room, framed, allotted}
-use Rattle.fk_meaning.specs.Round.{Step, Runner, Acting, Phase, Passes, Breaks, taking, lowest, who, agreed, change_by, all_changes, settled_by, do_local, local_phase, do_request, answered, request_phase, begin}
+use Rattle.fk_meaning.specs.Group.{does, has_room, framed, allotted}
+use Rattle.fk_meaning.specs.Round.{Step, Runner, Acting, Phase, Passes, Breaks, taking, agreed, settled_by, do_local, local_phase, do_request, answered, request_phase, begin}
 use Rattle.fk_core.specs.declared.op.CoreOp.{CoreOp}
 use Rattle.fk_core.specs.Next.{Position, next}
 use Rattle.fk_sim_nodes.specs.Source as nodes
@@ -30,11 +29,12 @@ use Rattle.fk_sim_block.specs.Owner.{Commons, Owner, Doing, number_of, found, as
 use Rattle.fk_sim_rounds.proofs.Rounds.{IsUnit, AreUnits}
 use Rattle.fk_sim_block.specs.Node.{Nestings, first_word}
 use Rattle.fk_sim_match.specs.Nodes.{first_of}
-use Rattle.fk_sim_match.proofs.Rounds.{not_none, leaf_place}
-use Rattle.fk_sim_rounds.specs.After.{actings, tree_after, owner_after, owners_after, DoesStep, StepsAt, AllGoOn}
-use Rattle.fk_sim_rounds.specs.Rounds.{EndsGroup}
-use Rattle.fk_sim_rounds.proofs.Resume.{kind_there, step_is_brought}
-use Rattle.fk_sim_rounds.proofs.Sum.{stays_put, Stays, AllStay, keeps_stay, all_keep_stay, steps_stay, all_places}
+use Rattle.fk_lockstep_nodes.specs.Steps.{KeepsOrDoes, StepsBy}
+use Rattle.fk_sim_rounds.specs.After.{actings, tree_after, owner_after, DoesStep, AllGoOn}
+use Rattle.fk_sim_rounds.specs.Rounds.{IsKnownRound}
+use Rattle.fk_sim_rounds.proofs.TreeAfter as after
+use Rattle.fk_sim_rounds.proofs.TreeAfter.{ends_or}
+use Rattle.fk_sim_rounds.proofs.Stays.{stays_put, Stays, known_stays}
 use Rattle.fk_sim_rounds.specs.Homes.{IsLevelOf, AllHome, AllNext, HomesGoOn, HomesStay}
 use Rattle.fk_sim_rounds.proofs.Results.{counts_are_units}
 
@@ -175,61 +175,6 @@ level_same tree spaces n l l' (k ∷ outer) size low is = (is.0, low ∙ is.1, s
 levels_same : (tree : Tree) (spaces : ℕ → Space) (n : ℕ) (p q : Processor) → SameLevels p q → IsLevelOf tree spaces n p.level p.outer → IsLevelOf tree spaces n q.level q.outer
 levels_same tree spaces n p q same is = subst (IsLevelOf tree spaces n q.level) (sym same.3) (level_same tree spaces n p.level q.level p.outer same.1 same.2 is)
 
--- in a tree with the same members and parents
-pub record SameNodes (old tree : Tree) : Type 0 where
-  pub members : (k : ℕ) → trees.members tree k ≡ trees.members old k
-  pub parents : (k : ℕ) → trees.parent tree k ≡ trees.parent old k
-
-level_along : (old tree : Tree) (spaces : ℕ → Space) → SameNodes old tree → (n : ℕ) (l : Level) (outer : List Level) → IsLevelOf old spaces n l outer → IsLevelOf tree spaces n l outer
-level_along old tree spaces same n l [] is = (is.0, is.1 ∙ ap (λ ms. length ms) (sym (same.members n)))
-level_along old tree spaces same n l (k ∷ outer) is =
-    (is.0, is.1, is.2 ∙ ap (λ ms. length ms) (sym (same.members n)), subst (λ j. IsLevelOf tree spaces j k outer) (sym (same.parents n)) (level_along old tree spaces same (trees.parent old n) k outer is.3))
-
--- where a group has ended, those round others stay: a node that waits for a part is no group
-level_past : (p : ℕ) (old tree : Tree) (spaces : ℕ → Space) → IsSound p old → (g : ℕ) → trees.kind old g ≡ Some Lockstep → ((k : ℕ) → k ≢ g → tree.nodes k ≡ old.nodes k)
-    → (n : ℕ) (l : Level) (outer : List Level) → old.nodes n ≢ None → n ≢ g → IsLevelOf old spaces n l outer → IsLevelOf tree spaces n l outer
-level_past p old tree spaces sound g kind others n l [] some ne is = (is.0, is.1 ∙ ap (λ x. length (members_of x)) (sym (others n ne)))
-level_past p old tree spaces sound g kind others n l (k ∷ outer) some ne is =
-    let waits : awaits (trees.kind old (trees.parent old n)) n ≡ true = sound.awaited n is.0 some in
-    let ne' : trees.parent old n ≢ g = λ e. false≢true (ap (λ x. awaits x n) (sym (ap (trees.kind old) e ∙ kind)) ∙ waits) in (
-      is.0,
-      is.1,
-      is.2 ∙ ap (λ x. length (members_of x)) (sym (others n ne)),
-      subst (λ j. IsLevelOf tree spaces j k outer) (ap parent_of (sym (others n ne)))
-          (level_past p old tree spaces sound g kind others (trees.parent old n) k outer (awaits-some old (trees.parent old n) n waits) ne' is.3),
-    )
-
--- ---- steps by which nobody moves
-
-step_nodes : (operation : Operation) (n : ℕ) (whose : ℕ → Processor) (highest low : ℕ) (tree : Tree) → stays_put operation ≡ true → SameNodes tree (changes operation n whose highest low tree)
-step_nodes o.Begin n whose highest low tree put = absurd (cc)
-step_nodes (o.Split by) n whose highest low tree put = absurd (cc)
-step_nodes o.Shrink n whose highest low tree put = absurd (cc)
-step_nodes o.End n whose highest low tree put = absurd (cc)
-step_nodes o.Farm n whose highest low tree put = record { members = λ k. kind_members n _ tree k; parents = λ k. kind_parent n _ tree k }
-step_nodes o.Seq n whose highest low tree put = record { members = λ k. kind_members n _ tree k; parents = λ k. kind_parent n _ tree k }
-step_nodes (o.Meet true) n whose highest low tree put = record { members = λ k. kind_members n _ tree k; parents = λ k. kind_parent n _ tree k }
-step_nodes o.Resume n whose highest low tree put = record { members = λ k. kind_members n _ tree k; parents = λ k. kind_parent n _ tree k }
-step_nodes operation n whose highest low tree put = record { members = λ k. refl; parents = λ k. refl }
-
-either_nodes : (b : Bool) (old x : Tree) → SameNodes old x → SameNodes old (if b then x else old)
-either_nodes true old x same = same
-either_nodes false old x same = record { members = λ k. refl; parents = λ k. refl }
-
-change_nodes : (actors : List (Acting Position)) (old : Tree) (h : ℕ) (due : Option (Step Position)) (tree : Tree) → Stays due → SameNodes tree (change_by actors old h due tree)
-change_nodes actors old h None tree stay = record { members = λ k. refl; parents = λ k. refl }
-change_nodes actors old h (Some step) tree stay =
-    let n = old.places h in
-    let members = trees.members old n in
-    either_nodes (h == lowest members) tree (changes step.operation n (who actors) (agreed actors members) h tree) (step_nodes step.operation n (who actors) (agreed actors members) h tree stay)
-
-all_nodes : (actors : List (Acting Position)) (old : Tree) (ds : List Doing) (tree : Tree) → AllStay ds → SameNodes tree (all_changes actors old (actings ds) tree)
-all_nodes actors old [] tree stay = record { members = λ k. refl; parents = λ k. refl }
-all_nodes actors old (d ∷ ds) tree stay =
-    let one = change_nodes actors old d.acting.runner.has.number d.acting.due tree stay.0 in
-    let more = all_nodes actors old ds (change_by actors old d.acting.runner.has.number d.acting.due tree) stay.1 in
-    record { members = λ k. more.members k ∙ one.members k; parents = λ k. more.parents k ∙ one.parents k }
-
 -- ---- all processors
 
 -- what the step of one that doesn't move makes of it
@@ -240,115 +185,83 @@ settled_levels acting old new r (Some step) stay =
     let members = trees.members old (old.places h) in
     does_levels step.operation (agreed acting members) (length (trees.members new (new.places h))) r.has stay
 
-module _ (core : List CoreOp) (setting : Setting) (spaces : ℕ → Space) where
-  stay_home : (acting : List (Acting Position)) (old new : Tree) (number : ℕ) (ps : List Owner) (ds : List Doing) → SameNodes old new → ((h : ℕ) → new.places h ≡ old.places h) → AllStay ds
-      → AllHome old spaces number ps → AllSame core setting ps ds → AllHome new spaces number (map (owner_after acting old new) ds)
-  stay_home acting old new number [] [] same places stay home levels = tt
-  stay_home acting old new number (p ∷ ps) (d ∷ ds) same places stay home levels =
-      let q = settled_by acting old new d.acting.runner d.acting.due in
-      let both = levels_join p.runner.has d.acting.runner.has q.has levels.0 (settled_levels acting old new d.acting.runner d.acting.due stay.0) in (
-        both.0 ∙ home.0,
-        levels_same new spaces (new.places number) p.runner.has q.has both
-            (level_along old new spaces same (new.places number) p.runner.has.level p.runner.has.outer
-            (subst (λ k. IsLevelOf old spaces k p.runner.has.level p.runner.has.outer) (sym (places number)) home.1)),
-        stay_home acting old new (suc number) ps ds same places stay.1 home.2 levels.1,
+-- after a known round
+module _ (core : List CoreOp) (setting : Setting) (spaces : ℕ → Space) (old : Tree) (sound : IsSound setting.processors old) (did : List Doing) (round : IsKnownRound old did)
+    (long : length did ≡ setting.processors) where
+  abbrev new : Tree
+  new = tree_after old did
+
+  -- a node that waits doesn't end
+  waits_on : (k n : ℕ) → awaits (trees.kind old k) n ≡ true → round.does k ≢ Some o.End
+  waits_on k n waits is = false≢true (sym (ap (λ x. awaits x n) (round.known k o.End is)) ∙ waits)
+
+  -- around a node that doesn't end all levels stay
+  level_after : (n : ℕ) (l : Level) (outer : List Level) → old.nodes n ≢ None → round.does n ≢ Some o.End → IsLevelOf old spaces n l outer → IsLevelOf (tree_after old did) spaces n l outer
+  level_after n l [] some ne is = (is.0, is.1 ∙ ap (λ ms. length ms) (sym (after.same_in setting.processors old sound did round long n ne).members))
+  level_after n l (k ∷ outer) some ne is =
+      let same = after.same_in setting.processors old sound did round long n ne in
+      let waits : awaits (trees.kind old (trees.parent old n)) n ≡ true = sound.awaited n is.0 some in (
+        is.0,
+        is.1,
+        is.2 ∙ ap (λ ms. length ms) (sym same.members),
+        subst (λ j. IsLevelOf (tree_after old did) spaces j k outer) (sym same.parent)
+            (level_after (trees.parent old n) k outer (awaits-some old (trees.parent old n) n waits) (waits_on (trees.parent old n) n waits) is.3),
       )
-  stay_home acting old new number ps ds same places stay home levels = absurd (assumption levels)
 
-  -- a group ends
-  module _ (old : Tree) (sound : IsSound setting.processors old) (g : ℕ) (kind : trees.kind old g ≡ Some Lockstep) where
-    others : (k : ℕ) → k ≢ g → (trees.finish g old).nodes k ≡ old.nodes k
-    others k ne = with_other g (trees.left_by (λ h. false) (old.nodes g)) old.nodes k ne
+  -- of a member of a group that ends, when it leaves
+  left_home : (g : ℕ) → round.does g ≡ Some o.End → (p : Processor) (outer : List Level) → IsLevelOf old spaces g p.level outer
+      → IsLevelOf (tree_after old did) spaces (trees.parent old g) (to_outer p outer).level (to_outer p outer).outer
+  left_home g ends p [] is = absurd (after.not_root setting.processors old sound g (round.known g o.End ends) is.0)
+  left_home g ends p (k ∷ outer) is =
+      let waits = after.parent_waits setting.processors old sound g (round.known g o.End ends) in
+      level_after (trees.parent old g) k outer (awaits-some old (trees.parent old g) g waits) (waits_on (trees.parent old g) g waits) is.3
 
-    there : old.nodes g ≢ None
-    there = not_none (old.nodes g) (kind_there (old.nodes g) Lockstep kind)
+  outer_number : (p : Processor) (outer : List Level) → (to_outer p outer).number ≡ p.number
+  outer_number p [] = refl
+  outer_number p (k ∷ outer) = refl
 
-    not_root : g ≢ 0
-    not_root e = sound.free (ap (trees.kind old) (sym e) ∙ kind)
+  leaves : (acting : List (Acting Position)) (r : Runner Position) (due : Option (Step Position)) → DoesStep o.End due → (settled_by acting old (tree_after old did) r due).has ≡ to_outer r.has r.has.outer
+  leaves acting r None does' = absurd does'
+  leaves acting r (Some step) does' =
+      let h = r.has.number in
+      let members = trees.members old (old.places h) in
+      ap (λ op. does op (agreed acting members) (length (trees.members (tree_after old did) ((tree_after old did).places h))) r.has) does'
 
-    parent_waits : awaits (trees.kind old (trees.parent old g)) g ≡ true
-    parent_waits = sound.awaited g not_root there
-
-    parent_other : trees.parent old g ≢ g
-    parent_other e = false≢true (ap (λ x. awaits x g) (sym (ap (trees.kind old) e ∙ kind)) ∙ parent_waits)
-
-    -- of a member, when it leaves
-    left_home : (p : Processor) (outer : List Level) → IsLevelOf old spaces g p.level outer
-        → IsLevelOf (trees.finish g old) spaces (trees.parent old g) (to_outer p outer).level (to_outer p outer).outer
-    left_home p [] is = absurd (not_root is.0)
-    left_home p (k ∷ outer) is =
-        level_past setting.processors old (trees.finish g old) spaces sound g kind others (trees.parent old g) k outer (awaits-some old (trees.parent old g) g parent_waits) parent_other is.3
-
-    outer_number : (p : Processor) (outer : List Level) → (to_outer p outer).number ≡ p.number
-    outer_number p [] = refl
-    outer_number p (k ∷ outer) = refl
-
-    leaves : (acting : List (Acting Position)) (r : Runner Position) (due : Option (Step Position)) → DoesStep o.End due → (settled_by acting old (trees.finish g old) r due).has ≡ to_outer r.has r.has.outer
-    leaves acting r None does' = absurd does'
-    leaves acting r (Some step) does' =
-        let h = r.has.number in
-        let members = trees.members old (old.places h) in
-        ap (λ op. does op (agreed acting members) (length (trees.members (trees.finish g old) ((trees.finish g old).places h))) r.has) does'
-
-    goes : (h : ℕ) → h < setting.processors → old.places h ≡ g → (trees.finish g old).places h ≡ trees.parent old g
-    goes h lt at =
-        ap (λ b. if b && true then trees.parent old g else old.places h) (subst (λ k. is_member h (trees.members old k) ≡ true) at (sound.placed h lt).member)
-
-    stays_there : (h : ℕ) → old.places h ≢ g → (trees.finish g old).places h ≡ old.places h
-    stays_there h ne =
-        ⊎_elim (λ is. absurd (ne (leaf_place setting.processors old sound g h kind is))) (λ off. ap (λ b. if b && true then trees.parent old g else old.places h) off)
-        (cases_Bool (is_member h (trees.members old g)))
-
-    end_home : (acting : List (Acting Position)) (number : ℕ) (ps : List Owner) (ds : List Doing) → number + length ds ≡ setting.processors → StepsAt old g number o.End ds → AllHome old spaces number ps
-        → AllSame core setting ps ds → AllHome (trees.finish g old) spaces number (map (owner_after acting old (trees.finish g old)) ds)
-    end_home acting number [] [] many steps home levels = tt
-    end_home acting number (p ∷ ps) (d ∷ ds) many steps home levels =
-        let new = trees.finish g old in
-        let r = d.acting.runner in
-        let q = settled_by acting old new r d.acting.due in
-        let lt : number < setting.processors = omega (arith, many) in
-        let more = end_home acting (suc number) ps ds (omega (arith, many)) steps.3 home.2 levels.1 in
-        let was : IsLevelOf old spaces (old.places number) r.has.level r.has.outer = levels_same old spaces (old.places number) p.runner.has r.has levels.0 home.1 in
-        let number_is : r.has.number ≡ number = levels.0.0 ∙ home.0 in
-        ⊎_elim
-        (λ at.
-        let has = leaves acting r d.acting.due (steps.1 at) in
-        let here = left_home r.has r.has.outer (subst (λ k. IsLevelOf old spaces k r.has.level r.has.outer) at was) in (
-          ap (λ x. x.number) has ∙ outer_number r.has r.has.outer ∙ number_is,
-          subst (λ k. IsLevelOf new spaces k q.has.level q.has.outer) (sym (goes number lt at))
-              (subst (λ x. IsLevelOf new spaces (trees.parent old g) x.level x.outer) (sym has) here),
-          more,
-        ))
-        (λ ne.
-        let same = settled_levels acting old new r d.acting.due (keeps_stay d.acting.due (steps.2 ne)) in
-        let past = level_past setting.processors old new spaces sound g kind others (old.places number) r.has.level r.has.outer (has_some old (old.places number) number (sound.placed number lt).member) ne was in (
-          same.0 ∙ number_is,
-          levels_same new spaces (new.places number) r.has q.has same (subst (λ k. IsLevelOf new spaces k r.has.level r.has.outer) (sym (stays_there number ne)) past),
-          more,
-        ))
-        (cases_eq (old.places number) g)
-    end_home acting number ps ds many steps home levels = absurd (assumption levels)
+  all_home : (acting : List (Acting Position)) (number : ℕ) (ps : List Owner) (ds : List Doing) → number + length ds ≡ setting.processors → StepsBy old round.does number (actings ds) → AllHome old spaces number ps
+      → AllSame core setting ps ds → AllHome (tree_after old did) spaces number (map (owner_after acting old (tree_after old did)) ds)
+  all_home acting number [] [] many steps home levels = tt
+  all_home acting number (p ∷ ps) (d ∷ ds) many steps home levels =
+      let r = d.acting.runner in
+      let q = settled_by acting old new r d.acting.due in
+      let g = old.places number in
+      let lt : number < setting.processors = omega (arith, many) in
+      let more = all_home acting (suc number) ps ds (omega (arith, many)) steps.2 home.2 levels.1 in
+      let was : IsLevelOf old spaces g r.has.level r.has.outer = levels_same old spaces g p.runner.has r.has levels.0 home.1 in
+      let number_is : r.has.number ≡ number = levels.0.0 ∙ home.0 in
+      ⊎_elim
+      (λ ends.
+      let has = leaves acting r d.acting.due (subst (λ x. KeepsOrDoes x d.acting.due) ends steps.1) in
+      let here = left_home g ends r.has r.has.outer was in (
+        ap (λ x. x.number) has ∙ outer_number r.has r.has.outer ∙ number_is,
+        subst (λ k. IsLevelOf new spaces k q.has.level q.has.outer) (sym (after.leaves setting.processors old sound did round long number lt ends))
+            (subst (λ x. IsLevelOf new spaces (trees.parent old g) x.level x.outer) (sym has) here),
+        more,
+      ))
+      (λ ne.
+      let same = settled_levels acting old new r d.acting.due (known_stays old round.does g d.acting.due (round.known g) ne steps.1) in
+      let past = level_after g r.has.level r.has.outer (has_some old g number (sound.placed number lt).member) ne was in (
+        same.0 ∙ number_is,
+        levels_same new spaces (new.places number) r.has q.has same
+            (subst (λ k. IsLevelOf new spaces k r.has.level r.has.outer) (sym (after.stays setting.processors old sound did round long number ne)) past),
+        more,
+      ))
+      (ends_or (round.does g))
+  all_home acting number ps ds many steps home levels = absurd (assumption levels)
 
 pub homes_stay : HomesStay
 homes_stay core setting tree spaces stages ps did shared shared' sound long home all known =
     let levels = all_levels core setting (counts_for stages) ps shared did shared' (counts_are_units stages) all in
-    let stay : AllStay did → AllHome (tree_after tree did) spaces 0 (owners_after tree (tree_after tree did) did)
-    = λ put.
-    stay_home core setting spaces (actings did) tree (tree_after tree did) 0 ps did (all_nodes (actings did) tree did tree put) (λ h. ap (λ f. f h) (all_places (actings did) tree did tree put)) put home levels in
-    let ends : EndsGroup tree did → AllHome (tree_after tree did) spaces 0 (owners_after tree (tree_after tree did) did)
-    = λ e.
-    let same : tree_after tree did ≡ trees.finish e.group tree
-    = step_is_brought setting.processors tree sound e.group Lockstep o.End did e.kind (λ h member. leaf_place setting.processors tree sound e.group h e.kind member) long e.steps in
-    subst (λ x. AllHome x spaces 0 (owners_after tree x did)) (sym same)
-    (end_home core setting spaces tree sound e.group e.kind (actings did) 0 ps did (omega (arith, long)) e.steps home levels) in
-    ⊎_elim (λ keep. stay (all_keep_stay did keep))
-    (λ a.
-    ⊎_elim (λ r. stay (steps_stay tree 0 0 o.Resume did refl r.steps))
-    (λ b.
-    ⊎_elim (λ c. stay (steps_stay tree c.group 0 (o.Meet true) did refl c.steps))
-    (λ c.
-    ⊎_elim (λ f. stay (steps_stay tree f.group 0 o.Farm did refl f.steps))
-    (λ d. ⊎_elim (λ s. stay (steps_stay tree s.group 0 o.Seq did refl s.steps)) (λ e. ends e) d) c) b) a) known
+    all_home core setting spaces tree sound did known long (actings did) 0 ps did (omega (arith, long)) known.steps home levels
 
 -- ---- what is to be known of who goes on
 

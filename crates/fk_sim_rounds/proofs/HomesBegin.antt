@@ -16,8 +16,9 @@ use Rattle.fk_core.specs.declared.op.CoreOp.{CoreOp}
 use Rattle.fk_core.specs.Next.{Position}
 use Rattle.fk_sim_block.specs.Owner.{Owner, number_of}
 use Rattle.fk_sim_block.specs.Lockstep.{is_due}
+use Rattle.fk_lockstep_nodes.specs.Steps.{KeepsOrDoes, only}
 use Rattle.fk_sim_rounds.specs.After.{actings, tree_after, owner_after, owners_after, StepsAt}
-use Rattle.fk_sim_rounds.proofs.Resume.{step_is_brought}
+use Rattle.fk_sim_rounds.proofs.Steps.{step_is_brought}
 use Rattle.fk_sim_rounds.proofs.Begun as begun
 use Rattle.fk_sim_rounds.specs.Homes.{IsLevelOf, AllHome, AllFrom, HomesBegin}
 
@@ -30,7 +31,11 @@ module _ (core : List CoreOp) (setting : Setting) (tree : Tree) (spaces : ℕ �
   -- each begins it in the root
   pub steps_begin : (number : ℕ) (ps : List Owner) → number + length ps ≡ setting.processors → AllHome tree spaces number ps → StepsAt tree 0 number Begin (map (is_due core i op Begin) ps)
   steps_begin number [] many home = tt
-  steps_begin number (p ∷ ps) many home = (home.0, λ at. refl, λ ne. absurd (ne (in_root number (omega (arith, many)))), steps_begin (suc number) ps (omega (arith, many)) home.2)
+  steps_begin number (p ∷ ps) many home = (
+    home.0,
+    subst (λ k. KeepsOrDoes (only 0 Begin k) (is_due core i op Begin p).acting.due) (sym (in_root number (omega (arith, many)))) refl,
+    steps_begin (suc number) ps (omega (arith, many)) home.2,
+  )
 
   module _ (acting : List (Acting Position)) (value count : ℕ) (value_is : agreed acting (trees.members tree 0) ≡ value) (count_is : count ≡ min (not_negative value) (length (trees.members tree 0)))
       (sound' : IsSound setting.processors (trees.begin count tree)) where

@@ -40,8 +40,10 @@ pub mod Groups
 pub mod Trees
 -- the tree behind one step
 pub mod Steps
--- where the members of one node do a step
+-- where the members of some nodes do steps
 pub mod Moved
+pub mod TreeAfter
+pub mod Stays
 pub mod Changed
 -- back from the group of `start`
 pub mod Resume

@@ -1,50 +1,28 @@
--- A round in which the members of one node do a step: what it leaves of the other nodes, and of who stands where.
-use Rattle.std.proofs.Common.{◌≡◌, ◌≢◌, ℕ, suc, ◌+◌, ◌≤◌, ◌<◌, List, [], ◌∷◌, length, Option, Some, None, Bool, true, false, sym, ap, subst, ◌∙◌, refl, arith, ⊎_elim, eq-eqb}
-use Rattle.std.specs.Prelude.{◌==◌, if◌then◌else◌}
-use Rattle.std.proofs.lemmas.Bool.{cases_eq, eqb-true, ne_eqb, false≢true}
+-- A round in which the members of some nodes do steps: what it leaves of the other nodes, and of who stands where.
+use Rattle.std.proofs.Common.{◌≡◌, ℕ, suc, ◌+◌, ◌≤◌, ◌<◌, List, [], ◌∷◌, length, Option, Some, None, Bool, true, false, sym, ap, subst, ◌∙◌, refl, arith, eq-eqb}
+use Rattle.std.specs.Prelude.{◌==◌, is_some}
+use Rattle.std.proofs.lemmas.Bool.{or_left}
+use Rattle.fk_tree.specs.declared.node.Kind.{Kind}
 use Rattle.fk_tree.specs.Tree as trees
-use Rattle.fk_tree.specs.Tree.{Tree}
+use Rattle.fk_tree.specs.Tree.{Tree, Node, kind_of, is_member}
 use Rattle.fk_sim_nodes.specs.Node.{AreAsMany}
 use Rattle.fk_sim_match.specs.Change.{HasSame}
 use Rattle.fk_sim_match.specs.Nodes.{is_lockstep}
 use Rattle.fk_meaning_operation.specs.declared.operation.Operation.{Operation}
-use Rattle.fk_lockstep_nodes.specs.Steps.{KeepsOrDoes, StepsBy}
-use Rattle.fk_sim_block.specs.Owner.{Doing}
-use Rattle.fk_sim_rounds.specs.After.{actings, StepsAt, ArePlaces}
-use Rattle.fk_sim_rounds.proofs.Groups.{same_all}
+use Rattle.fk_meaning.specs.Round.{lowest}
+use Rattle.fk_sim_block.specs.Owner.{Owner, Doing, idle}
+use Rattle.fk_sim_rounds.specs.After.{DoesStep, ArePlaces}
 
--- the step of one node
-abbrev pub one : (g : ℕ) → Operation → ℕ → Option Operation
-one g operation k = if k == g then Some operation else None
+pub kind_there : (x : Option Node) (k : Kind) → kind_of x ≡ Some k → is_some x ≡ true
+kind_there None k e = absurd (cc)
+kind_there (Some node) k e = refl
 
-one_is : (b : Bool) (x operation : Operation) → (if b then Some x else None) ≡ Some operation → b ≡ true
-one_is true x operation e = refl
-one_is false x operation e = absurd (cc)
+pub lowest_there : (ms : List ℕ) → (ms ≡ [] → ⊥) → is_member (lowest ms) ms ≡ true
+lowest_there [] some = absurd (some refl)
+lowest_there (m ∷ ms) some = or_left (m == m) (is_member m ms) (eq-eqb m m refl)
 
-one_not : (b : Bool) (x : Operation) → (if b then Some x else None) ≡ None → b ≡ false
-one_not true x e = absurd (cc)
-one_not false x e = refl
-
-pub at_one : (g k : ℕ) (x operation : Operation) → one g x k ≡ Some operation → (k ≡ g) × (x ≡ operation)
-at_one g k x operation e =
-    let is = one_is (k == g) x operation e in
-    let same : Some x ≡ Some operation = sym (ap (λ b. if b then Some x else None) is) ∙ e in
-    (eqb-true k g is, cc)
-
-pub not_one : (g k : ℕ) (x : Operation) → one g x k ≡ None → k ≢ g
-not_one g k x none e = false≢true (sym (one_not (k == g) x none) ∙ eq-eqb k g e)
-
--- a round in which the members of one node do a step
-pub by_one : (old : Tree) (g : ℕ) (operation : Operation) (number : ℕ) (ds : List Doing) → StepsAt old g number operation ds → StepsBy old (one g operation) number (actings ds)
-by_one old g operation number [] steps = tt
-by_one old g operation number (d ∷ ds) steps = (
-  steps.0,
-  ⊎_elim
-      (λ e. subst (λ x. KeepsOrDoes x d.acting.due) (sym (ap (λ b. if b then Some operation else None) (eq-eqb (old.places number) g e))) (steps.1 e))
-      (λ ne. subst (λ x. KeepsOrDoes x d.acting.due) (sym (ap (λ b. if b then Some operation else None) (ne_eqb (old.places number) g ne))) (steps.2 ne))
-      (cases_eq (old.places number) g),
-  by_one old g operation (suc number) ds steps.3,
-)
+pub is_busy : (operation : Operation) (d : Doing) (p : Owner) → DoesStep operation d.acting.due → d ≡ idle p → ⊥
+is_busy operation d p does e = subst (λ x. DoesStep operation x.acting.due) e does
 
 -- some nodes change, among them those whose members do a step. All others stay, and so does who stands in none that changes;
 -- a group among the others has the same members
@@ -56,23 +34,6 @@ pub record TreeMoves (old tree : Tree) (processors : ℕ) (does : ℕ → Option
   pub there : ArePlaces tree 0 nodes'
   pub many : length nodes' ≡ length nodes
   pub alike : (k : ℕ) → changed k ≡ false → is_lockstep (trees.kind old k) ≡ true → HasSame k nodes nodes'
-
--- one node changes, and nobody moves
-pub one_node : (old tree : Tree) (processors g : ℕ) (operation : Operation) (nodes : List ℕ) → ((k : ℕ) → k ≢ g → tree.nodes k ≡ old.nodes k) → ((h : ℕ) → tree.places h ≡ old.places h)
-    → ArePlaces tree 0 nodes → TreeMoves old tree processors (one g operation) nodes nodes (λ k. k == g)
-one_node old tree processors g operation nodes others places there = record {
-  here = λ k x e. eq-eqb k g (at_one g k operation x e).0;
-  others = λ k no. others k (λ e. false≢true (sym no ∙ eq-eqb k g e));
-  elsewhere = λ h lt none. ne_eqb (old.places h) g (not_one g (old.places h) operation none);
-  places = λ h lt none. places h;
-  there = there;
-  many = refl;
-  alike = λ k no lock. same_all k nodes;
-}
-
--- what is so of the one node that changes
-pub only : (g : ℕ) (A : ℕ → Type 0) → A g → (k : ℕ) → (k == g) ≡ true → A k
-only g A x k e = subst A (sym (eqb-true k g e)) x
 
 -- ---- lists by hart
 

@@ -1,5 +1,5 @@
 -- Known rounds keep groups but those that end, at whose words nobody is left.
-use Rattle.std.proofs.Common.{◌≡◌, ℕ, ◌+◌, ◌<◌, List, [], ◌∷◌, Option, None, Some, Bool, true, false, sym, ap, subst, ◌∙◌, refl, arith, inl, inr, ⊎_elim}
+use Rattle.std.proofs.Common.{◌≡◌, ◌⊎◌, ℕ, suc, ◌+◌, ◌<◌, List, [], ◌∷◌, Option, None, Some, Bool, true, false, sym, ap, subst, ◌∙◌, refl, arith, inl, inr, ⊎_elim}
 use Rattle.std.specs.Prelude.{◌==◌, is_some, if◌then◌else◌}
 use Rattle.std.proofs.lemmas.Bool.{cases_eq, false≢true}
 use Rattle.fk_tree.specs.declared.node.Kind.{Kind}
@@ -16,6 +16,7 @@ use Rattle.fk_core.specs.Next.{Position}
 use Rattle.fk_sim_nodes.specs.Node.{numbered, of_node}
 use Rattle.fk_sim_nodes.specs.Alone.{later}
 use Rattle.fk_sim_match.specs.Cycle.{NodeIsLeft}
+use Rattle.fk_lockstep_nodes.specs.Steps.{StepsBy}
 use Rattle.fk_sim_block.specs.Owner.{Doing, core_source}
 use Rattle.fk_sim_block.specs.Node.{IsAtRest, barrier_word, closing_word}
 use Rattle.fk_sim_block.specs.Law.{sets_apart}
@@ -24,13 +25,15 @@ use Rattle.fk_sim_match.specs.Behind.{blocks_of}
 use Rattle.fk_sim_match.proofs.Nodes.{tells}
 use Rattle.fk_sim_match.proofs.Rounds.{not_none}
 use Rattle.fk_sim_rounds.specs.After.{actings, tree_after}
+use Rattle.fk_sim_rounds.specs.Rounds.{IsKnownRound}
 use Rattle.fk_sim_rounds.specs.Rest.{HasNoGroup, KnownRoundsKeepGroups, EndedGroupsRest}
 use Rattle.fk_sim_rounds.proofs.Groups.{somebody, there_are, many_length}
-use Rattle.fk_sim_rounds.proofs.Resume.{kind_there}
+use Rattle.fk_sim_rounds.proofs.Moved.{kind_there}
 use Rattle.fk_sim_rounds.proofs.Close.{all_do}
 use Rattle.fk_sim_rounds.proofs.Acted.{acted}
 use Rattle.fk_sim_rounds.proofs.Ends.{begin_or_end}
-use Rattle.fk_sim_rounds.proofs.Sum.{stays_put, Stays, AllStay, all_keep_stay, steps_stay}
+use Rattle.fk_sim_rounds.proofs.TreeAfter.{ends_or}
+use Rattle.fk_sim_rounds.proofs.Stays.{stays_put, Stays, AllStay, known_stays}
 
 -- ---- steps by which nobody moves to another node keep all nodes
 
@@ -73,21 +76,26 @@ changes_there actors old (d ∷ ds) tree i stay e =
 none_before : (tree : Tree) (ds : List Doing) → AllStay ds → HasNoGroup (tree_after tree ds) → HasNoGroup tree
 none_before tree ds stay none g ne = changes_there (actings ds) tree ds tree g stay (none g ne)
 
+-- a group ends, or nobody moves
+somebody_ends : (tree : Tree) (ds : List Doing) (round : IsKnownRound tree ds) (number : ℕ) (xs : List Doing) → StepsBy tree round.does number (actings xs)
+    → ((g : ℕ) × (round.does g ≡ Some o.End)) ⊎ AllStay xs
+somebody_ends tree ds round number [] steps = inr tt
+somebody_ends tree ds round number (d ∷ xs) steps =
+    let g = tree.places number in
+    ⊎_elim (λ ends. inl (g, ends))
+    (λ other.
+    ⊎_elim (λ ends. inl ends)
+    (λ stay. inr (known_stays tree round.does g d.acting.due (round.known g) other steps.1, stay)) (somebody_ends tree ds round (suc number) xs steps.2))
+    (ends_or (round.does g))
+
 pub known_rounds_keep_groups : KnownRoundsKeepGroups
 known_rounds_keep_groups tree ds known =
-    ⊎_elim (λ keep. inr (none_before tree ds (all_keep_stay ds keep)))
-    (λ other.
-    ⊎_elim (λ r. inr (none_before tree ds (steps_stay tree 0 0 o.Resume ds refl r.steps)))
-    (λ another.
-    ⊎_elim (λ c. inr (none_before tree ds (steps_stay tree c.group 0 (o.Meet true) ds refl c.steps)))
-    (λ body.
-    ⊎_elim (λ f. inr (none_before tree ds (steps_stay tree f.group 0 o.Farm ds refl f.steps)))
-    (λ last. ⊎_elim (λ q. inr (none_before tree ds (steps_stay tree q.group 0 o.Seq ds refl q.steps))) (λ ends. inl ends) last) body) another) other) known
+    ⊎_elim (λ ends. inl (record { round = known; group = ends.0; ends = ends.1 })) (λ stay. inr (none_before tree ds stay)) (somebody_ends tree ds known 0 ds known.steps)
 
 -- ---- the words of one that ends
 
 pub ended_groups_rest : EndedGroupsRest
-ended_groups_rest core image places nestings setting tree spaces nodes t stages hs ps ds own own' control g spaced sound stand many left has kind steps =
+ended_groups_rest core image places nestings setting tree spaces nodes t stages hs ps ds own own' control does g spaced sound stand many left has kind steps is =
     let plan = plan_of tree spaces nodes in
     let blocks = blocks_of core image places nestings setting plan (first_of spaces) in
     let lock : plan.in_lockstep g ≡ true = ap is_lockstep kind in
@@ -95,7 +103,7 @@ ended_groups_rest core image places nestings setting tree spaces nodes t stages 
     let ms = of_node g nodes (numbered 0 hs) in
     let qs = of_node g nodes ps in
     let doings = of_node g nodes ds in
-    let a = acted core image places nestings setting plan (first_of spaces) (later t) g afters ms qs doings (own' g) o.End (all_do tree g 0 o.End nodes ds stand steps)
+    let a = acted core image places nestings setting plan (first_of spaces) (later t) g afters ms qs doings (own' g) o.End (all_do tree does g 0 o.End nodes ds is stand steps)
     (there_are nodes g ds (somebody setting.processors tree sound nodes stand many g kind) (many_length nodes hs ds left.done_as_many).1) refl
     (subst (λ b. NodeIsLeft (core_source core setting) image plan blocks b (later t) g afters ms qs doings (own' g)) lock (left.nodes g)) in
     let rest : IsAtRest (first_of spaces g) (own' g)

@@ -7,6 +7,7 @@ use Rattle.fk_space.specs.Space.{Space}
 use Rattle.fk_tree.specs.Tree as trees
 use Rattle.fk_tree.specs.Tree.{Node, Tree, is_from}
 use Rattle.fk_tree.proofs.Shapes.{from_below}
+use Rattle.fk_meaning_operation.specs.declared.operation.Operation.TheVariants as o
 use Rattle.fk_meaning.specs.Processor.{Setting}
 use Rattle.fk_meaning.specs.Round.{Fault, State, result, is_allowed, is_possible}
 use Rattle.fk_core.specs.declared.op.CoreOp.{CoreOp}
@@ -146,9 +147,9 @@ module _ (core : List CoreOp) (image : Image) (places : Places) (nestings : Nest
           let after = is_after core setting s f.ps f.shared leads f.order f.beside stages whole.did whole.store parts in
           ⊎_elim
           (λ ends.
-          subst (λ k. IsAtRest k control_after) (header.same ends.group (λ e. f.before.sound.free (ap (trees.kind s.tree) (sym e) ∙ ends.kind)))
-          (ended_groups_rest core image places nestings setting s.tree spaces nodes t stages (turns t 0 hs sh).harts f.ps whole.did (λ g. sh.control) whole.own control_after ends.group f.before.spaced f.before.sound
-          f.before.stand f.before.many r.left whole.has ends.kind ends.steps))
+          subst (λ k. IsAtRest k control_after) (header.same ends.group (λ e. f.before.sound.free (ap (trees.kind s.tree) (sym e) ∙ ends.round.known ends.group o.End ends.ends)))
+          (ended_groups_rest core image places nestings setting s.tree spaces nodes t stages (turns t 0 hs sh).harts f.ps whole.did (λ g. sh.control) whole.own control_after ends.round.does ends.group f.before.spaced f.before.sound
+          f.before.stand f.before.many r.left whole.has (ends.round.known ends.group o.End ends.ends) ends.round.steps ends.ends))
           (λ before. none_comes whole.going ready (before (subst HasNoGroup after.tree none)))
           (keeps whole.did whole.store parts))
           (λ c. absurd (no_cut core image setting spaces stages s f.ps f.shared leads f.order f.beside possible (plan_of s.tree spaces nodes).words printed hs t sh cycle.0 c)) cycle.1

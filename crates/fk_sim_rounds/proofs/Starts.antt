@@ -46,6 +46,7 @@ use Rattle.fk_sim_match.specs.Behind.{runs_of, HaveBegun, blocks_of}
 use Rattle.fk_sim_match.specs.Rounds.{IsDueAt, AllDue}
 use Rattle.fk_sim_match.proofs.Nodes.{tells, open_at}
 use Rattle.fk_sim_match.proofs.Rounds.{not_none, leaf_place, lockstep_kind}
+use Rattle.fk_lockstep_nodes.specs.Steps.{only}
 use Rattle.fk_sim_rounds.specs.Next.{JumpsLead, landed, all_landed, IsHome, HasNext, HaveNext}
 use Rattle.fk_sim_rounds.specs.Comes.{most_between, IsSoon, AllBelow, IsNode, ComesTo}
 use Rattle.fk_sim_rounds.specs.After.{actings, runners_of, tree_after, owner_after, owners_after, halts, is_halt, DoesStep, StepsAt, ArePlaces, AllGoOn, GroupsGoOn, AllSoon}
@@ -58,9 +59,9 @@ use Rattle.fk_sim_rounds.proofs.Agreed.{agreed_at}
 use Rattle.fk_sim_rounds.proofs.Comes.{comes, groups_come_to_commits}
 use Rattle.fk_sim_rounds.proofs.Same.{same_node, own_there, opened_before, member_still, size_still}
 use Rattle.fk_sim_rounds.proofs.Groups.{many_length}
-use Rattle.fk_sim_rounds.proofs.Moved.{many_moved}
 use Rattle.fk_sim_rounds.proofs.Trees.{many_become, many_landed, some_there}
-use Rattle.fk_sim_rounds.proofs.Resume.{kind_there, step_is_brought}
+use Rattle.fk_sim_rounds.proofs.Moved.{kind_there, many_moved}
+use Rattle.fk_sim_rounds.proofs.Steps.{step_is_brought}
 use Rattle.fk_sim_rounds.proofs.Close.{AllDo, all_do}
 use Rattle.fk_sim_rounds.proofs.Acted.{Both, Acted, acted}
 use Rattle.fk_sim_rounds.proofs.Counts.{count_is, phases_count, all_new, all_fine}
@@ -269,7 +270,7 @@ module _ (core : List CoreOp) (image : Image) (places : Places) (nestings : Nest
       omega (arith, many, long, some, are)
 
   all_step : AllDo Begin (of_node 0 nodes ds)
-  all_step = all_do old 0 0 Begin nodes ds before.stand steps
+  all_step = all_do old (only 0 Begin) 0 0 Begin nodes ds refl before.stand steps
 
   has_acted : Acted core image places nestings setting plan (first_of spaces) (later t) 0 (of_node 0 nodes left.afters) (of_node 0 nodes (numbered 0 hs)) (of_node 0 nodes ps) (of_node 0 nodes ds) (own' 0) Begin all_step some_doings refl
   has_acted =
@@ -383,7 +384,7 @@ module _ (core : List CoreOp) (image : Image) (places : Places) (nestings : Nest
       let first : x ≡ is_due core fact.i fact.op Begin q = cc in
       let others : xs ≡ map (is_due core fact.i fact.op Begin) qs = cc in
       let number_is : number_of q ≡ number = sym (ap (λ y. y.acting.runner.has.number) first) ∙ steps'.0 in
-      (comes_one (record { number = number; hart = h }) q number_is (omega (arith, many)) come.0, all_come (suc number) gs qs xs (omega (arith, many)) others steps'.3 come.1)
+      (comes_one (record { number = number; hart = h }) q number_is (omega (arith, many)) come.0, all_come (suc number) gs qs xs (omega (arith, many)) others steps'.2 come.1)
   all_come number (h ∷ gs) (q ∷ qs) [] many e steps' come = absurd (cc)
   all_come number gs qs xs many e steps' come = absurd (assumption come)
 

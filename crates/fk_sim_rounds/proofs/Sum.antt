@@ -1,156 +1,300 @@
--- After each known round all are bound again.
-use Rattle.std.proofs.Common.{◌≡◌, ℕ, suc, List, [], ◌∷◌, length, Option, Some, None, Bool, true, false, sym, ap, subst, ◌∙◌, refl, ⊎_elim}
-use Rattle.std.specs.Prelude.{◌==◌, if◌then◌else◌}
-use Rattle.std.proofs.lemmas.Bool.{cases_eq}
+-- After each known round all are bound again, whatever the members of its nodes do.
+use Rattle.std.proofs.Common.{◌≡◌, ◌≢◌, ℕ, zero, suc, ◌^◌, ◌<◌, List, [], ◌∷◌, length, Option, Some, None, Bool, true, false, sym, ap, subst, ◌∙◌, refl, arith, ◌⊎◌, inl, inr}
+use Rattle.std.specs.Prelude.{is_some}
+use Rattle.std.proofs.lemmas.Bool.{false≢true}
+use Rattle.fk_num.specs.Word.{Memory}
+use Rattle.fk_space.specs.Space.{Space}
+use Rattle.fk_tree.specs.declared.node.Kind.TheVariants.{Lockstep, Waiting, Asynchronous}
 use Rattle.fk_tree.specs.Tree as trees
-use Rattle.fk_tree.specs.Tree.{Tree}
+use Rattle.fk_tree.specs.Tree.{Tree, Node, kind_of, turned}
 use Rattle.fk_meaning_operation.specs.declared.operation.Operation.{Operation}
 use Rattle.fk_meaning_operation.specs.declared.operation.Operation.TheVariants as o
-use Rattle.fk_meaning.specs.Processor.{Processor}
-use Rattle.fk_meaning.specs.Group.{changes}
-use Rattle.fk_meaning.specs.Round.{Step, Acting, lowest, who, agreed, change_by, all_changes}
-use Rattle.fk_core.specs.Next.{Position}
+use Rattle.fk_meaning.specs.Processor.{Setting}
+use Rattle.fk_core.specs.declared.op.CoreOp.{CoreOp}
+use Rattle.fk_image.specs.declared.Image.{Image}
+use Rattle.fk_machine.specs.Hart.{Hart, Setting as MachineSetting}
+use Rattle.fk_sim_nodes.specs.Node.{Member, numbered, of_node, Has}
+use Rattle.fk_sim_nodes.specs.Alone.{later}
+use Rattle.fk_sim_match.specs.Stage.{Stage}
+use Rattle.fk_sim_match.specs.Plan.{Plan, Blocks, IsOpen, IsBound}
+use Rattle.fk_sim_match.specs.Cycle.{IsLeft}
+use Rattle.fk_sim_match.specs.Change.{HasSame, MeetingStays, MeetingOpens}
 use Rattle.fk_sim_match.proofs.Changes.{plan_goes_on}
-use Rattle.fk_lockstep.specs.Untouched.{changes_tree}
-use Rattle.fk_sim_block.specs.Owner.{Doing, core_source}
-use Rattle.fk_sim_match.specs.Nodes.{first_of, plan_of}
+use Rattle.fk_sim_match.proofs.Rounds.{lockstep_kind}
+use Rattle.fk_sim_block.specs.Owner.{Owner, Doing, core_source}
+use Rattle.fk_sim_block.specs.Stands.{Places}
+use Rattle.fk_sim_block.specs.Node.{Nestings}
+use Rattle.fk_sim_block.specs.Law.{Cycles, GroupLaw}
+use Rattle.fk_sim_match.specs.Nodes.{first_of, is_lockstep, plan_of}
 use Rattle.fk_sim_match.specs.Behind.{blocks_of}
-use Rattle.fk_sim_rounds.specs.Next.{all_landed}
-use Rattle.fk_sim_rounds.specs.After.{actings, tree_after, owners_after, Keeps, AllKeep, DoesStep, StepsAt, ArePlaces, GroupsGoOn, BindsAgain}
-use Rattle.fk_sim_rounds.specs.Rounds.{RoundsBindAgain}
-use Rattle.fk_sim_rounds.proofs.Trees.{rounds_keep_trees}
-use Rattle.fk_sim_rounds.proofs.Moved.{places_one}
-use Rattle.fk_sim_rounds.proofs.Resume.{rounds_resume}
-use Rattle.fk_sim_rounds.proofs.Close.{rounds_close}
-use Rattle.fk_sim_rounds.proofs.Apart.{rounds_set_free, rounds_send_one}
-use Rattle.fk_sim_rounds.proofs.Ends.{rounds_end}
+use Rattle.fk_sim_rounds.specs.Next.{JumpsLead, all_landed}
+use Rattle.fk_sim_rounds.specs.After.{actings, tree_after, owner_after, owners_after, ArePlaces, AllGoOn, GroupsGoOn, BindsAgain}
+use Rattle.fk_sim_rounds.specs.Rounds.{IsBefore, IsTree, StepIsKnown, IsKnownRound, RoundsBindAgain}
+use Rattle.fk_sim_rounds.proofs.Groups.{many_length}
+use Rattle.fk_sim_rounds.proofs.Harts.{AllAre, LockLeft, HartsGo}
+use Rattle.fk_sim_rounds.proofs.Moved.{kind_there, TreeMoves}
+use Rattle.fk_sim_rounds.proofs.TreeAfter as after
+use Rattle.fk_sim_rounds.proofs.Changed.{Here, Steps, Nothing, running, At, AnyGoes, AtNode, near, all, bound}
+use Rattle.fk_sim_rounds.proofs.Acted.{Both, both_are, both_there, spread}
+use Rattle.fk_sim_rounds.proofs.Resume.{resumes_each, resumed_stays}
+use Rattle.fk_sim_rounds.proofs.Close.{at_group, closes_each}
+use Rattle.fk_sim_rounds.proofs.Apart.{GoesApart, own_apart, apart_left, apart_each, opens}
+use Rattle.fk_sim_rounds.proofs.Ends.{GoesHome, own_home, home_left, home_each, no_words}
 
--- ---- steps by which nobody moves to another node
+turned_free : (x : Option Node) (alone : Bool) → is_lockstep (kind_of (turned (Asynchronous alone) x)) ≡ false
+turned_free None alone = refl
+turned_free (Some node) alone = refl
 
-abbrev pub stays_put : Operation → Bool
-stays_put o.Begin = false
-stays_put (o.Split by) = false
-stays_put o.Shrink = false
-stays_put o.End = false
-stays_put operation = true
+turned_lock : (x : Option Node) → is_some x ≡ true → is_lockstep (kind_of (turned Lockstep x)) ≡ true
+turned_lock None is = absurd (false≢true is)
+turned_lock (Some node) is = refl
 
-step_places : (operation : Operation) (n : ℕ) (whose : ℕ → Processor) (highest low : ℕ) (tree : Tree) → stays_put operation ≡ true → (changes operation n whose highest low tree).places ≡ tree.places
-step_places o.Begin n whose highest low tree e = absurd (cc)
-step_places (o.Split by) n whose highest low tree e = absurd (cc)
-step_places o.Shrink n whose highest low tree e = absurd (cc)
-step_places o.End n whose highest low tree e = absurd (cc)
-step_places o.Farm n whose highest low tree e = refl
-step_places o.Seq n whose highest low tree e = refl
-step_places (o.Meet true) n whose highest low tree e = refl
-step_places o.Resume n whose highest low tree e = refl
-step_places operation n whose highest low tree e = refl
+some_by : (x : Option Operation) → is_some x ≡ true → (operation : Operation) × (x ≡ Some operation)
+some_by None is = absurd (false≢true is)
+some_by (Some operation) is = (operation, refl)
 
-keeps_put : (operation : Operation) → changes_tree operation ≡ false → stays_put operation ≡ true
-keeps_put o.Begin e = absurd (cc)
-keeps_put (o.Split by) e = absurd (cc)
-keeps_put o.Shrink e = absurd (cc)
-keeps_put o.End e = absurd (cc)
-keeps_put operation e = refl
+module _ (core : List CoreOp) (image : Image) (places : Places) (nestings : Nestings) (cycles : Cycles) (firsts : List ℕ) (main : ℕ) (setting : Setting) (old : Tree) (spaces : ℕ → Space) (nodes nodes' : List ℕ)
+    (t : MachineSetting) (stages : List Stage) (earlier hs : List Hart) (ps : List Owner) (ds : List Doing) (own own' : ℕ → Memory) (control : Memory)
+    (the_law : GroupLaw core image places nestings cycles firsts main) (leads : JumpsLead core) (before : IsBefore core image setting old spaces nodes t stages hs ps)
+    (few : length earlier < 2 ^ 31)
+    (binds : IsBound (core_source core setting) image (plan_of old spaces nodes) (blocks_of core image places nestings setting (plan_of old spaces nodes) (first_of spaces)) t stages earlier ps own)
+    (left : IsLeft (core_source core setting) image (plan_of old spaces nodes) (blocks_of core image places nestings setting (plan_of old spaces nodes) (first_of spaces)) t stages hs ps ds own own')
+    (has : (g : ℕ) → Has ((plan_of old spaces nodes).words g) control (own' g)) (round : IsKnownRound old ds) (behind : IsTree setting (tree_after old ds) spaces)
+    (there : ArePlaces (tree_after old ds) 0 nodes') (many' : length nodes' ≡ length nodes)
+    (on : AllGoOn core nestings setting (tree_after old ds) spaces 0 left.afters ds (owners_after old (tree_after old ds) ds))
+    (next : GroupsGoOn core nestings (tree_after old ds) nodes' left.afters (owners_after old (tree_after old ds) ds)) where
+  abbrev new : Tree
+  new = tree_after old ds
 
-abbrev pub Stays : Option (Step Position) → Type 0
-Stays None = Unit {0}
-Stays (Some step) = stays_put step.operation ≡ true
+  abbrev plan : Plan
+  plan = plan_of old spaces nodes
 
-abbrev pub AllStay : List Doing → Type 0
-AllStay [] = Unit {0}
-AllStay (d ∷ ds) = Stays d.acting.due × AllStay ds
+  abbrev blocks : Blocks Owner Doing
+  blocks = blocks_of core image places nestings setting (plan_of old spaces nodes) (first_of spaces)
 
-pub keeps_stay : (due : Option (Step Position)) → Keeps due → Stays due
-keeps_stay None keeps = tt
-keeps_stay (Some step) keeps = keeps_put step.operation keeps
+  abbrev plan' : Plan
+  plan' = plan_of (tree_after old ds) spaces nodes'
 
-does_stay : (operation : Operation) (due : Option (Step Position)) → stays_put operation ≡ true → DoesStep operation due → Stays due
-does_stay operation None put does = tt
-does_stay operation (Some step) put does = ap stays_put does ∙ put
+  abbrev blocks' : Blocks Owner Doing
+  blocks' = blocks_of core image places nestings setting (plan_of (tree_after old ds) spaces nodes') (first_of spaces)
 
-pub all_keep_stay : (ds : List Doing) → AllKeep ds → AllStay ds
-all_keep_stay [] keep = tt
-all_keep_stay (d ∷ ds) keep = (keeps_stay d.acting.due keep.0, all_keep_stay ds keep.1)
+  abbrev settle : Doing → Owner
+  settle d = owner_after (actings ds) old (tree_after old ds) d
 
-pub steps_stay : (old : Tree) (g number : ℕ) (operation : Operation) (ds : List Doing) → stays_put operation ≡ true → StepsAt old g number operation ds → AllStay ds
-steps_stay old g number operation [] put steps = tt
-steps_stay old g number operation (d ∷ ds) put steps = (
-  ⊎_elim (λ e. does_stay operation d.acting.due put (steps.1 e)) (λ ne. keeps_stay d.acting.due (steps.2 ne)) (cases_eq (old.places number) g),
-  steps_stay old g (suc number) operation ds put steps.3,
-)
+  long : length ds ≡ setting.processors
+  long = sym (many_length nodes hs ds left.done_as_many).1 ∙ before.many
 
-change_places : (actors : List (Acting Position)) (old : Tree) (h : ℕ) (due : Option (Step Position)) (tree : Tree) → Stays due → (change_by actors old h due tree).places ≡ tree.places
-change_places actors old h None tree stay = refl
-change_places actors old h (Some step) tree stay =
-    let n = old.places h in
-    let members = trees.members old n in
-    let changed = changes step.operation n (who actors) (agreed actors members) h tree in
-    either_places (h == lowest members) changed tree (step_places step.operation n (who actors) (agreed actors members) h tree stay)
-  where
-    either_places : (b : Bool) (x y : Tree) → x.places ≡ y.places → (if b then x else y).places ≡ y.places
-    either_places true x y e = e
-    either_places false x y e = refl
+  move : TreeMoves old (tree_after old ds) setting.processors round.does nodes nodes' (λ k. is_some (round.does k))
+  move = after.tree_moves setting.processors old before.sound ds round long nodes nodes' before.stand there before.many many'
 
-pub all_places : (actors : List (Acting Position)) (old : Tree) (ds : List Doing) (tree : Tree) → AllStay ds → (all_changes actors old (actings ds) tree).places ≡ tree.places
-all_places actors old [] tree stay = refl
-all_places actors old (d ∷ ds) tree stay =
-    all_places actors old ds (change_by actors old d.acting.runner.has.number d.acting.due tree) stay.1 ∙ change_places actors old d.acting.runner.has.number d.acting.due tree stay.0
+  -- where no group ends nobody moves
+  stay : (g : ℕ) (operation : Operation) → round.does g ≡ Some operation → operation ≢ o.End → (h : ℕ) → h < setting.processors → old.places h ≡ g → (tree_after old ds).places h ≡ g
+  stay g operation is ne h lt at =
+      after.stays setting.processors old before.sound ds round long h (λ e. ne (let same : Some operation ≡ Some o.End = sym is ∙ ap round.does (sym at) ∙ e in cc)) ∙ at
 
-places_along : (old tree : Tree) (number : ℕ) (ns : List ℕ) → old.places ≡ tree.places → ArePlaces old number ns → ArePlaces tree number ns
-places_along old tree number [] e here = tt
-places_along old tree number (n ∷ ns) e here = (here.0 ∙ ap (λ f. f number) e, places_along old tree (suc number) ns e here.1)
+  alike : (g : ℕ) (operation : Operation) → round.does g ≡ Some operation → operation ≢ o.End → HasSame g nodes nodes'
+  alike = after.alike setting.processors old before.sound ds round long nodes nodes' before.stand there before.many many'
 
--- so the nodes where processors stand are the same
-nodes_stay : (tree : Tree) (ds : List Doing) (nodes nodes' : List ℕ) → ArePlaces tree 0 nodes → ArePlaces (tree_after tree ds) 0 nodes' → length nodes' ≡ length nodes → AllStay ds → nodes' ≡ nodes
-nodes_stay tree ds nodes nodes' here there many stay =
-    places_one tree 0 nodes nodes' here (places_along (tree_after tree ds) tree 0 nodes' (all_places (actings ds) tree ds tree stay) there) many
+  waits_there : (g : ℕ) → StepIsKnown old g o.Resume → is_some (old.nodes g) ≡ true
+  waits_there g known = kind_there (old.nodes g) (Waiting known.0.0 known.0.1) known.0.2
 
--- ---- all rounds
+  waits_free : (g : ℕ) → StepIsKnown old g o.Resume → is_lockstep (trees.kind old g) ≡ false
+  waits_free g known = ap is_lockstep known.0.2
+
+  body_there : (g : ℕ) → StepIsKnown old g (o.Meet true) → is_some (old.nodes g) ≡ true
+  body_there g known = kind_there (old.nodes g) (Asynchronous known.0.0) known.0.1
+
+  body_free : (g : ℕ) → StepIsKnown old g (o.Meet true) → is_lockstep (trees.kind old g) ≡ false
+  body_free g known = ap is_lockstep known.0.1
+
+  resumes : (g : ℕ) → round.does g ≡ Some o.Resume → (tree_after old ds).nodes g ≡ turned (trees.kind_after g) (old.nodes g)
+  resumes = after.resumes setting.processors old before.sound ds round long
+
+  closes : (g : ℕ) → round.does g ≡ Some (o.Meet true) → (tree_after old ds).nodes g ≡ turned Lockstep (old.nodes g)
+  closes = after.closes setting.processors old before.sound ds round long
+
+  sets_free : (g : ℕ) → round.does g ≡ Some o.Farm → (tree_after old ds).nodes g ≡ turned (Asynchronous false) (old.nodes g)
+  sets_free = after.sets_free setting.processors old before.sound ds round long
+
+  sends_one : (g : ℕ) → round.does g ≡ Some o.Seq → (tree_after old ds).nodes g ≡ turned (Asynchronous true) (old.nodes g)
+  sends_one = after.sends_one setting.processors old before.sound ds round long
+
+  ends : (g : ℕ) → round.does g ≡ Some o.End → (tree_after old ds).nodes g ≡ None
+  ends = after.ends setting.processors old before.sound ds round long
+
+  leaves : (g : ℕ) → round.does g ≡ Some o.End → (h : ℕ) → h < setting.processors → old.places h ≡ g → (tree_after old ds).places h ≡ trees.parent old g
+  leaves g is h lt at = after.leaves setting.processors old before.sound ds round long h lt (ap round.does at ∙ is) ∙ ap (trees.parent old) at
+
+  parent_same : (g : ℕ) → round.does g ≡ Some o.End → (tree_after old ds).nodes (trees.parent old g) ≡ old.nodes (trees.parent old g)
+  parent_same g is = after.same setting.processors old before.sound ds round long (trees.parent old g) (after.parent_stays setting.processors old before.sound ds round long g is)
+
+  -- ---- groups that begin
+
+  abbrev AtStep : ℕ → Type 0
+  AtStep g =
+      At core image places nestings cycles firsts main setting old (tree_after old ds) spaces nodes nodes' t stages hs ps ds own own' control the_law leads before left has behind.sound behind.spaced round.does round.steps (λ k. is_some (round.does k)) move on next g
+
+  at_resumed : (g : ℕ) → round.does g ≡ Some o.Resume → StepIsKnown old g o.Resume → plan'.in_lockstep g ≡ true → AtStep g
+  at_resumed zero is known lock = absurd (behind.sound.free (lockstep_kind (trees.kind (tree_after old ds) 0) lock))
+  at_resumed (suc g) is known lock =
+      at_group core image places nestings cycles firsts main setting old (tree_after old ds) spaces nodes nodes' t stages earlier hs ps ds own own' control the_law leads before few binds left has behind round.does round.steps (λ k. is_some (round.does k)) move on next
+      (suc g) o.Resume is refl (waits_there (suc g) known) (waits_free (suc g) known) (resumes (suc g) is) (stay (suc g) o.Resume is (λ e. absurd (cc))) (alike (suc g) o.Resume is (λ e. absurd (cc))) lock
+
+  at_by : (g : ℕ) (operation : Operation) → round.does g ≡ Some operation → StepIsKnown old g operation → plan'.in_lockstep g ≡ true → AtStep g
+  at_by g o.Resume is known lock = at_resumed g is known lock
+  at_by g (o.Meet true) is known lock =
+      at_group core image places nestings cycles firsts main setting old (tree_after old ds) spaces nodes nodes' t stages earlier hs ps ds own own' control the_law leads before few binds left has behind round.does round.steps (λ k. is_some (round.does k)) move on next
+      g (o.Meet true) is refl (body_there g known) (body_free g known) (closes g is) (stay g (o.Meet true) is (λ e. absurd (cc))) (alike g (o.Meet true) is (λ e. absurd (cc))) lock
+  at_by g o.Farm is known lock = absurd (false≢true (sym (ap (λ x. is_lockstep (kind_of x)) (sets_free g is) ∙ turned_free (old.nodes g) false) ∙ lock))
+  at_by g o.Seq is known lock = absurd (false≢true (sym (ap (λ x. is_lockstep (kind_of x)) (sends_one g is) ∙ turned_free (old.nodes g) true) ∙ lock))
+  at_by g o.End is known lock = absurd (false≢true (sym (ap (λ x. is_lockstep (kind_of x)) (ends g is)) ∙ lock))
+  at_by g operation is known lock = absurd known
+
+  at_changed : (k : ℕ) → is_some (round.does k) ≡ true → plan'.in_lockstep k ≡ true → AtStep k
+  at_changed k yes lock = let some = some_by (round.does k) yes in at_by k some.0 some.1 (round.known k some.0 some.1) lock
+
+  -- ---- groups that end, or come to a body
+
+  abbrev IsLockLeft : ℕ → Type 0
+  IsLockLeft g = LockLeft (of_node g nodes left.afters) (of_node g nodes ps) (of_node g nodes ds)
+
+  lock_by : (g : ℕ) (operation : Operation) → round.does g ≡ Some operation → StepIsKnown old g operation → plan.in_lockstep g ≡ true → IsLockLeft g
+  lock_by g o.Resume is known lock = absurd (false≢true (sym (waits_free g known) ∙ lock))
+  lock_by g (o.Meet true) is known lock = absurd (false≢true (sym (body_free g known) ∙ lock))
+  lock_by g o.Farm is known lock =
+      apart_left core image places nestings cycles firsts main setting old (tree_after old ds) spaces nodes nodes' t stages hs ps ds own own' control the_law leads before left has behind round.does round.steps (λ k. is_some (round.does k)) move on next
+      g false o.Farm refl is known (sets_free g is) (stay g o.Farm is (λ e. absurd (cc))) (alike g o.Farm is (λ e. absurd (cc)))
+  lock_by g o.Seq is known lock =
+      apart_left core image places nestings cycles firsts main setting old (tree_after old ds) spaces nodes nodes' t stages hs ps ds own own' control the_law leads before left has behind round.does round.steps (λ k. is_some (round.does k)) move on next
+      g true o.Seq refl is known (sends_one g is) (stay g o.Seq is (λ e. absurd (cc))) (alike g o.Seq is (λ e. absurd (cc)))
+  lock_by g o.End is known lock =
+      home_left core image places nestings cycles firsts main setting old (tree_after old ds) spaces nodes nodes' t stages hs ps ds own own' control the_law leads before left has behind round.does round.steps (λ k. is_some (round.does k)) move on next
+      g is known (ends g is) (leaves g is) (parent_same g is)
+  lock_by g operation is known lock = absurd known
+
+  lock_changed : (k : ℕ) → is_some (round.does k) ≡ true → plan.in_lockstep k ≡ true → IsLockLeft k
+  lock_changed k yes lock = let some = some_by (round.does k) yes in lock_by k some.0 some.1 (round.known k some.0 some.1) lock
+
+  -- ---- how each goes on who stood at a node that steps
+
+  OwnBy : Option Operation → (g : ℕ) → Member → Doing → Type 0
+  OwnBy (Some o.Farm) g = GoesApart image places nestings setting (later t) plan' (first_of spaces g) settle
+  OwnBy (Some o.Seq) g = GoesApart image places nestings setting (later t) plan' (first_of spaces g) settle
+  OwnBy (Some o.End) g = GoesHome image places nestings setting (later t) settle
+  OwnBy does g = Nothing
+
+  abbrev Own : Member → Doing → Type 0
+  Own m d = OwnBy (round.does (old.places m.number)) (old.places m.number) m d
+
+  own_by : (g : ℕ) (operation : Operation) → round.does g ≡ Some operation → StepIsKnown old g operation → Both (OwnBy (Some operation) g) (of_node g nodes (numbered 0 hs)) (of_node g nodes ds)
+  own_by g o.Resume is known = both_there g 0 nodes hs ds left.done_as_many
+  own_by g (o.Meet true) is known = both_there g 0 nodes hs ds left.done_as_many
+  own_by g o.Farm is known =
+      own_apart core image places nestings cycles firsts main setting old (tree_after old ds) spaces nodes nodes' t stages hs ps ds own own' control the_law leads before left has behind round.does round.steps (λ k. is_some (round.does k)) move on next
+      g false o.Farm refl is known (sets_free g is) (stay g o.Farm is (λ e. absurd (cc))) (alike g o.Farm is (λ e. absurd (cc)))
+  own_by g o.Seq is known =
+      own_apart core image places nestings cycles firsts main setting old (tree_after old ds) spaces nodes nodes' t stages hs ps ds own own' control the_law leads before left has behind round.does round.steps (λ k. is_some (round.does k)) move on next
+      g true o.Seq refl is known (sends_one g is) (stay g o.Seq is (λ e. absurd (cc))) (alike g o.Seq is (λ e. absurd (cc)))
+  own_by g o.End is known =
+      own_home core image places nestings cycles firsts main setting old (tree_after old ds) spaces nodes nodes' t stages hs ps ds own own' control the_law leads before left has behind round.does round.steps (λ k. is_some (round.does k)) move on next
+      g is known (ends g is) (leaves g is) (parent_same g is)
+  own_by g operation is known = absurd known
+
+  own_here : AllAre (Here old round.does Own) 0 hs ds
+  own_here =
+      spread old round.does Own 0 nodes hs ds before.stand left.done_as_many
+      (λ g operation is.
+      both_are (OwnBy (Some operation) g) (λ m d. old.places m.number ≡ g → Own m d)
+      (λ m d own' at. subst (λ k. OwnBy (round.does k) k m d) (sym at) (subst (λ x. OwnBy x g m d) (sym is) own'))
+      (of_node g nodes (numbered 0 hs)) (of_node g nodes ds) (own_by g operation is (round.known g operation is)))
+
+  abbrev EachAt : (g : ℕ) → Operation → Type 0
+  EachAt g operation =
+      AtNode core image places nestings cycles firsts main setting old (tree_after old ds) spaces nodes nodes' t stages hs ps ds own own' control the_law leads before left has behind.sound behind.spaced round.does round.steps (λ k. is_some (round.does k)) move on next at_changed lock_changed g operation (OwnBy (Some operation) g)
+
+  resumed_each : (g : ℕ) → round.does g ≡ Some o.Resume → StepIsKnown old g o.Resume → EachAt g o.Resume
+  resumed_each zero is known =
+      resumes_each core image places nestings cycles firsts main setting old (tree_after old ds) spaces nodes nodes' t stages hs ps ds own own' control the_law leads before left has behind round.does round.steps (λ k. is_some (round.does k)) move on next
+      known.0.0 known.0.1 known.0.2 (resumes 0 is) (stay 0 o.Resume is (λ e. absurd (cc))) at_changed lock_changed
+  resumed_each (suc g) is known =
+      closes_each core image places nestings cycles firsts main setting old (tree_after old ds) spaces nodes nodes' t stages earlier hs ps ds own own' control the_law leads before few binds left has behind round.does round.steps (λ k. is_some (round.does k)) move on next
+      (suc g) o.Resume is refl (waits_there (suc g) known) (waits_free (suc g) known) (resumes (suc g) is) (stay (suc g) o.Resume is (λ e. absurd (cc))) (alike (suc g) o.Resume is (λ e. absurd (cc)))
+      at_changed lock_changed
+
+  each_by : (g : ℕ) (operation : Operation) → round.does g ≡ Some operation → StepIsKnown old g operation → EachAt g operation
+  each_by g o.Resume is known = resumed_each g is known
+  each_by g (o.Meet true) is known =
+      closes_each core image places nestings cycles firsts main setting old (tree_after old ds) spaces nodes nodes' t stages earlier hs ps ds own own' control the_law leads before few binds left has behind round.does round.steps (λ k. is_some (round.does k)) move on next
+      g (o.Meet true) is refl (body_there g known) (body_free g known) (closes g is) (stay g (o.Meet true) is (λ e. absurd (cc))) (alike g (o.Meet true) is (λ e. absurd (cc)))
+      at_changed lock_changed
+  each_by g o.Farm is known =
+      apart_each core image places nestings cycles firsts main setting old (tree_after old ds) spaces nodes nodes' t stages hs ps ds own own' control the_law leads before left has behind round.does round.steps (λ k. is_some (round.does k)) move on next
+      g false o.Farm refl is known (sets_free g is) (stay g o.Farm is (λ e. absurd (cc))) (alike g o.Farm is (λ e. absurd (cc))) at_changed lock_changed
+  each_by g o.Seq is known =
+      apart_each core image places nestings cycles firsts main setting old (tree_after old ds) spaces nodes nodes' t stages hs ps ds own own' control the_law leads before left has behind round.does round.steps (λ k. is_some (round.does k)) move on next
+      g true o.Seq refl is known (sends_one g is) (stay g o.Seq is (λ e. absurd (cc))) (alike g o.Seq is (λ e. absurd (cc))) at_changed lock_changed
+  each_by g o.End is known =
+      home_each core image places nestings cycles firsts main setting old (tree_after old ds) spaces nodes nodes' t stages hs ps ds own own' control the_law leads before left has behind round.does round.steps (λ k. is_some (round.does k)) move on next
+      g is known (ends g is) (leaves g is) (parent_same g is) at_changed lock_changed
+  each_by g operation is known = absurd known
+
+  each_here : AnyGoes core image places nestings cycles firsts main setting old (tree_after old ds) spaces nodes nodes' t stages hs ps ds own own' control the_law leads before left has behind.sound behind.spaced round.does round.steps (λ k. is_some (round.does k)) move on next at_changed lock_changed (Steps old round.does Own)
+  each_here m p d step lt land home s0 a locks alone due remains on' =
+      let g = old.places m.number in
+      each_by g step.0 step.1 (round.known g step.0 step.1) m p d (refl, step.2, subst (λ x. OwnBy x g m d) step.1 step.3) lt land home s0 a locks alone due remains on'
+
+  abbrev everybody : HartsGo core image places nestings cycles firsts main setting old (tree_after old ds) spaces nodes nodes' the_law leads behind.spaced behind.sound (later t)
+      (running core image places nestings cycles firsts main setting old (tree_after old ds) spaces nodes nodes' t stages hs ps ds own own' control the_law leads before left has behind.sound behind.spaced round.does round.steps (λ k. is_some (round.does k)) move on next) (actings ds)
+      (λ k. (near core image places nestings cycles firsts main setting old (tree_after old ds) spaces nodes nodes' t stages hs ps ds own own' control the_law leads before left has behind.sound behind.spaced round.does round.steps (λ k. is_some (round.does k)) move on next at_changed lock_changed k).distance)
+      (λ k. (near core image places nestings cycles firsts main setting old (tree_after old ds) spaces nodes nodes' t stages hs ps ds own own' control the_law leads before left has behind.sound behind.spaced round.does round.steps (λ k. is_some (round.does k)) move on next at_changed lock_changed k).soon)
+      0 nodes nodes' left.afters hs ps ds
+  everybody = all core image places nestings cycles firsts main setting old (tree_after old ds) spaces nodes nodes' t stages hs ps ds own own' control the_law leads before left has behind.sound behind.spaced round.does round.steps (λ k. is_some (round.does k)) move on next at_changed lock_changed Own own_here each_here
+
+  -- ---- words that open
+
+  abbrev Meetings : ℕ → ℕ → Type 0
+  Meetings g w =
+      MeetingStays (core_source core setting) image plan blocks plan' blocks' g w
+      ⊎ MeetingOpens (core_source core setting) image plan blocks plan' blocks' g w left.afters everybody.stages control
+
+  resumed_meets : (g : ℕ) → round.does g ≡ Some o.Resume → StepIsKnown old g o.Resume → (w : ℕ) → plan'.in_lockstep g ≡ false → IsOpen plan' g w → Meetings g w
+  resumed_meets zero is known w free is_open =
+      inl
+      (resumed_stays core image places nestings cycles firsts main setting old (tree_after old ds) spaces nodes nodes' t stages hs ps ds own own' control the_law leads before left has behind round.does round.steps (λ k. is_some (round.does k)) move on next
+      known.0.0 known.0.1 known.0.2 (resumes 0 is) (stay 0 o.Resume is (λ e. absurd (cc))) w is_open)
+  resumed_meets (suc g) is known w free is_open =
+      absurd (false≢true (sym free ∙ ap (λ x. is_lockstep (kind_of x)) (resumes (suc g) is) ∙ turned_lock (old.nodes (suc g)) (waits_there (suc g) known)))
+
+  meets_by : (g : ℕ) (operation : Operation) → round.does g ≡ Some operation → StepIsKnown old g operation → (w : ℕ) → plan'.in_lockstep g ≡ false → IsOpen plan' g w → Meetings g w
+  meets_by g o.Resume is known w free is_open = resumed_meets g is known w free is_open
+  meets_by g (o.Meet true) is known w free is_open =
+      absurd (false≢true (sym free ∙ ap (λ x. is_lockstep (kind_of x)) (closes g is) ∙ turned_lock (old.nodes g) (body_there g known)))
+  meets_by g o.Farm is known w free is_open =
+      inr
+      (opens core image places nestings cycles firsts main setting old (tree_after old ds) spaces nodes nodes' t stages hs ps ds own own' control the_law leads before left has behind round.does round.steps (λ k. is_some (round.does k)) move on next
+      g false o.Farm refl is known (sets_free g is) (stay g o.Farm is (λ e. absurd (cc))) (alike g o.Farm is (λ e. absurd (cc))) everybody.stages everybody.changes w is_open)
+  meets_by g o.Seq is known w free is_open =
+      inr
+      (opens core image places nestings cycles firsts main setting old (tree_after old ds) spaces nodes nodes' t stages hs ps ds own own' control the_law leads before left has behind round.does round.steps (λ k. is_some (round.does k)) move on next
+      g true o.Seq refl is known (sends_one g is) (stay g o.Seq is (λ e. absurd (cc))) (alike g o.Seq is (λ e. absurd (cc))) everybody.stages everybody.changes w is_open)
+  meets_by g o.End is known w free is_open =
+      absurd
+      (no_words core image places nestings cycles firsts main setting old (tree_after old ds) spaces nodes nodes' t stages hs ps ds own own' control the_law leads before left has behind round.does round.steps (λ k. is_some (round.does k)) move on next
+      g is known (ends g is) (leaves g is) (parent_same g is) w is_open)
+  meets_by g operation is known w free is_open = absurd known
+
+  pub again : BindsAgain core image places nestings setting old spaces nodes (tree_after old ds) spaces nodes' t hs left.afters ps (all_landed core (owners_after old (tree_after old ds) ds)) control
+  again =
+      bound core image places nestings cycles firsts main setting old (tree_after old ds) spaces nodes nodes' t stages hs ps ds own own' control the_law leads before left has behind.sound behind.spaced round.does round.steps (λ k. is_some (round.does k)) move on next at_changed lock_changed Own own_here each_here
+      (λ k yes w free is_open. let some = some_by (round.does k) yes in meets_by k some.0 some.1 (round.known k some.0 some.1) w free is_open)
 
 pub rounds_bind_again : RoundsBindAgain
 rounds_bind_again core image places nestings cycles firsts main setting tree spaces nodes nodes' t stages earlier hs ps ds own own' control the_law leads before few binds left has known behind there many' on next =
     let plan = plan_of tree spaces nodes in
     let new = tree_after tree ds in
-    let rs = owners_after tree new ds in
     let qs = all_landed core (owners_after tree new ds) in
-    let Again : List ℕ → Type 0 = λ ns. BindsAgain core image places nestings setting tree spaces nodes new spaces ns t hs left.afters ps qs control in
-    let still : AllStay ds → (GroupsGoOn core nestings new nodes left.afters rs → Again nodes) → Again nodes'
-    = λ stay goes.
-    let e = nodes_stay tree ds nodes nodes' before.stand there many' stay in subst Again (sym e) (goes (subst (λ ns. GroupsGoOn core nestings new ns left.afters rs) e next)) in
-    let again : Again nodes'
-    = ⊎_elim
-    (λ keep.
-    still (all_keep_stay ds keep)
-    (λ next'. rounds_keep_trees core image places nestings cycles firsts main setting tree spaces nodes t stages hs ps ds own own' control the_law leads before left has keep on next'))
-    (λ other.
-    ⊎_elim
-    (λ r.
-    still (steps_stay tree 0 0 o.Resume ds refl r.steps)
-    (λ next'.
-    rounds_resume core image places nestings cycles firsts main setting tree spaces nodes t stages hs ps ds own own' control r.first r.parts the_law leads before left has r.kind r.stand r.steps behind on
-    next'))
-    (λ another.
-    ⊎_elim
-    (λ c.
-    still (steps_stay tree c.group 0 (o.Meet true) ds refl c.steps)
-    (λ next'.
-    rounds_close core image places nestings cycles firsts main setting tree spaces nodes t stages earlier hs ps ds own own' control c.group c.alone the_law leads before few binds left has c.kind c.stand
-    c.steps behind on next'))
-    (λ body.
-    ⊎_elim
-    (λ f.
-    still (steps_stay tree f.group 0 o.Farm ds refl f.steps)
-    (λ next'.
-    rounds_set_free core image places nestings cycles firsts main setting tree spaces nodes t stages hs ps ds own own' control f.group the_law leads before left has f.kind f.steps behind on next'))
-    (λ last.
-    ⊎_elim
-    (λ s.
-    still (steps_stay tree s.group 0 o.Seq ds refl s.steps)
-    (λ next'.
-    rounds_send_one core image places nestings cycles firsts main setting tree spaces nodes t stages hs ps ds own own' control s.group the_law leads before left has s.kind s.steps behind on next'))
-    (λ e.
-    rounds_end core image places nestings cycles firsts main setting tree spaces nodes nodes' t stages hs ps ds own own' control e.group the_law leads before left has e.kind e.steps behind there many' on
-    next) last) body) another) other) known in
+    let bound_again = again core image places nestings cycles firsts main setting tree spaces nodes nodes' t stages earlier hs ps ds own own' control the_law leads before few binds left has known behind there
+    many' on next in
     let goes = plan_goes_on (core_source core setting) image plan (blocks_of core image places nestings setting plan (first_of spaces)) (plan_of new spaces nodes')
-    (blocks_of core image places nestings setting (plan_of new spaces nodes') (first_of spaces)) t stages again.stages earlier hs ps qs ds own own' control few binds left has again.changes in
-    record { stages' = again.stages; on = record { changes = again.changes; goes = goes }; due = again.due; soon = again.soon }
+    (blocks_of core image places nestings setting (plan_of new spaces nodes') (first_of spaces)) t stages bound_again.stages earlier hs ps qs ds own own' control few binds left has bound_again.changes in
+    record { stages' = bound_again.stages; on = record { changes = bound_again.changes; goes = goes }; due = bound_again.due; soon = bound_again.soon }

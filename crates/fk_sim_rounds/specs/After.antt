@@ -1,5 +1,5 @@
 -- What a round leaves of processors and of the tree, and what is known of both.
-use Rattle.std.specs.Prelude.{◌≡◌, ◌≢◌, ℕ, suc, List, [], ◌∷◌, map, Bool, true, false, Option, Some}
+use Rattle.std.specs.Prelude.{◌≡◌, ℕ, suc, List, [], ◌∷◌, map, Bool, true, false, Option, Some}
 use Rattle.std.specs.Prelude.{None}
 use Rattle.fk_num.specs.Word.{Memory}
 use Rattle.fk_space.specs.Space.{Space}
@@ -53,16 +53,12 @@ abbrev pub AllKeep : List Doing → Type 0
 AllKeep [] = Unit {0}
 AllKeep (d ∷ ds) = Keeps d.acting.due × AllKeep ds
 
--- All processors at a node do one step, and no other step changes the tree.
 abbrev pub DoesStep : Operation → Option (Step Position) → Type 0
 DoesStep operation due = steps.Does operation due
 
+-- All processors at a node do one step, and no other step changes the tree.
 abbrev pub StepsAt : (old : Tree) → (g number : ℕ) → Operation → List Doing → Type 0
-StepsAt old g number operation [] = Unit {0}
-StepsAt old g number operation (d ∷ ds) =
-    (d.acting.runner.has.number ≡ number) × (old.places number ≡ g
-    → DoesStep operation d.acting.due) × (old.places number ≢ g → Keeps d.acting.due)
-    × StepsAt old g (suc number) operation ds
+StepsAt old g number operation ds = steps.StepsBy old (steps.only g operation) number (actings ds)
 
 -- ---- what is known
 

@@ -1,11 +1,12 @@
 -- Groups that end, and their control words.
-use Rattle.std.specs.Prelude.{◌≡◌, ◌≢◌, ℕ, List, length, None, Some, ◌⊎◌}
+use Rattle.std.specs.Prelude.{◌≡◌, ◌≢◌, ℕ, List, length, Option, None, Some, ◌⊎◌}
 use Rattle.fk_num.specs.Word.{Memory}
 use Rattle.fk_space.specs.Space.{Space}
 use Rattle.fk_tree.specs.declared.node.Kind.TheVariants.{Lockstep}
 use Rattle.fk_tree.specs.Tree as trees
 use Rattle.fk_tree.specs.Tree.{Tree}
 use Rattle.fk_tree.specs.Sound.{IsSound}
+use Rattle.fk_meaning_operation.specs.declared.operation.Operation.{Operation}
 use Rattle.fk_meaning_operation.specs.declared.operation.Operation.TheVariants.{End}
 use Rattle.fk_meaning.specs.Processor.{Setting}
 use Rattle.fk_core.specs.declared.op.CoreOp.{CoreOp}
@@ -19,7 +20,8 @@ use Rattle.fk_sim_block.specs.Stands.{Places}
 use Rattle.fk_sim_block.specs.Node.{Nestings, IsAtRest}
 use Rattle.fk_sim_match.specs.Nodes.{first_of, HaveSpaces, plan_of}
 use Rattle.fk_sim_match.specs.Behind.{blocks_of}
-use Rattle.fk_sim_rounds.specs.After.{tree_after, StepsAt, ArePlaces}
+use Rattle.fk_lockstep_nodes.specs.Steps.{StepsBy}
+use Rattle.fk_sim_rounds.specs.After.{actings, tree_after, ArePlaces}
 use Rattle.fk_sim_rounds.specs.Rounds.{EndsGroup, IsKnownRound}
 
 -- The tree has no node but the root.
@@ -38,12 +40,12 @@ EndedGroupsRest =
     (core : List CoreOp) (image : Image) (places : Places) (nestings : Nestings) (setting : Setting)
     (tree : Tree) (spaces : ℕ → Space) (nodes : List ℕ) (t : MachineSetting) (stages : List Stage)
     (hs : List Hart) (ps : List Owner) (ds : List Doing) (own own' : ℕ → Memory)
-    (control : Memory) (g : ℕ)
+    (control : Memory) (does : ℕ → Option Operation) (g : ℕ)
     → let plan = plan_of tree spaces nodes in
     let blocks = blocks_of core image places nestings setting plan (first_of spaces) in
     HaveSpaces tree spaces → IsSound setting.processors tree → ArePlaces tree 0 nodes
     → length nodes ≡ setting.processors
     → IsLeft (core_source core setting) image plan blocks t stages hs ps ds own own'
     → ((k : ℕ) → Has (plan.words k) control (own' k))
-    → trees.kind tree g ≡ Some Lockstep → StepsAt tree g 0 End ds
+    → trees.kind tree g ≡ Some Lockstep → StepsBy tree does 0 (actings ds) → does g ≡ Some End
     → IsAtRest (first_of spaces g) control

@@ -8,8 +8,6 @@ ghost use Rattle.fk_sim_rounds.specs.Program.{GroupsHaveNext};
 ghost use Rattle.fk_sim_rounds.specs.Start.{CyclesComeToStart, RoundsStart};
 ghost use Rattle.fk_sim_rounds.specs.Unite.{CyclesUnite};
 ghost use Rattle.fk_sim_rounds.specs.Rest.{KnownRoundsKeepGroups, EndedGroupsRest};
-ghost use Rattle.fk_sim_rounds.specs.Rounds.{RoundsKeepTrees, RoundsResume, RoundsClose};
-ghost use Rattle.fk_sim_rounds.specs.Rounds.{RoundsSetFree, RoundsSendOne, RoundsEnd};
 ghost use Rattle.fk_sim_rounds.specs.Rounds.{RoundsBindAgain};
 ghost use Rattle.fk_sim_rounds.specs.Beside.{LandedRunsAreRuns};
 ghost use Rattle.fk_sim_rounds.specs.Results.{CyclesAreResults, CutsAreFaults};
@@ -54,42 +52,6 @@ pub fn groups_come_to_commits()
 /// the same branch.
 pub fn groups_have_next()
     ensures { GroupsHaveNext }
-{}
-
-/// After a round in which no step changes the tree the plan binds all harts again, whether its
-/// processors did local operations, requests, agrees, barriers or halts.
-pub fn rounds_keep_trees()
-    ensures { RoundsKeepTrees }
-{}
-
-/// After the round in which all processors, back from the group of `start`, go on by themselves,
-/// the plan binds all harts again.
-pub fn rounds_resume()
-    ensures { RoundsResume }
-{}
-
-/// After the round in which the members of a group meet at the end of its body, and are in lockstep
-/// again, the plan binds all harts again.
-pub fn rounds_close()
-    ensures { RoundsClose }
-{}
-
-/// After the round in which a group comes to the body of a `farm` the plan binds all harts again:
-/// each of its members goes on by itself.
-pub fn rounds_set_free()
-    ensures { RoundsSetFree }
-{}
-
-/// After the round in which a group comes to a `seq` the plan binds all harts again: its lowest
-/// member runs the body, and the others wait for it.
-pub fn rounds_send_one()
-    ensures { RoundsSendOne }
-{}
-
-/// After the round in which the group of `start` ends the plan binds all harts again: its members
-/// are back in the root, each by itself.
-pub fn rounds_end()
-    ensures { RoundsEnd }
 {}
 
 /// Where the plan of a tree binds all harts before the cycle in which the last of all processors
