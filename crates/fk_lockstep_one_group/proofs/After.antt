@@ -25,7 +25,8 @@ use Rattle.fk_lockstep.proofs.Nodes.{n_nodes, other_nodes, gone as leaves, away 
 use Rattle.fk_lockstep.proofs.Round.{first_is, lowest_member, at_below, settled_length}
 use Rattle.fk_lockstep_one_group.specs.Where.{Where, InRoot, Waits, InGroup, InBody, BehindBody, goes, Goes}
 use Rattle.fk_lockstep_one_group.specs.Placed.{where_in, where_at, HasNoGroup, HasGroup, IsOfOneGroup, HasLevels, IsPlaced, HasOneGroup}
-use Rattle.fk_lockstep_one_group.specs.Steps.{Keeps, Does, AllKeep, StepsAt, MayStep}
+use Rattle.fk_lockstep_nodes.specs.Steps.{Keeps, Does}
+use Rattle.fk_lockstep_one_group.specs.Steps.{AllKeep, StepsAt, MayStep}
 use Rattle.fk_lockstep_one_group.specs.Rounds.{stepping, IsRound, RoundsKeepOneGroup}
 use Rattle.fk_lockstep_one_group.proofs.Moves.{keeps_place, keeps_tree, does_same, levels_stay, goes_on, goes_to}
 use Rattle.fk_lockstep_one_group.proofs.Acts.{IsDue, result_is}
@@ -225,8 +226,8 @@ module _ {W : Type 0} (next : W → Option (Step W)) (set : Setting) (round : Ro
   waits_there tree h group parts at e = at_node tree h 0 (Waiting group parts) at e
 
   -- where nobody changes the tree
-  all_kept : AllKeep actors → Behind old
-  all_kept keeps = record { shape = is.one_group.tree; each = λ h a lt. quiet old h a (keep_at actors h a.acting keeps a.at) refl }
+  all_kept : AllKeep old 0 actors → Behind old
+  all_kept keeps = record { shape = is.one_group.tree; each = λ h a lt. quiet old h a (keep_at old 0 actors h a.acting keeps a.at) refl }
 
   -- where those at one node do a step
   module _ (g : ℕ) (op : Operation) (stand : (h : ℕ) → Has old g h → old.places h ≡ g) (steps : StepsAt old g 0 op actors) where
@@ -603,7 +604,7 @@ module _ {W : Type 0} (next : W → Option (Step W)) (set : Setting) (round : Ro
   behind : Behind new
   behind =
       ⊎_elim
-      (λ keeps. subst Behind (sym (all_keep actors old actors old keeps)) (all_kept keeps))
+      (λ keeps. subst Behind (sym (all_keep actors old 0 actors old keeps)) (all_kept keeps))
       (λ one.
       let there' = may_there one.node one.operation one.may in
       let n = some_member one.node there' in

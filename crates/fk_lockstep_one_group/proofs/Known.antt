@@ -1,8 +1,8 @@
 -- Who steps in a round of a program with one group at a time.
-use Rattle.std.proofs.Common.{◌≡◌, ◌≢◌, ◌⊎◌, inl, inr, ⊎_elim, ℕ, zero, suc, ◌+◌, ◌<◌, ◌&&◌, ◌==◌, Bool, true, false, List, [], ◌∷◌, length, slice_get, Option, Some, None, refl, sym, ap, ◌∙◌, subst, arith}
+use Rattle.std.proofs.Common.{◌≡◌, ◌≢◌, ◌⊎◌, inl, inr, ⊎_elim, ℕ, zero, suc, ◌+◌, ◌<◌, ◌&&◌, ◌==◌, Bool, true, false, List, [], ◌∷◌, length, slice_get, Option, Some, None, refl, sym, ap, ◌∙◌, subst, arith, eq-eqb, if◌then◌else◌}
 use Rattle.std.specs.Prelude.{slice_index, is_none}
 use Rattle.std.specs.List.{list_all}
-use Rattle.std.proofs.lemmas.Bool.{cases_Bool, cases_eq, and_parts, eqb-true, false≢true}
+use Rattle.std.proofs.lemmas.Bool.{cases_Bool, cases_eq, and_parts, eqb-true, ne_eqb, false≢true}
 use Rattle.fk_meaning_operation.specs.Kinds.{class_of, joint_of}
 use Rattle.fk_meaning_operation.specs.declared.kinds.Class.TheVariants as class
 use Rattle.fk_meaning_operation.specs.declared.kinds.Joint.{Joint}
@@ -22,7 +22,8 @@ use Rattle.fk_lockstep.specs.Untouched.{changes_tree}
 use Rattle.fk_lockstep.proofs.Round.{first_is, all_at, at_below}
 use Rattle.fk_lockstep_one_group.specs.Where.{Where, InRoot, Waits, InGroup, InBody, BehindBody, goes}
 use Rattle.fk_lockstep_one_group.specs.Placed.{where_in, where_at, HasNoGroup, HasGroup, IsPlaced}
-use Rattle.fk_lockstep_one_group.specs.Steps.{Keeps, Does, AllKeep, StepsAt, MayStep, AreKnown}
+use Rattle.fk_lockstep_nodes.specs.Steps.{Keeps, Does, KeepsOrDoes, only}
+use Rattle.fk_lockstep_one_group.specs.Steps.{AllKeep, StepsAt, MayStep, AreKnown}
 use Rattle.fk_lockstep_one_group.specs.Rounds.{stepping, IsRound, RoundsAreKnown}
 use Rattle.fk_lockstep_one_group.proofs.Moves.{root_begins, waiters_resume, group_steps, bodies_meet, others_meet, joint_tells, not_alone, joint_is_step, goes_on}
 use Rattle.fk_lockstep_one_group.proofs.Acts.{does_at, Acts, acts, counts_as, due_at, fits_at, stepping_length}
@@ -95,7 +96,12 @@ due_keeps : {W : Type 0} (due : Option (Step W)) → Keeps due ⊎ ((step : Step
 due_keeps None = inl tt
 due_keeps (Some step) = ⊎_elim (λ e. inr (step, refl, e)) (λ e. inl e) (cases_Bool (changes_tree step.operation))
 
-pub somebody : {W : Type 0} (actings : List (Acting W)) → AllKeep actings ⊎ Changes actings
+-- none of them changes the tree
+abbrev pub NoneChanges : {W : Type 0} → List (Acting W) → Type 0
+NoneChanges [] = Unit {0}
+NoneChanges (a ∷ actings) = Keeps a.due × NoneChanges actings
+
+pub somebody : {W : Type 0} (actings : List (Acting W)) → NoneChanges actings ⊎ Changes actings
 somebody [] = inl tt
 somebody (a ∷ actings) =
     ⊎_elim
@@ -111,6 +117,25 @@ pub record At {W : Type 0} (tree : Tree) (g : ℕ) (operation : Operation) (h : 
   pub does : tree.places h ≡ g → Does operation b.due
   pub keeps : tree.places h ≢ g → Keeps b.due
 
+-- a step of a node is that of its members
+pub step_by : {W : Type 0} (tree : Tree) (g : ℕ) (operation : Operation) (h : ℕ) (due : Option (Step W)) → (tree.places h ≡ g → Does operation due) → (tree.places h ≢ g → Keeps due)
+    → KeepsOrDoes (only g operation (tree.places h)) due
+step_by tree g operation h due does keeps =
+    ⊎_elim
+    (λ e. subst (λ (x : Option Operation). KeepsOrDoes x due) (sym (ap (λ (b : Bool). if b then Some operation else None) (eq-eqb (tree.places h) g e))) (does e))
+    (λ ne. subst (λ (x : Option Operation). KeepsOrDoes x due) (sym (ap (λ (b : Bool). if b then Some operation else None) (ne_eqb (tree.places h) g ne))) (keeps ne))
+    (cases_eq (tree.places h) g)
+
+all_keep : {W : Type 0} (tree : Tree) (number : ℕ) (actings : List (Acting W)) → ((i : ℕ) (b : Acting W) → slice_get actings i ≡ Some b → b.runner.has.number ≡ number + i) → NoneChanges actings
+    → AllKeep tree number actings
+all_keep tree number [] numbers keeps = tt
+all_keep tree number (a ∷ actings) numbers keeps =
+    let first = numbers 0 a refl in (
+      first ∙ omega arith,
+      keeps.0,
+      all_keep tree (suc number) actings (λ i b at. numbers (suc i) b at ∙ omega arith) keeps.1,
+    )
+
 all_step : {W : Type 0} (tree : Tree) (g number : ℕ) (operation : Operation) (actings : List (Acting W))
     → ((i : ℕ) (b : Acting W) → slice_get actings i ≡ Some b → At tree g operation (number + i) b) → StepsAt tree g number operation actings
 all_step tree g number operation [] each = tt
@@ -118,8 +143,7 @@ all_step tree g number operation (a ∷ actings) each =
     let zero_more : number + 0 ≡ number = omega arith in
     let first = subst (λ (n : ℕ). At tree g operation n a) zero_more (each 0 a refl) in (
       first.number,
-      first.does,
-      first.keeps,
+      step_by tree g operation number a.due first.does first.keeps,
       all_step tree g (suc number) operation actings
           (λ i b at. let more : number + suc i ≡ suc number + i = omega arith in subst (λ (n : ℕ). At tree g operation n b) more (each (suc i) b at)),
     )
@@ -279,6 +303,19 @@ module _ {W : Type 0} (next : W → Option (Step W)) (set : Setting) (round : Ro
       (subst (λ (x : Acting W). At s.tree g op i x) same
       (record { number = number_at i a; does = λ e. does i a (member_at i g lt e); keeps = λ ne. keeps i a lt ne })))
 
+  none_steps : NoneChanges actors → AllKeep s.tree 0 actors
+  none_steps keeps =
+      all_keep s.tree 0 actors
+      (λ i b at.
+      let size = many in
+      let below = at_below actors i b at in
+      let lt : i < set.processors = omega (arith, size, below) in
+      let a = act i lt in
+      let same : a.acting ≡ b = first_is a.acting b (sym a.at ∙ at) in
+      let none : i ≡ 0 + i = omega arith in
+      ap (λ (x : Acting W). x.runner.has.number) (sym same) ∙ number_at i a ∙ none)
+      keeps
+
   step_known : (g : ℕ) (op : Operation) → MayStep s.tree g op → ((h : ℕ) → Has s.tree g h → s.tree.places h ≡ g) → ((h : ℕ) (a : Act h) → Has s.tree g h → Does op a.acting.due)
       → ((h : ℕ) (a : Act h) → h < set.processors → s.tree.places h ≢ g → Keeps a.acting.due) → AreKnown s.tree actors
   step_known g op may stand does keeps = inr (record { node = g; operation = op; may = may; stand = stand; steps = steps_at g op does keeps })
@@ -403,7 +440,7 @@ module _ {W : Type 0} (next : W → Option (Step W)) (set : Setting) (round : Ro
 
   pub known : AreKnown s.tree actors
   known =
-      ⊎_elim (λ keeps. inl keeps)
+      ⊎_elim (λ keeps. inl (none_steps keeps))
       (λ c.
       let size = many in
       let below = at_below actors c.index c.acting c.at in

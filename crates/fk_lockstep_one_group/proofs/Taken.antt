@@ -18,7 +18,8 @@ use Rattle.fk_lockstep.proofs.Rounds.{settled_at}
 use Rattle.fk_lockstep.proofs.Round.{all_at, lowest_member}
 use Rattle.fk_lockstep_one_group.specs.Where.{Where, InRoot, Waits, InGroup, goes, Goes}
 use Rattle.fk_lockstep_one_group.specs.Placed.{HasGroup}
-use Rattle.fk_lockstep_one_group.specs.Steps.{Does, AllKeep, MayStep, OneSteps}
+use Rattle.fk_lockstep_nodes.specs.Steps.{Does}
+use Rattle.fk_lockstep_one_group.specs.Steps.{AllKeep, MayStep, OneSteps}
 use Rattle.fk_lockstep_one_group.specs.Rounds.{IsRound, HaveCount, RoundsTakeGroups}
 use Rattle.fk_lockstep_one_group.proofs.Moves.{waiters_resume, goes_on, ends_in_root}
 use Rattle.fk_lockstep_one_group.proofs.Acts.{counts_as, fits_at, result_is}
@@ -96,8 +97,8 @@ module _ {W : Type 0} (next : W → Option (Step W)) where
           (λ one. inl (λ h has. same_count low h (lowest_member h ms has) has one))
           (count_of low)
 
-    kept : AllKeep stepping → behind ≡ s.tree
-    kept keeps = ap (λ (u : State W). u.tree) (result_is next set round s is.single is.possible) ∙ all_keep stepping s.tree stepping s.tree keeps
+    kept : AllKeep s.tree 0 stepping → behind ≡ s.tree
+    kept keeps = ap (λ (u : State W). u.tree) (result_is next set round s is.single is.possible) ∙ all_keep stepping s.tree 0 stepping s.tree keeps
 
     module _ (g : ℕ) (sound : IsSound set.processors behind) (locked : kind behind g ≡ Some Lockstep) where
       -- who isn't in the round isn't in a group behind it that it waits for

@@ -2,32 +2,26 @@
 use Rattle.std.proofs.Common.{◌≡◌, ◌≢◌, ⊎_elim, ℕ, zero, suc, ◌+◌, ◌<◌, ◌≤◌, ◌==◌, Bool, true, false, List, [], ◌∷◌, length, slice_get, Option, Some, None, refl, sym, ap, ◌∙◌, subst, arith, eq-eqb, if◌then◌else◌}
 use Rattle.std.proofs.lemmas.Bool.{cases_eq, ne_eqb}
 use Rattle.fk_meaning_operation.specs.declared.operation.Operation.{Operation}
-use Rattle.fk_meaning_operation.specs.declared.operation.Operation.TheVariants as o
 use Rattle.fk_tree.specs.Tree.{Tree, members}
 use Rattle.fk_tree.specs.Sound.{Has, IsSound}
-use Rattle.fk_meaning.specs.Processor.{Processor}
 use Rattle.fk_meaning.specs.Group.{changes}
 use Rattle.fk_meaning.specs.Round.{Step, Acting, lowest, who, agreed, change_by, all_changes}
-use Rattle.fk_lockstep.specs.Untouched.{changes_tree}
 use Rattle.fk_lockstep.proofs.Round.{lowest_member}
-use Rattle.fk_lockstep_one_group.specs.Steps.{Keeps, Does, AllKeep, StepsAt}
+use Rattle.fk_lockstep_nodes.specs.Steps.{Keeps, Does, KeepsOrDoes, only}
+use Rattle.fk_lockstep_nodes.proofs.Local.{step_keeps}
+use Rattle.fk_lockstep_one_group.specs.Steps.{AllKeep, StepsAt}
 use Rattle.fk_lockstep_one_group.proofs.Known.{At}
-
-keeps_it : (op : Operation) (n : ℕ) (whose : ℕ → Processor) (highest low : ℕ) (tree : Tree) → changes_tree op ≡ false → changes op n whose highest low tree ≡ tree
-keeps_it o.Begin n whose highest low tree e = absurd (cc)
-keeps_it (o.Split by) n whose highest low tree e = absurd (cc)
-keeps_it o.Shrink n whose highest low tree e = absurd (cc)
-keeps_it o.End n whose highest low tree e = absurd (cc)
-keeps_it o.Farm n whose highest low tree e = absurd (cc)
-keeps_it o.Seq n whose highest low tree e = absurd (cc)
-keeps_it (o.Meet true) n whose highest low tree e = absurd (cc)
-keeps_it (o.Meet false) n whose highest low tree e = refl
-keeps_it o.Resume n whose highest low tree e = absurd (cc)
-keeps_it op n whose highest low tree e = refl
 
 either_tree : (b : Bool) (x y : Tree) → x ≡ y → (if b then x else y) ≡ y
 either_tree true x y e = e
 either_tree false x y e = refl
+
+-- of one processor, where a node steps
+pub one_at : {W : Type 0} (old : Tree) (g : ℕ) (operation : Operation) (k : ℕ) (due : Option (Step W)) → KeepsOrDoes (only g operation (old.places k)) due → old.places k ≡ g → Does operation due
+one_at old g operation k due step e = subst (λ (x : Option Operation). KeepsOrDoes x due) (ap (λ (b : Bool). if b then Some operation else None) (eq-eqb (old.places k) g e)) step
+
+pub none_at : {W : Type 0} (old : Tree) (g : ℕ) (operation : Operation) (k : ℕ) (due : Option (Step W)) → KeepsOrDoes (only g operation (old.places k)) due → old.places k ≢ g → Keeps due
+none_at old g operation k due step ne = subst (λ (x : Option Operation). KeepsOrDoes x due) (ap (λ (b : Bool). if b then Some operation else None) (ne_eqb (old.places k) g ne)) step
 
 module _ {W : Type 0} (actors : List (Acting W)) (old : Tree) where
   change_keeps : (h : ℕ) (due : Option (Step W)) (tree : Tree) → Keeps due → change_by actors old h due tree ≡ tree
@@ -35,12 +29,12 @@ module _ {W : Type 0} (actors : List (Acting W)) (old : Tree) where
   change_keeps h (Some step) tree keeps =
       let n = old.places h in
       let ms = members old n in
-      either_tree (h == lowest ms) (changes step.operation n (who actors) (agreed actors ms) h tree) tree (keeps_it step.operation n (who actors) (agreed actors ms) h tree keeps)
+      either_tree (h == lowest ms) (changes step.operation n (who actors) (agreed actors ms) h tree) tree (step_keeps n (who actors) (agreed actors ms) h step.operation tree keeps)
 
-  pub all_keep : (others : List (Acting W)) (tree : Tree) → AllKeep others → all_changes actors old others tree ≡ tree
-  all_keep [] tree keeps = refl
-  all_keep (a ∷ others) tree keeps =
-      ap (λ (x : Tree). all_changes actors old others x) (change_keeps a.runner.has.number a.due tree keeps.0) ∙ all_keep others tree keeps.1
+  pub all_keep : (number : ℕ) (others : List (Acting W)) (tree : Tree) → AllKeep old number others → all_changes actors old others tree ≡ tree
+  all_keep number [] tree keeps = refl
+  all_keep number (a ∷ others) tree keeps =
+      ap (λ (x : Tree). all_changes actors old others x) (change_keeps a.runner.has.number a.due tree keeps.1) ∙ all_keep (suc number) others tree keeps.2
 
   module _ (g : ℕ) (operation : Operation) (h : ℕ) (low : h ≡ lowest (members old g)) (at : old.places h ≡ g) where
     -- what the lowest member brings to the tree
@@ -72,8 +66,8 @@ module _ {W : Type 0} (actors : List (Acting W)) (old : Tree) where
     past number (a ∷ others) tree steps lt =
         let same = steps.0 in
         ap (λ (x : Tree). all_changes actors old others x)
-        (ap (λ (k : ℕ). change_by actors old k a.due tree) same ∙ not_lowest number a.due tree (λ e. omega (arith, e, lt)) steps.1 steps.2)
-        ∙ past (suc number) others tree steps.3 (omega (arith, lt))
+        (ap (λ (k : ℕ). change_by actors old k a.due tree) same ∙ not_lowest number a.due tree (λ e. omega (arith, e, lt)) (one_at old g operation number a.due steps.1) (none_at old g operation number a.due steps.1))
+        ∙ past (suc number) others tree steps.2 (omega (arith, lt))
 
     one_changes : (number : ℕ) (others : List (Acting W)) (tree : Tree) → StepsAt old g number operation others → number ≤ h → h < number + length others
         → all_changes actors old others tree ≡ changed tree
@@ -83,12 +77,12 @@ module _ {W : Type 0} (actors : List (Acting W)) (old : Tree) where
         ⊎_elim
         (λ e.
         ap (λ (x : Tree). all_changes actors old others x)
-        (ap (λ (k : ℕ). change_by actors old k a.due tree) (same ∙ e) ∙ is_lowest a.due tree (steps.1 (ap old.places e ∙ at)))
-        ∙ past (suc number) others (changed tree) steps.3 (omega (arith, e)))
+        (ap (λ (k : ℕ). change_by actors old k a.due tree) (same ∙ e) ∙ is_lowest a.due tree (one_at old g operation number a.due steps.1 (ap old.places e ∙ at)))
+        ∙ past (suc number) others (changed tree) steps.2 (omega (arith, e)))
         (λ ne.
         ap (λ (x : Tree). all_changes actors old others x)
-        (ap (λ (k : ℕ). change_by actors old k a.due tree) same ∙ not_lowest number a.due tree (λ e. ne e) steps.1 steps.2)
-        ∙ one_changes (suc number) others tree steps.3 (omega (arith, le, ne)) (omega (arith, lt))) (cases_eq number h)
+        (ap (λ (k : ℕ). change_by actors old k a.due tree) same ∙ not_lowest number a.due tree (λ e. ne e) (one_at old g operation number a.due steps.1) (none_at old g operation number a.due steps.1))
+        ∙ one_changes (suc number) others tree steps.2 (omega (arith, le, ne)) (omega (arith, lt))) (cases_eq number h)
 
 -- the lowest of those who stand at a node brings its step to the tree
 pub step_is_brought : {W : Type 0} (p : ℕ) (old : Tree) → IsSound p old → (g : ℕ) (operation : Operation) (actors : List (Acting W)) → ((h : ℕ) → Has old g h → old.places h ≡ g) → length actors ≡ p
@@ -108,12 +102,12 @@ step_at old g number operation (a ∷ actings) zero b steps at =
     let same : a ≡ b = cc in
     let none : number ≡ number + 0 = omega arith in
     subst (λ (n : ℕ). At old g operation n b) none
-    (subst (λ (x : Acting _). At old g operation number x) same (record { number = steps.0; does = steps.1; keeps = steps.2 }))
+    (subst (λ (x : Acting _). At old g operation number x) same (record { number = steps.0; does = one_at old g operation number a.due steps.1; keeps = none_at old g operation number a.due steps.1 }))
 step_at old g number operation (a ∷ actings) (suc i) b steps at =
     let more : suc number + i ≡ number + suc i = omega arith in
-    subst (λ (n : ℕ). At old g operation n b) more (step_at old g (suc number) operation actings i b steps.3 at)
+    subst (λ (n : ℕ). At old g operation n b) more (step_at old g (suc number) operation actings i b steps.2 at)
 
-pub keep_at : {W : Type 0} (actings : List (Acting W)) (i : ℕ) (b : Acting W) → AllKeep actings → slice_get actings i ≡ Some b → Keeps b.due
-keep_at [] i b keeps at = absurd (cc)
-keep_at (a ∷ actings) zero b keeps at = let same : a ≡ b = cc in subst (λ (x : Acting _). Keeps x.due) same keeps.0
-keep_at (a ∷ actings) (suc i) b keeps at = keep_at actings i b keeps.1 at
+pub keep_at : {W : Type 0} (old : Tree) (number : ℕ) (actings : List (Acting W)) (i : ℕ) (b : Acting W) → AllKeep old number actings → slice_get actings i ≡ Some b → Keeps b.due
+keep_at old number [] i b keeps at = absurd (cc)
+keep_at old number (a ∷ actings) zero b keeps at = let same : a ≡ b = cc in subst (λ (x : Acting _). Keeps x.due) same keeps.1
+keep_at old number (a ∷ actings) (suc i) b keeps at = keep_at old (suc number) actings i b keeps.2 at

@@ -1,36 +1,22 @@
 -- The steps of the tree that processors do together.
-use Rattle.std.specs.Prelude.{◌≡◌, ◌≢◌, ℕ, suc, Bool, true, false, List, [], ◌∷◌, Option, Some}
-use Rattle.std.specs.Prelude.{◌⊎◌}
+use Rattle.std.specs.Prelude.{◌≡◌, ◌≢◌, ℕ, Bool, true, false, List, Some, None, ◌⊎◌}
 use Rattle.fk_tree.specs.declared.node.Kind.TheVariants.{Lockstep, Waiting, Asynchronous}
 use Rattle.fk_tree.specs.Tree as t
 use Rattle.fk_tree.specs.Tree.{Tree}
 use Rattle.fk_tree.specs.Sound.{Has}
 use Rattle.fk_meaning_operation.specs.declared.operation.Operation.{Operation}
 use Rattle.fk_meaning_operation.specs.declared.operation.Operation.TheVariants as o
-use Rattle.fk_meaning.specs.Round.{Step, Acting}
-use Rattle.fk_lockstep_nodes.specs.Steps as nodes
+use Rattle.fk_meaning.specs.Round.{Acting}
+use Rattle.fk_lockstep_nodes.specs.Steps.{StepsBy, only}
 
 module _ {W : Type 0} where
-  -- the due operation doesn't change the tree
-  abbrev pub Keeps : Option (Step W) → Type 0
-  Keeps due = nodes.Keeps due
+  -- no processor changes the tree. The numbers of the processors begin with `number`
+  abbrev pub AllKeep : Tree → (number : ℕ) → List (Acting W) → Type 0
+  AllKeep old number actings = StepsBy old (λ g. None) number actings
 
-  -- the due operation is this one
-  abbrev pub Does : Operation → Option (Step W) → Type 0
-  Does operation due = nodes.Does operation due
-
-  abbrev pub AllKeep : List (Acting W) → Type 0
-  AllKeep [] = Unit {0}
-  AllKeep (a ∷ actings) = Keeps a.due × AllKeep actings
-
-  -- all processors at a node do one operation, and no other processor changes the tree. The numbers
-  -- of the processors begin with `number`
+  -- all processors at a node do one operation, and no other processor changes the tree
   abbrev pub StepsAt : Tree → (g number : ℕ) → Operation → List (Acting W) → Type 0
-  StepsAt old g number operation [] = Unit {0}
-  StepsAt old g number operation (a ∷ actings) =
-      (a.runner.has.number ≡ number) × (old.places number ≡ g → Does operation a.due)
-      × (old.places number ≢ g → Keeps a.due)
-      × StepsAt old g (suc number) operation actings
+  StepsAt old g number operation actings = StepsBy old (only g operation) number actings
 
 -- the nodes at which steps may change the tree: all processors begin in the root, and resume there;
 -- a group comes to a body, or ends; the processors that have a body meet
@@ -54,4 +40,4 @@ module _ {W : Type 0} (tree : Tree) (actings : List (Acting W)) where
     pub steps : StepsAt tree node 0 operation actings
 
   abbrev pub AreKnown : Type 0
-  AreKnown = AllKeep actings ⊎ OneSteps
+  AreKnown = AllKeep tree 0 actings ⊎ OneSteps

@@ -1,6 +1,7 @@
 -- The rounds of machines are known ones.
-use Rattle.std.proofs.Common.{◌≡◌, ◌⊎◌, inl, inr, ⊎_elim, ℕ, zero, suc, ◌≤◌, ◌&&◌, true, false, List, [], ◌∷◌, map, slice_get, Option, Some, None, refl, sym, ap, ◌∙◌, subst, arith}
-use Rattle.std.specs.Prelude.{is_none}
+use Rattle.std.proofs.Common.{◌≡◌, ◌⊎◌, inl, inr, ⊎_elim, ℕ, zero, suc, ◌≤◌, ◌&&◌, ◌==◌, Bool, true, false, List, [], ◌∷◌, map, slice_get, Option, Some, None, refl, sym, ap, ◌∙◌, subst, arith}
+use Rattle.std.specs.Prelude.{is_none, if◌then◌else◌}
+use Rattle.std.proofs.lemmas.Bool.{eqb-true}
 use Rattle.std.proofs.lemmas.List.{length-map}
 use Rattle.fk_meaning_operation.specs.declared.operation.Operation.{Operation}
 use Rattle.fk_meaning_operation.specs.declared.operation.Operation.TheVariants as o
@@ -21,9 +22,10 @@ use Rattle.fk_lockstep_one_group.specs.Rounds.{IsSingle, stepping}
 use Rattle.fk_lockstep_one_group.proofs.Known.{rounds_are_known}
 use Rattle.fk_lockstep.proofs.Round.{first_is}
 use Rattle.fk_sim_block.specs.Owner.{Commons, Owner, Doing, core_source}
-use Rattle.fk_sim_rounds.specs.After.{actings, Keeps, AllKeep, DoesStep, StepsAt}
+use Rattle.fk_lockstep_nodes.specs.Steps.{only}
+use Rattle.fk_sim_rounds.specs.After.{actings, StepsAt}
 use Rattle.fk_sim_rounds.specs.Next.{JumpsLead}
-use Rattle.fk_sim_rounds.specs.Rounds.{IsKnownRound}
+use Rattle.fk_sim_rounds.specs.Rounds.{StepIsKnown, IsKnownRound}
 use Rattle.fk_sim_rounds.specs.Beside.{landed_runner, landed_state, AreInOrder, IsBeside}
 use Rattle.fk_sim_rounds.proofs.Landed.{next_landed, results_land, allowed_land}
 use Rattle.fk_sim_rounds.proofs.Results.{actings_same, all_passed}
@@ -43,26 +45,20 @@ counts_single (s ∷ stages) (suc h) = counts_single stages h
 
 -- ---- those who step, as machines have them
 
-keeps_so : (due : Option (Step Position)) → one.Keeps due → Keeps due
-keeps_so None k = tt
-keeps_so (Some step) k = k
+at_only : (g k : ℕ) (x operation : Operation) → only g x k ≡ Some operation → (k ≡ g) × (x ≡ operation)
+at_only g k x operation e = by (k == g) refl e
+  where
+    by : (b : Bool) → (k == g) ≡ b → (if b then Some x else None) ≡ Some operation → (k ≡ g) × (x ≡ operation)
+    by true is e = (eqb-true k g is, cc)
+    by false is e = absurd (cc)
 
-keep_so : (ds : List Doing) → one.AllKeep (actings ds) → AllKeep ds
-keep_so [] keep = tt
-keep_so (d ∷ ds) keep = (keeps_so d.acting.due keep.0, keep_so ds keep.1)
-
-does_so : (op : Operation) (due : Option (Step Position)) → one.Does op due → DoesStep op due
-does_so op None does = absurd does
-does_so op (Some step) does = does
-
-steps_so : (tree : Tree) (g number : ℕ) (op : Operation) (ds : List Doing) → one.StepsAt tree g number op (actings ds) → StepsAt tree g number op ds
-steps_so tree g number op [] steps = tt
-steps_so tree g number op (d ∷ ds) steps = (
-  steps.0,
-  (λ e. does_so op d.acting.due (steps.1 e)),
-  (λ ne. keeps_so d.acting.due (steps.2 ne)),
-  steps_so tree g (suc number) op ds steps.3,
-)
+-- a round in which one node steps
+one_step : (tree : Tree) (ds : List Doing) (g : ℕ) (op : Operation) → StepsAt tree g 0 op ds → StepIsKnown tree g op → IsKnownRound tree ds
+one_step tree ds g op steps known = record {
+  does = only g op;
+  steps = steps;
+  known = λ k x e. let at = at_only g k op x e in subst (λ j. StepIsKnown tree j x) (sym at.0) (subst (StepIsKnown tree g) at.1 known);
+}
 
 abbrev IsKnown : Tree → List Doing → Type 0
 IsKnown tree ds = IsKnownRound tree ds ⊎ BeginsGroup tree ds
@@ -76,25 +72,17 @@ step_so tree ds g o.Begin may stand steps =
       stand = subst (λ n. (h : ℕ) → trees.is_member h (trees.members tree n) ≡ true → tree.places h ≡ n) zero_is stand;
       steps = subst (λ n. StepsAt tree n 0 o.Begin ds) zero_is steps;
     })
-step_so tree ds g o.Resume may stand steps =
-    let zero_is = may.0 in
-    inl (inr (inl (record {
-      first = may.1.0;
-      parts = 1;
-      kind = subst (λ n. trees.kind tree n ≡ Some (Waiting may.1.0 1)) zero_is may.1.1;
-      stand = subst (λ n. (h : ℕ) → trees.is_member h (trees.members tree n) ≡ true → tree.places h ≡ n) zero_is stand;
-      steps = subst (λ n. StepsAt tree n 0 o.Resume ds) zero_is steps;
-    })))
-step_so tree ds g (o.Meet true) may stand steps = inl (inr (inr (inl (record { group = g; alone = may.1.0; kind = may.1.1; stand = stand; steps = steps }))))
-step_so tree ds g o.Farm may stand steps = inl (inr (inr (inr (inl (record { group = g; kind = may; steps = steps })))))
-step_so tree ds g o.Seq may stand steps = inl (inr (inr (inr (inr (inl (record { group = g; kind = may; steps = steps }))))))
-step_so tree ds g o.End may stand steps = inl (inr (inr (inr (inr (inr (record { group = g; kind = may; steps = steps }))))))
+step_so tree ds g o.Resume may stand steps = inl (one_step tree ds g o.Resume steps ((may.1.0, 1, may.1.1), stand))
+step_so tree ds g (o.Meet true) may stand steps = inl (one_step tree ds g (o.Meet true) steps ((may.1.0, may.1.1), stand))
+step_so tree ds g o.Farm may stand steps = inl (one_step tree ds g o.Farm steps may)
+step_so tree ds g o.Seq may stand steps = inl (one_step tree ds g o.Seq steps may)
+step_so tree ds g o.End may stand steps = inl (one_step tree ds g o.End steps may)
 step_so tree ds g (o.Meet false) may stand steps = absurd may
 step_so tree ds g op may stand steps = absurd may
 
 known_so : (tree : Tree) (ds : List Doing) → one.AreKnown tree (actings ds) → IsKnown tree ds
 known_so tree ds known =
-    ⊎_elim (λ keep. inl (inl (keep_so ds keep))) (λ s. step_so tree ds s.node s.operation s.may s.stand (steps_so tree s.node 0 s.operation ds s.steps)) known
+    ⊎_elim (λ keep. inl (record { does = λ g. None; steps = keep; known = λ g op e. absurd (cc) })) (λ s. step_so tree ds s.node s.operation s.may s.stand s.steps) known
 
 -- ---- a state whose processors are at their operations
 

@@ -26,6 +26,7 @@ use Rattle.fk_sim_match.specs.Nodes.{is_lockstep}
 use Rattle.fk_sim_match.specs.Rounds.{joint_at_word, ending_of, IsDueAt, AllDue}
 use Rattle.fk_sim_rounds.specs.Next.{JumpsLead, AllAbout}
 use Rattle.fk_sim_rounds.specs.After.{runners_of, DoesStep}
+use Rattle.fk_lockstep_nodes.specs.Steps.{KeepsOrDoes, only}
 use Rattle.fk_sim_rounds.specs.Rounds.{IsKnownRound}
 use Rattle.fk_sim_rounds.specs.Beside.{landed_runner, landed_state}
 use Rattle.fk_sim_rounds.proofs.Landed.{next_landed}
@@ -131,7 +132,9 @@ module _ (core : List CoreOp) (nestings : Nestings) (main : ℕ) (setting : Sett
 
       first_does : (ds : List Doing) (d : Doing) → slice_get ds 0 ≡ Some d → BeginsGroup s.tree ds → s.tree.places 0 ≡ 0 → DoesStep o.Begin d.acting.due
       first_does [] d at begins' place = absurd (cc)
-      first_does (c ∷ ds) d at begins' place = subst (λ (x : Doing). DoesStep o.Begin x.acting.due) (first_is c d at) (begins'.steps.1 place)
+      first_does (c ∷ ds) d at begins' place =
+          subst (λ (x : Doing). DoesStep o.Begin x.acting.due) (first_is c d at)
+          (subst (λ (n : ℕ). KeepsOrDoes (only 0 o.Begin n) c.acting.due) place begins'.steps.1)
 
   known : IsKnownRound s.tree did
   known =
