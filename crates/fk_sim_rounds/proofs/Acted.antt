@@ -1,5 +1,5 @@
 -- A group in lockstep that has done a step of the tree, behind which each of its members goes on by itself.
-use Rattle.std.proofs.Common.{◌≡◌, ℕ, suc, ◌≤◌, List, [], ◌∷◌, length, Option, Bool, true, false, ap, subst, ◌∙◌, refl, ◌⊎◌, inl, inr, ⊎_elim, eq-eqb}
+use Rattle.std.proofs.Common.{◌≡◌, ℕ, suc, ◌≤◌, List, [], ◌∷◌, length, Option, Some, Bool, true, false, ap, subst, ◌∙◌, refl, ◌⊎◌, inl, inr, ⊎_elim, eq-eqb}
 use Rattle.std.specs.Prelude.{◌==◌, map}
 use Rattle.std.proofs.lemmas.Bool.{false≢true}
 use Rattle.fk_num.specs.Word.{Memory}

@@ -90,3 +90,5 @@ pub mod RestInRuns
 pub mod Ended
 -- cycle by cycle
 pub mod Machines
+-- spaces of nodes that are not there
+pub mod Transport

@@ -151,7 +151,7 @@ module _ (core : List CoreOp) (image : Image) (places : Places) (nestings : Nest
   at_by g operation is known lock = absurd known
 
   at_changed : (k : ℕ) → is_some (round.does k) ≡ true → plan'.in_lockstep k ≡ true → AtStep k
-  at_changed k yes lock = let some = some_by (round.does k) yes in at_by k some.0 some.1 (round.known k some.0 some.1) lock
+  at_changed k steps lock = let some = some_by (round.does k) steps in at_by k some.0 some.1 (round.known k some.0 some.1) lock
 
   -- ---- groups that end, or come to a body
 
@@ -173,7 +173,7 @@ module _ (core : List CoreOp) (image : Image) (places : Places) (nestings : Nest
   lock_by g operation is known lock = absurd known
 
   lock_changed : (k : ℕ) → is_some (round.does k) ≡ true → plan.in_lockstep k ≡ true → IsLockLeft k
-  lock_changed k yes lock = let some = some_by (round.does k) yes in lock_by k some.0 some.1 (round.known k some.0 some.1) lock
+  lock_changed k steps lock = let some = some_by (round.does k) steps in lock_by k some.0 some.1 (round.known k some.0 some.1) lock
 
   -- ---- how each goes on who stood at a node that steps
 
@@ -286,7 +286,7 @@ module _ (core : List CoreOp) (image : Image) (places : Places) (nestings : Nest
   pub again : BindsAgain core image places nestings setting old spaces nodes (tree_after old ds) spaces nodes' t hs left.afters ps (all_landed core (owners_after old (tree_after old ds) ds)) control
   again =
       bound core image places nestings cycles firsts main setting old (tree_after old ds) spaces nodes nodes' t stages hs ps ds own own' control the_law leads before left has behind.sound behind.spaced round.does round.steps (λ k. is_some (round.does k)) move on next at_changed lock_changed Own own_here each_here
-      (λ k yes w free is_open. let some = some_by (round.does k) yes in meets_by k some.0 some.1 (round.known k some.0 some.1) w free is_open)
+      (λ k steps w free is_open. let some = some_by (round.does k) steps in meets_by k some.0 some.1 (round.known k some.0 some.1) w free is_open)
 
 pub rounds_bind_again : RoundsBindAgain
 rounds_bind_again core image places nestings cycles firsts main setting tree spaces nodes nodes' t stages earlier hs ps ds own own' control the_law leads before few binds left has known behind there many' on next =

@@ -18,3 +18,4 @@ pub mod Follow
 pub mod Starts
 pub mod Machines
 pub mod RestInRuns
+pub mod Transport
