@@ -4,3 +4,5 @@ pub mod Local
 pub mod More
 -- the steps of all nodes
 pub mod Nodes
+-- the step of one node alone
+pub mod One

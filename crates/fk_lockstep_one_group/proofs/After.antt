@@ -31,7 +31,8 @@ use Rattle.fk_lockstep_one_group.specs.Rounds.{stepping, IsRound, RoundsKeepOneG
 use Rattle.fk_lockstep_one_group.proofs.Moves.{keeps_place, keeps_tree, does_same, levels_stay, goes_on, goes_to}
 use Rattle.fk_lockstep_one_group.proofs.Acts.{IsDue, result_is}
 use Rattle.fk_lockstep_one_group.proofs.Known.{At, Act, act, many, placed, member_at, there_at, known, at_root, at_waiting, in_lockstep, at_group, at_body}
-use Rattle.fk_lockstep_one_group.proofs.Trees.{all_keep, step_is_brought, step_at, keep_at}
+use Rattle.fk_lockstep_nodes.proofs.One.{none_changes, step_is_brought}
+use Rattle.fk_lockstep_one_group.proofs.Trees.{step_at, keep_at}
 
 -- ---- trees
 
@@ -604,7 +605,7 @@ module _ {W : Type 0} (next : W → Option (Step W)) (set : Setting) (round : Ro
   behind : Behind new
   behind =
       ⊎_elim
-      (λ keeps. subst Behind (sym (all_keep actors old 0 actors old keeps)) (all_kept keeps))
+      (λ keeps. subst Behind (sym (none_changes actors old 0 actors old keeps)) (all_kept keeps))
       (λ one.
       let there' = may_there one.node one.operation one.may in
       let n = some_member one.node there' in

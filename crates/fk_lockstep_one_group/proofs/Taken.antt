@@ -24,7 +24,8 @@ use Rattle.fk_lockstep_one_group.specs.Rounds.{IsRound, HaveCount, RoundsTakeGro
 use Rattle.fk_lockstep_one_group.proofs.Moves.{waiters_resume, goes_on, ends_in_root}
 use Rattle.fk_lockstep_one_group.proofs.Acts.{counts_as, fits_at, result_is}
 use Rattle.fk_lockstep_one_group.proofs.Known.{At, Act, actors, dues, act, placed, there_at, known, at_waiting, at_group}
-use Rattle.fk_lockstep_one_group.proofs.Trees.{all_keep, step_at}
+use Rattle.fk_lockstep_nodes.proofs.One.{none_changes}
+use Rattle.fk_lockstep_one_group.proofs.Trees.{step_at}
 use Rattle.fk_lockstep_one_group.proofs.After.{rounds_keep_one_group}
 
 one_or_none : (c : ℕ) → c ≤ 1 → (c ≡ 0) ⊎ (c ≡ 1)
@@ -98,7 +99,7 @@ module _ {W : Type 0} (next : W → Option (Step W)) where
           (count_of low)
 
     kept : AllKeep s.tree 0 stepping → behind ≡ s.tree
-    kept keeps = ap (λ (u : State W). u.tree) (result_is next set round s is.single is.possible) ∙ all_keep stepping s.tree 0 stepping s.tree keeps
+    kept keeps = ap (λ (u : State W). u.tree) (result_is next set round s is.single is.possible) ∙ none_changes stepping s.tree 0 stepping s.tree keeps
 
     module _ (g : ℕ) (sound : IsSound set.processors behind) (locked : kind behind g ≡ Some Lockstep) where
       -- who isn't in the round isn't in a group behind it that it waits for

@@ -62,8 +62,7 @@ pub spread : (old : Tree) (does : ℕ → Option Operation) (Own : Member → Do
 spread old does Own number [] [] [] places many all = tt
 spread old does Own number (n ∷ ns) (h ∷ hs) (d ∷ ds) places many all =
     let m : Member = record { number = number; hart = h } in
-    let At : ℕ → Member → Doing → Type 0 = λ g m' d'. old.places m'.number ≡ g → Own m' d' in
-    (
+    let At : ℕ → Member → Doing → Type 0 = λ g m' d'. old.places m'.number ≡ g → Own m' d' in (
       λ operation e.
           let g = old.places number in
           (both_parts (At g) (n == g) m (of_node g ns (numbered (suc number) hs)) d (of_node g ns ds) (all g operation e)).0 (eq-eqb n g places.0) refl,

@@ -8,7 +8,7 @@ use Rattle.fk_space.specs.Space.{Space}
 use Rattle.fk_tree.specs.declared.node.Kind.TheVariants.{Lockstep, Asynchronous}
 use Rattle.fk_tree.specs.Tree as trees
 use Rattle.fk_tree.specs.Tree.{Tree, kind_of, members_of, turned, is_member}
-use Rattle.fk_tree.specs.Sound.{is_below_all, is_ascending, IsSound}
+use Rattle.fk_tree.specs.Sound.{is_below_all, is_ascending}
 use Rattle.fk_tree.proofs.Lists.{below_all-member}
 use Rattle.fk_tree.proofs.Shapes.{members-turned, kind-turned, some-given}
 use Rattle.fk_meaning_operation.specs.declared.operation.Operation.{Operation}

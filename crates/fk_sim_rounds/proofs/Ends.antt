@@ -35,7 +35,7 @@ use Rattle.fk_sim_match.specs.Nodes.{first_of, is_lockstep, body_at, meeters_at,
 use Rattle.fk_sim_match.specs.Behind.{runs_of, blocks_of}
 use Rattle.fk_sim_match.proofs.Nodes.{tells}
 use Rattle.fk_sim_match.proofs.Rounds.{not_none, lockstep_kind}
-use Rattle.fk_sim_rounds.specs.Next.{JumpsLead, all_landed}
+use Rattle.fk_sim_rounds.specs.Next.{JumpsLead}
 use Rattle.fk_lockstep_nodes.specs.Steps.{StepsBy}
 use Rattle.fk_sim_rounds.specs.After.{actings, owner_after, owners_after, halts, is_halt, DoesStep, AllGoOn, GroupsGoOn}
 use Rattle.fk_sim_rounds.specs.Rounds.{IsBefore, IsTree}

@@ -61,11 +61,3 @@ has_same old tree g number (n ∷ ns) (n' ∷ ns') here there e same = (
 )
 has_same old tree g number [] (n' ∷ ns') here there e same = absurd (omega (arith, e))
 has_same old tree g number (n ∷ ns) [] here there e same = absurd (omega (arith, e))
-
--- the places of all are one list
-pub places_one : (tree : Tree) (number : ℕ) (ns ns' : List ℕ) → ArePlaces tree number ns → ArePlaces tree number ns' → length ns' ≡ length ns → ns' ≡ ns
-places_one tree number [] [] here there e = refl
-places_one tree number (n ∷ ns) (n' ∷ ns') here there e =
-    ap (λ k. k ∷ ns') (there.0 ∙ sym here.0) ∙ ap (λ l. n ∷ l) (places_one tree (suc number) ns ns' here.1 there.1 (omega (arith, e)))
-places_one tree number [] (n' ∷ ns') here there e = absurd (omega (arith, e))
-places_one tree number (n ∷ ns) [] here there e = absurd (omega (arith, e))

@@ -1,5 +1,5 @@
 -- Behind the round in which those of the root, back from the group of `start`, go on there, each is by itself.
-use Rattle.std.proofs.Common.{◌≡◌, ℕ, zero, suc, ◌<◌, List, Option, Some, Bool, true, false, sym, ap, ◌∙◌, refl, arith}
+use Rattle.std.proofs.Common.{◌≡◌, ℕ, zero, suc, ◌<◌, List, Option, Some, Bool, true, false, sym, ap, ◌∙◌, refl}
 use Rattle.std.specs.Prelude.{is_some}
 use Rattle.fk_num.specs.Word.{Memory}
 use Rattle.fk_space.specs.Space.{Space}
@@ -26,7 +26,7 @@ use Rattle.fk_sim_block.specs.Law.{Cycles, GroupLaw}
 use Rattle.fk_sim_match.specs.Nodes.{first_of, is_lockstep, body_at, meeters_at, plan_of}
 use Rattle.fk_sim_match.specs.Behind.{runs_of, blocks_of}
 use Rattle.fk_sim_match.proofs.Rounds.{not_none}
-use Rattle.fk_sim_rounds.specs.Next.{JumpsLead, all_landed}
+use Rattle.fk_sim_rounds.specs.Next.{JumpsLead}
 use Rattle.fk_lockstep_nodes.specs.Steps.{StepsBy}
 use Rattle.fk_sim_rounds.specs.After.{actings, owners_after, AllGoOn, GroupsGoOn}
 use Rattle.fk_sim_rounds.specs.Rounds.{IsBefore, IsTree}

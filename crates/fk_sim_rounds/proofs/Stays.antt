@@ -1,5 +1,5 @@
 -- Steps by which nobody moves to another node.
-use Rattle.std.proofs.Common.{◌≡◌, ◌≢◌, ℕ, suc, List, [], ◌∷◌, Option, Some, None, Bool, true, false, ap, subst, ◌∙◌, refl, ⊎_elim}
+use Rattle.std.proofs.Common.{◌≡◌, ◌≢◌, ℕ, List, [], ◌∷◌, Option, Some, None, Bool, true, false, ap, subst, ◌∙◌, refl, ⊎_elim}
 use Rattle.fk_tree.specs.Tree.{Tree}
 use Rattle.fk_meaning_operation.specs.declared.operation.Operation.{Operation}
 use Rattle.fk_meaning_operation.specs.declared.operation.Operation.TheVariants as o
@@ -34,7 +34,7 @@ abbrev pub AllStay : List Doing → Type 0
 AllStay [] = Unit {0}
 AllStay (d ∷ ds) = Stays d.acting.due × AllStay ds
 
-pub keeps_stay : (due : Option (Step Position)) → Keeps due → Stays due
+keeps_stay : (due : Option (Step Position)) → Keeps due → Stays due
 keeps_stay None keeps = tt
 keeps_stay (Some step) keeps = keeps_put step.operation keeps
 

@@ -1,5 +1,5 @@
 -- After each known round all are bound again, whatever the members of its nodes do.
-use Rattle.std.proofs.Common.{◌≡◌, ◌≢◌, ℕ, zero, suc, ◌^◌, ◌<◌, List, [], ◌∷◌, length, Option, Some, None, Bool, true, false, sym, ap, subst, ◌∙◌, refl, arith, ◌⊎◌, inl, inr}
+use Rattle.std.proofs.Common.{◌≡◌, ◌≢◌, ℕ, zero, suc, ◌^◌, ◌<◌, List, length, Option, Some, None, Bool, true, false, sym, ap, subst, ◌∙◌, refl, ◌⊎◌, inl, inr}
 use Rattle.std.specs.Prelude.{is_some}
 use Rattle.std.proofs.lemmas.Bool.{false≢true}
 use Rattle.fk_num.specs.Word.{Memory}
@@ -177,7 +177,7 @@ module _ (core : List CoreOp) (image : Image) (places : Places) (nestings : Nest
 
   -- ---- how each goes on who stood at a node that steps
 
-  OwnBy : Option Operation → (g : ℕ) → Member → Doing → Type 0
+  abbrev OwnBy : Option Operation → (g : ℕ) → Member → Doing → Type 0
   OwnBy (Some o.Farm) g = GoesApart image places nestings setting (later t) plan' (first_of spaces g) settle
   OwnBy (Some o.Seq) g = GoesApart image places nestings setting (later t) plan' (first_of spaces g) settle
   OwnBy (Some o.End) g = GoesHome image places nestings setting (later t) settle

@@ -1,6 +1,6 @@
 -- What a machine follows stays so where only spaces of nodes that are not there are others.
 use Rattle.std.proofs.Common.{◌≡◌, ◌≢◌, ℕ, zero, suc, ◌+◌, ◌-◌, ◌<◌, ◌≤◌, List, [], ◌∷◌, length, Option, Some, None, Bool, true, false, sym, ap, subst, ◌∙◌, refl, arith, ◌⊎◌}
-use Rattle.std.specs.Prelude.{◌==◌, ◌&&◌, is_some, if◌then◌else◌}
+use Rattle.std.specs.Prelude.{◌&&◌, is_some, if◌then◌else◌}
 use Rattle.std.proofs.lemmas.Bool.{ne_eqb, false≢true, and_parts}
 use Rattle.std.proofs.lemmas.List.{length-map}
 use Rattle.fk_num.specs.Word.{Memory}
@@ -11,11 +11,12 @@ use Rattle.fk_tree.specs.Tree.{Tree, Node, kind_of, is_from, is_member, is_waiti
 use Rattle.fk_tree.specs.Sound.{awaits, IsSound}
 use Rattle.fk_tree.proofs.Shapes.{has_some, awaits-some}
 use Rattle.fk_meaning.specs.Processor.{Level, Setting}
-use Rattle.fk_meaning.specs.Round.{Runner, State}
+use Rattle.fk_meaning.specs.Round.{Runner}
 use Rattle.fk_core.specs.declared.op.CoreOp.{CoreOp}
 use Rattle.fk_core.specs.Next.{Position}
 use Rattle.fk_image.specs.declared.Image.{Image}
 use Rattle.fk_machine.specs.Hart.{Hart, Setting as MachineSetting}
+use Rattle.fk_machine.specs.Cycle.{setting_of, unprinted}
 use Rattle.fk_sim_nodes.specs.Node.{Member, numbered, add, of_node}
 use Rattle.fk_sim_nodes.specs.Alone.{later, in_cycles}
 use Rattle.fk_sim_nodes.specs.Together.{Together}
@@ -71,13 +72,14 @@ module _ (tree : Tree) (spaces spaces' : ℕ → Space) (same : HaveSameSpaces t
 
   owner_there : (count i g : ℕ) → owner_among tree spaces' count i ≡ Some g → is_some (tree.nodes g) ≡ true
   owner_there zero i g e = absurd (cc)
-  owner_there (suc n) i g e = by (owns tree spaces' n i) refl e
+  owner_there (suc n) i g e = by (owns tree spaces' n i) refl (owner_there n i g) e
     where
-      by : (b : Bool) → owns tree spaces' n i ≡ b → (if b then Some n else owner_among tree spaces' n i) ≡ Some g → is_some (tree.nodes g) ≡ true
-      by true own e =
+      by : (b : Bool) → owns tree spaces' n i ≡ b → (owner_among tree spaces' n i ≡ Some g → is_some (tree.nodes g) ≡ true) → (if b then Some n else owner_among tree spaces' n i) ≡ Some g
+          → is_some (tree.nodes g) ≡ true
+      by true own more e =
           let at : n ≡ g = cc in
           subst (λ k. is_some (tree.nodes k) ≡ true) at (and_parts (is_some (tree.nodes n)) (is_from (first_of spaces' n) (own_words spaces' n (trees.kind tree n)) i) own).0
-      by false own e = owner_there n i g e
+      by false own more e = more e
 
   meeters_same : (i : ℕ) → meeters tree spaces i ≡ meeters tree spaces' i
   meeters_same i = ap (meeters_by tree spaces i) (owner_same tree.given i) ∙ by (owner_among tree spaces' tree.given i) refl

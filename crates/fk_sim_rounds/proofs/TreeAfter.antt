@@ -1,22 +1,21 @@
 -- What a known round leaves of the tree: each node turns, ends or stays, and who was in one that ends comes to its parent.
-use Rattle.std.proofs.Common.{◌≡◌, ◌≢◌, ℕ, ◌<◌, ◌≤◌, List, [], ◌∷◌, length, Option, Some, None, Bool, true, false, sym, ap, subst, ◌∙◌, refl, arith, ◌⊎◌, inl, inr, ⊎_elim, filter}
+use Rattle.std.proofs.Common.{◌≡◌, ◌≢◌, ℕ, ◌<◌, List, [], ◌∷◌, length, Option, Some, None, true, false, sym, ap, ◌∙◌, refl, arith, ◌⊎◌, inl, inr, ⊎_elim, filter}
 use Rattle.std.specs.Prelude.{◌==◌, ◌&&◌, is_some, if◌then◌else◌}
-use Rattle.std.proofs.lemmas.Bool.{cases_lt, cases_Bool, ne_eqb, false≢true}
+use Rattle.std.proofs.lemmas.Bool.{cases_lt, ne_eqb, false≢true}
 use Rattle.std.proofs.lemmas.List.{length-map}
 use Rattle.fk_tree.specs.declared.node.Kind.{Kind}
 use Rattle.fk_tree.specs.declared.node.Kind.TheVariants.{Lockstep, Waiting, Asynchronous}
 use Rattle.fk_tree.specs.Tree as trees
-use Rattle.fk_tree.specs.Tree.{Tree, Node, kind_of, members_of, parent_of, node_of, turned, left_by, kind_after, is_member}
+use Rattle.fk_tree.specs.Tree.{Tree, Node, kind_of, members_of, parent_of, node_of, turned, left_by, kind_after}
 use Rattle.fk_tree.specs.Sound.{Has, awaits, IsSound}
 use Rattle.fk_tree.proofs.Shapes.{with_same, some-given, members-turned, parent-turned}
 use Rattle.fk_meaning_operation.specs.declared.operation.Operation.{Operation}
 use Rattle.fk_meaning_operation.specs.declared.operation.Operation.TheVariants as o
 use Rattle.fk_meaning.specs.Processor.{Processor}
 use Rattle.fk_meaning.specs.Round.{lowest, who}
-use Rattle.fk_lockstep_nodes.specs.Steps.{StepsBy, MayStep, tree_by, NodesStep}
+use Rattle.fk_lockstep_nodes.specs.Steps.{MayStep, tree_by, NodesStep}
 use Rattle.fk_lockstep_nodes.proofs.Nodes.{nodes_step}
 use Rattle.fk_sim_match.specs.Change.{HasSame}
-use Rattle.fk_sim_match.specs.Nodes.{is_lockstep}
 use Rattle.fk_sim_match.proofs.Rounds.{not_none, leaf_place, lockstep_kind}
 use Rattle.fk_sim_block.specs.Owner.{Doing}
 use Rattle.fk_sim_rounds.specs.After.{actings, tree_after, ArePlaces}

@@ -1,33 +1,19 @@
 -- A round in which no step changes the tree.
-use Rattle.std.proofs.Common.{◌≡◌, ◌≢◌, List, [], ◌∷◌, ℕ, Option, Some, None, Bool, true, false, ap, ◌∙◌, refl}
-use Rattle.std.specs.Prelude.{◌==◌, map, is_some, if◌then◌else◌}
+use Rattle.std.proofs.Common.{◌≡◌, ◌≢◌, List, [], ◌∷◌, ℕ, Option, Some, None, true, ap, ◌∙◌, refl}
+use Rattle.std.specs.Prelude.{map, is_some}
 use Rattle.fk_tree.specs.declared.node.Kind.TheVariants.{Lockstep}
-use Rattle.fk_tree.specs.Tree as trees
 use Rattle.fk_tree.specs.Tree.{Tree, Node, kind_of}
-use Rattle.fk_meaning.specs.Group.{changes}
-use Rattle.fk_meaning.specs.Round.{Step, Acting, lowest, who, agreed, change_by, all_changes}
+use Rattle.fk_meaning.specs.Round.{Acting, all_changes}
 use Rattle.fk_core.specs.declared.op.CoreOp.{CoreOp}
 use Rattle.fk_core.specs.Next.{Position}
 use Rattle.fk_machine.specs.Hart.{Hart}
 use Rattle.fk_sim_nodes.specs.Node.{AreAsMany}
-use Rattle.fk_lockstep_nodes.proofs.Local.{step_keeps}
+use Rattle.fk_lockstep_nodes.proofs.One.{change_keeps}
 use Rattle.fk_sim_block.specs.Owner.{Owner, Doing}
 use Rattle.fk_sim_rounds.specs.Next.{all_landed}
-use Rattle.fk_sim_rounds.specs.After.{actings, Keeps, AllKeep}
+use Rattle.fk_sim_rounds.specs.After.{actings, AllKeep}
 
 -- ---- the tree
-
-same_either : {A : Type 0} (b : Bool) (x y : A) → x ≡ y → (if b then x else y) ≡ y
-same_either true x y e = e
-same_either false x y e = refl
-
-pub change_keeps : (actors : List (Acting Position)) (old : Tree) (h : ℕ) (due : Option (Step Position)) (tree : Tree) → Keeps due → change_by actors old h due tree ≡ tree
-change_keeps actors old h None tree keeps = refl
-change_keeps actors old h (Some step) tree keeps =
-    let n = old.places h in
-    let members = trees.members old n in
-    same_either (h == lowest members) (changes step.operation n (who actors) (agreed actors members) h tree) tree
-    (step_keeps n (who actors) (agreed actors members) h step.operation tree keeps)
 
 pub all_keep : (actors : List (Acting Position)) (old : Tree) (ds : List Doing) (tree : Tree) → AllKeep ds → all_changes actors old (actings ds) tree ≡ tree
 all_keep actors old [] tree keep = refl
