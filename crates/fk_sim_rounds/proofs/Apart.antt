@@ -1,5 +1,5 @@
 -- Behind the round in which a group comes to a body each of its members is by itself.
-use Rattle.std.proofs.Common.{◌≡◌, ◌≢◌, ℕ, zero, suc, ◌+◌, ◌≤◌, ◌<◌, List, [], ◌∷◌, length, Option, Some, None, Bool, true, false, sym, ap, subst, ◌∙◌, refl, arith, inr, ⊎_elim, eq-eqb}
+use Rattle.std.proofs.Common.{◌≡◌, ℕ, zero, suc, ◌+◌, ◌≤◌, ◌<◌, List, [], ◌∷◌, length, Option, Some, None, Bool, true, false, sym, ap, subst, ◌∙◌, refl, arith, inr, ⊎_elim, eq-eqb}
 use Rattle.std.specs.Prelude.{◌==◌, ◌||◌, map, is_some, slice_get, if◌then◌else◌}
 use Rattle.std.proofs.lemmas.Bool.{ne_eqb, eqb-true, false≢true, and_parts, or_cases, or_left}
 use Rattle.std.proofs.lemmas.List.{length-map}
