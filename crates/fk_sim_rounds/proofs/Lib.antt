@@ -40,6 +40,8 @@ pub mod Groups
 pub mod Trees
 -- the tree behind one step
 pub mod Steps
+-- a round in which two nodes step
+mod TwoNodes
 -- where the members of some nodes do steps
 pub mod Moved
 pub mod TreeAfter
