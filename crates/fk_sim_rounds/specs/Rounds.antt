@@ -57,8 +57,8 @@ abbrev pub AllStandIn : Tree → (g : ℕ) → Type 0
 AllStandIn tree g = (h : ℕ) → is_member h (trees.members tree g) ≡ true → tree.places h ≡ g
 
 -- What all who stand at a node may do together in a known round: those who have waited for their
--- parts go on, those of a body come to its end, and a group comes to a body or ends. The beginning of
--- the group of `start` (`RoundsStart`), splits and shrinks aren't among these steps.
+-- parts go on, those of a body come to its end, and a group comes to a body or ends. The beginning
+-- of the group of `start` (`RoundsStart`), splits and shrinks aren't among these steps.
 abbrev pub StepIsKnown : Tree → (g : ℕ) → Operation → Type 0
 StepIsKnown tree g Resume =
     ((first : ℕ) × (parts : ℕ) × (trees.kind tree g ≡ Some (Waiting first parts)))

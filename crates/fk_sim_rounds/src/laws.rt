@@ -75,7 +75,8 @@ pub fn rounds_start()
 {}
 
 /// Where the plan of a tree binds all harts before a cycle that is a known round, the plan of the
-/// next tree binds them after it.
+/// next tree binds them after it. In such a round each node of the tree takes one step or none,
+/// whatever the others do.
 pub fn rounds_bind_again()
     ensures { RoundsBindAgain }
 {}
