@@ -2,8 +2,6 @@
 use Rattle.std.proofs.Common.{◌≡◌, ℕ, zero, suc, ◌&&◌, true, List, slice_get, Option, Some, None, refl, sym, ap, ◌∙◌}
 use Rattle.std.specs.Prelude.{slice_index, is_none}
 use Rattle.std.proofs.lemmas.Bool.{and_parts}
-use Rattle.fk_syntax.specs.declared.facts.Facts.{Facts}
-use Rattle.fk_syntax.specs.Program.{ProgramTree}
 use Rattle.fk_tree.specs.Tree.{kind}
 use Rattle.fk_tree.specs.Sound.{Has}
 use Rattle.fk_tree.specs.declared.node.Kind.TheVariants.{Lockstep}
@@ -17,7 +15,7 @@ use Rattle.fk_meaning.specs.Processor.{Setting}
 use Rattle.fk_meaning.specs.Round.{Step, Runner, State, Round, Acting, taking, do_local, local_phase, after_locals, begin, begin_all, asking, is_allowed, is_possible, result}
 use Rattle.fk_meaning.specs.Schedule.{run}
 use Rattle.fk_meaning.specs.Program.{next_in, main_work, program_opening}
-use Rattle.fk_meaning.specs.Touch.{operation_due, touch, touch_of, Touches, IsGroupStep}
+use Rattle.fk_meaning.specs.Touch.{operation_due, touch_of, Touches, IsGroupStep}
 use Rattle.fk_meaning.proofs.GroupSteps.{reads, writes, combines}
 use Rattle.fk_layout.specs.Layout.{tables_by}
 use Rattle.fk_parse_laws.specs.Trim.{TextsAreTrim}

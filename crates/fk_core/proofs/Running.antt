@@ -1,8 +1,7 @@
 -- What is left to do and an index where it stands have the same next operation.
-use Rattle.std.proofs.Common.{◌≡◌, ℕ, suc, Bool, true, false, List, [], ◌∷◌, length, slice_get, Option, Some, None, ap, ◌∙◌, sym, refl, subst}
+use Rattle.std.proofs.Common.{◌≡◌, ℕ, suc, Bool, true, false, List, [], ◌∷◌, length, slice_get, Some, None, ap, ◌∙◌, sym, refl, subst}
 use Rattle.std.specs.Prelude.{if◌then◌else◌}
 use Rattle.fk_meaning_operation.specs.declared.operation.Operation.{Operation}
-use Rattle.fk_meaning.specs.Round.{Step}
 use Rattle.fk_meaning.specs.Alike.{Same}
 use Rattle.fk_meaning_forms.specs.Code.{Code, done, perform, choose, while, until, turn, again, quit, break, continue, call, ends, append}
 use Rattle.fk_meaning.specs.Left.{broken, continued, opened, settled}
@@ -10,7 +9,7 @@ use Rattle.fk_meaning.specs.Next as source
 use Rattle.fk_meaning.specs.Next.{Work, going}
 use Rattle.fk_core.specs.declared.op.CoreOp.{CoreOp}
 use Rattle.fk_core.specs.Next.{Position, position, follows, returned, next}
-use Rattle.fk_core.specs.Stands.{Loop, Around, is_first, is_start, Leads, Stay, Go, OpFrom, GoesOn, Enters, Returns, Stands}
+use Rattle.fk_core.specs.Stands.{Loop, Around, is_first, is_start, Leads, Stay, OpFrom, GoesOn, Enters, Returns, Stands}
 use Rattle.fk_core.specs.WellFormed.{LeadsOn}
 use Rattle.fk_core.proofs.Leading.{onto, next_at, none_at}
 

@@ -9,7 +9,7 @@ use Rattle.fk_core.specs.Next.{position, is_jump, past_jump, behind_jump}
 use Rattle.fk_core.specs.Stands.{Loop, Around, is_first, is_start, Leads, Stay, Go, OpFrom, GoesOn, Enters, Stands}
 use Rattle.fk_core.proofs.Leading.{onto, op_stops}
 use Rattle.fk_core_flat.specs.Items as w
-use Rattle.fk_core_flat.specs.Items.{Item, jump, act, IsItem, Has, way_of, goes_away, aim}
+use Rattle.fk_core_flat.specs.Items.{Item, act, IsItem, Has, way_of, goes_away, aim}
 use Rattle.fk_core_flat.specs.Flat.{begins_here, skip, gap, extent, onward, label, flat}
 use Rattle.fk_core_flat.specs.Shape.{is_done, IsOpening, IsShaped}
 use Rattle.fk_core_flat.proofs.Ways.{goes_by}

@@ -9,7 +9,7 @@ use Rattle.fk_meaning_operation.specs.declared.operation.Operation.TheVariants a
 use Rattle.fk_tree.specs.declared.node.Kind.{Kind}
 use Rattle.fk_tree.specs.declared.node.Kind.TheVariants.{Lockstep, Waiting, Asynchronous}
 use Rattle.fk_tree.specs.Tree as t
-use Rattle.fk_tree.specs.Tree.{Node, Tree, members, parent, kind, is_member, node_of, below, with_kind, is_from, place_in, first_part, ready, left_by, runs}
+use Rattle.fk_tree.specs.Tree.{Node, Tree, members, parent, kind, is_member, node_of, below, with_kind, is_from, place_in, first_part, left_by, runs}
 use Rattle.fk_tree.specs.Sound.{Has, awaits, IsSound}
 use Rattle.fk_tree.proofs.Lists.{below-has, length-below}
 use Rattle.fk_tree.proofs.Shapes.{with_other, kind-node_of, kind_members, kind_same, kind_other, from_within, from_below, from_above, has_some, some-given}

@@ -8,7 +8,7 @@ use Rattle.fk_syntax.specs.declared.program.Mode.TheVariants as m
 use Rattle.fk_syntax.specs.declared.sign.Sign.TheVariants as g
 use Rattle.fk_syntax.specs.Tree as t
 use Rattle.fk_syntax.specs.Program as p
-use Rattle.fk_syntax.specs.Program.{ItemTree, Statements, FunctionTree}
+use Rattle.fk_syntax.specs.Program.{ItemTree}
 use Rattle.fk_meaning_forms.specs.declared.tables.Home.TheVariants as h
 use Rattle.fk_meaning_forms.specs.declared.tables.Slot.{Slot}
 use Rattle.fk_meaning_forms.specs.declared.tables.Region.{Region}
