@@ -3,7 +3,7 @@ use Rattle.std.specs.Prelude.{◌≡◌, ℕ, ◌<◌, List, length, slice_get, 
 use Rattle.fk_meaning_operation.specs.declared.operation.Operation.{Operation}
 use Rattle.fk_meaning.specs.Processor.{values, setting_of}
 use Rattle.fk_meaning.specs.Round.{Runner}
-use Rattle.fk_meaning.specs.Schedule.{Schedule, run, IsLawful}
+use Rattle.fk_meaning.specs.Schedule.{Schedule, run, ArePossible}
 use Rattle.fk_core.specs.declared.op.CoreOp.{CoreOp}
 use Rattle.fk_core.specs.Numbers.{operation_of}
 use Rattle.fk_core.specs.Next.{Position, landing, next, list_opening}
@@ -19,7 +19,7 @@ pub record IsOperation (core : List CoreOp) (i : ℕ) : Type 0 where
 abbrev pub LeadsOn : List CoreOp → Type 0
 LeadsOn core = (i : ℕ) → i < length core → IsOperation core (landing core i)
 
--- In every lawful run without a fault, a processor that is about to do an operation has as many
+-- After every schedule of possible rounds, a processor that is about to do an operation has as many
 -- values as the operation's depth.
 abbrev pub HasDepths : List CoreOp → (main : ℕ) → Type 0
 HasDepths core main =
@@ -27,7 +27,7 @@ HasDepths core main =
     → let setting = setting_of p words input in
     let first = list_opening main words firsts input p in
     let state = run (next core) setting schedule first in
-    IsLawful (next core) setting schedule first
+    ArePossible (next core) setting schedule first
     → state.fault ≡ None
     → (h : ℕ) (r : Runner Position) (op : CoreOp)
     → slice_get state.runners h ≡ Some r

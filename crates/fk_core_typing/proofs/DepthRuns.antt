@@ -69,7 +69,7 @@ module _ (core : List CoreOp) (main : ℕ) (local_depths : HasLocalDepths core m
   first set firsts h (suc count) = (record { place = Main; comes = local_depths.begins; waits = tt }, first set firsts (suc h) count)
 
 pub local_depths_are_depths : LocalDepthsAreDepths
-local_depths_are_depths core main local_depths words firsts input p schedule lawful fault h r op here stands =
+local_depths_are_depths core main local_depths words firsts input p schedule possible fault h r op here stands =
     let set = setting_of p words input in
     let start = list_opening main words firsts input p in
     let at = FitsAt core main local_depths in

@@ -70,7 +70,7 @@ module _ (core : List CoreOp) (main : ℕ) (known : HasKnowledge core main) wher
       }
 
 pub knowledge_is_enough : KnowledgeIsEnough
-knowledge_is_enough core main known words firsts input p schedule lawful fault h r op operation here stands reads =
+knowledge_is_enough core main known words firsts input p schedule possible fault h r op operation here stands reads =
     let set = setting_of p words input in
     let start = list_opening main words firsts input p in
     let all = runs core (StandsAt core main known) (after_local core main known) (after_request core main known) (after_tree core main known)

@@ -5,7 +5,7 @@ use Rattle.fk_meaning_operation.specs.declared.operation.Operation.{Operation}
 use Rattle.fk_meaning_operation.specs.declared.operation.Operation.TheVariants.{Leave, Halt}
 use Rattle.fk_meaning.specs.Processor.{setting_of}
 use Rattle.fk_meaning.specs.Round.{Runner}
-use Rattle.fk_meaning.specs.Schedule.{Schedule, run, IsLawful}
+use Rattle.fk_meaning.specs.Schedule.{Schedule, run, ArePossible}
 use Rattle.fk_core.specs.declared.op.CoreOp.{CoreOp}
 use Rattle.fk_core.specs.Numbers.{operation_of}
 use Rattle.fk_core.specs.Next.{Position, landing, next, list_opening}
@@ -22,14 +22,14 @@ is_end (Leave gives framed) = true
 is_end Halt = true
 is_end operation = false
 
--- in every run, whenever a processor is about to do an operation, it may
+-- After every schedule of possible rounds, a processor that is about to do an operation may do it.
 abbrev pub AlwaysMay : List CoreOp → (main : ℕ) → Type 0
 AlwaysMay core main =
     (words firsts input : List ℕ) (p : ℕ) (schedule : Schedule)
     → let setting = setting_of p words input in
     let first = list_opening main words firsts input p in
     let state = run (next core) setting schedule first in
-    IsLawful (next core) setting schedule first
+    ArePossible (next core) setting schedule first
     → state.fault ≡ None
     → (h : ℕ) (r : Runner Position) (op : CoreOp) (operation : Operation)
     → slice_get state.runners h ≡ Some r
