@@ -336,6 +336,6 @@ valid_programs_are_in_place program facts valid = record {
 }
 
 pub valid_programs_have_one_program : ValidProgramsHaveOneProgram
-valid_programs_have_one_program program facts valid setting schedule words firsts input processors some lawful fine =
+valid_programs_have_one_program program facts valid setting schedule words firsts input processors some possible fine =
     programs_have_one_program (tables_by program facts) program (may_call program) (valid_programs_are_in_place program facts valid)
-    setting schedule words firsts input processors some lawful fine
+    setting schedule words firsts input processors some possible fine

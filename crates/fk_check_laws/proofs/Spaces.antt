@@ -263,7 +263,7 @@ module _ (program : ProgramTree) (facts : Facts) (valid : IsValid program facts)
   )
 
 pub valid_programs_have_one_space : ValidProgramsHaveOneSpace
-valid_programs_have_one_space program facts valid none setting schedule words firsts input processors some lawful right' =
+valid_programs_have_one_space program facts valid none setting schedule words firsts input processors some possible right' =
     let tables' = tables_by program facts in
     let placed = valid_programs_are_in_place program facts valid in
     let framed = programs_are_framed tables' program (may_call program) placed
@@ -271,4 +271,4 @@ valid_programs_have_one_space program facts valid none setting schedule words fi
     groups_have_one_space Work (next_in tables' program) all_outs (main_work tables' program) (programs_follow tables' program (may_call program) placed)
     (fork_counts (gives_of tables' program (may_call program) placed)) (none_pending tables' program (may_call program) placed) (programs_are_counted tables' program (may_call program) placed)
     depth refl (code_is_framed (may_call program) (bodies_of tables' program) (main_of tables' program) framed)
-    setting schedule processors words input (slice_index firsts) some lawful right'
+    setting schedule processors words input (slice_index firsts) some possible right'

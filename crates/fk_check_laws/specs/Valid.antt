@@ -8,7 +8,7 @@ use Rattle.fk_syntax.specs.declared.program.Mode.TheVariants.{Sync, Async, Strai
 use Rattle.fk_syntax.specs.Program.{ProgramTree}
 use Rattle.fk_syntax.specs.WellFormed.{IsWellFormed}
 use Rattle.fk_meaning.specs.Processor.{Setting}
-use Rattle.fk_meaning.specs.Schedule.{Schedule, run, IsLawful}
+use Rattle.fk_meaning.specs.Schedule.{Schedule, run, ArePossible}
 use Rattle.fk_meaning_forms.specs.Program.{functions_of, signature_in, is_main}
 use Rattle.fk_meaning.specs.Program.{next_in, program_opening}
 use Rattle.fk_types_names.specs.Outline.{DeclarationTree, Variable, Header, declarations}
@@ -66,7 +66,7 @@ abbrev pub ValidProgramsAreInPlace : Type 0
 ValidProgramsAreInPlace = (program : ProgramTree) (facts : Facts) → IsValid program facts
     → IsInPlace (tables_by program facts) program (may_call program)
 
--- the groups of such a program have one remaining program
+-- after schedules of possible rounds the groups of such a program have one remaining program
 abbrev pub ValidProgramsHaveOneProgram : Type 0
 ValidProgramsHaveOneProgram =
     (program : ProgramTree) (facts : Facts) → IsValid program facts
@@ -74,13 +74,13 @@ ValidProgramsHaveOneProgram =
     → 1 ≤ processors
     → let next = next_in (tables_by program facts) program in
     let first = program_opening (tables_by program facts) program words firsts input processors in
-    IsLawful next setting schedule first
+    ArePossible next setting schedule first
     → (run next setting schedule first).fault ≡ None
     → KeepOneProgram next processors (run next setting schedule first)
 
--- all members of a group in lockstep have levels that differ in `$` alone, and so have processors
--- that wait at one node. No function, and no statement with a frame, is at the first token of a
--- text
+-- then all members of a group in lockstep have levels that differ in `$` alone, and so have
+-- processors that wait at one node. No function, and no statement with a frame, is at the first
+-- token of a text
 abbrev pub ValidProgramsHaveOneSpace : Type 0
 ValidProgramsHaveOneSpace =
     (program : ProgramTree) (facts : Facts) → IsValid program facts
@@ -88,6 +88,6 @@ ValidProgramsHaveOneSpace =
     → (setting : Setting) (schedule : Schedule) (words firsts input : List ℕ) (processors : ℕ)
     → 1 ≤ processors
     → let first = program_opening (tables_by program facts) program words firsts input processors in
-    IsLawful (next_in (tables_by program facts) program) setting schedule first
+    ArePossible (next_in (tables_by program facts) program) setting schedule first
     → (run (next_in (tables_by program facts) program) setting schedule first).fault ≡ None
     → KeepOneSpace (run (next_in (tables_by program facts) program) setting schedule first)

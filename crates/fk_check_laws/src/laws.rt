@@ -31,18 +31,18 @@ pub fn valid_programs_are_in_place()
     ensures { ValidProgramsAreInPlace }
 {}
 
-/// After every lawful schedule, without a stopped last round, of a program that keeps the forty
-/// rules and whose `fork` expressions give one value each, all members of a group in lockstep have
-/// the same work left. Before a branch they have the same last value.
+/// After every schedule of possible rounds of a program that keeps the forty rules and whose `fork`
+/// expressions give one value each, all members of a group in lockstep have the same work left.
+/// Before a branch they have the same last value.
 pub fn valid_programs_have_one_program()
     ensures { ValidProgramsHaveOneProgram }
 {}
 
-/// After every lawful schedule, without a stopped last round, of a program that keeps the forty
-/// rules, whose `fork` expressions give one value each, and whose first token begins neither a
-/// function nor a statement with a frame, the members of a group in lockstep have levels that
-/// differ in `$` alone: they have the same `@`, size and space of their group and of each group
-/// around it. So have processors that wait at one node.
+/// After every schedule of possible rounds of a program that keeps the forty rules, whose `fork`
+/// expressions give one value each, and whose first token begins neither a function nor a statement
+/// with a frame, the members of a group in lockstep have levels that differ in `$` alone: they have
+/// the same `@`, size and space of their group and of each group around it. So have processors that
+/// wait at one node.
 pub fn valid_programs_have_one_space()
     ensures { ValidProgramsHaveOneSpace }
 {}

@@ -14,7 +14,7 @@ use Rattle.fk_meaning_operation.specs.declared.operation.SplitKind.TheVariants.{
 use Rattle.fk_meaning.specs.Processor.{Processor, Setting, values, last, before}
 use Rattle.fk_meaning.specs.Group.{divided, does, goes_onward}
 use Rattle.fk_meaning.specs.Round.{Step}
-use Rattle.fk_meaning.specs.Schedule.{Schedule, opening, run, IsLawful}
+use Rattle.fk_meaning.specs.Schedule.{Schedule, opening, run, ArePossible}
 use Rattle.fk_meaning_forms.specs.Code.{Code, done, perform, choose, while, until, turn, again, quit, break, continue, call, ends, append}
 use Rattle.fk_meaning.specs.Next.{Work, going, next}
 use Rattle.fk_meaning.specs.Behind.{outs}
@@ -221,7 +221,7 @@ free_main =
     (chosen_free 1 o.Begin in_start done behind_all refl (goes_free 2 (o.Get n.Rank) split refl free_split) free_behind)
 
 main_has_one_program : (setting : Setting) (schedule : Schedule) (processors : ℕ) (globals input : List ℕ) (firsts : Memory) → 1 ≤ processors
-    → IsLawful next_in_main setting schedule (opening processors globals input firsts (going main []))
+    → ArePossible next_in_main setting schedule (opening processors globals input firsts (going main []))
     → (run next_in_main setting schedule (opening processors globals input firsts (going main []))).fault ≡ None
     → KeepOneProgram next_in_main processors (run next_in_main setting schedule (opening processors globals input firsts (going main [])))
 main_has_one_program = groups_have_one_program Work next_in_main all_outs (going main []) whole no_counts (λ p. refl) free_main
@@ -484,7 +484,7 @@ count_whole zero = tt
 count_whole (suc k) = ((λ set onward p ns h. h), (λ onward. count_begins k))
 
 fork_has_one_program : (setting : Setting) (schedule : Schedule) (processors : ℕ) (globals input : List ℕ) (firsts : Memory) → 1 ≤ processors
-    → IsLawful next_in_fork setting schedule (opening processors globals input firsts (going fork_main []))
+    → ArePossible next_in_fork setting schedule (opening processors globals input firsts (going fork_main []))
     → (run next_in_fork setting schedule (opening processors globals input firsts (going fork_main []))).fault ≡ None
     → KeepOneProgram next_in_fork processors (run next_in_fork setting schedule (opening processors globals input firsts (going fork_main [])))
 fork_has_one_program = groups_have_one_program Work next_in_fork all_outs (going fork_main []) fork_whole fork_counts (λ p. refl) count_whole

@@ -276,9 +276,9 @@ module _ {W : Type 0} (next : W → Option (Step W)) (outs : W → List W) (coun
             (sym (only_root (suc n) (λ same_one. omega (arith, same_one)))) tt
 
 pub groups_have_one_program : (W : Type 0) → GroupsHaveOneProgram W
-groups_have_one_program W next outs program follows counts nothing counted set schedule processors globals input firsts some lawful none =
+groups_have_one_program W next outs program follows counts nothing counted set schedule processors globals input firsts some possible none =
     let last = run next set schedule (opening processors globals input firsts program) in
-    let good = good_run next outs counts set schedule processors (opening processors globals input firsts program) (good_start next outs counts program follows nothing counted processors globals input firsts some) lawful.possible none in
+    let good = good_run next outs counts set schedule processors (opening processors globals input firsts program) (good_start next outs counts program follows nothing counted processors globals input firsts some) possible none in
     record {
       members = good_together next outs counts processors last good;
       waiters = good_waiters next outs counts processors last good;

@@ -9,7 +9,7 @@ use Rattle.fk_meaning.specs.Behind.{outs}
 use Rattle.fk_lockstep.proofs.Acting.{untrue}
 use Rattle.fk_num.specs.Word.{Memory}
 use Rattle.fk_meaning.specs.Processor.{Setting}
-use Rattle.fk_meaning.specs.Schedule.{Schedule, opening, run, IsLawful}
+use Rattle.fk_meaning.specs.Schedule.{Schedule, opening, run, ArePossible}
 use Rattle.fk_lockstep.specs.Course.{Stand, InGroup, Waits, ByItself, Follows}
 use Rattle.fk_lockstep.specs.Counts.{Counts, CountedFor, IsCounted}
 use Rattle.fk_lockstep.specs.OneSpace.{KeepOneSpace}
@@ -257,7 +257,7 @@ free_main (suc k) = (λ set onward p ms e. e, λ onward. free_starting k)
 
 -- so the members of its group have one space
 main_has_one_space : (setting : Setting) (schedule : Schedule) (processors : ℕ) (globals input : List ℕ) (firsts : Memory) → 1 ≤ processors
-    → IsLawful (next bodies) setting schedule (opening processors globals input firsts (going main []))
+    → ArePossible (next bodies) setting schedule (opening processors globals input firsts (going main []))
     → (run (next bodies) setting schedule (opening processors globals input firsts (going main []))).fault ≡ None
     → KeepOneSpace (run (next bodies) setting schedule (opening processors globals input firsts (going main [])))
 main_has_one_space =

@@ -281,9 +281,9 @@ module _ {W : Type 0} (next : W → Option (Step W)) (outs : W → List W) (coun
             (sym (only_root (suc n) (λ same_one. omega (arith, same_one)))) tt
 
 pub groups_have_one_space : (W : Type 0) → GroupsHaveOneSpace W
-groups_have_one_space W next outs program follows counts nothing counted depth outermost framed set schedule processors globals input firsts some lawful none =
+groups_have_one_space W next outs program follows counts nothing counted depth outermost framed set schedule processors globals input firsts some possible none =
     let end = run next set schedule (opening processors globals input firsts program) in
     let good = good_run next outs counts depth set schedule processors (opening processors globals input firsts program)
-    (good_start next outs counts depth set program follows nothing counted outermost framed processors globals input firsts some) lawful.possible none in
-    let one = together.groups_have_one_program W next outs program follows counts nothing counted set schedule processors globals input firsts some lawful none in
+    (good_start next outs counts depth set program follows nothing counted outermost framed processors globals input firsts some) possible none in
+    let one = together.groups_have_one_program W next outs program follows counts nothing counted set schedule processors globals input firsts some possible none in
     record { members = good_members next outs counts depth set processors end good one; waiters = good_waiters next outs counts depth set processors end good one; nodes = good_nodes next outs counts depth set processors end good }

@@ -9,7 +9,7 @@ use Rattle.fk_tree.specs.declared.node.Kind.TheVariants.{Lockstep, Waiting}
 use Rattle.fk_tree.specs.Sound.{IsSound}
 use Rattle.fk_meaning.specs.Processor.{Processor, Setting, values, last}
 use Rattle.fk_meaning.specs.Round.{Step, Runner, State}
-use Rattle.fk_meaning.specs.Schedule.{Schedule, opening, run, IsLawful}
+use Rattle.fk_meaning.specs.Schedule.{Schedule, opening, run, ArePossible}
 use Rattle.fk_lockstep.specs.Course.{ByItself, Follows}
 use Rattle.fk_lockstep.specs.Counts.{Counts, ArePending, IsCounted}
 
@@ -59,7 +59,7 @@ module _ {W : Type 0} (next : W → Option (Step W)) where
     pub beginners : BeginnersHaveOneProgram s
     pub tree : IsSound processors s.tree
 
--- the invariant holds after a lawful schedule whose last round isn't stopped by a fault
+-- the invariant holds after a schedule of possible rounds
 abbrev pub GroupsHaveOneProgram : (W : Type 0) → Type 0
 GroupsHaveOneProgram W =
     (next : W → Option (Step W)) (outs : W → List W) (program : W)
@@ -68,7 +68,7 @@ GroupsHaveOneProgram W =
     → IsCounted next outs counts program
     → (setting : Setting) (schedule : Schedule) (processors : ℕ) (globals input : List ℕ)
     (firsts : Memory) → 1 ≤ processors
-    → IsLawful next setting schedule (opening processors globals input firsts program)
+    → ArePossible next setting schedule (opening processors globals input firsts program)
     → (run next setting schedule (opening processors globals input firsts program)).fault ≡ None
     → KeepOneProgram next processors
     (run next setting schedule (opening processors globals input firsts program))

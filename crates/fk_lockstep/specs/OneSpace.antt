@@ -8,7 +8,7 @@ use Rattle.fk_tree.specs.Tree.{is_member}
 use Rattle.fk_tree.specs.declared.node.Kind.TheVariants.{Lockstep, Waiting}
 use Rattle.fk_meaning.specs.Processor.{Processor, Setting}
 use Rattle.fk_meaning.specs.Round.{Step, Runner, State}
-use Rattle.fk_meaning.specs.Schedule.{Schedule, opening, run, IsLawful}
+use Rattle.fk_meaning.specs.Schedule.{Schedule, opening, run, ArePossible}
 use Rattle.fk_lockstep.specs.Together.{SameLevel, SameLevels}
 use Rattle.fk_lockstep.specs.Course.{ByItself, Follows}
 use Rattle.fk_lockstep.specs.Counts.{Counts, ArePending, IsCounted}
@@ -51,9 +51,8 @@ module _ {W : Type 0} where
     pub waiters : WaitersHaveOneSpace s
     pub nodes : NodesHaveOneSpace s
 
--- the invariant holds after a lawful schedule whose last round isn't stopped by a fault. In the
--- beginning no call waits, no group is around that of all processors, and each processor runs by
--- itself
+-- the invariant holds after a schedule of possible rounds. In the beginning no call waits, no group
+-- is around that of all processors, and each processor runs by itself
 abbrev pub GroupsHaveOneSpace : (W : Type 0) → Type 0
 GroupsHaveOneSpace W =
     (next : W → Option (Step W)) (outs : W → List W) (program : W)
@@ -63,6 +62,6 @@ GroupsHaveOneSpace W =
     → (depth : W → ℕ) → depth program ≡ 0 → IsFramed next outs depth 0 true program
     → (setting : Setting) (schedule : Schedule) (processors : ℕ) (globals input : List ℕ)
     (firsts : Memory) → 1 ≤ processors
-    → IsLawful next setting schedule (opening processors globals input firsts program)
+    → ArePossible next setting schedule (opening processors globals input firsts program)
     → (run next setting schedule (opening processors globals input firsts program)).fault ≡ None
     → KeepOneSpace (run next setting schedule (opening processors globals input firsts program))

@@ -64,11 +64,11 @@ pub fn rounds_go_through_parts()
     ensures { RoundsGoThroughParts }
 {}
 
-/// After every lawful schedule without a stopped last round, all members of a group in lockstep
-/// have the same work left. Before a branch they have the same last value. They have the same `@`
-/// and the same sizes of their group and of all groups around it, and `groupsize()` is the number
-/// of members. Processors that wait at one node have the same work left, and so have those that are
-/// about to begin the group of a `start`. Each processor is at exactly one node.
+/// After every schedule of possible rounds, all members of a group in lockstep have the same work
+/// left. Before a branch they have the same last value. They have the same `@` and the same sizes
+/// of their group and of all groups around it, and `groupsize()` is the number of members.
+/// Processors that wait at one node have the same work left, and so have those that are about to
+/// begin the group of a `start`. Each processor is at exactly one node.
 ///
 /// This holds for every form `W` of what is left to do. The program must lead each processor
 /// through its groups, parts and bodies in their order, and a `fork` must take the number of parts
@@ -77,10 +77,10 @@ pub fn groups_have_one_program<W>()
     ensures { GroupsHaveOneProgram W }
 {}
 
-/// After every lawful schedule without a stopped last round, all members of a group in lockstep
-/// have levels that differ in `$` alone: they have the same `@`, size and space of their group and
-/// of each group around it. So have processors that wait at one node. All processors at one node,
-/// also those that run by themselves, have the same spaces.
+/// After every schedule of possible rounds, all members of a group in lockstep have levels that
+/// differ in `$` alone: they have the same `@`, size and space of their group and of each group
+/// around it. So have processors that wait at one node. All processors at one node, also those that
+/// run by themselves, have the same spaces.
 ///
 /// This holds for every form `W` of what is left to do. The groups of the program must have one
 /// remaining program, and a function must take its group frame in a group that it was called in,

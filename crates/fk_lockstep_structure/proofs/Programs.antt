@@ -234,7 +234,7 @@ module _ (tables : Tables) (program : ProgramTree) (may_call : (in_group : Bool)
       (sym (settled_idle (anyone may_call) gives_of None (bodies_of tables program (main_of tables program)) main_idle).0) refl
 
 pub programs_have_one_program : ProgramsHaveOneProgram
-programs_have_one_program tables program may_call h setting schedule words firsts input processors some lawful fine =
+programs_have_one_program tables program may_call h setting schedule words firsts input processors some possible fine =
     groups_have_one_program Work (next_in tables program) all_outs (main_work tables program) (programs_follow tables program may_call h)
     (fork_counts (gives_of tables program may_call h)) (none_pending tables program may_call h) (programs_are_counted tables program may_call h)
-    setting schedule processors words input (slice_index firsts) some lawful fine
+    setting schedule processors words input (slice_index firsts) some possible fine

@@ -10,7 +10,7 @@ use Rattle.fk_syntax.specs.Program.{DeclaredTree, Statement, Statements, Functio
 use Rattle.fk_meaning_forms.specs.Tables.{Tables, note}
 use Rattle.fk_meaning_forms.specs.Program.{functions_of, binding_of, signature_in, is_main, main_of}
 use Rattle.fk_meaning.specs.Processor.{Setting}
-use Rattle.fk_meaning.specs.Schedule.{Schedule, run, IsLawful}
+use Rattle.fk_meaning.specs.Schedule.{Schedule, run, ArePossible}
 use Rattle.fk_meaning.specs.Program.{next_in, main_work, program_opening}
 use Rattle.fk_meaning.specs.Shaped.{ProgramShaped}
 use Rattle.fk_lockstep.specs.Told as told
@@ -132,7 +132,7 @@ ProgramsFollow =
     → IsInPlace tables program may_call
     → Follows (next_in tables program) all_outs (ByItself false) (main_work tables program)
 
--- the groups of such programs have one remaining program
+-- after schedules of possible rounds the groups of such programs have one remaining program
 abbrev pub ProgramsHaveOneProgram : Type 0
 ProgramsHaveOneProgram =
     (tables : Tables) (program : ProgramTree) (may_call : (in_group : Bool) → (function : ℕ) → Bool)
@@ -140,7 +140,7 @@ ProgramsHaveOneProgram =
     → (setting : Setting) (schedule : Schedule) (words firsts input : List ℕ) (processors : ℕ)
     → 1 ≤ processors
     → let first = program_opening tables program words firsts input processors in
-    IsLawful (next_in tables program) setting schedule first
+    ArePossible (next_in tables program) setting schedule first
     → (run (next_in tables program) setting schedule first).fault ≡ None
     → KeepOneProgram (next_in tables program) processors
     (run (next_in tables program) setting schedule first)

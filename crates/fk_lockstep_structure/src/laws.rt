@@ -26,9 +26,8 @@ pub fn code_is_counted()
     ensures { CodeIsCounted }
 {}
 
-/// After every lawful schedule, without a stopped last round, of a program whose text keeps these
-/// rules, all members of a group in lockstep have the same work left. Before a branch they have the
-/// same last value.
+/// After every schedule of possible rounds of a program whose text keeps these rules, all members
+/// of a group in lockstep have the same work left. Before a branch they have the same last value.
 pub fn programs_have_one_program()
     ensures { ProgramsHaveOneProgram }
 {}
