@@ -19,6 +19,7 @@ pub mod Runs
 pub mod Whole
 pub mod Run
 mod Example
+mod PassedOver
 pub mod Held
 pub mod Beside
 pub mod Carried

@@ -11,8 +11,8 @@ use Rattle.fk_tree.proofs.Shapes.{has_some}
 use Rattle.fk_meaning.specs.Processor.{Setting, setting_of}
 use Rattle.fk_meaning.specs.Alike.{Same}
 use Rattle.fk_meaning.specs.Round.{Step, Runner, State}
-use Rattle.fk_meaning.specs.Schedule.{opening, run, IsLawful}
-use Rattle.fk_meaning.proofs.Natural.{step_by, runner_by, state_by, runs, lawful_to, lawful_from}
+use Rattle.fk_meaning.specs.Schedule.{opening, run}
+use Rattle.fk_meaning.proofs.Natural.{step_by, runner_by, state_by, runs}
 use Rattle.fk_meaning_forms.specs.Code.{Code}
 use Rattle.fk_meaning.specs.Next as source
 use Rattle.fk_meaning.specs.Next.{Work, going}
@@ -27,7 +27,7 @@ use Rattle.fk_lockstep_one_group.specs.Where.{Where, InRoot, InGroup, GoesNext, 
 use Rattle.fk_lockstep_one_group.specs.Placed.{IsPlaced, HasOneGroup}
 use Rattle.fk_lockstep_one_group.specs.Runs.{BeginAtOne, AlwaysOneGroup}
 use Rattle.fk_lockstep_one_group.proofs.Known.{at_group}
-use Rattle.fk_lockstep_one_group.proofs.Runs.{runs_have_one_group}
+use Rattle.fk_lockstep_one_group.proofs.Runs.{AllPossible, are_all, all_are, all_to, all_from, runs_have_one_group}
 use Rattle.fk_lockstep_structure.specs.Ahead.{outermost, starts_in, starts, all_outs}
 use Rattle.fk_lockstep_one_group.specs.Lists.{HasOwnSites, ListsHaveOneGroup}
 use Rattle.fk_lockstep_one_group.proofs.Held.{is_joint, seat, seat_joint, seat_plain}
@@ -152,13 +152,14 @@ module _ {V : Type 0} (next_in : V → Option (Step V)) (outs_in : V → List V)
   x0_beside = record { raw = begin; related = related; at = refl }
 
   always : AlwaysOneGroup (next core) (λ w. landing core w.at) begin
-  always n globals input firsts schedule some lawful single none =
+  always n globals input firsts schedule some possible single none =
       let set = setting_of n globals input in
       let s0 : State (Held V) = opening n globals input firsts x0 in
-      let raw = lawful_from (next_raw next_in core) (next core) set (place_of next_in core) (natural_place next_in core) schedule s0
-      (subst (λ u. IsLawful (next core) set schedule u) (sym (opening_by (place_of next_in core) n globals input firsts x0)) lawful) in
-      let seats = subst (λ u. IsLawful (next_held next_in core) set schedule u) (opening_by (seated next_in core) n globals input firsts x0)
-      (lawful_to (next_raw next_in core) (next_held next_in core) set (seated next_in core) (natural_seat next_in core leads_on) schedule s0 raw) in
+      let all = are_all (next core) set schedule (opening n globals input firsts begin) possible none in
+      let raw = all_from (next_raw next_in core) (next core) set (place_of next_in core) (natural_place next_in core) schedule s0
+      (subst (λ u. AllPossible (next core) set schedule u) (sym (opening_by (place_of next_in core) n globals input firsts x0)) all) in
+      let seats = subst (λ u. AllPossible (next_held next_in core) set schedule u) (opening_by (seated next_in core) n globals input firsts x0)
+      (all_to (next_raw next_in core) (next_held next_in core) set (seated next_in core) (natural_seat next_in core leads_on) schedule s0 raw) in
       let s : State (Held V) = run (next_raw next_in core) set schedule s0 in
       let held_run : run (next_held next_in core) set schedule (opening n globals input firsts (seated next_in core x0)) ≡ state_by (seated next_in core) s
       = ap (run (next_held next_in core) set schedule) (sym (opening_by (seated next_in core) n globals input firsts x0))
@@ -171,7 +172,7 @@ module _ {V : Type 0} (next_in : V → Option (Step V)) (outs_in : V → List V)
       (runs_have_one_group (Held V) (next_held next_in core) (outs_held next_in outs_in depth core leads_on own R same as_many shallow) (seated next_in core x0) n globals input firsts schedule
       (λ k. follows_held next_in outs_in depth core leads_on own R same as_many shallow k (ByItself false) InRoot (seated next_in core x0) x0_beside follows gone)
       (λ k. goes_held next_in outs_in depth core leads_on own R same as_many shallow k InRoot (seated next_in core x0) x0_beside gone)
-      some seats single held_none) in
+      some (all_are (next_held next_in core) set schedule (opening n globals input firsts (seated next_in core x0)) seats) single held_none) in
       subst (λ u. IsSound n u.tree × HaveOneProgram (next core) u × HasOneGroup (next core) set u × BeginAtOne (next core) (λ w. landing core w.at) u) (sym list_run)
       (both.0.tree, list_has_program next_in core leads_on set s n both.0 both.1, list_has_one next_in core leads_on set s both.1, list_begins next_in core leads_on set s n both.0)
 

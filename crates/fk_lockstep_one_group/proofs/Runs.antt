@@ -1,8 +1,8 @@
 -- Whole runs, round after round.
-use Rattle.std.proofs.Common.{◌≡◌, inl, ⊎_elim, ℕ, zero, suc, ◌+◌, ◌<◌, ◌≤◌, ◌&&◌, Bool, true, false, List, [], ◌∷◌, ◌++◌, length, slice_get, Option, Some, None, refl, sym, ◌∙◌, subst, arith, length-append, append_assoc}
-use Rattle.std.specs.Prelude.{is_none}
+use Rattle.std.proofs.Common.{◌≡◌, inl, ⊎_elim, ℕ, zero, suc, ◌≤◌, ◌&&◌, Bool, true, false, List, [], ◌∷◌, ◌++◌, length, Option, Some, None, refl, sym, ◌∙◌, subst, append_assoc}
+use Rattle.std.specs.Prelude.{is_none, option_map}
 use Rattle.std.proofs.lemmas.Bool.{and_parts, false≢true}
-use Rattle.std.proofs.lemmas.List.{append-nil, take-append-le}
+use Rattle.std.proofs.lemmas.List.{append-nil}
 use Rattle.fk_num.specs.Word.{Memory}
 use Rattle.fk_meaning_operation.specs.Kinds.{class_of}
 use Rattle.fk_meaning_operation.specs.declared.kinds.Class.{Class}
@@ -12,7 +12,8 @@ use Rattle.fk_meaning_operation.specs.declared.operation.Operation.TheVariants a
 use Rattle.fk_meaning_operation.specs.declared.operation.SplitKind.{SplitKind}
 use Rattle.fk_meaning.specs.Processor.{Setting, setting_of}
 use Rattle.fk_meaning.specs.Round.{Step, State, Fault, Round, result, is_allowed, is_possible, IsStopped}
-use Rattle.fk_meaning.specs.Schedule.{Schedule, opening, run, ArePossible, CouldAct, KeepsPace, IsLawful}
+use Rattle.fk_meaning.specs.Schedule.{Schedule, opening, run, ArePossible}
+use Rattle.fk_meaning.proofs.Natural.{step_by, state_by, results, possible_alike}
 use Rattle.fk_meaning.proofs.Stopped.{stopped_faults}
 use Rattle.fk_lockstep.specs.Course.{ByItself, Follows}
 use Rattle.fk_lockstep.specs.Counts.{Counts, AsMany, Leaves, CountsGoOn, CountedNext, CountedFor}
@@ -73,27 +74,14 @@ module _ {W : Type 0} (next : W → Option (Step W)) (outs : W → List W) where
   counted_for zero place here g = tt
   counted_for (suc n) place here g = counted_next n place here (λ to w x. counted_for n to w x) (next here) g
 
--- ---- the beginning of a lawful schedule is lawful
-
-get-left : (xs ys : Schedule) (k : ℕ) → k < length xs → slice_get (xs ++ ys) k ≡ slice_get xs k
-get-left [] ys k lt = absurd (omega arith)
-get-left (x ∷ xs) ys zero lt = refl
-get-left (x ∷ xs) ys (suc k) lt = get-left xs ys k (omega (arith, lt))
+-- ---- possible rounds, one after another
 
 module _ {W : Type 0} (next : W → Option (Step W)) (set : Setting) where
   pub run-append : (xs ys : Schedule) (s : State W) → run next set (xs ++ ys) s ≡ run next set ys (run next set xs s)
   run-append [] ys s = refl
   run-append (round ∷ xs) ys s = run-append xs ys (result next set round s)
 
-  pub pace_before : (xs ys : Schedule) (s : State W) → KeepsPace next set (xs ++ ys) s → KeepsPace next set xs s
-  pace_before xs ys s pace h t le could =
-      let long = length-append xs ys in
-      let found = pace h t (omega (arith, long, le))
-      (λ i lt. subst (λ (l : Schedule). CouldAct next set h (run next set l s)) (sym (take-append-le (t + i) xs ys (omega (arith, lt, le)))) (could i lt)) in
-      let lt = found.1 in
-      (found.0, found.1, found.2, sym (get-left xs ys (t + found.0) (omega (arith, lt, le))) ∙ found.3, found.4)
-
-  -- all rounds before another are possible
+  -- all rounds are possible, also the last one
   abbrev pub AllPossible : Schedule → State W → Type 0
   AllPossible [] s = Unit {0}
   AllPossible (round ∷ schedule) s = (is_possible next set round s ≡ true) × AllPossible schedule (result next set round s)
@@ -129,22 +117,36 @@ module _ {W : Type 0} (next : W → Option (Step W)) (set : Setting) where
       let both = and_parts (is_none s.fault && is_allowed next set round s) (is_none (result next set round s).fault) e in
       none_of s.fault (and_parts (is_none s.fault) (is_allowed next set round s) both.0).0
 
+-- rounds are possible for work in one form exactly where they are for it in another
+module _ {V W : Type 0} (next : V → Option (Step V)) (next' : W → Option (Step W)) (set : Setting) (f : V → W) (natural : (v : V) → next' (f v) ≡ option_map (step_by f) (next v)) where
+  pub all_to : (schedule : Schedule) (s : State V) → AllPossible next set schedule s → AllPossible next' set schedule (state_by f s)
+  all_to [] s all = tt
+  all_to (round ∷ schedule) s all = (
+    possible_alike next next' set f natural round s ∙ all.0,
+    subst (AllPossible next' set schedule) (sym (results next next' set f natural round s)) (all_to schedule (result next set round s) all.1),
+  )
+
+  pub all_from : (schedule : Schedule) (s : State V) → AllPossible next' set schedule (state_by f s) → AllPossible next set schedule s
+  all_from [] s all = tt
+  all_from (round ∷ schedule) s all = (
+    sym (possible_alike next next' set f natural round s) ∙ all.0,
+    all_from schedule (result next set round s) (subst (AllPossible next' set schedule) (results next next' set f natural round s) all.1),
+  )
+
 -- what each round keeps is so behind all of them
 pub round_by_round : {W : Type 0} (next : W → Option (Step W)) (set : Setting) (first : State W) (P : State W → Type 0)
-    → ((schedule : Schedule) (round : Round) → IsLawful next set schedule first → (run next set schedule first).fault ≡ None → IsSingle round
+    → ((schedule : Schedule) (round : Round) → ArePossible next set schedule first → (run next set schedule first).fault ≡ None → IsSingle round
     → is_possible next set round (run next set schedule first) ≡ true → P (run next set schedule first) → P (result next set round (run next set schedule first)))
-    → (xs ys : Schedule) → AllPossible next set (xs ++ ys) first → KeepsPace next set (xs ++ ys) first → AreSingle ys → P (run next set xs first) → P (run next set (xs ++ ys) first)
-round_by_round next set first P keeps xs [] all pace single has = subst (λ (l : Schedule). P (run next set l first)) (sym (append-nil xs)) has
-round_by_round next set first P keeps xs (round ∷ ys) all pace single has =
+    → (xs ys : Schedule) → AllPossible next set (xs ++ ys) first → AreSingle ys → P (run next set xs first) → P (run next set (xs ++ ys) first)
+round_by_round next set first P keeps xs [] all single has = subst (λ (l : Schedule). P (run next set l first)) (sym (append-nil xs)) has
+round_by_round next set first P keeps xs (round ∷ ys) all single has =
     let possible = possible_then next set xs round ys first all in
     let before : AllPossible next set xs first = possible_before next set xs (round ∷ ys) first all in
-    let lawful : IsLawful next set xs first = record { possible = all_are next set xs first before; pace = pace_before next set xs (round ∷ ys) first pace } in
-    let behind = keeps xs round lawful (running next set round (run next set xs first) possible) single.0 possible has in
+    let behind = keeps xs round (all_are next set xs first before) (running next set round (run next set xs first) possible) single.0 possible has in
     let same : (xs ++ round ∷ []) ++ ys ≡ xs ++ (round ∷ ys) = append_assoc xs (round ∷ []) ys in
     let next_has : P (run next set (xs ++ round ∷ []) first) = subst P (sym (run-append next set xs (round ∷ []) first)) behind in
     subst (λ (l : Schedule). P (run next set l first)) same
-    (round_by_round next set first P keeps (xs ++ round ∷ []) ys (subst (λ (l : Schedule). AllPossible next set l first) (sym same) all)
-    (subst (λ (l : Schedule). KeepsPace next set l first) (sym same) pace) single.1 next_has)
+    (round_by_round next set first P keeps (xs ++ round ∷ []) ys (subst (λ (l : Schedule). AllPossible next set l first) (sym same) all) single.1 next_has)
 
 module _ (W : Type 0) (next : W → Option (Step W)) (outs : W → List W) (program : W) (processors : ℕ) (globals input : List ℕ) (firsts : Memory)
     (follows : Follows next outs (ByItself false) program) (goes_on : Goes next InRoot program) (some : 1 ≤ processors) where
@@ -157,22 +159,22 @@ module _ (W : Type 0) (next : W → Option (Step W)) (outs : W → List W) (prog
   abbrev after : Schedule → State W
   after schedule = run next set schedule first
 
-  keeps : (schedule : Schedule) → IsLawful next set schedule first → (after schedule).fault ≡ None → KeepOneProgram next processors (after schedule)
-  keeps schedule lawful none =
+  keeps : (schedule : Schedule) → ArePossible next set schedule first → (after schedule).fault ≡ None → KeepOneProgram next processors (after schedule)
+  keeps schedule possible none =
       groups_have_one_program W next outs program follows (no_counts W) (λ p. refl) (λ n. counted_for next outs n InRoot program (goes_on n)) set schedule processors globals input firsts some
-      lawful none
+      possible none
 
-  one_group : (schedule : Schedule) → IsLawful next set schedule first → AreSingle schedule → (after schedule).fault ≡ None → HasOneGroup next set (after schedule)
-  one_group schedule lawful single none =
+  one_group : (schedule : Schedule) → ArePossible next set schedule first → AreSingle schedule → (after schedule).fault ≡ None → HasOneGroup next set (after schedule)
+  one_group schedule possible single none =
       round_by_round next set first (HasOneGroup next set)
-      (λ xs round before running' one possible has.
+      (λ xs round before running' one next_possible has.
       let program' = keeps xs before running' in
       rounds_keep_one_group W next set round (after xs)
-      (record { sound = program'.tree; one_program = program'.members; one_group = has; single = one; possible = possible }))
-      [] schedule (are_all next set schedule first lawful.possible none) lawful.pace single (openings_have_no_group W next program processors globals input firsts some goes_on)
+      (record { sound = program'.tree; one_program = program'.members; one_group = has; single = one; possible = next_possible }))
+      [] schedule (are_all next set schedule first possible none) single (openings_have_no_group W next program processors globals input firsts some goes_on)
 
 pub runs_have_one_group : (W : Type 0) → RunsHaveOneGroup W
-runs_have_one_group W next outs program processors globals input firsts schedule follows goes_on some lawful single none = (
-  keeps W next outs program processors globals input firsts follows goes_on some schedule lawful none,
-  one_group W next outs program processors globals input firsts follows goes_on some schedule lawful single none,
+runs_have_one_group W next outs program processors globals input firsts schedule follows goes_on some possible single none = (
+  keeps W next outs program processors globals input firsts follows goes_on some schedule possible none,
+  one_group W next outs program processors globals input firsts follows goes_on some schedule possible single none,
 )

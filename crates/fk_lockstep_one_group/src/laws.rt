@@ -36,8 +36,7 @@ pub fn waiters_resume<W>()
 {}
 
 /// A program with one group at a time has at most one group, whose members have one program, after
-/// every lawful schedule of rounds in which each processor does at most one operation, if its last
-/// round isn't stopped.
+/// every schedule of possible rounds in which each processor does at most one operation.
 pub fn runs_have_one_group<W>()
     ensures { RunsHaveOneGroup W }
 {}
@@ -50,7 +49,7 @@ pub fn code_goes()
 
 /// If a program goes through its groups and bodies in their order, one group at a time, then so
 /// does each list that has its code and in which no two operations have one site. After every
-/// lawful schedule of rounds in which each processor does at most one operation, the members of a
+/// schedule of possible rounds in which each processor does at most one operation, the members of a
 /// group in lockstep are at one index, and there is at most one group.
 pub fn lists_have_one_group()
     ensures { ListsHaveOneGroup }
