@@ -5,7 +5,7 @@ use Rattle.fk_num.specs.Word.{Memory}
 use Rattle.fk_tree.specs.Tree.{root}
 use Rattle.fk_meaning.specs.Processor.{Setting, setting_of}
 use Rattle.fk_meaning.specs.Round.{Runner, State}
-use Rattle.fk_meaning.specs.Schedule.{Schedule, first_processor, beginners, run, IsLawful}
+use Rattle.fk_meaning.specs.Schedule.{Schedule, first_processor, beginners, run, ArePossible}
 use Rattle.fk_core.specs.declared.op.CoreOp.{CoreOp}
 use Rattle.fk_core.specs.Next.{Position, position, next, list_opening}
 use Rattle.fk_lockstep_one_group.specs.Runs.{AreSingle}
@@ -48,14 +48,11 @@ module _ (runs_reach : RunsReach) (core : List CoreOp) (main : ℕ) (firsts : Li
   pub given : AreGiven image.globals.items firsts input p
   given = record { few = few; room = is_input.room; globals_are_words = carries.globals_are_words; firsts_are_words = carries.firsts_are_words; input_are_words = is_input.words }
 
-  pub reached : (schedule : Schedule) → IsLawful (next core) setting schedule first → AreSingle schedule → (state schedule).fault ≡ None → IsReached core setting (state schedule)
-  reached schedule lawful single none =
-      runs_reach core nestings main carries.one_group image.globals.items firsts input p schedule some given lawful single none
+  pub reached : (schedule : Schedule) → ArePossible (next core) setting schedule first → AreSingle schedule → (state schedule).fault ≡ None → IsReached core setting (state schedule)
+  reached schedule possible single none =
+      runs_reach core nestings main carries.one_group image.globals.items firsts input p schedule some given possible single none
 
   -- ---- the opening
-
-  nothing_yet : IsLawful (next core) setting [] first
-  nothing_yet = record { possible = tt; pace = λ h t le able. absurd (omega (arith, le)) }
 
   begins_at : (number : ℕ) → number < p → HasNext core nestings setting (root p) number (landed core (beginner setting (slice_index firsts) main number))
   begins_at number lt =
@@ -64,7 +61,7 @@ module _ (runs_reach : RunsReach) (core : List CoreOp) (main : ℕ) (firsts : Li
       let at : slice_get first.runners number ≡ Some r
       = beginner_at setting (slice_index firsts) (position main []) 0 p number lt ∙ ap (λ k. Some (first_runner setting (slice_index firsts) (position main []) k)) none in
       let within = carries.one_group.begins in
-      reached_processors_have_next core nestings main setting first number r (λ i. 0) carries.one_group (reached [] nothing_yet tt refl) at
+      reached_processors_have_next core nestings main setting first number r (λ i. 0) carries.one_group (reached [] tt tt refl) at
       (λ e. let same : main ≡ length core = ap (λ w. w.at) e in omega (arith, within, same))
 
   pub opens : OpensWith core image places nestings (spaces_of setting) firsts main input p

@@ -7,7 +7,7 @@ use Rattle.fk_tree.specs.Tree.{Tree}
 use Rattle.fk_meaning.specs.Processor.{Setting, setting_of}
 use Rattle.fk_meaning.specs.Group.{goes_onward}
 use Rattle.fk_meaning.specs.Round.{Step, Runner, State, Round, Acting, agreed, lowest, all_changes, settled_by, settled, result, is_possible}
-use Rattle.fk_meaning.specs.Schedule.{Schedule, run, IsLawful}
+use Rattle.fk_meaning.specs.Schedule.{Schedule, run, ArePossible}
 use Rattle.fk_lockstep.proofs.Rounds.{settled_at}
 use Rattle.fk_core.specs.declared.op.CoreOp.{CoreOp}
 use Rattle.fk_core.specs.Next.{Position, position, landing, next, list_opening}
@@ -83,35 +83,35 @@ module _ (core : List CoreOp) (nestings : Nestings) (main : ℕ) (list : IsOfOne
       inl (subst (StaysInList core) (sym b.left) (record { at = list.begins; callers = All-nil (λ i. i < length core) }))
 
   -- behind its operation
-  goes_there : (schedule : Schedule) → IsLawful (next core) set schedule first → (run (next core) set schedule first).fault ≡ None → (h : ℕ) (r : Runner Position)
+  goes_there : (schedule : Schedule) → ArePossible (next core) set schedule first → (run (next core) set schedule first).fault ≡ None → (h : ℕ) (r : Runner Position)
       → slice_get (run (next core) set schedule first).runners h ≡ Some r → IsThere core r.left → (step : Step Position) → next core r.left ≡ Some step → (onward : Bool) → IsThere core (step.rest onward)
-  goes_there schedule lawful none h r at there step e onward =
+  goes_there schedule possible none h r at there step e onward =
       ⊎_elim
       (λ w.
       let l = leading core list.well_formed.leads_on r.left w.at in
       let same : step ≡ step_at core (landing core r.left.at) l.op l.operation r.left.callers = first_is _ _ (sym e ∙ l.is_next) in
-      let may = list.may words firsts input p schedule lawful none h r l.op l.operation at l.at.stands l.at.is_read in
+      let may = list.may words firsts input p schedule possible none h r l.op l.operation at l.at.stands l.at.is_read in
       subst (λ (x : Step Position). IsThere core (x.rest onward)) (sym same)
       (goes_within core nestings main list (landing core r.left.at) l.op l.operation r onward l.at may w.callers))
       (λ ended. let clash : None ≡ Some step = sym (ended_next core []) ∙ ap (next core) (sym ended) ∙ e in absurd (cc)) there
 
-  all_there : (schedule : Schedule) → IsLawful (next core) set schedule first → AreSingle schedule → (run (next core) set schedule first).fault ≡ None → AreThere core (run (next core) set schedule first)
-  all_there schedule lawful single none =
+  all_there : (schedule : Schedule) → ArePossible (next core) set schedule first → AreSingle schedule → (run (next core) set schedule first).fault ≡ None → AreThere core (run (next core) set schedule first)
+  all_there schedule possible single none =
       round_by_round (next core) set first (AreThere core)
-      (λ xs round before running' one possible there.
-      round_there core set round (run (next core) set xs first) one possible (λ h r at here step e onward. goes_there xs before running' h r at here step e onward) there)
-      [] schedule (are_all (next core) set schedule first lawful.possible none) lawful.pace single begin_there
+      (λ xs round before running' one next_possible there.
+      round_there core set round (run (next core) set xs first) one next_possible (λ h r at here step e onward. goes_there xs before running' h r at here step e onward) there)
+      [] schedule (are_all (next core) set schedule first possible none) single begin_there
 
 pub runs_reach : ListsStayInRange → RunsReach
-runs_reach stay core nestings main list words firsts input p schedule some given lawful single none =
-    let known = list.one_group p words input (slice_index firsts) schedule some lawful single none in
+runs_reach stay core nestings main list words firsts input p schedule some given possible single none =
+    let known = list.one_group p words input (slice_index firsts) schedule some possible single none in
     record {
       sound = known.0;
       one_program = known.1;
       one_group = known.2;
       beginners = known.3;
-      within = all_there core nestings main list words firsts input p schedule lawful single none;
-      depth = λ h r op at stands. list.well_formed.depths words firsts input p schedule lawful none h r op at stands;
-      may = λ h r op operation at stands is_read. list.may words firsts input p schedule lawful none h r op operation at stands is_read;
+      within = all_there core nestings main list words firsts input p schedule possible single none;
+      depth = λ h r op at stands. list.well_formed.depths words firsts input p schedule possible none h r op at stands;
+      may = λ h r op operation at stands is_read. list.may words firsts input p schedule possible none h r op operation at stands is_read;
       in_range = λ h r at. stay core main words firsts input p schedule given h r at;
     }

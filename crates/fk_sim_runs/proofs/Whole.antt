@@ -128,11 +128,11 @@ module _ (runs_reach : RunsReach) (runs_reach_rounds : RunsReachRounds) (core : 
   always = record {
     waits = λ schedule lawful single none h group parts r step kind at next_is.
         reached_waiters_resume core setting (state schedule) h group parts r step
-        (reaching.reached runs_reach core main firsts places nestings cycles image carries input p is_input some few schedule lawful single none) kind at next_is;
+        (reaching.reached runs_reach core main firsts places nestings cycles image carries input p is_input some few schedule lawful.possible single none) kind at next_is;
     further = λ schedule uniting nodes printed stages m lawful single stands running r lawful'.
         let s = state schedule in
         let both = runs_reach_rounds core nestings main carries.one_group image.globals.items firsts input p schedule stages some
-        (reaching.given runs_reach core main firsts places nestings cycles image carries input p is_input some few) lawful' single (possible_of uniting s nodes printed stages m r) in
+        (reaching.given runs_reach core main firsts places nestings cycles image carries input p is_input some few) lawful'.possible single (possible_of uniting s nodes printed stages m r) in
         further s nodes printed stages m (record { before = both.0; after = both.1 }) running uniting stands r;
   }
 

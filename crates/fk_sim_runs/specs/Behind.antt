@@ -6,7 +6,7 @@ use Rattle.fk_space.specs.Space.{Space}
 use Rattle.fk_meaning_operation.specs.declared.operation.Operation.TheVariants.{Begin}
 use Rattle.fk_meaning.specs.Processor.{Setting, setting_of}
 use Rattle.fk_meaning.specs.Round.{Runner, State, result, is_possible}
-use Rattle.fk_meaning.specs.Schedule.{Schedule, run, IsLawful}
+use Rattle.fk_meaning.specs.Schedule.{Schedule, run, ArePossible}
 use Rattle.fk_core.specs.declared.op.CoreOp.{CoreOp}
 use Rattle.fk_core.specs.Next.{Position, next, list_opening}
 use Rattle.fk_lockstep_one_group.specs.Runs.{AreSingle}
@@ -102,6 +102,7 @@ RunsReachRounds =
     let first = list_opening main words firsts input p in
     let s = run (next core) setting schedule first in
     1 ≤ p → AreGiven words firsts input p
-    → IsLawful (next core) setting (schedule ++ counts_for stages ∷ []) first → AreSingle schedule
+    → ArePossible (next core) setting (schedule ++ counts_for stages ∷ []) first
+    → AreSingle schedule
     → is_possible (next core) setting (counts_for stages) s ≡ true
     → IsReached core setting s × IsReached core setting (behind core setting s stages)

@@ -12,7 +12,7 @@ use Rattle.fk_sim_block.specs.Lists.{StaysInList, is_end, AlwaysMay}
 use Rattle.fk_sim_block.specs.Node.{Nestings}
 
 -- What a list needs to have one group at a time: conditions on each index, whatever branches its
--- processors take, and conditions on all its lawful runs.
+-- processors take, and conditions on all its runs of possible rounds.
 pub record IsOfOneGroup (core : List CoreOp) (nestings : Nestings) (main : ℕ) : Type 0 where
   pub begins : main < length core
   -- A jump leads to an operation.
@@ -28,9 +28,9 @@ pub record IsOfOneGroup (core : List CoreOp) (nestings : Nestings) (main : ℕ) 
       → is_no_step (class_of operation) ≡ true → is_alone operation ≡ true
   -- No frame has a saved level: around a group there is the root alone.
   pub levels : (i : ℕ) → nestings.levels i ≡ 0
-  -- In every lawful run the members of a group in lockstep are at one index, and so are those who
+  -- In every such run the members of a group in lockstep are at one index, and so are those who
   -- begin a group; and there is one group at a time.
   pub one_group : AlwaysOneGroup (next core) (λ w. landing core w.at) (position main [])
-  -- In every lawful run each processor has as many values as its operation expects, and may do it.
+  -- In every such run each processor has as many values as its operation expects, and may do it.
   pub well_formed : IsWellFormed core main
   pub may : AlwaysMay core main

@@ -4,7 +4,7 @@ use Rattle.fk_meaning_operation.specs.declared.operation.Operation.{Operation}
 use Rattle.fk_tree.specs.Sound.{IsSound}
 use Rattle.fk_meaning.specs.Processor.{Setting, setting_of, values}
 use Rattle.fk_meaning.specs.Round.{Runner, State}
-use Rattle.fk_meaning.specs.Schedule.{Schedule, run, IsLawful}
+use Rattle.fk_meaning.specs.Schedule.{Schedule, run, ArePossible}
 use Rattle.fk_core.specs.declared.op.CoreOp.{CoreOp}
 use Rattle.fk_core.specs.Numbers.{operation_of}
 use Rattle.fk_core.specs.Next.{Position, position, landing, next, list_opening}
@@ -40,14 +40,14 @@ pub record IsReached (core : List CoreOp) (setting : Setting) (s : State Positio
       → operation_of op.kind op.number ≡ Some operation → MayDo operation r
   pub in_range : (h : ℕ) (r : Runner Position) → slice_get s.runners h ≡ Some r → IsInRange r.has
 
--- A state is reached after each lawful schedule without a stopped last round, in whose rounds each
--- processor does one operation at most, from what a machine may be given.
+-- A state is reached after each schedule of possible rounds, in which each processor does one
+-- operation at most, from what a machine may be given.
 abbrev pub RunsReach : Type 0
 RunsReach =
     (core : List CoreOp) (nestings : Nestings) (main : ℕ) → IsOfOneGroup core nestings main
     → (words firsts input : List ℕ) (p : ℕ) (schedule : Schedule)
     → let setting = setting_of p words input in
     let first = list_opening main words firsts input p in
-    1 ≤ p → AreGiven words firsts input p → IsLawful (next core) setting schedule first
+    1 ≤ p → AreGiven words firsts input p → ArePossible (next core) setting schedule first
     → AreSingle schedule → (run (next core) setting schedule first).fault ≡ None
     → IsReached core setting (run (next core) setting schedule first)

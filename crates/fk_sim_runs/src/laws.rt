@@ -16,7 +16,7 @@ ghost use Rattle.fk_sim_runs.specs.Runs.{MachinesFollowGroupRuns, OrderlyRoundsG
 ghost use Rattle.fk_sim_runs.specs.Runs.{UnionsGoFurther, StartsGoFurther};
 ghost use Rattle.fk_sim_runs.specs.Follow.{MachinesFollowGroups};
 
-/// After every lawful schedule in whose rounds each processor does one operation at most, each
+/// After every schedule of possible rounds in which each processor does one operation at most, each
 /// processor is at an index of the list or at its end, may do its next operation, and its values
 /// and variables are words.
 pub fn runs_reach()
