@@ -102,7 +102,8 @@ valid program facts laid = record {
 }
 
 pub correct_programs_have_one_program : CorrectProgramsHaveOneProgram
-correct_programs_have_one_program program facts laid = valid_programs_have_one_program program facts (valid program facts laid)
+correct_programs_have_one_program program facts laid setting schedule words firsts input processors some lawful fine =
+    valid_programs_have_one_program program facts (valid program facts laid) setting schedule words firsts input processors some lawful.possible fine
 
 module _ (trim : TextsAreTrim) (proper : TextsAreProper) where
   pub laid_out : (source : List ℕ) (tokens : List Spelled) (program : ProgramTree) (facts : Facts) → Tokens source tokens → SpellsProgram tokens program
@@ -129,6 +130,7 @@ module _ (trim : TextsAreTrim) (proper : TextsAreProper) where
       by others false e = others
 
   pub texts_have_one_space : FramesStandBehindFirst → TextsHaveOneSpace
-  texts_have_one_space first source tokens program facts spelled spells correct fits =
+  texts_have_one_space first source tokens program facts spelled spells correct fits setting schedule words firsts input processors some lawful fine =
       valid_programs_have_one_space program facts (valid program facts (laid_out source tokens program facts spelled spells correct fits))
       (none_first (tables_by program facts) (regions_of (told_by facts) program.items) (first (told_by facts) tokens program spells))
+      setting schedule words firsts input processors some lawful.possible fine

@@ -84,9 +84,8 @@ pub fn sites_are_own()
 
 /// In every run of the list of a plain program that keeps all rules and has a layout, there is one
 /// group at most at a time, and its members in lockstep are at one index of the list. This holds
-/// after every lawful schedule in whose rounds each processor does one operation at most, and whose
-/// last round isn't stopped. A plain program has no splits, no group frames, no `shalloc` and no
-/// `shmalloc`.
+/// after every schedule of possible rounds in which each processor does one operation at most. A
+/// plain program has no splits, no group frames, no `shalloc` and no `shmalloc`.
 pub fn plain_programs_have_one_group()
     ensures { PlainProgramsHaveOneGroup }
 {}
