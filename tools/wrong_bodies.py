@@ -10,6 +10,7 @@ refused at a goal of a contract, and not for a name that a proof misses or for a
 about as long as a gate from nothing. With --apply nothing is proved: each edit is only applied. The last line counts
 those that passed and failed.
 """
+import argparse
 import re
 import shutil
 import subprocess
@@ -92,10 +93,18 @@ def try_all(edits):
     return {key: text for key, text in says.items() if not text.startswith(REFUSED) or text.startswith(f"{REFUSED} (only")}
 
 
+def words_of(words):
+    """Reads the words of the command line."""
+    parser = argparse.ArgumentParser(description="Has the prover try the wrong bodies that the gate leaves out.")
+    parser.add_argument("--apply", action="store_true", help="prove nothing: only apply each edit")
+    parser.add_argument("crates", nargs="*", metavar="CRATE", help="the crates whose edits are tried (all)")
+    return parser.parse_args(words)
+
+
 def main(words):
-    attempt = apply_all if "--apply" in words else try_all
-    named = [it for it in words if it != "--apply"]
-    crates = named or sorted(it.name for it in KEPT.iterdir() if it.is_dir())
+    told = words_of(words)
+    attempt = apply_all if told.apply else try_all
+    crates = told.crates or sorted(it.name for it in KEPT.iterdir() if it.is_dir())
     edits = edits_of(crates)
     failed = attempt(edits)
     for (crate, name), text in failed.items():
