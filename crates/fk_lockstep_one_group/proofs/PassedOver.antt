@@ -1,8 +1,7 @@
 -- A schedule of possible rounds that isn't lawful, since it passes a processor over. After it, too, a program with one group at
 -- a time has at most one group.
-use Rattle.std.proofs.Common.{◌≡◌, ℕ, zero, suc, ◌+◌, ◌<◌, ◌≤◌, Bool, List, [], ◌∷◌, length, replicate, take, Option, Some, None, ap, ◌∙◌, sym, refl, subst, arith}
+use Rattle.std.proofs.Common.{◌≡◌, ℕ, zero, suc, ◌+◌, ◌<◌, ◌≤◌, Bool, false, List, [], ◌∷◌, length, take, Option, Some, None, ap, ◌∙◌, sym, refl, subst, arith}
 use Rattle.std.specs.Prelude.{slice_get, slice_index}
-use Rattle.std.proofs.lemmas.List.{length-replicate}
 use Rattle.fk_meaning_operation.specs.declared.operation.Operation.TheVariants.{DropLast}
 use Rattle.fk_meaning.specs.Processor.{Setting, setting_of}
 use Rattle.fk_meaning.specs.Round.{Step, State, Round, result}
@@ -33,7 +32,12 @@ abbrev round : Round
 round = 1 ∷ 0 ∷ []
 
 abbrev rounds : ℕ → Schedule
-rounds n = replicate n round
+rounds zero = []
+rounds (suc n) = round ∷ rounds n
+
+long : (n : ℕ) → length (rounds n) ≡ n
+long zero = refl
+long (suc n) = ap suc (long n)
 
 stays : result next set round first ≡ first
 stays = refl
@@ -84,7 +88,7 @@ each (suc n) (suc i) r e = each n i r e
 
 not_lawful : IsLawful next set (rounds 256) first → ⊥
 not_lawful lawful =
-    let long = length-replicate 256 round in
-    let found = lawful.pace 1 0 (omega (arith, long)) (λ i less. subst (CouldAct next set 1) (sym (before (0 + i) 256)) could) in
+    let many = long 256 in
+    let found = lawful.pace 1 0 (omega (arith, many)) (λ i less. subst (CouldAct next set 1) (sym (before (0 + i) 256)) could) in
     let within : 0 < 0 = subst (IsIn 1) (each 256 (0 + found.0) found.2 found.3) found.4 in
     omega (arith, within)
