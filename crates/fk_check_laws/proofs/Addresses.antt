@@ -36,7 +36,8 @@ use Rattle.fk_meaning_forms.specs.Tables.{no_binding, note, slot}
 use Rattle.fk_meaning_forms.specs.Expressions.{Coded, Standing, InWord, Signature, variable, placed}
 use Rattle.fk_meaning_forms.specs.Expressions as x
 use Rattle.fk_lockstep.specs.Told.{Told, LinksTold}
-use Rattle.fk_parse_laws.specs.Trim.{IsTrim, LinksAreTrim, ItemsAreTrim}
+use Rattle.fk_parse_laws.specs.Every.{TreeHas, LinksHave}
+use Rattle.fk_parse_laws.specs.Trim.{ItemsAreTrim, nonempty_lists}
 use Rattle.fk_check_laws.specs.Correct.{IsCorrect}
 use Rattle.fk_check_laws.proofs.Each.{Each, each, front_of, rest_of}
 use Rattle.fk_check_laws.proofs.Typed.{There}
@@ -174,7 +175,7 @@ module _ (program : ProgramTree) (facts : Facts) (valid : IsCorrect program fact
   Addresses e = v.AddressesTold E (tables program facts valid) functions e
 
   module _ (around : List Holder) where
-    operand_told : (spot : _) (shared : Bool) (operand : Tree) → IsTrim operand → Told' operand
+    operand_told : (spot : _) (shared : Bool) (operand : Tree) → TreeHas nonempty_lists operand → Told' operand
         → Kept (s.stands around spot shared (w.Prefix g.Ampersand (s.named_thing thing_at operand))) → v.OperandTold E (tables program facts valid) functions operand
     operand_told spot shared (t.Variable name) trim' used kept =
         address_fact name used (λ is. kept rules.PrivateAddress (subst (λ o. sb.BreaksRule around (w.Prefix g.Ampersand o) rules.PrivateAddress) (sym is) sb.private_address))
@@ -187,7 +188,7 @@ module _ (program : ProgramTree) (facts : Facts) (valid : IsCorrect program fact
     by_ampersand sign V go = tt
 
     mutual
-      pub addresses : (e : Tree) → IsTrim e → Told' e → Each Kept (s.tree_tokens thing_at around e) → Addresses e
+      pub addresses : (e : Tree) → TreeHas nonempty_lists e → Told' e → Each Kept (s.tree_tokens thing_at around e) → Addresses e
       addresses (t.Number spot value unsigned) trim' used kept = tt
       addresses (t.Puts spot text) trim' used kept = tt
       addresses (t.Sizeof spot type) trim' used kept = tt
@@ -212,7 +213,7 @@ module _ (program : ProgramTree) (facts : Facts) (valid : IsCorrect program fact
           )
       addresses (t.Choose spot condition first second) trim' used kept = tt
 
-      links_addresses : (before : Bool) (links : Links) → LinksAreTrim links → LinksTold Any IsUsed links → Each Kept (s.links_tokens thing_at around before links)
+      links_addresses : (before : Bool) (links : Links) → LinksHave nonempty_lists links → LinksTold Any IsUsed links → Each Kept (s.links_tokens thing_at around before links)
           → v.LinksAddressesTold E (tables program facts valid) functions links
       links_addresses before t.no_links trim' used kept = tt
       links_addresses before (t.link spot sign right others) trim' used kept = (

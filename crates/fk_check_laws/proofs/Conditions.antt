@@ -23,7 +23,8 @@ use Rattle.fk_meaning_forms.specs.Program.{functions_of, with_body}
 use Rattle.fk_meaning.specs.Calls.{TakesEnough}
 use Rattle.fk_lockstep.specs.Told.{Told}
 use Rattle.fk_core_flat.specs.Fitting.{NameFits}
-use Rattle.fk_parse_laws.specs.Trim.{IsTrim, OptionIsTrim, StatementIsTrim, StatementsAreTrim, BodyIsTrim, ItemsAreTrim}
+use Rattle.fk_parse_laws.specs.Every.{TreeHas, OptionHas, StatementHas, StatementsHave, BodyHas}
+use Rattle.fk_parse_laws.specs.Trim.{ItemsAreTrim, nonempty_lists}
 use Rattle.fk_check_laws.specs.Correct.{IsCorrect}
 use Rattle.fk_check_laws.specs.Conditions as c
 use Rattle.fk_check_laws.specs.Conditions.{OptionBegins, LoopsBegin, AllLoopsBegin, BodyBegins, FunctionsBegin}
@@ -79,7 +80,7 @@ module _ (program : ProgramTree) (facts : Facts) (valid : IsCorrect program fact
     is_read = read program facts valid functions (Takes program facts valid functions) (takes_of program facts valid functions) e
         (λ place rule broken. fine.0 place rule (inl broken)) (told_of (IsNamed program facts valid functions) (λ name used. known program facts valid name used.0 used.1 used.2))
 
-    begins_so : (around : List Holder) → IsTrim e → Each Kept (s.tree_tokens thing around e) → Begin e
+    begins_so : (around : List Holder) → TreeHas nonempty_lists e → Each Kept (s.tree_tokens thing around e) → Begin e
     begins_so around is_trim kept rest =
         let has = y.value_there _ is_read.typed (so_not rules.NoCondition (first_place (term_of e)) _ (λ place rule broken. fine.0 place rule (inr broken))) in
         value_begins (tables program facts valid) functions (x.stands (tables program facts valid) functions e)
@@ -87,7 +88,7 @@ module _ (program : ProgramTree) (facts : Facts) (valid : IsCorrect program fact
         (valued (env program facts valid) (tables program facts valid) functions e (told_of NameFact (a.name_fact program facts valid trim functions))
         (a.addresses program facts valid trim functions around e is_trim (told_of IsUsed (λ name used. used)) kept) has)) rest
 
-  option_begins : (around : List Holder) (o : Option Tree) → OptionIsTrim o → Each Kept (s.optional_tokens thing around o) → Each S (optional_marks o) → Each F (optional_pieces role.Condition o)
+  option_begins : (around : List Holder) (o : Option Tree) → OptionHas nonempty_lists o → Each Kept (s.optional_tokens thing around o) → Each S (optional_marks o) → Each F (optional_pieces role.Condition o)
       → OptionBegins (tables program facts valid) functions o
   option_begins around None is_trim kept marks fine = tt
   option_begins around (Some e) is_trim kept marks fine = begins_so e marks fine.0 around is_trim kept
@@ -99,7 +100,7 @@ module _ (program : ProgramTree) (facts : Facts) (valid : IsCorrect program fact
   tokens_of around st = s.statement_tokens thing ◌∷◌ around st
 
   mutual
-    loops : (result : TypeTree) (around : List Holder) (st : Statement) → StatementIsTrim st → Each Kept (tokens_of around st) → Each S (statement_marks st) → Each F (statement_pieces result st) → Begun st
+    loops : (result : TypeTree) (around : List Holder) (st : Statement) → StatementHas nonempty_lists st → Each Kept (tokens_of around st) → Each S (statement_marks st) → Each F (statement_pieces result st) → Begun st
     loops result around (p.Block list) t k m f = all_loops result around list t k (scope_of program facts valid functions (statements_marks list) m) f
     loops result around (p.If spot condition body) t k m f =
         loops result _ body t.1 (rest_of Kept (s.condition_tokens thing around spot condition) _ k)
@@ -161,7 +162,7 @@ module _ (program : ProgramTree) (facts : Facts) (valid : IsCorrect program fact
     loops result around (p.Continue spot) t k m f = tt
     loops result around (p.Return spot e) t k m f = tt
 
-    all_loops : (result : TypeTree) (around : List Holder) (st : Statements) → StatementsAreTrim st → Each Kept (s.statements_tokens thing ◌∷◌ around st) → Each S (statements_marks st)
+    all_loops : (result : TypeTree) (around : List Holder) (st : Statements) → StatementsHave nonempty_lists st → Each Kept (s.statements_tokens thing ◌∷◌ around st) → Each S (statements_marks st)
         → Each F (statements_pieces result st) → AllLoopsBegin (tables program facts valid) functions st
     all_loops result around p.no_statements t k m f = tt
     all_loops result around (p.statement first others) t k m f = (
@@ -174,7 +175,7 @@ module _ (program : ProgramTree) (facts : Facts) (valid : IsCorrect program fact
   abbrev AllBegun : List FunctionTree → Type 0
   AllBegun gs = FunctionsBegin (tables program facts valid) functions gs
 
-  with_begun : (g : FunctionTree) (around : List Holder) (o : Option Statements) → g.body ≡ o → BodyIsTrim o → Each Kept (s.body_tokens thing ◌∷◌ around o) → Each S (body_marks o) → Each F (body_pieces g.result o)
+  with_begun : (g : FunctionTree) (around : List Holder) (o : Option Statements) → g.body ≡ o → BodyHas nonempty_lists o → Each Kept (s.body_tokens thing ◌∷◌ around o) → Each S (body_marks o) → Each F (body_pieces g.result o)
       → (others : List FunctionTree) → AllBegun others → AllBegun (with_body g o others)
   with_begun g around None has t k m f others go = go
   with_begun g around (Some body) has t k m f others go =

@@ -33,7 +33,8 @@ use Rattle.fk_sharing.specs.Tokens as s
 use Rattle.fk_sharing.specs.Broken as sb
 use Rattle.fk_meaning_forms.specs.Expressions.{token, last_link, last_suffix}
 use Rattle.fk_lockstep.specs.Told.{Told, LinksTold, SuffixesTold, AllTold}
-use Rattle.fk_parse_laws.specs.Trim.{IsTrim, LinksAreTrim, TreesAreTrim, SuffixesAreTrim}
+use Rattle.fk_parse_laws.specs.Every.{TreeHas, LinksHave, TreesHave, SuffixesHave}
+use Rattle.fk_parse_laws.specs.Trim.{nonempty_lists}
 use Rattle.fk_check_laws.proofs.Each.{Each, front_of, rest_of}
 use Rattle.fk_check_laws.proofs.Read.{Any}
 use Rattle.fk_lower_laws.specs.Ways.{Way, Valued, Unchecked, Constant, Function, gives, result, prefix_way, joined_way, call_gives, called_way, dotted_way, way, chain_way, suffixed_way}
@@ -322,7 +323,7 @@ module _ (program : ProgramTree) (facts : Facts) (given : IsGiven program facts)
   no_word_prefix sign = tt
 
   -- an expression whose address is taken is no private variable
-  no_word_tree : (x : Tree) → IsTrim x → Told Any Used x → (s.named_thing thing x ≡ Some PrivateVariable → ⊥) → IsNoWord (way tables places x)
+  no_word_tree : (x : Tree) → TreeHas nonempty_lists x → Told Any Used x → (s.named_thing thing x ≡ Some PrivateVariable → ⊥) → IsNoWord (way tables places x)
   no_word_tree (t.Variable name) trim told h = no_word program facts given name told h
   no_word_tree (t.Prefix spot sign operand) trim told h = no_word_prefix sign
   no_word_tree (t.Chain first t.no_links) trim told h = absurd trim.0
@@ -346,7 +347,7 @@ module _ (program : ProgramTree) (facts : Facts) (given : IsGiven program facts)
   no_word_tree (t.Assign spot sign target' value) trim told h = tt
   no_word_tree (t.Choose spot condition first second) trim told h = no_word_result (gives (way tables places first))
 
-  prefix_is : (around : List Holder) (spot : Spot) (shared : Bool) (sign : Sign) (x : Tree) → IsTrim x → Told Any Used x
+  prefix_is : (around : List Holder) (spot : Spot) (shared : Bool) (sign : Sign) (x : Tree) → TreeHas nonempty_lists x → Told Any Used x
       → K (s.stands around spot shared (w.Prefix sign (s.named_thing thing x))) → PrefixIs sign (way tables places x)
   prefix_is around spot shared g.Ampersand x trim told kept =
       no_word_tree x trim told (λ is. kept rules.PrivateAddress (subst (λ o. sb.BreaksRule around (w.Prefix g.Ampersand o) rules.PrivateAddress) (sym is) sb.private_address))
@@ -367,7 +368,7 @@ module _ (program : ProgramTree) (facts : Facts) (given : IsGiven program facts)
   uncallable_tree : (x : Tree) → is_use (term_of x) ≡ false → Callable (Asked tables functions places x) (term_of x) (way tables places x)
   uncallable_tree x unused = uncallable (Asked tables functions places x) (term_of x) (way tables places x) unused
 
-  callable : (x : Tree) → IsTrim x → Told Any Used x → Callable (Asked tables functions places x) (term_of x) (way tables places x)
+  callable : (x : Tree) → TreeHas nonempty_lists x → Told Any Used x → Callable (Asked tables functions places x) (term_of x) (way tables places x)
   callable (t.Variable name) trim told = λ spot es type h. call_stands program facts given spot name told es type h
   callable (t.Prefix spot sign operand) trim told = uncallable_tree (t.Prefix spot sign operand) (prefix_use spot sign (term_of operand))
   callable (t.Chain first t.no_links) trim told = absurd trim.0
@@ -396,7 +397,7 @@ module _ (program : ProgramTree) (facts : Facts) (given : IsGiven program facts)
   -- all of the block are over what else there is, as suffixes are over what stands before them
   module _ (around : List Holder) where
     mutual
-      pub known : (x : Tree) (other : Type 0) → IsTrim x → Told Any Used x → Each K (s.tree_tokens thing around x) → Each R (tree_references x) → Each N (noted env (term_of x))
+      pub known : (x : Tree) (other : Type 0) → TreeHas nonempty_lists x → Told Any Used x → Each K (s.tree_tokens thing around x) → Each R (tree_references x) → Each N (noted env (term_of x))
           → KnownTree x × SoundOf (term_of x)
       known (t.Number spot value unsigned) other trim told k c h = (tt, sound_term (e.Number spot value unsigned) tt)
       known (t.Puts spot text) other trim told k c h = (tt, sound_term (e.Puts spot) tt)
@@ -451,7 +452,7 @@ module _ (program : ProgramTree) (facts : Facts) (given : IsGiven program facts)
           (rest_of N (noted env (term_of x) ++ noted env (term_of y)) (noted env (term_of z)) h') in
           ((a.0, b.0, d.0), sound_term (e.Choose spot (term_of x) (term_of y) (term_of z)) tt)
 
-      links_known : (other : Type 0) (before : Term) (at : ℕ) → Own before at → (x : Links) → LinksAreTrim x → LinksTold Any Used x → (shared : Bool)
+      links_known : (other : Type 0) (before : Term) (at : ℕ) → Own before at → (x : Links) → LinksHave nonempty_lists x → LinksTold Any Used x → (shared : Bool)
           → Each K (s.links_tokens thing around shared x) → Each R (links_references x) → Each N (noted env (with_links before x))
           → Each N (noted env before) × (SoundOf before → LinksKnown Room env tables functions places before at x × SoundOf (with_links before x))
       links_known other before at own t.no_links trim told shared k c h = (h, (λ sound. (tt, sound)))
@@ -467,7 +468,7 @@ module _ (program : ProgramTree) (facts : Facts) (given : IsGiven program facts)
           let more = rest.1 (sound_term j (joined_other spot sign before (term_of right))) in
           (hb, (λ sound. ((r.0, comma_is sign before at (own hb) sound, more.0), more.1)))
 
-      arguments_known : (x : Trees) (other : Type 0) (before : Terms) → TreesAreTrim x → AllTold Any Used x → Each K (s.trees_tokens thing around x) → Each R (trees_references x)
+      arguments_known : (x : Trees) (other : Type 0) (before : Terms) → TreesHave nonempty_lists x → AllTold Any Used x → Each K (s.trees_tokens thing around x) → Each R (trees_references x)
           → Each N (all_noted env (with_arguments before x)) → Each N (all_noted env before) × AllKnown Room env tables functions places x
       arguments_known t.no_trees other before trim told k c h = (h, tt)
       arguments_known (t.tree first others) other before trim told k c h =
@@ -476,7 +477,7 @@ module _ (program : ProgramTree) (facts : Facts) (given : IsGiven program facts)
           let r = known first (Unit {0}) trim.0 told.0 (front_of K ks _ k) (front_of R (tree_references first) (trees_references others) c) (rest_of N (all_noted env before) (noted env (term_of first)) rest.0) in
           (front_of N (all_noted env before) (noted env (term_of first)) rest.0, (r.0, rest.1))
 
-      suffixes_known : (A : Type 0) (before : Term) (y : Way) (at : ℕ) → Own before at → (x : Suffixes) → SuffixesAreTrim x → SuffixesTold Any Used x → (shared called : Bool)
+      suffixes_known : (A : Type 0) (before : Term) (y : Way) (at : ℕ) → Own before at → (x : Suffixes) → SuffixesHave nonempty_lists x → SuffixesTold Any Used x → (shared called : Bool)
           → Each K (s.suffixes_tokens thing around shared called x) → Each R (suffixes_references at x) → Each N (noted env (with_suffixes before x))
           → Each N (noted env before)
           × (SoundOf before → Callable A before y → SuffixesKnown Room env tables functions places A before y x × SoundOf (with_suffixes before x))
@@ -505,13 +506,13 @@ module _ (program : ProgramTree) (facts : Facts) (given : IsGiven program facts)
           )
       suffixes_known A before y at own (t.dot spot name others) trim told shared called k c h =
           let j = e.Member spot before name in
-          let rest = suffixes_known A j (dotted_way tables places name.at y) spot.at (λ i. last_own (noted env before) _ i) others trim told _ _ k.1 c.1 h in
+          let rest = suffixes_known A j (dotted_way tables places name.at y) spot.at (λ i. last_own (noted env before) _ i) others trim.1 told _ _ k.1 c.1 h in
           let hb = front_of N (noted env before) _ rest.0 in
           let more = rest.1 (sound_term j tt) (uncallable A j (dotted_way tables places name.at y) refl) in
           (hb, (λ sound calls. ((member_room program facts given at spot before name c.0 (own hb), more.0), more.1)))
       suffixes_known A before y at own (t.arrow spot name others) trim told shared called k c h =
           let j = e.Through spot before name in
-          let rest = suffixes_known A j Unchecked spot.at (λ i. last_own (noted env before) _ i) others trim told _ _ k.1 c.1 h in
+          let rest = suffixes_known A j Unchecked spot.at (λ i. last_own (noted env before) _ i) others trim.1 told _ _ k.1 c.1 h in
           let more = rest.1 (sound_term j tt) (uncallable A j Unchecked refl) in
           (front_of N (noted env before) _ rest.0, (λ sound calls. (more.0, more.1)))
       suffixes_known A before y at own (t.up spot others) trim told shared called k c h =

@@ -34,8 +34,9 @@ use Rattle.fk_meaning_forms.specs.Expressions.{Coded, Standing, OnList, AtAddres
 use Rattle.fk_layout_walk.specs.Shown.{as_word, shown_variable}
 use Rattle.fk_lower_text.specs.Whole as w
 use Rattle.fk_lower_text.specs.Whole.{IsWhole}
-use Rattle.fk_parse_laws.specs.Words.{IsWord, TreeHasWords, LinksHaveWords, TreesHaveWords, SuffixesHaveWords}
-use Rattle.fk_lower_laws.specs.WordRoom.{HasRoom, MembersAreNear, AreNearInLinks, AreNearInTrees, AreNearInSuffixes}
+use Rattle.fk_parse_laws.specs.Every.{TreeHas, LinksHave, TreesHave, SuffixesHave}
+use Rattle.fk_parse_laws.specs.Words.{IsWord, word_numbers}
+use Rattle.fk_lower_laws.specs.WordRoom.{HasRoom, near_members}
 
 pub either : {X : Type 0} (P : X → Type 0) (b : Bool) (c d : X) → P c → P d → P (if b then c else d)
 either P true c d h k = h
@@ -343,7 +344,7 @@ module _ (tables : Tables) (functions : (binding : ℕ) → Signature) (room : H
   stands e = x.stands tables functions e
 
   mutual
-    pub keeps : (e : Tree) → TreeHasWords e → MembersAreNear tables e → Keeps (stands e)
+    pub keeps : (e : Tree) → TreeHas word_numbers e → TreeHas (near_members tables) e → Keeps (stands e)
     keeps (t.Number spot value unsigned) i j k f = (push_room value i, f OnList tt)
     keeps (t.Puts spot text) i j k f = put_whole (text_of text) (k OnList) (text_words text i) (f OnList tt)
     keeps (t.Sizeof spot type) i j k f = (push_room (note tables spot.at).binding (binding_fits spot.at), f OnList tt)
@@ -352,32 +353,32 @@ module _ (tables : Tables) (functions : (binding : ℕ) → Signature) (room : H
     keeps (t.GroupRank spot) i j k f = (refl, f OnList tt)
     keeps (t.Prefix spot sign operand) i j k f = prefixed_keeps spot sign (stands operand) (token operand) (keeps operand i j) k f
     keeps (t.Cast spot type operand) i j k f = value_of_whole (stands operand) (keeps operand i j) (k OnList) (f OnList tt)
-    keeps (t.Chain first links) i j k f = links_keep (stands first) (token first) (keeps first i.0 j.0) links i.1 j.1 k f
-    keeps (t.Postfix whole suffixes) i j k f = suffixes_keep (stands whole) (token whole) (keeps whole i.0 j.0) suffixes i.1 j.1 k f
+    keeps (t.Chain first links) i j k f = links_keep (stands first) (token first) (keeps first i.1 j.1) links i.2 j.2 k f
+    keeps (t.Postfix whole suffixes) i j k f = suffixes_keep (stands whole) (token whole) (keeps whole i.1 j.1) suffixes i.2 j.2 k f
     keeps (t.Assign spot sign target value) i j k f =
         assignment_whole sign (stands target) (token target) (stands value) (token value) k (keeps target i.0 j.0) (keeps value i.1 j.1) (f OnList tt)
     keeps (t.Choose spot condition first second) i j k f =
         chosen_whole spot (stands condition) (stands first) (stands second) k (keeps condition i.0 j.0) (keeps first i.1 j.1) (keeps second i.2 j.2) (f OnList tt)
 
-    links_keep : (e : Stands) (at : ℕ) → Keeps e → (links : Links) → LinksHaveWords links → AreNearInLinks tables links → Keeps (x.linked tables functions e at links)
+    links_keep : (e : Stands) (at : ℕ) → Keeps e → (links : Links) → LinksHave word_numbers links → LinksHave (near_members tables) links → Keeps (x.linked tables functions e at links)
     links_keep e at p t.no_links i j k f = p k f
     links_keep e at p (t.link spot sign right others) i j k f =
         links_keep _ spot.at (joined_keeps spot sign e at (stands right) (token right) p (keeps right i.0 j.0)) others i.1 j.1 k f
 
-    suffixes_keep : (e : Stands) (at : ℕ) → Keeps e → (suffixes : Suffixes) → SuffixesHaveWords suffixes → AreNearInSuffixes tables suffixes → Keeps (x.suffixed tables functions e at suffixes)
+    suffixes_keep : (e : Stands) (at : ℕ) → Keeps e → (suffixes : Suffixes) → SuffixesHave word_numbers suffixes → SuffixesHave (near_members tables) suffixes → Keeps (x.suffixed tables functions e at suffixes)
     suffixes_keep e at p t.no_suffixes i j k f = p k f
     suffixes_keep e at p (t.index spot by others) i j k f = suffixes_keep _ spot.at (indexed_keeps spot e (stands by) p (keeps by i.0 j.0)) others i.1 j.1 k f
     suffixes_keep e at p (t.call spot arguments others) i j k f =
         suffixes_keep (λ q. e (x.calling tables functions (x.all_stand tables functions arguments) q)) spot.at
         (λ q s. p _ (λ standing good. calling_whole (x.all_stand tables functions arguments) q standing (all_keep arguments i.0 j.0) (s OnList tt))) others i.1 j.1 k f
-    suffixes_keep e at p (t.dot spot name others) i j k f = suffixes_keep _ spot.at (dotted_keeps spot name.at e j.0 p) others i j.1 k f
-    suffixes_keep e at p (t.arrow spot name others) i j k f = suffixes_keep _ spot.at (pointed_keeps spot name.at e j.0 p) others i j.1 k f
+    suffixes_keep e at p (t.dot spot name others) i j k f = suffixes_keep _ spot.at (dotted_keeps spot name.at e j.0 p) others i.1 j.1 k f
+    suffixes_keep e at p (t.arrow spot name others) i j k f = suffixes_keep _ spot.at (pointed_keeps spot name.at e j.0 p) others i.1 j.1 k f
     suffixes_keep e at p (t.up spot others) i j k f = suffixes_keep _ spot.at (raised_keeps g.Plus g.Minus e at p) others i j k f
     suffixes_keep e at p (t.down spot others) i j k f = suffixes_keep _ spot.at (raised_keeps g.Minus g.Plus e at p) others i j k f
 
-    all_keep : (arguments : Trees) → TreesHaveWords arguments → AreNearInTrees tables arguments → AllKeep (x.all_stand tables functions arguments)
+    all_keep : (arguments : Trees) → TreesHave word_numbers arguments → TreesHave (near_members tables) arguments → AllKeep (x.all_stand tables functions arguments)
     all_keep t.no_trees i j = tt
     all_keep (t.tree first others) i j = (keeps first i.0 j.0, all_keep others i.1 j.1)
 
-  pub value_whole : (e : Tree) → TreeHasWords e → MembersAreNear tables e → (rest : Coded) → IsWhole rest → IsWhole (x.value tables functions e rest)
+  pub value_whole : (e : Tree) → TreeHas word_numbers e → TreeHas (near_members tables) e → (rest : Coded) → IsWhole rest → IsWhole (x.value tables functions e rest)
   value_whole e i j rest r = value_of_whole (stands e) (keeps e i j) rest r

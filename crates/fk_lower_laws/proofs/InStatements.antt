@@ -17,25 +17,26 @@ use Rattle.fk_meaning_forms.specs.Statements as s
 use Rattle.fk_meaning_forms.specs.Statements.{Inside}
 use Rattle.fk_lower_text.specs.Whole as w
 use Rattle.fk_lower_text.specs.Whole.{IsWhole}
-use Rattle.fk_parse_laws.specs.Words.{TreeHasWords, OptionHasWords, VariablesHaveWords, StatementHasWords, StatementsHaveWords}
-use Rattle.fk_lower_laws.specs.WordRoom.{HasRoom, MembersAreNear, OptionIsNear, VariablesAreNear, StatementIsNear, StatementsAreNear}
+use Rattle.fk_parse_laws.specs.Every.{TreeHas, OptionHas, VariablesHave, StatementHas, StatementsHave}
+use Rattle.fk_parse_laws.specs.Words.{word_numbers}
+use Rattle.fk_lower_laws.specs.WordRoom.{HasRoom, near_members}
 use Rattle.fk_lower_laws.proofs.InExpressions as e
 use Rattle.fk_lower_laws.proofs.InExpressions.{either, either_whole, agreed_whole}
 
 module _ (tables : Tables) (functions : (binding : ℕ) → Signature) (room : HasRoom tables) (few : (binding : ℕ) → length (functions binding).parameters < 2 ^ 32) where
-  value_whole : (y : Tree) → TreeHasWords y → MembersAreNear tables y → (rest : Coded) → IsWhole rest → IsWhole (x.value tables functions y rest)
+  value_whole : (y : Tree) → TreeHas word_numbers y → TreeHas (near_members tables) y → (rest : Coded) → IsWhole rest → IsWhole (x.value tables functions y rest)
   value_whole y i j rest r = e.value_whole tables functions room few y i j rest r
 
   -- ---- expressions in statements
 
-  used_whole : (y : Tree) → TreeHasWords y → MembersAreNear tables y → (rest : Coded) → IsWhole rest → IsWhole (s.used tables functions y rest)
+  used_whole : (y : Tree) → TreeHas word_numbers y → TreeHas (near_members tables) y → (rest : Coded) → IsWhole rest → IsWhole (s.used tables functions y rest)
   used_whole y i j rest r = value_whole y i j _ (e.dropped_whole tables functions room few (token y) rest r)
 
-  used_or_whole : (y : Option Tree) → OptionHasWords y → OptionIsNear tables y → (rest : Coded) → IsWhole rest → IsWhole (s.used_or tables functions y rest)
+  used_or_whole : (y : Option Tree) → OptionHas word_numbers y → OptionHas (near_members tables) y → (rest : Coded) → IsWhole rest → IsWhole (s.used_or tables functions y rest)
   used_or_whole None i j rest r = r
   used_or_whole (Some y) i j rest r = used_whole y i j rest r
 
-  value_or_whole : (op : Operation) → w.HasRoom op → (y : Option Tree) → OptionHasWords y → OptionIsNear tables y → (rest : Coded) → IsWhole rest
+  value_or_whole : (op : Operation) → w.HasRoom op → (y : Option Tree) → OptionHas word_numbers y → OptionHas (near_members tables) y → (rest : Coded) → IsWhole rest
       → IsWhole (s.value_or tables functions (x.plain op) y rest)
   value_or_whole op h None i j rest r = (h, r)
   value_or_whole op h (Some y) i j rest r = value_whole y i j rest r
@@ -49,7 +50,7 @@ module _ (tables : Tables) (functions : (binding : ℕ) → Signature) (room : H
   abbrev given : Option Tree → Coded → Standing → Coded
   given first rest standing = s.value_or tables functions (x.plain (o.Push 0)) first (put rest standing)
 
-  declared_whole : (y : DeclaredTree) → OptionHasWords y.first → OptionIsNear tables y.first → (rest : Coded) → IsWhole rest → IsWhole (s.declared tables functions y rest)
+  declared_whole : (y : DeclaredTree) → OptionHas word_numbers y.first → OptionHas (near_members tables) y.first → (rest : Coded) → IsWhole rest → IsWhole (s.declared tables functions y rest)
   declared_whole y i j rest r =
       either_whole (s.is_scalar y) _ _
       (e.variable_keeps tables functions room few y.name (λ standing. x.addressed tables functions standing (given y.first rest standing))
@@ -57,16 +58,16 @@ module _ (tables : Tables) (functions : (binding : ℕ) → Signature) (room : H
       (value_or_whole (o.Push 0) refl y.first i j (put rest standing) (e.assigned_whole tables functions room few standing good (x.plain o.DropLast rest) (refl, r)))))
       r
 
-  all_declared_whole : (ys : List DeclaredTree) → VariablesHaveWords ys → VariablesAreNear tables ys → (rest : Coded) → IsWhole rest → IsWhole (s.all_declared tables functions ys rest)
+  all_declared_whole : (ys : List DeclaredTree) → VariablesHave word_numbers ys → VariablesHave (near_members tables) ys → (rest : Coded) → IsWhole rest → IsWhole (s.all_declared tables functions ys rest)
   all_declared_whole [] i j rest r = r
-  all_declared_whole (y ∷ ys) i j rest r = declared_whole y i.1 j.0 _ (all_declared_whole ys i.2 j.1 rest r)
+  all_declared_whole (y ∷ ys) i j rest r = declared_whole y i.1 j.1 _ (all_declared_whole ys i.2 j.2 rest r)
 
   -- ---- parts and loops
 
   part_whole : (spot : Spot) (part : ℕ) (rest : Coded) → IsWhole rest → IsWhole (s.part_frame tables functions spot part rest)
   part_whole spot part rest r = e.framed_whole tables functions room few spot.at part spot.place rest r
 
-  tested_whole : (spot : Spot) (condition : Option Tree) → OptionHasWords condition → OptionIsNear tables condition → IsWhole (s.tested tables functions spot condition)
+  tested_whole : (spot : Spot) (condition : Option Tree) → OptionHas word_numbers condition → OptionHas (near_members tables) condition → IsWhole (s.tested tables functions spot condition)
   tested_whole spot condition i j = value_or_whole (o.Push 1) refl condition i j _ (leaving_whole (note tables spot.at))
     where
       leaving_whole : (here : Note) → IsWhole (s.leaving tables functions here)
@@ -79,7 +80,7 @@ module _ (tables : Tables) (functions : (binding : ℕ) → Signature) (room : H
 
   -- ---- the end of a call
 
-  left_whole : (inside : Inside) (y : Option Tree) → OptionHasWords y → OptionIsNear tables y → (rest : Coded) → IsWhole rest → IsWhole (s.left_by tables functions inside y rest)
+  left_whole : (inside : Inside) (y : Option Tree) → OptionHas word_numbers y → OptionHas (near_members tables) y → (rest : Coded) → IsWhole rest → IsWhole (s.left_by tables functions inside y rest)
   left_whole inside None i j rest r = (either w.HasRoom inside.main o.Halt (o.Leave false inside.framed) refl refl, r)
   left_whole inside (Some y) i j rest r = value_whole y i j _ (either_whole inside.main _ _ (refl, (refl, r)) (refl, r))
 
@@ -97,7 +98,7 @@ module _ (tables : Tables) (functions : (binding : ℕ) → Signature) (room : H
     part_of body = s.executed tables functions inside body (x.plain o.End done)
 
     mutual
-      executed_whole : (st : Statement) → StatementHasWords st → StatementIsNear tables st → (rest : Coded) → IsWhole rest → IsWhole (s.executed tables functions inside st rest)
+      executed_whole : (st : Statement) → StatementHas word_numbers st → StatementHas (near_members tables) st → (rest : Coded) → IsWhole rest → IsWhole (s.executed tables functions inside st rest)
       executed_whole p.Empty i j rest r = r
       executed_whole (p.Expression y) i j rest r = used_whole y i j rest r
       executed_whole (p.Block statements) i j rest r = all_executed_whole statements i j rest r
@@ -133,10 +134,10 @@ module _ (tables : Tables) (functions : (binding : ℕ) → Signature) (room : H
       executed_whole (p.Continue spot) i j rest r = r
       executed_whole (p.Return spot y) i j rest r = left_whole inside y i j rest r
 
-      all_executed_whole : (st : Statements) → StatementsHaveWords st → StatementsAreNear tables st → (rest : Coded) → IsWhole rest → IsWhole (s.all_executed tables functions inside st rest)
+      all_executed_whole : (st : Statements) → StatementsHave word_numbers st → StatementsHave (near_members tables) st → (rest : Coded) → IsWhole rest → IsWhole (s.all_executed tables functions inside st rest)
       all_executed_whole p.no_statements i j rest r = r
       all_executed_whole (p.statement first others) i j rest r = executed_whole first i.0 j.0 _ (all_executed_whole others i.1 j.1 rest r)
 
-    pub body_whole : (void : Bool) (statements : Statements) → StatementsHaveWords statements → StatementsAreNear tables statements
+    pub body_whole : (void : Bool) (statements : Statements) → StatementsHave word_numbers statements → StatementsHave (near_members tables) statements
         → IsWhole (s.body_of tables functions inside void statements)
     body_whole void statements i j = all_executed_whole statements i j _ (end_whole inside void)

@@ -19,9 +19,10 @@ use Rattle.fk_types_rules.specs.Bound.{IsBound, Refers, token_of, pieces_referen
 use Rattle.fk_types_rules.proofs.References.{declared_in-append}
 use Rattle.fk_types_rules.proofs.Tokens.{tokens_apart}
 use Rattle.fk_types_bindings.proofs.Below.{references_below}
-use Rattle.fk_meaning_forms.specs.Tables.{Tables}
+use Rattle.fk_meaning_forms.specs.Tables.{Tables, note}
 use Rattle.fk_layout.specs.Layout.{tables_by}
-use Rattle.fk_lower_laws.specs.WordRoom.{IsNear, MembersAreNear, AreNearInLinks, AreNearInTrees, AreNearInSuffixes, OptionIsNear, VariablesAreNear, StatementIsNear, StatementsAreNear, BodyIsNear, ItemsAreNear}
+use Rattle.fk_parse_laws.specs.Every.{TreeHas, LinksHave, TreesHave, SuffixesHave, OptionHas, VariablesHave, StatementHas, StatementsHave, BodyHas}
+use Rattle.fk_lower_laws.specs.WordRoom.{most_words, near_members, ItemsAreNear}
 use Rattle.fk_check_laws.specs.Correct.{IsCorrect}
 use Rattle.fk_lower_laws.proofs.Parts.{two_of, three_of, four_of}
 use Rattle.fk_lower_laws.proofs.References.{Referred, AllReferred, all_refer}
@@ -56,7 +57,7 @@ module _ (program : ProgramTree) (facts : Facts) (valid : IsCorrect program fact
   member_low r whole is_arrow name number e (b.member w a other type index place words has before named offset) = omega arith
   member_low r whole is_arrow name number e (b.size spot tree type words spelled has) = absurd (cc)
 
-  near_member : (whole : ℕ) (is_arrow : Bool) (name : Named) → Is (Member whole is_arrow name) → IsNear T name
+  near_member : (whole : ℕ) (is_arrow : Bool) (name : Named) → Is (Member whole is_arrow name) → (note T name.at).binding < most_words
   near_member whole is_arrow name h = below program facts valid (2 ^ 29) (omega arith) name.at (references_below program valid.well_formed (Member whole is_arrow name) h) by
     where
       by : (bound : ℕ) → IsBound (env program facts valid) program name.at bound → bound < 2 ^ 29
@@ -69,26 +70,26 @@ module _ (program : ProgramTree) (facts : Facts) (valid : IsCorrect program fact
   R rs = Each Is rs
 
   mutual
-    near : (x : Tree) → R (tree_references x) → MembersAreNear T x
+    near : (x : Tree) → R (tree_references x) → TreeHas (near_members T) x
     near (t.Prefix spot sign operand) h = near operand h
     near (t.Cast spot type operand) h = near operand h
-    near (t.Chain first links) h = let rs = two_of Is (tree_references first) (links_references links) h in (near first rs.0, near_links links rs.1)
+    near (t.Chain first links) h = let rs = two_of Is (tree_references first) (links_references links) h in (tt, near first rs.0, near_links links rs.1)
     near (t.Postfix whole suffixes) h =
-        let rs = two_of Is (tree_references whole) (suffixes_references (main_token whole) suffixes) h in (near whole rs.0, near_suffixes (main_token whole) suffixes rs.1)
+        let rs = two_of Is (tree_references whole) (suffixes_references (main_token whole) suffixes) h in (tt, near whole rs.0, near_suffixes (main_token whole) suffixes rs.1)
     near (t.Assign spot sign target value) h = let rs = two_of Is (tree_references target) (tree_references value) h in (near target rs.0, near value rs.1)
     near (t.Choose spot condition first second) h =
         let rs = three_of Is (tree_references condition) (tree_references first) (tree_references second) h in (near condition rs.0, near first rs.1, near second rs.2)
     near leaf h = tt
 
-    near_links : (x : Links) → R (links_references x) → AreNearInLinks T x
+    near_links : (x : Links) → R (links_references x) → LinksHave (near_members T) x
     near_links t.no_links h = tt
     near_links (t.link spot sign right others) h = let rs = two_of Is (tree_references right) (links_references others) h in (near right rs.0, near_links others rs.1)
 
-    near_trees : (x : Trees) → R (trees_references x) → AreNearInTrees T x
+    near_trees : (x : Trees) → R (trees_references x) → TreesHave (near_members T) x
     near_trees t.no_trees h = tt
     near_trees (t.tree first others) h = let rs = two_of Is (tree_references first) (trees_references others) h in (near first rs.0, near_trees others rs.1)
 
-    near_suffixes : (whole : ℕ) (x : Suffixes) → R (suffixes_references whole x) → AreNearInSuffixes T x
+    near_suffixes : (whole : ℕ) (x : Suffixes) → R (suffixes_references whole x) → SuffixesHave (near_members T) x
     near_suffixes whole t.no_suffixes h = tt
     near_suffixes whole (t.index spot by others) h =
         let rs = two_of Is (tree_references by) (suffixes_references spot.at others) h in (near by rs.0, near_suffixes spot.at others rs.1)
@@ -99,7 +100,7 @@ module _ (program : ProgramTree) (facts : Facts) (valid : IsCorrect program fact
     near_suffixes whole (t.up spot others) h = near_suffixes spot.at others h
     near_suffixes whole (t.down spot others) h = near_suffixes spot.at others h
 
-  near_option : (x : Option Tree) → R (optional_references x) → OptionIsNear T x
+  near_option : (x : Option Tree) → R (optional_references x) → OptionHas (near_members T) x
   near_option None h = tt
   near_option (Some x) h = near x h
 
@@ -108,16 +109,16 @@ module _ (program : ProgramTree) (facts : Facts) (valid : IsCorrect program fact
   abbrev P : PieceTree → Type 0
   P = AllReferred program
 
-  near_or : (r : Role) (x : Option Tree) → Each P (optional_pieces r x) → OptionIsNear T x
+  near_or : (r : Role) (x : Option Tree) → Each P (optional_pieces r x) → OptionHas (near_members T) x
   near_or r None h = tt
   near_or r (Some x) h = near x h.0
 
-  near_variables : (xs : List DeclaredTree) → Each P (variables_pieces xs) → VariablesAreNear T xs
+  near_variables : (xs : List DeclaredTree) → Each P (variables_pieces xs) → VariablesHave (near_members T) xs
   near_variables [] h = tt
-  near_variables (x ∷ xs) h = (near_option x.first h.0, near_variables xs h.1)
+  near_variables (x ∷ xs) h = (tt, near_option x.first h.0, near_variables xs h.1)
 
   mutual
-    near_statement : (result : TypeTree) (x : Statement) → Each P (statement_pieces result x) → StatementIsNear T x
+    near_statement : (result : TypeTree) (x : Statement) → Each P (statement_pieces result x) → StatementHas (near_members T) x
     near_statement result (p.Expression value) h = near value h.0
     near_statement result (p.Block statements) h = near_statements result statements h
     near_statement result (p.Declare variables) h = near_variables variables h
@@ -140,12 +141,12 @@ module _ (program : ProgramTree) (facts : Facts) (valid : IsCorrect program fact
     near_statement result (p.Return spot value) h = near_option value h.0
     near_statement result leaf h = tt
 
-    near_statements : (result : TypeTree) (x : Statements) → Each P (statements_pieces result x) → StatementsAreNear T x
+    near_statements : (result : TypeTree) (x : Statements) → Each P (statements_pieces result x) → StatementsHave (near_members T) x
     near_statements result p.no_statements h = tt
     near_statements result (p.statement first others) h =
         let ps = two_of P (statement_pieces result first) (statements_pieces result others) h in (near_statement result first ps.0, near_statements result others ps.1)
 
-  near_body : (result : TypeTree) (x : Option Statements) → Each P (body_pieces result x) → BodyIsNear T x
+  near_body : (result : TypeTree) (x : Option Statements) → Each P (body_pieces result x) → BodyHas (near_members T) x
   near_body result None h = tt
   near_body result (Some body) h = near_statements result body h
 

@@ -15,7 +15,8 @@ use Rattle.fk_layout.specs.Layout.{told_by, tables_by}
 use Rattle.fk_meaning_forms.specs.Statements.{is_nothing}
 use Rattle.fk_meaning_forms.specs.Program.{functions_of, with_body, binding_of, is_main, main_in, main_of}
 use Rattle.fk_core_liveness.specs.declared.places.FunctionKind.TheVariants.{Main, Called}
-use Rattle.fk_parse_laws.specs.Trim.{BodyIsTrim, ItemsAreTrim}
+use Rattle.fk_parse_laws.specs.Every.{BodyHas}
+use Rattle.fk_parse_laws.specs.Trim.{ItemsAreTrim, nonempty_lists}
 use Rattle.fk_core_flat.specs.Fitting as fit
 use Rattle.fk_core_flat.specs.Fitting.{is_defined, FunctionsFit}
 use Rattle.fk_check_laws.specs.Correct.{IsCorrect}
@@ -60,7 +61,7 @@ module _ (program : ProgramTree) (facts : Facts) (given : IsGiven program facts)
   abbrev AllAsked : List FunctionTree → Type 0
   AllAsked gs = FunctionsAsked tables functions places gs
 
-  with_asked : (g : FunctionTree) (around : List Holder) (o : Option Statements) → g.body ≡ o → BodyIsTrim o → Each Kept (s.body_tokens thing ◌∷◌ around o) → Each S (body_marks o)
+  with_asked : (g : FunctionTree) (around : List Holder) (o : Option Statements) → g.body ≡ o → BodyHas nonempty_lists o → Each Kept (s.body_tokens thing ◌∷◌ around o) → Each S (body_marks o)
       → (IsSome g.body → Each One (body_pieces g.result o)) → (others : List FunctionTree) → (Fit others → AllAsked others) → Fit (with_body g o others) → AllAsked (with_body g o others)
   with_asked g around None has t k m f others go i = go i
   with_asked g around (Some body) has t k m f others go i = (

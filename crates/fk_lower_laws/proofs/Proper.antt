@@ -6,7 +6,8 @@ use Rattle.fk_syntax.specs.Program.{DeclaredTree, ItemTree}
 use Rattle.fk_parse_combinators.specs.Languages.{Language}
 use Rattle.fk_parse_declarations.specs.Grammar.{separated, Declarator, declared, member_name, member, parameter, parameters}
 use Rattle.fk_parse.specs.Items.{struct_item, function_item, item}
-use Rattle.fk_parse_laws.proofs.Holding.{Holds, Always, always, of_making, of_then, of_or, Each, of_many}
+use Rattle.fk_parse_laws.specs.Every.{Always}
+use Rattle.fk_parse_laws.proofs.Holding.{Holds, always, of_making, of_then, of_or, Each, of_many}
 use Rattle.fk_parse_laws.proofs.WordsInPrograms.{items_good}
 use Rattle.fk_lower_laws.specs.Proper.{HasMembers, AreWithoutLengths, ItemIsProper, ItemsAreProper, TextsAreProper}
 

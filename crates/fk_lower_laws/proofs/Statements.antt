@@ -40,7 +40,8 @@ use Rattle.fk_meaning_forms.specs.Program.{functions_of}
 use Rattle.fk_core_liveness.specs.declared.places.FunctionKind.{FunctionKind}
 use Rattle.fk_core_liveness.specs.declared.places.FunctionKind.TheVariants.{Main, Called}
 use Rattle.fk_lockstep.specs.Told.{Told}
-use Rattle.fk_parse_laws.specs.Trim.{IsTrim, OptionIsTrim, VariablesAreTrim, StatementIsTrim, StatementsAreTrim}
+use Rattle.fk_parse_laws.specs.Every.{TreeHas, OptionHas, VariablesHave, StatementHas, StatementsHave}
+use Rattle.fk_parse_laws.specs.Trim.{nonempty_lists}
 use Rattle.fk_core_flat.specs.Fitting.{is_defined, StatementFits, StatementsFit}
 use Rattle.fk_types_bindings.proofs.Below.{declared_below}
 use Rattle.fk_check_laws.proofs.Each.{Each, front_of, rest_of}
@@ -119,7 +120,7 @@ module _ (program : ProgramTree) (facts : Facts) (given : IsGiven program facts)
     told_of Means go e marks refs =
         told (λ token'. Unit {0}) S R [] Any Means (λ spot y. tt) (λ name y used referred. go name (used.0, used.1, referred)) e (anything (r.tree_tokens [] e)) marks refs
 
-    right : (e : Tree) → IsTrim e → Each Kept (s.tree_tokens thing around e) → Each S (tree_marks e) → Each R (tree_references e) → Each N (noted env (term_of e)) → Unbroken (Broken env (term_of e)) → IsRight e
+    right : (e : Tree) → TreeHas nonempty_lists e → Each Kept (s.tree_tokens thing around e) → Each S (tree_marks e) → Each R (tree_references e) → Each N (noted env (term_of e)) → Unbroken (Broken env (term_of e)) → IsRight e
     right e trim k marks refs notes un =
         let is_read = read program facts given.correct functions (Takes program facts given.correct functions) (takes_of program facts given.correct functions) e un
         (told_of (IsNamed program facts given.correct functions) (λ name used. named program facts given.correct name used.0 used.1 used.2) e marks refs) in
@@ -141,7 +142,7 @@ module _ (program : ProgramTree) (facts : Facts) (given : IsGiven program facts)
         (is.asked, gives_value Room (way tables places e) is.type v.0 v.1 is.stands)
 
     -- a value, where the rule is kept that asks for one
-    valued_by : (rule : _) (e : Tree) → IsTrim e → Each Kept (s.tree_tokens thing around e) → Each S (tree_marks e) → Each R (tree_references e) → Each N (noted env (term_of e))
+    valued_by : (rule : _) (e : Tree) → TreeHas nonempty_lists e → Each Kept (s.tree_tokens thing around e) → Each S (tree_marks e) → Each R (tree_references e) → Each N (noted env (term_of e))
         → Unbroken (either (Broken env (term_of e)) (where_so rule (first_place (term_of e)) (is_such is_no_value (type_of env (term_of e))))) → ValueAsked tables functions places e
     valued_by rule e trim k m refs notes un =
         let is = right e trim k m refs notes (λ place rule' broken. un place rule' (inl broken)) in
@@ -155,10 +156,10 @@ module _ (program : ProgramTree) (facts : Facts) (given : IsGiven program facts)
 
     -- so it is with an expression that is used for something, which may be absent
     abbrev Asks : Role → (Tree → Type 0) → Type 0
-    Asks r Of = (e : Tree) → IsTrim e → Each Kept (s.tree_tokens thing around e) → Each S (tree_marks e) → IsOne (q.Used r e) → Of e
+    Asks r Of = (e : Tree) → TreeHas nonempty_lists e → Each Kept (s.tree_tokens thing around e) → Each S (tree_marks e) → IsOne (q.Used r e) → Of e
 
     abbrev AsksAny : Role → (Option Tree → Type 0) → Type 0
-    AsksAny r Of = (e : Option Tree) → OptionIsTrim e → Each Kept (s.optional_tokens thing around e) → Each S (optional_marks e) → Each IsOne (optional_pieces r e) → Of e
+    AsksAny r Of = (e : Option Tree) → OptionHas nonempty_lists e → Each Kept (s.optional_tokens thing around e) → Each S (optional_marks e) → Each IsOne (optional_pieces r e) → Of e
 
     or_none : (r : Role) (Of : Option Tree → Type 0) → Of None → Asks r (λ e. Of (Some e)) → AsksAny r Of
     or_none r Of none some None trim k m f = none
@@ -186,7 +187,7 @@ module _ (program : ProgramTree) (facts : Facts) (given : IsGiven program facts)
 
     -- ---- returns
 
-    returned : (place : FunctionKind) (result : TypeTree) → IsPlaceOf place result → (spot : Spot) (e : Option Tree) → OptionIsTrim e → Each Kept (s.optional_tokens thing around e) → Each S (optional_marks e)
+    returned : (place : FunctionKind) (result : TypeTree) → IsPlaceOf place result → (spot : Spot) (e : Option Tree) → OptionHas nonempty_lists e → Each Kept (s.optional_tokens thing around e) → Each S (optional_marks e)
         → IsOne (q.Return result spot e) → ReturnAsked tables functions places place e
     returned Main result of spot None trim k m one = tt
     returned Main result of spot (Some e) trim k m one =
@@ -213,12 +214,12 @@ module _ (program : ProgramTree) (facts : Facts) (given : IsGiven program facts)
     target_is false (h.Group r') index name is = absurd is
     target_is false h.NoWord index name is = absurd is
 
-    first_asked : (y : DeclaredTree) (first : Option Tree) → OptionIsTrim first → Each Kept (s.optional_tokens thing around first) → Each S (optional_marks first) → Each R (optional_references first)
+    first_asked : (y : DeclaredTree) (first : Option Tree) → OptionHas nonempty_lists first → Each Kept (s.optional_tokens thing around first) → Each S (optional_marks first) → Each R (optional_references first)
         → Each N (optional_noted env first) → Unbroken (if_there (InitialBreaks env y) first) → OptionValueAsked tables functions places first
     first_asked y None trim k m c notes un = tt
     first_asked y (Some e) trim k m c notes un = valued_by rules.NoValue e trim k m c notes (λ place rule broken. un place rule (inl broken))
 
-    declared : (y : DeclaredTree) → S (Declares (Variable y)) → IsOne (q.Variable y) → OptionIsTrim y.first → Each Kept (s.optional_tokens thing around y.first) → Each S (optional_marks y.first)
+    declared : (y : DeclaredTree) → S (Declares (Variable y)) → IsOne (q.Variable y) → OptionHas nonempty_lists y.first → Each Kept (s.optional_tokens thing around y.first) → Each S (optional_marks y.first)
         → ScalarAsked tables functions places (is_scalar y) y
     declared y mark one trim k m = by (is_scalar y)
       where
@@ -240,13 +241,13 @@ module _ (program : ProgramTree) (facts : Facts) (given : IsGiven program facts)
               first_asked y y.first trim k m (one.piece.refers) (one.piece.notes.1) (λ place rule broken. one.piece.whole place rule (inr broken)),
             )
 
-    all_declared : (ys : List DeclaredTree) → VariablesAreTrim ys → Each Kept (s.variables_tokens thing around ys) → Each S (variables_marks ys) → Each IsOne (variables_pieces ys)
+    all_declared : (ys : List DeclaredTree) → VariablesHave nonempty_lists ys → Each Kept (s.variables_tokens thing around ys) → Each S (variables_marks ys) → Each IsOne (variables_pieces ys)
         → VariablesAsked tables functions places ys
     all_declared [] trim k m f = tt
     all_declared (y ∷ ys) trim k m f = (
-      declared y m.0 f.0 trim.0 (front_of Kept (s.optional_tokens thing around y.first) _ (front_of Kept (s.variable_tokens thing around y) _ k))
+      declared y m.0 f.0 trim.1 (front_of Kept (s.optional_tokens thing around y.first) _ (front_of Kept (s.variable_tokens thing around y) _ k))
           (front_of S (optional_marks y.first) (variables_marks ys) m.1),
-      all_declared ys trim.1 (rest_of Kept (s.variable_tokens thing around y) _ k) (rest_of S (optional_marks y.first) (variables_marks ys) m.1) f.1,
+      all_declared ys trim.2 (rest_of Kept (s.variable_tokens thing around y) _ k) (rest_of S (optional_marks y.first) (variables_marks ys) m.1) f.1,
     )
 
   -- ---- statements
@@ -265,7 +266,7 @@ module _ (program : ProgramTree) (facts : Facts) (given : IsGiven program facts)
     Good l st = StatementAsked tables functions places place l st
 
     mutual
-      statement : (l : Bool) (around : List Holder) (st : Statement) → Fits' l st → StatementIsTrim st → Each Kept (tokens_of around st) → Each S (statement_marks st)
+      statement : (l : Bool) (around : List Holder) (st : Statement) → Fits' l st → StatementHas nonempty_lists st → Each Kept (tokens_of around st) → Each S (statement_marks st)
           → Each IsOne (statement_pieces result st) → Good l st
       statement l around p.Empty i t' k m f = tt
       statement l around (p.Expression e) i t' k m f = alone around e t' k m f.0
@@ -328,7 +329,7 @@ module _ (program : ProgramTree) (facts : Facts) (given : IsGiven program facts)
       statement l around (p.Continue spot) i t' k m f = i
       statement l around (p.Return spot e) i t' k m f = returned around place result of spot e t' (front_of Kept (s.optional_tokens thing around e) _ k) m f.0
 
-      pub statements : (l : Bool) (around : List Holder) (st : Statements) → StatementsFit tables functions (is_defined tables (functions_of program.items)) l st → StatementsAreTrim st
+      pub statements : (l : Bool) (around : List Holder) (st : Statements) → StatementsFit tables functions (is_defined tables (functions_of program.items)) l st → StatementsHave nonempty_lists st
           → Each Kept (s.statements_tokens thing ◌∷◌ around st) → Each S (statements_marks st) → Each IsOne (statements_pieces result st) → StatementsAsked tables functions places place l st
       statements l around p.no_statements i t' k m f = tt
       statements l around (p.statement first others) i t' k m f = (

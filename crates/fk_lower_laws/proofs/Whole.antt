@@ -12,8 +12,9 @@ use Rattle.fk_layout_walk.specs.declared.known.ProgramTables.{ProgramTables}
 use Rattle.fk_layout_walk.specs.Known.{tables_of, items_in}
 use Rattle.fk_layout_walk_statements.specs.Texts.{functions_in}
 use Rattle.fk_lower_text.specs.Whole.{IsWhole, AreWhole}
-use Rattle.fk_parse_laws.specs.Words.{BodyHasWords, ItemsHaveWords}
-use Rattle.fk_lower_laws.specs.WordRoom.{HasRoom, BodyIsNear, ItemsAreNear}
+use Rattle.fk_parse_laws.specs.Every.{BodyHas}
+use Rattle.fk_parse_laws.specs.Words.{ItemsHaveWords, word_numbers}
+use Rattle.fk_lower_laws.specs.WordRoom.{HasRoom, ItemsAreNear, near_members}
 use Rattle.fk_lower_laws.proofs.InExpressions.{either}
 use Rattle.fk_lower_laws.proofs.InStatements.{body_whole}
 
@@ -44,7 +45,7 @@ module _ (tables : Tables) where
 module _ (known : ProgramTables) (room : HasRoom (tables_of known)) (short : AreShort (tables_of known) (functions_in known)) where
   -- a function, by its parts
   function_by : (mode : Mode) (result : TypeTree) (name : Named) (parameters : List DeclaredTree) (body : Option Statements)
-      → BodyHasWords body → BodyIsNear (tables_of known) body
+      → BodyHas word_numbers body → BodyHas (near_members (tables_of known)) body
       → IsWhole (code_of (tables_of known) (functions_in known) (record { mode = mode; result = result; name = name; parameters = parameters; body = body }))
   function_by mode result name parameters None i j = tt
   function_by mode result name parameters (Some statements) i j =
@@ -52,7 +53,7 @@ module _ (known : ProgramTables) (room : HasRoom (tables_of known)) (short : Are
       let inside : Inside = record { main = is_main f; framed = is_some (frame_at (tables_of known) name.at 0) } in
       body_whole (tables_of known) (signature_in (tables_of known) (functions_in known)) room short inside (is_nothing result) statements i j
 
-  function_whole : (f : FunctionTree) → BodyHasWords f.body → BodyIsNear (tables_of known) f.body → IsWhole (code_of (tables_of known) (functions_in known) f)
+  function_whole : (f : FunctionTree) → BodyHas word_numbers f.body → BodyHas (near_members (tables_of known)) f.body → IsWhole (code_of (tables_of known) (functions_in known) f)
   function_whole f i j = function_by f.mode f.result f.name f.parameters f.body i j
 
   functions_whole : (items : List ItemTree) → ItemsAreNear (tables_of known) items → ItemsHaveWords items → AreWhole known (functions_of items)

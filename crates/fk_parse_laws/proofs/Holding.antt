@@ -5,6 +5,7 @@ use Rattle.fk_lex.specs.declared.token.TokenKind.{TokenKind}
 use Rattle.fk_lex.specs.declared.token.TokenKind.TheVariants as kind
 use Rattle.fk_parse_combinators.specs.Languages.{Stretch, Language, nothing, token, telling, ◌then◌, ◌or◌, making, many, maybe}
 use Rattle.fk_expr.specs.Kinds.{number_told}
+use Rattle.fk_parse_laws.specs.Every.{Always}
 use Rattle.fk_parse_laws.specs.Words.{IsWord}
 
 -- a token's number is a word, and so is each byte of a text
@@ -27,9 +28,6 @@ good_back (m ∷ s) t h = good_back s t h.1
 
 pub record Holds {A : Type 0} (L : Language A) (P : A → Type 0) : Type 0 where
   pub holds : (s : Stretch) (a : A) → L s a → Good s → P a
-
-abbrev pub Always : {A : Type 0} → A → Type 0
-Always a = Unit {0}
 
 pub always : {A : Type 0} {L : Language A} → Holds L Always
 always = record { holds = λ s a h g. tt }

@@ -1,8 +1,8 @@
 pub mod Holding
 pub mod Lexed
-pub mod WordsInExpressions
+pub mod Expressions
+pub mod Bodies
 pub mod WordsInPrograms
-mod TrimExpressions
 mod TrimPrograms
 mod Picked
 mod Ordered

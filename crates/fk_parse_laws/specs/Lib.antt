@@ -1,3 +1,4 @@
+pub mod Every
 pub mod Words
 pub mod Trim
 pub mod Order
