@@ -1,7 +1,7 @@
 -- The steps of a round that change the tree, one node after the other, and what nodes keep of spaces and frames.
-use Rattle.std.proofs.Common.{◌≡◌, ◌≢◌, ⊎_elim, ℕ, zero, suc, ◌<◌, ◌==◌, ◌&&◌, nat_lt, min, Bool, true, false, not, true≢false, List, [], ◌∷◌, length, slice_get, Option, Some, None, is_some, refl, sym, ap, ◌∙◌, subst, subst₂, arith, if◌then◌else◌}
+use Rattle.std.proofs.Common.{◌≡◌, ◌≢◌, ℕ, zero, suc, ◌<◌, ◌==◌, nat_lt, min, Bool, true, false, true≢false, List, [], ◌∷◌, length, slice_get, Option, Some, None, is_some, refl, sym, ap, ◌∙◌, subst, subst₂, arith, if◌then◌else◌}
 use Rattle.std.specs.Prelude.{option_map}
-use Rattle.std.proofs.lemmas.Bool.{cases_Bool, cases_eq, eqb-true, eq-eqb, lt-ltb, le-ltb, cond-true}
+use Rattle.std.proofs.lemmas.Bool.{cond-true}
 use Rattle.fk_meaning_operation.specs.declared.operation.Operation.{Operation}
 use Rattle.fk_meaning_operation.specs.declared.operation.Operation.TheVariants as o
 use Rattle.fk_meaning_operation.specs.declared.operation.SplitKind.{SplitKind}
@@ -24,8 +24,8 @@ use Rattle.fk_lockstep.specs.Counts.{Counts, ArePending, CountsGoOn}
 use Rattle.fk_lockstep.specs.Course.{InGroup, Waits, ByItself, Parts, Does, FollowsFor}
 use Rattle.fk_lockstep.proofs.Acting.{untrue, Here, Out, told, within, is_changing, Is, Grouped, Parted, Apart, AtNode, ahead_of, does_so, counts_so, going_on}
 use Rattle.fk_lockstep.proofs.Trees.{NodeIs, IsThere, ThereAt, inv_same, turned_here, turned_inv, shrunk_here, shrunk_inv, parted_here, parted_behind, parted_inv}
-use Rattle.fk_lockstep.proofs.Round.{all_keep, first_is, who_is, lowest_member, settle as settle_of, new as new_of, quiet as quiet_of, has_at, Sound, Ordered, Moving, all_move, number_at}
-use Rattle.fk_lockstep.proofs.Changes.{Stage, low, mid, mids, there, first_stage, clash, moves, in_i, had, has, low_of, place_of, leaf as leaf_of, Allowed, allowed, brought, stage_after, step_of_none, first_same, one_of_none, lt_suc}
+use Rattle.fk_lockstep.proofs.Round.{all_keep, has_at, Sound, Ordered}
+use Rattle.fk_lockstep.proofs.Changes.{Stage, low, mid, mids, there, first_mid, first_stage, still, same_stage, Moved as MovedIn, moved as moved_in, others as others_in, in_i, had, has, place_of, leaf as leaf_of, Allowed, allowed, brought, by_step, first_same, one_of_none}
 use Rattle.fk_lockstep.specs.Frames.{is_none_round, AsDeep}
 use Rattle.fk_lockstep.proofs.Tiers.{Tier}
 use Rattle.fk_lockstep.proofs.Stands.{Tiers, all_of, At, InIt, Alone, GoOn, framed_so}
@@ -81,9 +81,6 @@ module _ {W : Type 0} (next : W → Option (Step W)) (outs : W → List W) (coun
   abbrev actings : List (Acting W)
   actings = actings_of next outs counts depth set round s p here0 behind0 inv0 ordered possible
 
-  abbrev settle : Runner W → Option (Step W) → Runner W
-  settle r due = settle_of next outs counts set round s r due
-
   abbrev lows : ℕ → ℕ
   lows h = low next outs counts set round s p here0 behind0 inv0 ordered possible h
 
@@ -109,17 +106,6 @@ module _ {W : Type 0} (next : W → Option (Step W)) (outs : W → List W) (coun
   same_has tree has' now keeps round_it same l =
       inv_same all_of (Ordinary next outs counts depth set) (Outer next outs counts depth set) (Single next outs counts depth set) (InIt next outs depth) p tree has' now keeps round_it same l
 
-  at_mid : (h : ℕ) (b : Acting W) (gone : Bool) → slice_get actings h ≡ Some b → option_map (middle gone) (slice_get actings h) ≡ Some (middle gone b)
-  at_mid h b gone at = ap (option_map (middle gone)) at
-
-  -- who changes nothing has gone on before
-  same_middle : (h : ℕ) (b : Acting W) → slice_get actings h ≡ Some b → (gone gone' : Bool) → is_changing b.due ≡ false
-      → option_map (middle gone) (slice_get actings h) ≡ option_map (middle gone') (slice_get actings h)
-  same_middle h b at gone gone' e =
-      at_mid h b gone at
-      ∙ ap (λ (c : Bool). Some (if c && not gone then b.runner else settle b.runner b.due)) e
-      ∙ sym (at_mid h b gone' at ∙ ap (λ (c : Bool). Some (if c && not gone' then b.runner else settle b.runner b.due)) e)
-
   there_is : (h : ℕ) → h < p → (b : Acting W) × (slice_get actings h ≡ Some b)
   there_is h lt = there next outs counts set round s p here0 behind0 inv0 ordered possible h lt
 
@@ -130,36 +116,17 @@ module _ {W : Type 0} (next : W → Option (Step W)) (outs : W → List W) (coun
     round_it = round0;
     levelled = same_has s.tree (now_has next outs counts depth set round s p here0 behind0 inv0 ordered possible keeps0 round0 levelled0) (middles 0)
         (now_keeps next outs counts depth set round s p here0 behind0 inv0 ordered possible keeps0 round0 levelled0) round0
-        (λ h lt.
-        let b = there_is h lt in
-        at_mid h b.0 (nat_lt (lows h) 0) b.1
-        ∙ ap (λ (r : Runner W). Some r) (quiet_is b.0 (nat_lt (lows h) 0) (le-ltb (lows h) 0 (omega arith)) (is_changing b.0.due))
-        ∙ sym (ap (option_map (quiet_of next outs counts set round s p here0 behind0 inv0 ordered possible)) b.1))
+        (first_mid next outs counts set round s p here0 behind0 inv0 ordered possible)
         (now_levelled next outs counts depth set round s p here0 behind0 inv0 ordered possible keeps0 round0 levelled0);
   }
-    where
-      quiet_is : (b : Acting W) (gone : Bool) → gone ≡ false → (c : Bool) → (if c && not gone then b.runner else settle b.runner b.due) ≡ (if c then b.runner else settle b.runner b.due)
-      quiet_is b gone e true = ap (λ (g : Bool). if not g then b.runner else settle b.runner b.due) e
-      quiet_is b gone e false = refl
-
-  still : (i : ℕ) (a : Acting W) → slice_get actings i ≡ Some a → (is_changing a.due ≡ true → lowest (members s.tree (s.tree.places i)) ≢ i) → (h : ℕ) → h < p → middles (suc i) h ≡ middles i h
-  still i a at quiet h lt =
-      let b = there_is h lt in
-      ⊎_elim
-      (λ same. ⊎_elim
-      (λ changing. clash next outs counts set round s p here0 behind0 inv0 ordered possible i a at quiet h lt b.0 b.1 same b.0.due refl changing)
-      (λ not_so. same_middle h b.0 b.1 (nat_lt (lows h) (suc i)) (nat_lt (lows h) i) not_so)
-      (cases_Bool (is_changing b.0.due)))
-      (λ ne. ap (λ (gone : Bool). option_map (middle gone) (slice_get actings h)) (lt_suc (lows h) i ne))
-      (cases_eq (lows h) i)
 
   -- nobody brings a change
-  same_tiered : (i : ℕ) (a : Acting W) → slice_get actings i ≡ Some a → (is_changing a.due ≡ true → lowest (members s.tree (s.tree.places i)) ≢ i) → (tree : Tree) → Tiered i tree → Stages (suc i) tree → Tiered (suc i) tree
-  same_tiered i a at quiet tree k stage = record {
-    stage = stage;
+  same_tiered : (i : ℕ) (a : Acting W) → slice_get actings i ≡ Some a → (is_changing a.due ≡ true → lowest (members s.tree (s.tree.places i)) ≢ i) → (tree : Tree) → Tiered i tree → Tiered (suc i) tree
+  same_tiered i a at quiet tree k = record {
+    stage = same_stage next outs counts set round s p here0 behind0 inv0 ordered possible i a at quiet tree k.stage;
     keeps = k.keeps;
     round_it = k.round_it;
-    levelled = same_has tree (middles i) (middles (suc i)) k.keeps k.round_it (still i a at quiet) k.levelled;
+    levelled = same_has tree (middles i) (middles (suc i)) k.keeps k.round_it (still next outs counts set round s p here0 behind0 inv0 ordered possible i a at quiet) k.levelled;
   }
 
   -- the lowest member of a node brings a change of it
@@ -183,17 +150,11 @@ module _ {W : Type 0} (next : W → Option (Step W)) (outs : W → List W) (coun
     abbrev y : Tiers
     y = k.keeps n
 
-    moves_of : (g : ℕ) → Has s.tree n g → Moving next outs counts set round s p here0 behind0 inv0 ordered possible g op n
-    moves_of g in_g = moves next outs counts set round s p here0 behind0 inv0 ordered possible i lt a at step due changing n place is_low tree st g in_g
-
     has_n : (h : ℕ) → Has s.tree n h → Has tree n h
     has_n h is = has next outs counts set round s p here0 behind0 inv0 ordered possible i lt a at step due changing n place is_low tree st h is
 
     had_n : (h : ℕ) → Has tree n h → Has s.tree n h
     had_n h is = had next outs counts set round s p here0 behind0 inv0 ordered possible i lt a at step due changing n place is_low tree st h is
-
-    low_n : (h : ℕ) → Has s.tree n h → lows h ≡ i
-    low_n h is = low_of next outs counts set round s p here0 behind0 inv0 ordered possible i lt a at step due changing n place is_low tree st h is
 
     place_n : (h : ℕ) → Has s.tree n h → tree.places h ≡ n
     place_n h is = place_of next outs counts set round s p here0 behind0 inv0 ordered possible i lt a at step due changing n place is_low tree st h is
@@ -214,83 +175,14 @@ module _ {W : Type 0} (next : W → Option (Step W)) (outs : W → List W) (coun
     within_p h is = inv0.sound.within n h (had_n h is)
 
     -- a member before and after
-    record Moved (h : ℕ) (r' : Runner W) : Type 0 where
-      before' : Runner W
-      was : middles i h ≡ Some before'
-      known : who actings h ≡ before'.has
-      number : before'.has.number ≡ h
-      step' : Step W
-      stands : next before'.left ≡ Some step'
-      same : step'.operation ≡ op
-      left : r'.left ≡ step'.rest (goes_onward op value i before'.has)
-      size : ℕ
-      has' : r'.has ≡ does op value size before'.has
+    abbrev Moved : (h : ℕ) (r' : Runner W) → Type 0
+    Moved h r' = MovedIn next outs counts set round s p here0 behind0 inv0 ordered possible i lt a at step due changing n place is_low tree st h r'
 
     moved : (h : ℕ) (r' : Runner W) → Has tree n h → middles (suc i) h ≡ Some r' → Moved h r'
-    moved h r' is e =
-        let m = moves_of h (had_n h is) in
-        let b = m.acting in
-        let e_low = low_n h (had_n h is) in
-        let number = number_at next outs counts set round s p here0 behind0 inv0 ordered possible h b m.at in
-        let not_gone : nat_lt (lows h) i ≡ false = le-ltb (lows h) i (omega (arith, e_low)) in
-        let gone : nat_lt (lows h) (suc i) ≡ true = lt-ltb (lows h) (suc i) (omega (arith, e_low)) in
-        let changes' : is_changing b.due ≡ true = ap is_changing m.due ∙ ap changes_tree m.same ∙ changing in
-        let after : r' ≡ settle b.runner b.due
-        = first_is r' (settle b.runner b.due) (sym e ∙ at_mid h b (nat_lt (lows h) (suc i)) m.at
-        ∙ ap (λ (r : Runner W). Some r) (past b (is_changing b.due) (nat_lt (lows h) (suc i)) changes' gone)) in
-        record {
-          before' = b.runner;
-          was = at_mid h b (nat_lt (lows h) i) m.at ∙ ap (λ (r : Runner W). Some r) (not_past b (is_changing b.due) (nat_lt (lows h) i) changes' not_gone);
-          known = who_is actings h b m.at;
-          number = number;
-          step' = m.step;
-          stands = m.stands;
-          same = m.same;
-          left = ap (λ (r : Runner W). r.left) (after ∙ ap (settle b.runner) m.due)
-              ∙ settled_left b.runner m.step (ap s.tree.places number ∙ m.place) m.same;
-          size = length (members (new_of next outs counts set round s) ((new_of next outs counts set round s).places b.runner.has.number));
-          has' = ap (λ (r : Runner W). r.has) (after ∙ ap (settle b.runner) m.due)
-              ∙ settled_has b.runner m.step (ap s.tree.places number ∙ m.place) m.same;
-        }
-      where
-        past : (b : Acting W) (c g : Bool) → c ≡ true → g ≡ true → (if c && not g then b.runner else settle b.runner b.due) ≡ settle b.runner b.due
-        past b c g e' e'' = subst₂ (λ (c' g' : Bool). (if c' && not g' then b.runner else settle b.runner b.due) ≡ settle b.runner b.due) (sym e') (sym e'') refl
-
-        not_past : (b : Acting W) (c g : Bool) → c ≡ true → g ≡ false → (if c && not g then b.runner else settle b.runner b.due) ≡ b.runner
-        not_past b c g e' e'' = subst₂ (λ (c' g' : Bool). (if c' && not g' then b.runner else settle b.runner b.due) ≡ b.runner) (sym e') (sym e'') refl
-
-        settled_left : (r : Runner W) (u : Step W) → s.tree.places r.has.number ≡ n → u.operation ≡ op → (settle r (Some u)).left ≡ u.rest (goes_onward op value i r.has)
-        settled_left r u place' same' =
-            ap (λ (m : ℕ). u.rest (goes_onward u.operation (agreed actings (members s.tree m)) (lowest (members s.tree m)) r.has)) place'
-            ∙ ap (λ (l : ℕ). u.rest (goes_onward u.operation value l r.has)) is_low
-            ∙ ap (λ (op' : Operation). u.rest (goes_onward op' value i r.has)) same'
-
-        settled_has : (r : Runner W) (u : Step W) → s.tree.places r.has.number ≡ n → u.operation ≡ op
-            → (settle r (Some u)).has ≡ does op value (length (members (new_of next outs counts set round s) ((new_of next outs counts set round s).places r.has.number))) r.has
-        settled_has r u place' same' =
-            let size' = length (members (new_of next outs counts set round s) ((new_of next outs counts set round s).places r.has.number)) in
-            ap (λ (m : ℕ). does u.operation (agreed actings (members s.tree m)) size' r.has) place'
-            ∙ ap (λ (op' : Operation). does op' value size' r.has) same'
+    moved h r' is e = moved_in next outs counts set round s p here0 behind0 inv0 ordered possible i lt a at step due changing n place is_low tree st h r' is e
 
     others : (h : ℕ) → h < p → is_member h (members tree n) ≡ false → middles (suc i) h ≡ middles i h
-    others h lt' out =
-        let b = there_is h lt' in
-        ⊎_elim
-        (λ same. ⊎_elim
-        (λ changes'. clashes b.0 b.1 same b.0.due refl changes')
-        (λ not_so. same_middle h b.0 b.1 (nat_lt (lows h) (suc i)) (nat_lt (lows h) i) not_so)
-        (cases_Bool (is_changing b.0.due)))
-        (λ ne. ap (λ (gone : Bool). option_map (middle gone) (slice_get actings h)) (lt_suc (lows h) i ne))
-        (cases_eq (lows h) i)
-      where
-        clashes : {A : Type 0} (b : Acting W) → slice_get actings h ≡ Some b → lows h ≡ i → (due' : Option (Step W)) → b.due ≡ due' → is_changing due' ≡ true → A
-        clashes b at_h low_h None e changes' = untrue changes'
-        clashes b at_h low_h (Some step'') e changes' =
-            let q = s.tree.places h in
-            let in_q = (inv0.sound.placed h lt').member in
-            let m = all_move next outs counts set round s p here0 behind0 inv0 ordered possible h lt' b at_h step'' e changes' (lows h) (lowest_member h (members s.tree q) in_q) in
-            let same : q ≡ n = sym m.place ∙ ap s.tree.places low_h ∙ place in
-            absurd (true≢false (sym (has_n h (subst (λ (j : ℕ). Has s.tree j h) same in_q)) ∙ out))
+    others h lt' out = others_in next outs counts set round s p here0 behind0 inv0 ordered possible i lt a at step due changing n place is_low tree st h lt' out
 
     -- what was so of the node and of its members
     abbrev WasKind : Option Kind → Type 0
@@ -360,7 +252,7 @@ module _ {W : Type 0} (next : W → Option (Step W)) (outs : W → List W) (coun
     }
 
     mine : (r' : Runner W) × (middles (suc i) i ≡ Some r')
-    mine = let c = there_is i lt in (middle (nat_lt (lows i) (suc i)) c.0, at_mid i c.0 (nat_lt (lows i) (suc i)) c.1)
+    mine = let c = there_is i lt in (middle (nat_lt (lows i) (suc i)) c.0, ap (option_map (middle (nat_lt (lows i) (suc i)))) c.1)
 
     round_lower : (m : ℕ) (b : List (List Tier)) → m ≢ 0 → y.round ≡ head_of b → Outer next outs counts depth set m b y
     round_lower zero b ne e = absurd (ne refl)
@@ -402,33 +294,33 @@ module _ {W : Type 0} (next : W → Option (Step W)) (outs : W → List W) (coun
 
       record Grouping (op' : Operation) (h : ℕ) (r' : Runner W) : Type 0 where
         m : Moved h r'
-        in_it : InIt next outs depth y m.before'
-        does_op : (j : ℕ) → Does next outs (FollowsFor next outs j) (InGroup way) op' m.before'.left m.step'.rest
-        goes : GoOn next outs depth (length y.round) false op' m.before'.left m.step'.rest
+        in_it : InIt next outs depth y m.before
+        does_op : (j : ℕ) → Does next outs (FollowsFor next outs j) (InGroup way) op' m.before.left m.step'.rest
+        goes : GoOn next outs depth (length y.round) false op' m.before.left m.step'.rest
         counted_x : CountsGoOn next outs counts op' x.left m.step'.rest
-        numbers : ArePending next outs counts x.left m.before'.has x.numbers
-        left : r'.left ≡ m.step'.rest (goes_onward op' value i m.before'.has)
-        has_op : r'.has ≡ does op' value m.size m.before'.has
+        numbers : ArePending next outs counts x.left m.before.has x.numbers
+        left : r'.left ≡ m.step'.rest (goes_onward op' value i m.before.has)
+        has_op : r'.has ≡ does op' value m.size m.before.has
 
       grouping : (op' : Operation) → op ≡ op' → (h : ℕ) (r' : Runner W) → Has tree n h → middles (suc i) h ≡ Some r' → Grouping op' h r'
       grouping op' e h r' is e' =
           let m = moved h r' is e' in
-          let w : Is next outs counts x m.before' = was_there (Some Lockstep) locked h is m.before' m.was in
+          let w : Is next outs counts x m.before = was_there (Some Lockstep) locked h is m.before m.was in
           let same_op : m.step'.operation ≡ op' = m.same ∙ e in
           let stands' : next x.left ≡ Some m.step' = ap next (sym w.left) ∙ m.stands in
-          let in_it : InIt next outs depth y m.before' = kept_there (Some Lockstep) locked h is m.before' m.was in
+          let in_it : InIt next outs depth y m.before = kept_there (Some Lockstep) locked h is m.before m.was in
           let counted_x = subst (λ (o' : Operation). CountsGoOn next outs counts o' x.left m.step'.rest) same_op (counts_so next outs counts x.left m.step' w.counted stands') in
           record {
             m = m;
             in_it = in_it;
             does_op = λ j. subst₂ (λ (v : W) (o' : Operation). Does next outs (FollowsFor next outs j) (InGroup way) o' v m.step'.rest) (sym w.left) same_op
                 (does_so next outs counts (InGroup way) x.left m.step' g.follows stands' j);
-            goes = subst (λ (o' : Operation). GoOn next outs depth (length y.round) false o' m.before'.left m.step'.rest) same_op
-                (framed_so next outs depth (length y.round) false m.before'.left m.step' in_it.framed m.stands);
+            goes = subst (λ (o' : Operation). GoOn next outs depth (length y.round) false o' m.before.left m.step'.rest) same_op
+                (framed_so next outs depth (length y.round) false m.before.left m.step' in_it.framed m.stands);
             counted_x = counted_x;
             numbers = w.numbers;
-            left = m.left ∙ ap (λ (o' : Operation). m.step'.rest (goes_onward o' value i m.before'.has)) e;
-            has_op = m.has' ∙ ap (λ (o' : Operation). does o' value m.size m.before'.has) e;
+            left = m.left ∙ ap (λ (o' : Operation). m.step'.rest (goes_onward o' value i m.before.has)) e;
+            has_op = m.has ∙ ap (λ (o' : Operation). does o' value m.size m.before.has) e;
           }
 
       splits : (by : SplitKind) → op ≡ o.Split by → After (changes (o.Split by) n (who actings) value i tree)
@@ -459,10 +351,10 @@ module _ {W : Type 0} (next : W → Option (Step W)) (outs : W → List W) (coun
           inside : ℕ → Tiers
           inside j = part_of y many j
 
-          parting_of : (h : ℕ) (r' : Runner W) (f : Grouping (o.Split by) h r') → Splitting next outs by f.m.before'.left f.m.step'.rest
-          parting_of h r' f = splitting next outs by f.m.before'.left f.m.step'.rest (outs (f.m.step'.rest true)) refl (f.does_op 0)
+          parting_of : (h : ℕ) (r' : Runner W) (f : Grouping (o.Split by) h r') → Splitting next outs by f.m.before.left f.m.step'.rest
+          parting_of h r' f = splitting next outs by f.m.before.left f.m.step'.rest (outs (f.m.step'.rest true)) refl (f.does_op 0)
 
-          goes_in : (h : ℕ) (r' : Runner W) (f : Grouping (o.Split by) h r') (o' : Option ℕ) → into h ≡ o' → part by (values f.m.before'.has) ≡ o'
+          goes_in : (h : ℕ) (r' : Runner W) (f : Grouping (o.Split by) h r') (o' : Option ℕ) → into h ≡ o' → part by (values f.m.before.has) ≡ o'
           goes_in h r' f o' e' = ap (λ (q : Processor). part by (values q)) (sym f.m.known) ∙ e'
 
           enter : (h j : ℕ) (r' : Runner W) → Has tree n h → into' h ≡ Some j → middles (suc i) h ≡ Some r' → InIt next outs depth (inside j) r'
@@ -471,21 +363,21 @@ module _ {W : Type 0} (next : W → Option (Step W)) (outs : W → List W) (coun
               let own = grouping (o.Split by) e i mine.0 in_n mine.1 in
               let d = parting_of h r' f in
               let part_is = goes_in h r' f (Some j) (sym (same_into h is) ∙ e') in
-              let as_deep : AsDeep next outs depth (depth f.m.before'.left) (d.waiter ∷ outs f.m.before'.left)
-              = subst (AsDeep next outs depth (depth f.m.before'.left)) d.first ((f.goes 0).met refl) in
-              enters_part next outs depth y f.m.before' f.in_it f.m.step'.rest by f.goes d.waiter j f.m.size many (d.outs_in j) as_deep
-              (parts_same next outs counts by x.left f.m.step'.rest f.counted_x f.m.before'.has own.m.before'.has x.numbers f.numbers own.numbers
+              let as_deep : AsDeep next outs depth (depth f.m.before.left) (d.waiter ∷ outs f.m.before.left)
+              = subst (AsDeep next outs depth (depth f.m.before.left)) d.first ((f.goes 0).met refl) in
+              enters_part next outs depth y f.m.before f.in_it f.m.step'.rest by f.goes d.waiter j f.m.size many (d.outs_in j) as_deep
+              (parts_same next outs counts by x.left f.m.step'.rest f.counted_x f.m.before.has own.m.before.has x.numbers f.numbers own.numbers
               ∙ ap (λ (q : Processor). parts by (values q)) (sym own.m.known))
-              r' (f.left ∙ ap (λ (o' : Option ℕ). f.m.step'.rest (enters by o')) part_is) (f.has_op ∙ ap (λ (o' : Option ℕ). divided by f.m.size f.m.before'.has o') part_is)
+              r' (f.left ∙ ap (λ (o' : Option ℕ). f.m.step'.rest (enters by o')) part_is) (f.has_op ∙ ap (λ (o' : Option ℕ). divided by f.m.size f.m.before.has o') part_is)
 
           stay : (h : ℕ) (r' : Runner W) → Has tree n h → into' h ≡ None → middles (suc i) h ≡ Some r' → InIt next outs depth y r'
           stay h r' is e' e'' =
               let f = grouping (o.Split by) e h r' is e'' in
               let d = parting_of h r' f in
               let part_is = goes_in h r' f None (sym (same_into h is) ∙ e') in
-              enters_none next outs depth y f.m.before' f.in_it f.m.step'.rest by f.goes f.m.size (values f.m.before'.has) part_is
-              (ap outs (d.aside (values f.m.before'.has) part_is) ∙ d.waiter_outs)
-              r' (f.left ∙ ap (λ (o' : Option ℕ). f.m.step'.rest (enters by o')) part_is) (f.has_op ∙ ap (λ (o' : Option ℕ). divided by f.m.size f.m.before'.has o') part_is)
+              enters_none next outs depth y f.m.before f.in_it f.m.step'.rest by f.goes f.m.size (values f.m.before.has) part_is
+              (ap outs (d.aside (values f.m.before.has) part_is) ∙ d.waiter_outs)
+              r' (f.left ∙ ap (λ (o' : Option ℕ). f.m.step'.rest (enters by o')) part_is) (f.has_op ∙ ap (λ (o' : Option ℕ). divided by f.m.size f.m.before.has o') part_is)
 
       abbrev up : ℕ
       up = parent tree n
@@ -502,7 +394,7 @@ module _ {W : Type 0} (next : W → Option (Step W)) (outs : W → List W) (coun
           stayers : (h : ℕ) (r' : Runner W) → Has tree n h → stays (who actings h) ≡ true → middles (suc i) h ≡ Some r' → InIt next outs depth y r'
           stayers h r' is keep e'' =
               let f = grouping o.Shrink e h r' is e'' in
-              let b = f.m.before' in
+              let b = f.m.before in
               let keep' : stays b.has ≡ true = ap stays (sym f.m.known) ∙ keep in
               stays_in next outs depth y b f.in_it f.m.step'.rest f.goes f.m.size (f.does_op 0).0
               r' (f.left ∙ ap f.m.step'.rest keep') (f.has_op ∙ either (stays b.has) true (with_size f.m.size (drop_last 1 b.has)) (leave_level (drop_last 1 b.has)) keep')
@@ -510,7 +402,7 @@ module _ {W : Type 0} (next : W → Option (Step W)) (outs : W → List W) (coun
           leavers : (h : ℕ) (r' : Runner W) → Has tree n h → stays (who actings h) ≡ false → middles (suc i) h ≡ Some r' → InIt next outs depth (k.keeps up) r'
           leavers h r' is keep e'' =
               let f = grouping o.Shrink e h r' is e'' in
-              let b = f.m.before' in
+              let b = f.m.before in
               let keep' : stays b.has ≡ false = ap stays (sym f.m.known) ∙ keep in
               leaves_part next outs depth y b f.in_it f.m.step'.rest (f.m.step'.rest false) (k.keeps up) (drop_last 1 b.has) whole (f.does_op 0).2 ((f.goes 0).calls false)
               (λ j. (f.goes j).goes_on false) refl refl
@@ -522,7 +414,7 @@ module _ {W : Type 0} (next : W → Option (Step W)) (outs : W → List W) (coun
           leavers : (h : ℕ) (r' : Runner W) → Has tree n h → false ≡ false → middles (suc i) h ≡ Some r' → InIt next outs depth (k.keeps up) r'
           leavers h r' is keep e'' =
               let f = grouping o.End e h r' is e'' in
-              let b = f.m.before' in
+              let b = f.m.before in
               leaves_part next outs depth y b f.in_it f.m.step'.rest (f.m.step'.rest true) (k.keeps up) b.has whole (f.does_op 0) ((f.goes 0).calls true)
               (λ j. (f.goes j).goes_on true) refl refl r' f.left f.has_op
 
@@ -537,7 +429,7 @@ module _ {W : Type 0} (next : W → Option (Step W)) (outs : W → List W) (coun
           inside : (h : ℕ) (r' : Runner W) → Has tree n h → middles (suc i) h ≡ Some r' → HasKind (Some (Asynchronous false)) y r'
           inside h r' is e'' =
               let f = grouping o.Farm e h r' is e'' in
-              let b = f.m.before' in
+              let b = f.m.before in
               let onward = goes_onward o.Farm value i b.has in (
                 (round_lower n (k.round_it n) lower ordinary).0,
                 opens_body next outs depth y b f.in_it f.m.step'.rest o.Farm n lower onward (f.m.step'.rest false) (outs_by b.left f.m.step'.rest onward (f.does_op 0).0 (f.does_op 0).1) ((f.goes 0).calls false) ((f.goes 0).calls onward)
@@ -550,7 +442,7 @@ module _ {W : Type 0} (next : W → Option (Step W)) (outs : W → List W) (coun
           inside : (h : ℕ) (r' : Runner W) → Has tree n h → middles (suc i) h ≡ Some r' → HasKind (Some (Asynchronous true)) y r'
           inside h r' is e'' =
               let f = grouping o.Seq e h r' is e'' in
-              let b = f.m.before' in
+              let b = f.m.before in
               let onward = goes_onward o.Seq value i b.has in (
                 (round_lower n (k.round_it n) lower ordinary).0,
                 opens_body next outs depth y b f.in_it f.m.step'.rest o.Seq n lower onward (f.m.step'.rest false) (outs_by b.left f.m.step'.rest onward (f.does_op 0).0 (f.does_op 0).1) ((f.goes 0).calls false) ((f.goes 0).calls onward)
@@ -579,28 +471,28 @@ module _ {W : Type 0} (next : W → Option (Step W)) (outs : W → List W) (coun
 
       record Resuming (op' : Operation) (h : ℕ) (r' : Runner W) : Type 0 where
         m : Moved h r'
-        in_it : InIt next outs depth y m.before'
-        does_op : Does next outs (FollowsFor next outs 0) (Waits (within n)) op' m.before'.left m.step'.rest
-        goes : GoOn next outs depth (length y.round) false op' m.before'.left m.step'.rest
-        left : r'.left ≡ m.step'.rest (goes_onward op' value i m.before'.has)
-        has_op : r'.has ≡ does op' value m.size m.before'.has
+        in_it : InIt next outs depth y m.before
+        does_op : Does next outs (FollowsFor next outs 0) (Waits (within n)) op' m.before.left m.step'.rest
+        goes : GoOn next outs depth (length y.round) false op' m.before.left m.step'.rest
+        left : r'.left ≡ m.step'.rest (goes_onward op' value i m.before.has)
+        has_op : r'.has ≡ does op' value m.size m.before.has
 
       resuming : (op' : Operation) → op ≡ op' → (h : ℕ) (r' : Runner W) → Has tree n h → middles (suc i) h ≡ Some r' → Resuming op' h r'
       resuming op' e h r' is e' =
           let m = moved h r' is e' in
-          let w : Is next outs counts x m.before' = was_there (Some (Waiting first parts')) waiting h is m.before' m.was in
+          let w : Is next outs counts x m.before = was_there (Some (Waiting first parts')) waiting h is m.before m.was in
           let same_op : m.step'.operation ≡ op' = m.same ∙ e in
           let stands' : next x.left ≡ Some m.step' = ap next (sym w.left) ∙ m.stands in
-          let in_it : InIt next outs depth y m.before' = kept_there (Some (Waiting first parts')) waiting h is m.before' m.was in
+          let in_it : InIt next outs depth y m.before = kept_there (Some (Waiting first parts')) waiting h is m.before m.was in
           record {
             m = m;
             in_it = in_it;
             does_op = subst₂ (λ (v : W) (o' : Operation). Does next outs (FollowsFor next outs 0) (Waits (within n)) o' v m.step'.rest) (sym w.left) same_op
                 (does_so next outs counts (Waits (within n)) x.left m.step' gw.follows stands' 0);
-            goes = subst (λ (o' : Operation). GoOn next outs depth (length y.round) false o' m.before'.left m.step'.rest) same_op
-                (framed_so next outs depth (length y.round) false m.before'.left m.step' in_it.framed m.stands);
-            left = m.left ∙ ap (λ (o' : Operation). m.step'.rest (goes_onward o' value i m.before'.has)) e;
-            has_op = m.has' ∙ ap (λ (o' : Operation). does o' value m.size m.before'.has) e;
+            goes = subst (λ (o' : Operation). GoOn next outs depth (length y.round) false o' m.before.left m.step'.rest) same_op
+                (framed_so next outs depth (length y.round) false m.before.left m.step' in_it.framed m.stands);
+            left = m.left ∙ ap (λ (o' : Operation). m.step'.rest (goes_onward o' value i m.before.has)) e;
+            has_op = m.has ∙ ap (λ (o' : Operation). does o' value m.size m.before.has) e;
           }
 
       fits_after : (m : ℕ) (b : List (List Tier)) → Outer next outs counts depth set m b y
@@ -623,7 +515,7 @@ module _ {W : Type 0} (next : W → Option (Step W)) (outs : W → List W) (coun
         record {
           more = [];
           at = subst (λ (ts : List Tier). At next outs depth ts true [] y r') outer.0
-              (resumes_in next outs depth y f.m.before' f.in_it f.m.step'.rest true (none_round y.round outer.0) f.goes f.does_op.0 r' f.left f.has_op);
+              (resumes_in next outs depth y f.m.before f.in_it f.m.step'.rest true (none_round y.round outer.0) f.goes f.does_op.0 r' f.left f.has_op);
           least = outer.1;
         },
       )
@@ -631,7 +523,7 @@ module _ {W : Type 0} (next : W → Option (Step W)) (outs : W → List W) (coun
           let lower : n ≢ 0 = λ zero'. let clash : suc m ≡ 0 = sym e ∙ zero' in omega (arith, clash) in
           let up = parent tree n in
           let whole : y.round ≡ all_of (k.keeps up) = outer.0 ∙ ap head_of (k.levelled.chain n lower some_n) in
-          resumes_in next outs depth y f.m.before' f.in_it f.m.step'.rest false (some_round y.round (k.keeps up).own (k.keeps up).round whole) f.goes f.does_op.0 r' f.left f.has_op
+          resumes_in next outs depth y f.m.before f.in_it f.m.step'.rest false (some_round y.round (k.keeps up).own (k.keeps up).round whole) f.goes f.does_op.0 r' f.left f.has_op
 
       in_waiting : (op' : Operation) → op ≡ op' → After (changes op' n (who actings) value i tree)
       in_waiting o.Resume e =
@@ -644,29 +536,29 @@ module _ {W : Type 0} (next : W → Option (Step W)) (outs : W → List W) (coun
       record Coming (op' : Operation) (h : ℕ) (r' : Runner W) : Type 0 where
         m : Moved h r'
         round_is : RoundIs next outs counts depth set n (k.round_it n) y
-        alone : Alone next outs depth n y m.before'
-        does_op : Does next outs (FollowsFor next outs 0) (ByItself (within n)) op' m.before'.left m.step'.rest
-        goes : GoOn next outs depth (length y.round) true op' m.before'.left m.step'.rest
-        left : r'.left ≡ m.step'.rest (goes_onward op' value i m.before'.has)
-        has_op : r'.has ≡ does op' value m.size m.before'.has
+        alone : Alone next outs depth n y m.before
+        does_op : Does next outs (FollowsFor next outs 0) (ByItself (within n)) op' m.before.left m.step'.rest
+        goes : GoOn next outs depth (length y.round) true op' m.before.left m.step'.rest
+        left : r'.left ≡ m.step'.rest (goes_onward op' value i m.before.has)
+        has_op : r'.has ≡ does op' value m.size m.before.has
 
       coming : (op' : Operation) → op ≡ op' → (h : ℕ) (r' : Runner W) → Has tree n h → middles (suc i) h ≡ Some r' → Coming op' h r'
       coming op' e h r' is e' =
           let m = moved h r' is e' in
-          let w = going_on next outs counts (within n) (ahead_of next outs counts n (st.behind n) x) x.numbers (AtNode next outs counts (st.behind n) x) m.before'
-          (was_there (Some (Asynchronous one)) body h is m.before' m.was) m.step' m.stands in
-          let kept = kept_there (Some (Asynchronous one)) body h is m.before' m.was in
+          let w = going_on next outs counts (within n) (ahead_of next outs counts n (st.behind n) x) x.numbers (AtNode next outs counts (st.behind n) x) m.before
+          (was_there (Some (Asynchronous one)) body h is m.before m.was) m.step' m.stands in
+          let kept = kept_there (Some (Asynchronous one)) body h is m.before m.was in
           let same_op : m.step'.operation ≡ op' = m.same ∙ e in
           record {
             m = m;
             round_is = kept.0;
             alone = kept.1;
-            does_op = subst (λ (o' : Operation). Does next outs (FollowsFor next outs 0) (ByItself (within n)) o' m.before'.left m.step'.rest) same_op
-                (does_so next outs counts (ByItself (within n)) m.before'.left m.step' w.follows m.stands 0);
-            goes = subst (λ (o' : Operation). GoOn next outs depth (length y.round) true o' m.before'.left m.step'.rest) same_op
-                (framed_so next outs depth (length y.round) true m.before'.left m.step' kept.1.at.framed m.stands);
-            left = m.left ∙ ap (λ (o' : Operation). m.step'.rest (goes_onward o' value i m.before'.has)) e;
-            has_op = m.has' ∙ ap (λ (o' : Operation). does o' value m.size m.before'.has) e;
+            does_op = subst (λ (o' : Operation). Does next outs (FollowsFor next outs 0) (ByItself (within n)) o' m.before.left m.step'.rest) same_op
+                (does_so next outs counts (ByItself (within n)) m.before.left m.step' w.follows m.stands 0);
+            goes = subst (λ (o' : Operation). GoOn next outs depth (length y.round) true o' m.before.left m.step'.rest) same_op
+                (framed_so next outs depth (length y.round) true m.before.left m.step' kept.1.at.framed m.stands);
+            left = m.left ∙ ap (λ (o' : Operation). m.step'.rest (goes_onward o' value i m.before.has)) e;
+            has_op = m.has ∙ ap (λ (o' : Operation). does o' value m.size m.before.has) e;
           }
 
       mine_comes : (op' : Operation) → op ≡ op' → Coming op' i mine.0
@@ -677,8 +569,8 @@ module _ {W : Type 0} (next : W → Option (Step W)) (outs : W → List W) (coun
           turned Lockstep idle-lockstep (λ zero'. absurd (inside_lower n inner zero')) (round_inner n (k.round_it n) inner (mine_comes (o.Meet true) e).round_is)
           (λ h r' is e'.
           let f = coming (o.Meet true) e h r' is e' in
-          let met = subst (λ (b : Bool). Does next outs (FollowsFor next outs 0) (ByItself b) (o.Meet true) f.m.before'.left f.m.step'.rest) inner f.does_op in
-          meets_in next outs depth n y f.m.before' f.alone f.m.step'.rest inner f.goes met.0 r' f.left f.has_op)
+          let met = subst (λ (b : Bool). Does next outs (FollowsFor next outs 0) (ByItself b) (o.Meet true) f.m.before.left f.m.step'.rest) inner f.does_op in
+          meets_in next outs depth n y f.m.before f.alone f.m.step'.rest inner f.goes met.0 r' f.left f.has_op)
 
       begins : within n ≡ false → op ≡ o.Begin → After (changes o.Begin n (who actings) value i tree)
       begins outer e = subst (λ (q : ℕ). After (t.split q 1 (first_part count) tree)) root (parted 1 (first_part count) can waits (λ j. start_of y) (λ j. refl) enter stay)
@@ -712,7 +604,7 @@ module _ {W : Type 0} (next : W → Option (Step W)) (outs : W → List W) (coun
               by true e'' = absurd (cc)
               by false e'' = refl
 
-          taken_is : (h : ℕ) (c : Bool) (r' : Runner W) (is : Has tree n h) (f : Coming o.Begin h r') → nat_lt h count ≡ c → goes_onward o.Begin value i f.m.before'.has ≡ c
+          taken_is : (h : ℕ) (c : Bool) (r' : Runner W) (is : Has tree n h) (f : Coming o.Begin h r') → nat_lt h count ≡ c → goes_onward o.Begin value i f.m.before.has ≡ c
           taken_is h c r' is f e' =
               let small : h < length (members tree n) = let lt' = within_p h is in omega (arith, lt', size) in
               ap (λ (q : ℕ). nat_lt q (not_negative value)) f.m.number ∙ sym (first_same h (length (members tree n)) (not_negative value) small) ∙ e'
@@ -720,8 +612,8 @@ module _ {W : Type 0} (next : W → Option (Step W)) (outs : W → List W) (coun
           alone_at_root : (r : Runner W) → Alone next outs depth n y r → Alone next outs depth 0 y r
           alone_at_root r a' = subst (λ (m : ℕ). Alone next outs depth m y r) root a'
 
-          start_does : (h : ℕ) (r' : Runner W) (f : Coming o.Begin h r') → Does next outs (FollowsFor next outs 0) (ByItself false) o.Begin f.m.before'.left f.m.step'.rest
-          start_does h r' f = subst (λ (b : Bool). Does next outs (FollowsFor next outs 0) (ByItself b) o.Begin f.m.before'.left f.m.step'.rest) outer f.does_op
+          start_does : (h : ℕ) (r' : Runner W) (f : Coming o.Begin h r') → Does next outs (FollowsFor next outs 0) (ByItself false) o.Begin f.m.before.left f.m.step'.rest
+          start_does h r' f = subst (λ (b : Bool). Does next outs (FollowsFor next outs 0) (ByItself b) o.Begin f.m.before.left f.m.step'.rest) outer f.does_op
 
           outermost : (h : ℕ) (r' : Runner W) (f : Coming o.Begin h r') → y.round ≡ []
           outermost h r' f = round_outer n (k.round_it n) root f.round_is
@@ -730,17 +622,17 @@ module _ {W : Type 0} (next : W → Option (Step W)) (outs : W → List W) (coun
           enter h j r' is e' e'' =
               let f = coming o.Begin e h r' is e'' in
               let taken = taken_is h true r' is f (first_in' h j e') in
-              starts_in next outs depth y f.m.before' (alone_at_root f.m.before' f.alone) f.m.step'.rest f.goes (outermost h r' f) f.m.size (start_does h r' f).2
+              starts_in next outs depth y f.m.before (alone_at_root f.m.before f.alone) f.m.step'.rest f.goes (outermost h r' f) f.m.size (start_does h r' f).2
               r' (f.left ∙ ap f.m.step'.rest taken)
-              (f.has_op ∙ ap (λ (b : Bool). if b then enter_level (start_level f.m.before'.has f.m.size) (drop_last 1 f.m.before'.has) else drop_last 1 f.m.before'.has) taken)
+              (f.has_op ∙ ap (λ (b : Bool). if b then enter_level (start_level f.m.before.has f.m.size) (drop_last 1 f.m.before.has) else drop_last 1 f.m.before.has) taken)
 
           stay : (h : ℕ) (r' : Runner W) → Has tree n h → first_part count h ≡ None → middles (suc i) h ≡ Some r' → InIt next outs depth y r'
           stay h r' is e' e'' =
               let f = coming o.Begin e h r' is e'' in
               let taken = taken_is h false r' is f (first_out h e') in
-              starts_out next outs depth y f.m.before' (alone_at_root f.m.before' f.alone) f.m.step'.rest f.goes (outermost h r' f)
+              starts_out next outs depth y f.m.before (alone_at_root f.m.before f.alone) f.m.step'.rest f.goes (outermost h r' f)
               r' (f.left ∙ ap f.m.step'.rest taken)
-              (f.has_op ∙ ap (λ (b : Bool). if b then enter_level (start_level f.m.before'.has f.m.size) (drop_last 1 f.m.before'.has) else drop_last 1 f.m.before'.has) taken)
+              (f.has_op ∙ ap (λ (b : Bool). if b then enter_level (start_level f.m.before.has f.m.size) (drop_last 1 f.m.before.has) else drop_last 1 f.m.before.has) taken)
 
       alone_none : (op' : Operation) (w : Bool) (here : W) (rest : Bool → W) → changes_tree op' ≡ true → (op' ≡ o.Begin → ⊥) → (op' ≡ o.Meet true → ⊥)
           → Does next outs (FollowsFor next outs 0) (ByItself w) op' here rest → ⊥
@@ -770,10 +662,10 @@ module _ {W : Type 0} (next : W → Option (Step W)) (outs : W → List W) (coun
       meet_inside false here rest d = absurd d
 
       in_body : (op' : Operation) → op ≡ op' → changes_tree op' ≡ true → After (changes op' n (who actings) value i tree)
-      in_body o.Begin e c = let f = mine_comes o.Begin e in begins (begin_outside (within n) f.m.before'.left f.m.step'.rest f.does_op) e
-      in_body (o.Meet true) e c = let f = mine_comes (o.Meet true) e in meets (meet_inside (within n) f.m.before'.left f.m.step'.rest f.does_op) e
+      in_body o.Begin e c = let f = mine_comes o.Begin e in begins (begin_outside (within n) f.m.before.left f.m.step'.rest f.does_op) e
+      in_body (o.Meet true) e c = let f = mine_comes (o.Meet true) e in meets (meet_inside (within n) f.m.before.left f.m.step'.rest f.does_op) e
       in_body (o.Meet false) e c = untrue c
-      in_body op' e c = let f = mine_comes op' e in absurd (alone_none op' (within n) f.m.before'.left f.m.step'.rest c (λ e'. cc) (λ e'. cc) f.does_op)
+      in_body op' e c = let f = mine_comes op' e in absurd (alone_none op' (within n) f.m.before.left f.m.step'.rest c (λ e'. cc) (λ e'. cc) f.does_op)
 
     changed : Tiered (suc i) tree'
     changed = tiered_after tree' (brought next outs counts set round s p here0 behind0 inv0 ordered possible i lt a at step due changing n place is_low tree st) (by (kind tree n) refl)
@@ -786,31 +678,9 @@ module _ {W : Type 0} (next : W → Option (Step W)) (outs : W → List W) (coun
 
   -- one processor's step, whoever it is
   tiered_then : (i : ℕ) → i < p → (a : Acting W) → slice_get actings i ≡ Some a → (tree : Tree) → Tiered i tree → Tiered (suc i) (change_by actings s.tree i a.due tree)
-  tiered_then i lt a at tree k = by_due a.due refl (stage_after next outs counts set round s p here0 behind0 inv0 ordered possible i lt a at tree k.stage)
-    where
-      by_due : (due : Option (Step W)) → a.due ≡ due → Stages (suc i) (change_by actings s.tree i a.due tree) → Tiered (suc i) (change_by actings s.tree i due tree)
-      by_due None e stage = same_tiered i a at (λ changing. untrue (sym (ap is_changing e) ∙ changing)) tree k (subst (λ (d : Option (Step W)). Stages (suc i) (change_by actings s.tree i d tree)) e stage)
-      by_due (Some step) e stage =
-          by_low (i == lowest (members s.tree (s.tree.places i))) refl (subst (λ (d : Option (Step W)). Stages (suc i) (change_by actings s.tree i d tree)) e stage)
-        where
-          n : ℕ
-          n = s.tree.places i
-
-          by_change : lowest (members s.tree n) ≡ i → (c : Bool) → changes_tree step.operation ≡ c
-              → Stages (suc i) (changes step.operation n (who actings) (agreed actings (members s.tree n)) i tree)
-              → Tiered (suc i) (changes step.operation n (who actings) (agreed actings (members s.tree n)) i tree)
-          by_change low_i true e' after = changed i lt a at step e e' n refl low_i tree k
-          by_change low_i false e' after =
-              let same = step_of_none n (who actings) (agreed actings (members s.tree n)) i tree step.operation e' in
-              subst (Tiered (suc i)) (sym same)
-              (same_tiered i a at (λ changing. absurd (true≢false (sym changing ∙ ap is_changing e ∙ e'))) tree k (subst (λ (u : Tree). Stages (suc i) u) same after))
-
-          by_low : (c : Bool) → (i == lowest (members s.tree n)) ≡ c
-              → Stages (suc i) (if c then changes step.operation n (who actings) (agreed actings (members s.tree n)) i tree else tree)
-              → Tiered (suc i) (if c then changes step.operation n (who actings) (agreed actings (members s.tree n)) i tree else tree)
-          by_low true e' after = by_change (sym (eqb-true i (lowest (members s.tree n)) e')) (changes_tree step.operation) refl after
-          by_low false e' after =
-              same_tiered i a at (λ changing low_i. absurd (true≢false (sym (eq-eqb i (lowest (members s.tree n)) (sym low_i)) ∙ e'))) tree k after
+  tiered_then i lt a at tree k =
+      by_step next outs counts set round s p here0 behind0 inv0 ordered possible (Tiered (suc i)) i a tree (λ quiet. same_tiered i a at quiet tree k)
+      (λ step due changing low_i. changed i lt a at step due changing (s.tree.places i) refl low_i tree k)
 
   pub last_tiered : Tiered p (all_changes actings s.tree actings s.tree)
   last_tiered = all_keep next outs counts set round s p here0 behind0 inv0 ordered possible Tiered tiered_then first_tiered

@@ -25,6 +25,7 @@ use Rattle.fk_lockstep.specs.Untouched.{changes_tree}
 use Rattle.fk_lockstep.specs.Counts.{Counts, ArePending, AsMany, NoMore, Leaves, CountsGoOn, IsCounted}
 use Rattle.fk_lockstep.specs.Course.{InGroup, Waits, ByItself, after_waiting, Parts, Does, FollowsFor, Follows}
 use Rattle.fk_lockstep.proofs.Acting.{untrue, Here, Out, told, lefts, bare, lefts_bare, Ends, HasValue, Is, AtNode, without, within, is_changing, Grouped, Parted, Loner, ahead_of, Apart, does_so, counts_so, counts_on, going_on}
+use Rattle.fk_lockstep.proofs.Untouched.{step_of_none}
 use Rattle.fk_lockstep.proofs.Nodes.{Frame, kind_frame, shrink_frame, split_frame}
 use Rattle.fk_lockstep.proofs.Trees.{NodeIs, IsThere, ThereAt, inv_same, turned_here, turned_inv, shrunk_here, shrunk_inv, parted_here, parted_behind, parted_inv}
 use Rattle.fk_lockstep.proofs.Round.{all_keep, first_is, some_at, who_is, lowest_member, actings as actings_of, settle as settle_of, new as new_of, has_at, quiet as quiet_of, now_has as now_has_of, now_here, now_inv, Sound, Ordered, Moving, all_move, number_at, acting_length}
@@ -110,18 +111,6 @@ lt_suc l i ne =
     (λ lt. let more : l < suc i = omega arith in lt-ltb l (suc i) more ∙ sym (lt-ltb l i lt))
     (λ le. let more : suc i ≤ l = omega (arith, le, ne) in le-ltb l (suc i) more ∙ sym (le-ltb l i le))
     (cases_lt l i)
-
-pub step_of_none : (n : ℕ) (whose : ℕ → Processor) (highest low : ℕ) (tree : Tree) (op : Operation) → changes_tree op ≡ false → changes op n whose highest low tree ≡ tree
-step_of_none n whose highest low tree o.Begin e = absurd (true≢false e)
-step_of_none n whose highest low tree (o.Split by) e = absurd (true≢false e)
-step_of_none n whose highest low tree o.Shrink e = absurd (true≢false e)
-step_of_none n whose highest low tree o.End e = absurd (true≢false e)
-step_of_none n whose highest low tree o.Farm e = absurd (true≢false e)
-step_of_none n whose highest low tree o.Seq e = absurd (true≢false e)
-step_of_none n whose highest low tree (o.Meet true) e = absurd (true≢false e)
-step_of_none n whose highest low tree o.Resume e = absurd (true≢false e)
-step_of_none n whose highest low tree (o.Meet false) e = refl
-step_of_none n whose highest low tree op e = refl
 
 module _ {W : Type 0} (next : W → Option (Step W)) (outs : W → List W) (counts : Counts W) where
   abbrev Pends : W → Processor → List ℕ → Type 0
@@ -287,27 +276,30 @@ module _ {W : Type 0} (next : W → Option (Step W)) (outs : W → List W) (coun
       let many = acting_length next outs counts set round s p here0 behind0 inv0 ordered possible in
       some_at actings h (omega (arith, many))
 
+  -- before the first change, those who bring one have not gone on
+  pub first_mid : (h : ℕ) → h < p → mids 0 h ≡ now_has_of next outs counts set round s p here0 behind0 inv0 ordered possible h
+  first_mid h lt =
+      let b = there h lt in
+      at_mid h b.0 (nat_lt (low h) 0) b.1
+      ∙ ap (λ (r : Runner W). Some r) (quiet_is b.0 (nat_lt (low h) 0) (le-ltb (low h) 0 (omega arith)) (is_changing b.0.due))
+      ∙ sym (ap (option_map (quiet_of next outs counts set round s p here0 behind0 inv0 ordered possible)) b.1)
+    where
+      quiet_is : (b : Acting W) (gone : Bool) → gone ≡ false → (c : Bool) → (if c && not gone then b.runner else settle b.runner b.due) ≡ (if c then b.runner else settle b.runner b.due)
+      quiet_is b gone e true = ap (λ (g : Bool). if not g then b.runner else settle b.runner b.due) e
+      quiet_is b gone e false = refl
+
   pub first_stage : Stage 0 s.tree
   first_stage = record {
     here = now_here next outs counts set round s p here0 behind0 inv0 ordered possible;
     behind = behind0;
     inv = inv_same (told {W = W}) (Grouped next outs counts) (Parted next outs counts) (Apart next outs counts) (Is next outs counts) p s.tree
         (now_has_of next outs counts set round s p here0 behind0 inv0 ordered possible) (mids 0)
-        (now_here next outs counts set round s p here0 behind0 inv0 ordered possible) behind0
-        (λ h lt.
-        let b = there h lt in
-        at_mid h b.0 (nat_lt (low h) 0) b.1
-        ∙ ap (λ (r : Runner W). Some r) (quiet_is b.0 (nat_lt (low h) 0) (le-ltb (low h) 0 (omega arith)) (is_changing b.0.due))
-        ∙ sym (ap (option_map (quiet_of next outs counts set round s p here0 behind0 inv0 ordered possible)) b.1))
+        (now_here next outs counts set round s p here0 behind0 inv0 ordered possible) behind0 first_mid
         (now_inv next outs counts set round s p here0 behind0 inv0 ordered possible);
     given = omega arith;
     nodes = λ n lt le. refl;
     places = λ h lt le. refl;
   }
-    where
-      quiet_is : (b : Acting W) (gone : Bool) → gone ≡ false → (c : Bool) → (if c && not gone then b.runner else settle b.runner b.due) ≡ (if c then b.runner else settle b.runner b.due)
-      quiet_is b gone e true = ap (λ (g : Bool). if not g then b.runner else settle b.runner b.due) e
-      quiet_is b gone e false = refl
 
   -- nobody at a node whose lowest member is i changes it
   module _ (i : ℕ) (a : Acting W) (at : slice_get actings i ≡ Some a) (quiet : is_changing a.due ≡ true → lowest (members s.tree (s.tree.places i)) ≢ i) where
@@ -1133,29 +1125,35 @@ module _ {W : Type 0} (next : W → Option (Step W)) (outs : W → List W) (coun
         by (Some (Waiting first k)) e = next_stage (changes op n (who actings) value i tree) (in_waiting first k e)
         by (Some (Asynchronous alone)) e = next_stage (changes op n (who actings) value i tree) (in_body alone e)
 
-  -- one processor's step, whoever it is
-  pub stage_after : (i : ℕ) → i < p → (a : Acting W) → slice_get actings i ≡ Some a → (tree : Tree) → Stage i tree → Stage (suc i) (change_by actings s.tree i a.due tree)
-  stage_after i lt a at tree st = by_due a.due refl
+  -- what a processor's step makes of a tree: nothing, or as that of the lowest member of its node a change
+  pub by_step : (After : Tree → Type 0) (i : ℕ) (a : Acting W) (tree : Tree)
+      → ((is_changing a.due ≡ true → lowest (members s.tree (s.tree.places i)) ≢ i) → After tree)
+      → ((step : Step W) → a.due ≡ Some step → changes_tree step.operation ≡ true → lowest (members s.tree (s.tree.places i)) ≡ i
+      → After (changes step.operation (s.tree.places i) (who actings) (agreed actings (members s.tree (s.tree.places i))) i tree))
+      → After (change_by actings s.tree i a.due tree)
+  by_step After i a tree quiet changed = by_due a.due refl
     where
-      by_due : (due : Option (Step W)) → a.due ≡ due → Stage (suc i) (change_by actings s.tree i due tree)
-      by_due None e = same_stage i a at (λ changing. untrue (sym (ap is_changing e) ∙ changing)) tree st
+      by_due : (due : Option (Step W)) → a.due ≡ due → After (change_by actings s.tree i due tree)
+      by_due None e = quiet (λ changing. untrue (sym (ap is_changing e) ∙ changing))
       by_due (Some step) e = by_low (i == lowest (members s.tree (s.tree.places i))) refl
         where
-          n : ℕ
-          n = s.tree.places i
-
-          by_change : lowest (members s.tree n) ≡ i → (c : Bool) → changes_tree step.operation ≡ c
-              → Stage (suc i) (changes step.operation n (who actings) (agreed actings (members s.tree n)) i tree)
-          by_change low_i true e' = brought i lt a at step e e' n refl low_i tree st
+          by_change : lowest (members s.tree (s.tree.places i)) ≡ i → (c : Bool) → changes_tree step.operation ≡ c
+              → After (changes step.operation (s.tree.places i) (who actings) (agreed actings (members s.tree (s.tree.places i))) i tree)
+          by_change low_i true e' = changed step e e' low_i
           by_change low_i false e' =
-              subst (Stage (suc i)) (sym (step_of_none n (who actings) (agreed actings (members s.tree n)) i tree step.operation e'))
-              (same_stage i a at (λ changing. absurd (true≢false (sym changing ∙ ap is_changing e ∙ e'))) tree st)
+              subst After (sym (step_of_none (s.tree.places i) (who actings) (agreed actings (members s.tree (s.tree.places i))) i tree step.operation e'))
+              (quiet (λ changing. absurd (true≢false (sym changing ∙ ap is_changing e ∙ e'))))
 
-          by_low : (c : Bool) → (i == lowest (members s.tree n)) ≡ c
-              → Stage (suc i) (if c then changes step.operation n (who actings) (agreed actings (members s.tree n)) i tree else tree)
-          by_low true e' = by_change (sym (eqb-true i (lowest (members s.tree n)) e')) (changes_tree step.operation) refl
+          by_low : (c : Bool) → (i == lowest (members s.tree (s.tree.places i))) ≡ c
+              → After (if c then changes step.operation (s.tree.places i) (who actings) (agreed actings (members s.tree (s.tree.places i))) i tree else tree)
+          by_low true e' = by_change (sym (eqb-true i (lowest (members s.tree (s.tree.places i))) e')) (changes_tree step.operation) refl
           by_low false e' =
-              same_stage i a at (λ changing low_i. absurd (true≢false (sym (eq-eqb i (lowest (members s.tree n)) (sym low_i)) ∙ e'))) tree st
+              quiet (λ changing low_i. absurd (true≢false (sym (eq-eqb i (lowest (members s.tree (s.tree.places i))) (sym low_i)) ∙ e')))
+
+  stage_after : (i : ℕ) → i < p → (a : Acting W) → slice_get actings i ≡ Some a → (tree : Tree) → Stage i tree → Stage (suc i) (change_by actings s.tree i a.due tree)
+  stage_after i lt a at tree st =
+      by_step (Stage (suc i)) i a tree (λ quiet. same_stage i a at quiet tree st)
+      (λ step due changing low_i. brought i lt a at step due changing (s.tree.places i) refl low_i tree st)
 
   pub last_stage : Stage p (all_changes actings s.tree actings s.tree)
   last_stage = all_keep next outs counts set round s p here0 behind0 inv0 ordered possible Stage stage_after first_stage

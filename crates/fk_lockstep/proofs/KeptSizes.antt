@@ -1,6 +1,6 @@
 -- How a round moves processors in the tree, and what becomes of the numbers and the sizes of their groups.
 use Rattle.std.proofs.Common.{◌≡◌, ◌≢◌, ◌⊎◌, inl, inr, ⊎_elim, ℕ, suc, ◌+◌, ◌-◌, ◌<◌, ◌≤◌, ◌==◌, ◌||◌, nat_lt, min, Bool, true, false, true≢false, List, [], ◌∷◌, length, filter, slice_get, Option, Some, None, refl, sym, ap, ap₂, ◌∙◌, subst, subst₂, arith, if◌then◌else◌}
-use Rattle.std.proofs.lemmas.Bool.{cases_Bool, cases_eq, cases_lt, eqb-true, eq-eqb, ne_eqb, lt-ltb, le-ltb, cond-true, cond-false, false≢true}
+use Rattle.std.proofs.lemmas.Bool.{cases_Bool, cases_eq, cases_lt, eq-eqb, ne_eqb, lt-ltb, le-ltb, cond-true, cond-false, false≢true}
 use Rattle.fk_meaning_operation.specs.declared.operation.Operation.{Operation}
 use Rattle.fk_meaning_operation.specs.declared.operation.Operation.TheVariants as o
 use Rattle.fk_meaning_operation.specs.declared.operation.SplitKind.{SplitKind}
@@ -21,7 +21,7 @@ use Rattle.fk_lockstep.specs.OneProgram.{groups_of}
 use Rattle.fk_lockstep.proofs.Acting.{untrue, Here, Out, is_changing}
 use Rattle.fk_lockstep.proofs.Nodes.{Turn, Numbered, kind_turn, still, gone, shrink_turn, new_nodes, new_parent, split_places, split_members, split_turn}
 use Rattle.fk_lockstep.proofs.Round.{all_keep, first_is, who_is, lowest_member, actings as actings_of, settle as settle_of, new as new_of, has_at, Sound, Ordered, Moving, all_move, number_at}
-use Rattle.fk_lockstep.proofs.Changes.{Stage, low, clash, moves, in_i, n_given, nodes_n, had, has, low_of, place_of, Allowed, allowed, brought, stage_after, first_stage, step_of_none, first_same, one_of_none}
+use Rattle.fk_lockstep.proofs.Changes.{Stage, low, clash, moves, in_i, n_given, nodes_n, had, has, low_of, place_of, Allowed, allowed, brought, by_step, first_stage, same_stage, first_same, one_of_none}
 use Rattle.fk_lockstep.proofs.Sizes.{round_it, left_groups, plain_groups}
 
 -- the number and the size of each node, and of those round it
@@ -110,10 +110,10 @@ module _ {W : Type 0} (next : W → Option (Step W)) (outs : W → List W) (coun
   }
 
   -- nobody brings a change
-  module _ (i : ℕ) (a : Acting W) (at : slice_get actings i ≡ Some a) (quiet : is_changing a.due ≡ true → lowest (members s.tree (s.tree.places i)) ≢ i) (tree : Tree) (k : Kept i tree) (stage : Stages (suc i) tree) where
+  module _ (i : ℕ) (a : Acting W) (at : slice_get actings i ≡ Some a) (quiet : is_changing a.due ≡ true → lowest (members s.tree (s.tree.places i)) ≢ i) (tree : Tree) (k : Kept i tree) where
     same_kept : Kept (suc i) tree
     same_kept = record {
-      stage = stage;
+      stage = same_stage next outs counts set round s p here0 behind0 inv0 ordered possible i a at quiet tree k.stage;
       number = k.number;
       up = k.up;
       new_up = k.new_up;
@@ -538,31 +538,9 @@ module _ {W : Type 0} (next : W → Option (Step W)) (outs : W → List W) (coun
 
   -- one processor's step, whoever it is
   kept_after : (i : ℕ) → i < p → (a : Acting W) → slice_get actings i ≡ Some a → (tree : Tree) → Kept i tree → Kept (suc i) (change_by actings s.tree i a.due tree)
-  kept_after i lt a at tree k = by_due a.due refl (stage_after next outs counts set round s p here0 behind0 inv0 ordered possible i lt a at tree k.stage)
-    where
-      by_due : (due : Option (Step W)) → a.due ≡ due → Stages (suc i) (change_by actings s.tree i a.due tree) → Kept (suc i) (change_by actings s.tree i due tree)
-      by_due None e stage = same_kept i a at (λ changing. untrue (sym (ap is_changing e) ∙ changing)) tree k (subst (λ (d : Option (Step W)). Stages (suc i) (change_by actings s.tree i d tree)) e stage)
-      by_due (Some step) e stage =
-          by_low (i == lowest (members s.tree (s.tree.places i))) refl (subst (λ (d : Option (Step W)). Stages (suc i) (change_by actings s.tree i d tree)) e stage)
-        where
-          n : ℕ
-          n = s.tree.places i
-
-          by_change : lowest (members s.tree n) ≡ i → (c : Bool) → changes_tree step.operation ≡ c
-              → Stages (suc i) (changes step.operation n (who actings) (agreed actings (members s.tree n)) i tree)
-              → Kept (suc i) (changes step.operation n (who actings) (agreed actings (members s.tree n)) i tree)
-          by_change low_i true e' after = kept' i lt a at step e e' n refl low_i tree k
-          by_change low_i false e' after =
-              let same = step_of_none n (who actings) (agreed actings (members s.tree n)) i tree step.operation e' in
-              subst (Kept (suc i)) (sym same)
-              (same_kept i a at (λ changing. absurd (true≢false (sym changing ∙ ap is_changing e ∙ e'))) tree k (subst (λ (u : Tree). Stages (suc i) u) same after))
-
-          by_low : (c : Bool) → (i == lowest (members s.tree n)) ≡ c
-              → Stages (suc i) (if c then changes step.operation n (who actings) (agreed actings (members s.tree n)) i tree else tree)
-              → Kept (suc i) (if c then changes step.operation n (who actings) (agreed actings (members s.tree n)) i tree else tree)
-          by_low true e' after = by_change (sym (eqb-true i (lowest (members s.tree n)) e')) (changes_tree step.operation) refl after
-          by_low false e' after =
-              same_kept i a at (λ changing low_i. absurd (true≢false (sym (eq-eqb i (lowest (members s.tree n)) (sym low_i)) ∙ e'))) tree k after
+  kept_after i lt a at tree k =
+      by_step next outs counts set round s p here0 behind0 inv0 ordered possible (Kept (suc i)) i a tree (λ quiet. same_kept i a at quiet tree k)
+      (λ step due changing low_i. kept' i lt a at step due changing (s.tree.places i) refl low_i tree k)
 
   pub last_kept : Kept p new
   last_kept = all_keep next outs counts set round s p here0 behind0 inv0 ordered possible Kept kept_after first_kept

@@ -103,7 +103,7 @@ module _ (n : ℕ) (whose : ℕ → Processor) (highest low : ℕ) (tree : Tree)
   step_places (o.Meet true) h no_start isnt = refl
   step_places op h no_start isnt = refl
 
-  step_of_none : (op : Operation) → changes_tree op ≡ false → changed op ≡ tree
+  pub step_of_none : (op : Operation) → changes_tree op ≡ false → changed op ≡ tree
   step_of_none o.Begin e = absurd (true≢false e)
   step_of_none (o.Split by) e = absurd (true≢false e)
   step_of_none o.Shrink e = absurd (true≢false e)
