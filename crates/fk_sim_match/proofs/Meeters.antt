@@ -10,16 +10,16 @@ use Rattle.fk_image.specs.declared.Image.{Image}
 use Rattle.fk_machine.specs.Hart.{Hart, Setting as MachineSetting}
 use Rattle.fk_sim_nodes.specs.Node.{Member}
 use Rattle.fk_sim_nodes.specs.Source.{Passes}
-use Rattle.fk_sim_nodes.specs.Alone.{later}
+use Rattle.fk_sim_nodes.specs.Alone.{Stays, later}
 use Rattle.fk_sim_nodes.specs.Phase.{Phase, Outside, Away, Coming, Waiting, Leaving}
-use Rattle.fk_sim_match.specs.Stage.{Ending, Commits, Unites}
-use Rattle.fk_sim_match.specs.Plan.{Plan, IsInside, IsOpen, IsIdle, Turn}
+use Rattle.fk_sim_match.specs.Stage.{Ending, Commits, Unites, Meets, count_of_stage}
+use Rattle.fk_sim_match.specs.Plan.{Plan, IsInside, IsOpen, IsIdle, Follows, Turn}
 use Rattle.fk_sim_match.proofs.Cycles.{cycle_is_planned}
 use Rattle.fk_sim_match.proofs.Words.{plan_leaves}
-use Rattle.fk_sim_block.specs.Owner.{Commons, Owner, number_of, idle, as_part, phases, part, core_source}
+use Rattle.fk_sim_block.specs.Owner.{Commons, Owner, Doing, number_of, idle, as_part, phases, part, core_source}
 use Rattle.fk_sim_block.specs.Stands.{Places}
 use Rattle.fk_sim_block.specs.Next.{step_at}
-use Rattle.fk_sim_block.specs.Node.{Nestings}
+use Rattle.fk_sim_block.specs.Node.{Nestings, Polling}
 use Rattle.fk_sim_block.specs.Lockstep.{is_due}
 use Rattle.fk_sim_block.specs.Joint.{is_meeting, Polls, StandsByPhase, StandsBehind}
 use Rattle.fk_sim_match.specs.Nodes.{first_of, plan_of}
@@ -58,6 +58,26 @@ module _ (core : List CoreOp) (image : Image) (places : Places) (nestings : Nest
       ap (λ n. as_part (number_of p) (phases core setting s p.heap (taking p.runner n))) x.next_is ∙ takes_step core setting x.i x.op x.operation s p x.meeting
 
   module _ (t : MachineSetting) (g w : ℕ) (m : Member) (p : Owner) (own : Memory) (is_open : IsOpen plan g w) where
+    -- a turn in a phase, with what its processor does and what follows
+    with_turn : (e : Ending) (f : Phase) (done : Doing) {count : ℕ} {polling : Polling} {came : Hart} {Left : Hart → Type 0}
+        → (turn : Turned image w m.number (plan.size w) count polling came Left (plan.words g) t f m.hart own)
+        → Stays image (plan.words g) t (count_of_stage (Meets e w f)) m own turn.hart turn.words
+        → ((s : Commons) → part core setting (count_of_stage (Meets e w f)) s p ≡ Passes s done)
+        → Follows (core_source core setting) image plan (joining_blocks_of core image places nestings setting plan first) (later t) g e w f turn.phase (record m { hart = turn.hart }) p done
+        → HasTurn t e g w f m p own
+    with_turn e f done turn stays takes' follows = record {
+      hart = turn.hart;
+      words = turn.words;
+      phase = turn.phase;
+      done = done;
+      stays = stays;
+      arrivals = turn.arrivals;
+      others = turn.others;
+      moves = turn.moves;
+      takes = takes';
+      follows = follows;
+    }
+
     -- with another hart, in the next cycle
     goes_on : (f f' : Phase) (h : Hart) → (x : Standing g w t f m p)
         → StandsByPhase image w m.number x.meets.polling x.meets.first (plan.size w) (Behind g x.i m p) 1 (later t) f' h → Standing g w (later t) f' (record m { hart = h }) p
@@ -82,73 +102,30 @@ module _ (core : List CoreOp) (image : Image) (places : Places) (nestings : Nest
     commits_by : (f : Phase) → IsInside f → (x : Standing g w t f m p) → Took f x → HasTurn t Commits g w f m p own
     commits_by Outside inside x turn = absurd (assumption inside)
     commits_by Away inside x turn = absurd (assumption inside)
-    commits_by (Coming d) inside x turn = record {
-      hart = turn.hart;
-      words = turn.words;
-      phase = turn.phase;
-      done = idle p;
-      stays = turn.stays;
-      arrivals = turn.arrivals;
-      others = turn.others;
-      moves = turn.moves;
-      takes = λ s. refl;
-      follows = (refl, goes_on (Coming d) turn.phase turn.hart x turn.follows);
-    }
-    commits_by Waiting inside x turn = record {
-      hart = turn.hart;
-      words = turn.words;
-      phase = turn.phase;
-      done = idle p;
-      stays = turn.stays;
-      arrivals = turn.arrivals;
-      others = turn.others;
-      moves = turn.moves;
-      takes = λ s. refl;
-      follows = (refl, goes_on Waiting turn.phase turn.hart x turn.follows);
-    }
-    commits_by (Leaving (suc d)) inside x turn = record {
-      hart = turn.hart;
-      words = turn.words;
-      phase = turn.phase;
-      done = idle p;
-      stays = turn.stays;
-      arrivals = turn.arrivals;
-      others = turn.others;
-      moves = turn.moves;
-      takes = λ s. refl;
-      follows = (refl, goes_on (Leaving (suc d)) turn.phase turn.hart x turn.follows);
-    }
-    commits_by (Leaving zero) inside x turn = record {
-      hart = turn.hart;
-      words = turn.words;
-      phase = turn.phase;
-      done = is_due core x.i x.op x.operation p;
-      stays = turn.stays;
-      arrivals = turn.arrivals;
-      others = turn.others;
-      moves = turn.moves;
-      takes = λ s. takes g w t (Leaving 0) m p s x;
-      follows = (
-        turn.follows.0,
-        (
-          0,
-          turn.hart,
-          refl,
-          inr (
+    commits_by (Coming d) inside x turn = with_turn Commits (Coming d) (idle p) turn turn.stays (λ s. refl) (refl, goes_on (Coming d) turn.phase turn.hart x turn.follows)
+    commits_by Waiting inside x turn = with_turn Commits Waiting (idle p) turn turn.stays (λ s. refl) (refl, goes_on Waiting turn.phase turn.hart x turn.follows)
+    commits_by (Leaving (suc d)) inside x turn = with_turn Commits (Leaving (suc d)) (idle p) turn turn.stays (λ s. refl) (refl, goes_on (Leaving (suc d)) turn.phase turn.hart x turn.follows)
+    commits_by (Leaving zero) inside x turn =
+        with_turn Commits (Leaving zero) (is_due core x.i x.op x.operation p) turn turn.stays (λ s. takes g w t (Leaving 0) m p s x) (
+          turn.follows.0,
+          (
+            0,
+            turn.hart,
             refl,
-            inr (record {
-              i = x.i;
-              op = x.op;
-              operation = x.operation;
-              stands = x.stands;
-              meeting = x.meeting;
-              due = refl;
-              left = turn.follows.1;
-            }),
+            inr (
+              refl,
+              inr (record {
+                i = x.i;
+                op = x.op;
+                operation = x.operation;
+                stands = x.stands;
+                meeting = x.meeting;
+                due = refl;
+                left = turn.follows.1;
+              }),
+            ),
           ),
-        ),
-      );
-    }
+        )
 
     -- ---- who unites with all others
 
@@ -182,65 +159,22 @@ module _ (core : List CoreOp) (image : Image) (places : Places) (nestings : Nest
     unites_by : (f : Phase) → IsInside f → (x : InStart t f m) → Met f x → HasTurn t Unites g w f m p own
     unites_by Outside inside x turn = absurd (assumption inside)
     unites_by Away inside x turn = absurd (assumption inside)
-    unites_by (Coming d) inside x turn = record {
-      hart = turn.hart;
-      words = turn.words;
-      phase = turn.phase;
-      done = idle p;
-      stays = turn.stays;
-      arrivals = turn.arrivals;
-      others = turn.others;
-      moves = turn.moves;
-      takes = λ s. refl;
-      follows = (refl, waits_on (Coming d) turn.phase turn.hart x turn.follows);
-    }
-    unites_by Waiting inside x turn = record {
-      hart = turn.hart;
-      words = turn.words;
-      phase = turn.phase;
-      done = idle p;
-      stays = turn.stays;
-      arrivals = turn.arrivals;
-      others = turn.others;
-      moves = turn.moves;
-      takes = λ s. refl;
-      follows = (refl, waits_on Waiting turn.phase turn.hart x turn.follows);
-    }
-    unites_by (Leaving (suc d)) inside x turn = record {
-      hart = turn.hart;
-      words = turn.words;
-      phase = turn.phase;
-      done = idle p;
-      stays = turn.stays;
-      arrivals = turn.arrivals;
-      others = turn.others;
-      moves = turn.moves;
-      takes = λ s. refl;
-      follows = (refl, waits_on (Leaving (suc d)) turn.phase turn.hart x turn.follows);
-    }
-    unites_by (Leaving zero) inside x turn = record {
-      hart = turn.hart;
-      words = turn.words;
-      phase = turn.phase;
-      done = idle p;
-      stays = turn.stays;
-      arrivals = turn.arrivals;
-      others = turn.others;
-      moves = turn.moves;
-      takes = λ s. refl;
-      follows = (
-        turn.follows.0,
-        (
-          refl,
-          record {
-            i = x.i;
-            op = x.op;
-            stands = x.stands;
-            met = record { cycle = x.cycle; first = x.first; enters = x.enters; member = x.member; root = x.root; met = turn.follows.1 };
-          },
-        ),
-      );
-    }
+    unites_by (Coming d) inside x turn = with_turn Unites (Coming d) (idle p) turn turn.stays (λ s. refl) (refl, waits_on (Coming d) turn.phase turn.hart x turn.follows)
+    unites_by Waiting inside x turn = with_turn Unites Waiting (idle p) turn turn.stays (λ s. refl) (refl, waits_on Waiting turn.phase turn.hart x turn.follows)
+    unites_by (Leaving (suc d)) inside x turn = with_turn Unites (Leaving (suc d)) (idle p) turn turn.stays (λ s. refl) (refl, waits_on (Leaving (suc d)) turn.phase turn.hart x turn.follows)
+    unites_by (Leaving zero) inside x turn =
+        with_turn Unites (Leaving zero) (idle p) turn turn.stays (λ s. refl) (
+          turn.follows.0,
+          (
+            refl,
+            record {
+              i = x.i;
+              op = x.op;
+              stands = x.stands;
+              met = record { cycle = x.cycle; first = x.first; enters = x.enters; member = x.member; root = x.root; met = turn.follows.1 };
+            },
+          ),
+        )
 
 pub meeters_turn : MeetersTurn
 meeters_turn core image places nestings setting plan first t g Unites w f m p own inside is_open x =
