@@ -31,9 +31,9 @@ use Rattle.fk_sim_block.specs.Next.{StandsOp, step_at}
 use Rattle.fk_sim_block.specs.Ready.{is_alone, IsReady}
 use Rattle.fk_sim_block.specs.Block.{most_before, most_behind, IsRunning, Enters, gone_to}
 use Rattle.fk_sim_block.proofs.Standing.{next_here}
-use Rattle.fk_sim_block.specs.Node.{Nestings, StandsInNode, OwnsHeader, IsAtRest, root_words, barrier_word, closing_word}
+use Rattle.fk_sim_block.specs.Node.{Nestings, Polling, StandsInNode, OwnsHeader, IsAtRest, root_words, barrier_word, closing_word}
 use Rattle.fk_sim_block.specs.Lockstep.{IsMember, AreMembers, AllEnter, AreInStart}
-use Rattle.fk_sim_block.specs.Joint.{is_meeting, word_of, AreSoMany, Polls, IsArriving, StandsBehind}
+use Rattle.fk_sim_block.specs.Joint.{is_meeting, word_of, AreSoMany, Polls, IsArriving, StandsByPhase, StandsBehind}
 use Rattle.fk_sim_block.specs.Law.{Cycles, GroupLaw}
 use Rattle.fk_sim_match.specs.Nodes.{first_of, HaveSpaces, body_at, meeters_at, is_arrival, is_lockstep, plan_of}
 use Rattle.fk_sim_match.specs.Behind.{runs_of, blocks_of}
@@ -144,17 +144,25 @@ module _ (core : List CoreOp) (image : Image) (places : Places) (nestings : Nest
   acts_earlier t g n d m hart p private stands =
       (stands.0, does_later (core_source core setting) image t 1 d stands.0 n m hart p (λ h x. blocks.AfterOne g stands.0 (record m { hart = h }) p x) private stands.1)
 
+  -- who is on its way to a word was so before
+  comes_earlier : (polling : Polling) (first : Hart) (size count : ℕ) (Left : Hart → Type 0) (t : MachineSetting) (n d w : ℕ) (m : Member) (hart : Hart) → RunsPrivately image t m.number n m.hart hart
+      → StandsByPhase image w m.number polling first size Left count (in_cycles n t) (Coming d) hart → StandsByPhase image w m.number polling first size Left count t (Coming (n + d)) m.hart
+  comes_earlier polling first size count Left t n d w m hart private s =
+      let even = s.0 in
+      let at = finished_in n t in (
+        omega (arith, even, at),
+        (
+          s.1.0,
+          runs_join image m.number n d t m.hart hart s.1.0 private s.1.1,
+          subst (λ u. IsArriving image w m.number polling first size Left u s.1.0) (sym (in_cycles_join n d t)) s.1.2,
+        ),
+      )
+
   meets_earlier : (t : MachineSetting) (g n d w : ℕ) (m : Member) (hart : Hart) (p : Owner) → IsRunning image setting t → RunsPrivately image t m.number n m.hart hart
       → StandsAt (core_source core setting) image plan blocks (in_cycles n t) g (Meets Commits w (Coming d)) (record m { hart = hart }) p
       → StandsAt (core_source core setting) image plan blocks t g (Meets Commits w (Coming (n + d))) m p
   meets_earlier t g n d w m hart p running private stands =
-      let x = stands.3 in
-      let s = x.meets.stands in
-      let even = s.0 in
-      let at = finished_in n t in
-      let Arrives : MachineSetting → Type 0
-      = λ u. IsArriving image w m.number x.meets.polling x.meets.first (plan.size w)
-      (StandsBehind image places nestings setting (runs_of plan (first_of spaces g) m.number) x.i p) u s.1.0 in (
+      let x = stands.3 in (
         tt,
         stands.1,
         stands.2,
@@ -171,10 +179,9 @@ module _ (core : List CoreOp) (image : Image) (places : Places) (nestings : Nest
             first = x.meets.first;
             code = running.code;
             polls = x.meets.polls;
-            stands = (
-              omega (arith, even, at),
-              (s.1.0, runs_join image m.number n d t m.hart hart s.1.0 private s.1.1, subst (λ u. Arrives u) (sym (in_cycles_join n d t)) s.1.2),
-            );
+            stands =
+                comes_earlier x.meets.polling x.meets.first (plan.size w) 1 (StandsBehind image places nestings setting (runs_of plan (first_of spaces g) m.number) x.i p) t n d w m hart private
+                x.meets.stands;
           };
         },
       )
@@ -183,12 +190,7 @@ module _ (core : List CoreOp) (image : Image) (places : Places) (nestings : Nest
       → StandsAt (core_source core setting) image plan blocks (in_cycles n t) 0 (Meets Unites w (Coming d)) (record m { hart = hart }) p
       → StandsAt (core_source core setting) image plan blocks t 0 (Meets Unites w (Coming (n + d))) m p
   starts_earlier t n d w m hart p running private stands =
-      let x = stands.3 in
-      let s = x.meets.stands in
-      let even = s.0 in
-      let at = finished_in n t in
-      let Arrives : MachineSetting → Type 0
-      = λ u. IsArriving image w m.number x.meets.polling x.meets.first (plan.size w) (λ h. Polls (nestings.start.there x.i) (nestings.start.coming x.i x.first) h) u s.1.0 in (
+      let x = stands.3 in (
         tt,
         stands.1,
         stands.2,
@@ -206,10 +208,8 @@ module _ (core : List CoreOp) (image : Image) (places : Places) (nestings : Nest
             first = x.meets.first;
             code = running.code;
             polls = x.meets.polls;
-            stands = (
-              omega (arith, even, at),
-              (s.1.0, runs_join image m.number n d t m.hart hart s.1.0 private s.1.1, subst (λ u. Arrives u) (sym (in_cycles_join n d t)) s.1.2),
-            );
+            stands =
+                comes_earlier x.meets.polling x.meets.first (plan.size w) 0 (λ h. Polls (nestings.start.there x.i) (nestings.start.coming x.i x.first) h) t n d w m hart private x.meets.stands;
           };
         },
       )
