@@ -21,7 +21,7 @@ use Rattle.fk_lockstep.specs.Untouched.{changes_tree}
 use Rattle.fk_lockstep.proofs.Rounds.{Outcome}
 use Rattle.fk_lockstep.specs.Counts.{Counts}
 use Rattle.fk_lockstep.specs.Course.{Stand, InGroup, ByItself, Does, FollowsFor}
-use Rattle.fk_lockstep.proofs.Acting.{untrue, Here, Out, told, HasValue, Is, within, Grouped, Parted, LonerOrNone, Apart, AtNode, ahead_of, does_so, going_on, taken_by, acting_elim, after_passing, passing_grouped, passing_is, closed_grouped, closed_is, quietly, lone_many, wait_many, wait_closed, Settles, plain_way}
+use Rattle.fk_lockstep.proofs.Acting.{untrue, Here, Out, told, HasValue, Is, within, Grouped, Parted, LonerOrNone, Apart, AtNode, ahead_of, does_so, alone_plain as stays_alone, going_on, taken_by, acting_elim, after_passing, passing_grouped, passing_is, closed_grouped, closed_is, quietly, lone_many, wait_many, wait_closed, Settles, plain_way}
 use Rattle.fk_lockstep.proofs.Trees.{NodeIs, IsThere, Inv}
 use Rattle.fk_lockstep.proofs.Round as rounds
 use Rattle.fk_lockstep.proofs.Round.{first_is, lowest_member, index_at, actings as actings_of, settle as settle_of, new as new_of, has_at, Sound, Ordered, quiet as quiet_of, now_has as now_has_of}
@@ -38,33 +38,7 @@ leave_onward : (op : Operation) (p : Processor) → calling op ≡ Leaves → is
 leave_onward (o.Leave gives framed) p e = refl
 leave_onward op p e = absurd (cc)
 
--- who runs by itself goes on where it is
 module _ {W : Type 0} (next : W → Option (Step W)) (outs : W → List W) where
-  alone_outs : (F : Stand → W → Type 0) (alone : Bool) (op : Operation) (w : W) (rest : Bool → W) → changes_tree op ≡ false → op ≢ o.Halt
-      → Does next outs F (ByItself alone) op w rest → (onward : Bool) → outs (rest onward) ≡ outs w
-  alone_outs F true o.Begin w rest e isnt h = absurd h
-  alone_outs F false o.Begin w rest e isnt h = absurd (true≢false e)
-  alone_outs F true (o.Meet true) w rest e isnt h = absurd (true≢false e)
-  alone_outs F false (o.Meet true) w rest e isnt h = absurd h
-  alone_outs F true o.Halt w rest e isnt h = absurd h
-  alone_outs F false o.Halt w rest e isnt h = absurd (isnt refl)
-  alone_outs F true (o.Split by) w rest e isnt h = absurd h
-  alone_outs F true o.Shrink w rest e isnt h = absurd h
-  alone_outs F true o.End w rest e isnt h = absurd h
-  alone_outs F true o.Farm w rest e isnt h = absurd h
-  alone_outs F true o.Seq w rest e isnt h = absurd h
-  alone_outs F true o.Resume w rest e isnt h = absurd h
-  alone_outs F false (o.Split by) w rest e isnt h = absurd h
-  alone_outs F false o.Shrink w rest e isnt h = absurd h
-  alone_outs F false o.End w rest e isnt h = absurd h
-  alone_outs F false o.Farm w rest e isnt h = absurd h
-  alone_outs F false o.Seq w rest e isnt h = absurd h
-  alone_outs F false o.Resume w rest e isnt h = absurd h
-  alone_outs F true (o.Meet false) w rest e isnt h = λ onward. (h onward).0
-  alone_outs F false (o.Meet false) w rest e isnt h = λ onward. (h onward).0
-  alone_outs F true op w rest e isnt h = λ onward. (h onward).0
-  alone_outs F false op w rest e isnt h = λ onward. (h onward).0
-
   -- at a halt one is in no body
   halt_outside : (F : Stand → W → Type 0) (alone : Bool) (w : W) (rest : Bool → W) → Does next outs F (ByItself alone) o.Halt w rest → alone ≡ false
   halt_outside F true w rest h = absurd h
@@ -264,7 +238,7 @@ module _ {W : Type 0} (next : W → Option (Step W)) (outs : W → List W) (coun
         → Has1 (done step (is_onward step.operation r.has) (local set step.operation r.has)).runner
     one_local r h a step e c =
         alone_local next outs depth n y r a set step.operation step.rest (is_onward step.operation r.has) c (go_alone r a step e)
-        (alone_outs next outs (FollowsFor next outs 0) (within n) step.operation r.left step.rest (local_plain step.operation class.Local c local_not_tree) (not_halt step.operation c) (does_by_itself r h step e) (is_onward step.operation r.has))
+        (stays_alone next outs counts (FollowsFor next outs 0) (within n) step.operation r.left step.rest (local_plain step.operation class.Local c local_not_tree) (not_halt step.operation c) (does_by_itself r h step e) (is_onward step.operation r.has)).0
         (leave_onward step.operation r.has)
 
     pub lone_one : (r : Runner W) → Goes r → Has1 r → Has1 (after_locals next set 1 r)
@@ -298,7 +272,7 @@ module _ {W : Type 0} (next : W → Option (Step W)) (outs : W → List W) (coun
         one_request : (step : Step W) (w : ℕ) → next q.left ≡ Some step → class_of step.operation ≡ class.Request → Has1 (done step true (with_answer step.operation w q.has)).runner
         one_request step w e c =
             alone_request next outs depth n y q a w step.operation step.rest c (go_alone q a step e)
-            (alone_outs next outs (FollowsFor next outs 0) (within n) step.operation q.left step.rest (local_plain step.operation class.Request c request_not_tree) (not_halt' step.operation c) (does_by_itself q h step e) true)
+            (stays_alone next outs counts (FollowsFor next outs 0) (within n) step.operation q.left step.rest (local_plain step.operation class.Request c request_not_tree) (not_halt' step.operation c) (does_by_itself q h step e) true).0
 
         outside : (m : ℕ) → within m ≡ false → (ws : List W) → Marks next outs depth ws (marked_of next outs depth m y)
         outside zero e ws = tt
@@ -310,7 +284,7 @@ module _ {W : Type 0} (next : W → Option (Step W)) (outs : W → List W) (coun
             (λ halt. outside n (halt_outside next outs (FollowsFor next outs 0) (within n) q.left step.rest
             (subst (λ (op : Operation). Does next outs (FollowsFor next outs 0) (ByItself (within n)) op q.left step.rest) halt (does_by_itself q h step e))) (outs (step.rest true)))
             (λ other. subst (λ (ws : List W). Marks next outs depth ws (marked_of next outs depth n y))
-            (sym (alone_outs next outs (FollowsFor next outs 0) (within n) step.operation q.left step.rest quiet other (does_by_itself q h step e) true)) a.at.marks)
+            (sym (stays_alone next outs counts (FollowsFor next outs 0) (within n) step.operation q.left step.rest quiet other (does_by_itself q h step e) true).0) a.at.marks)
             (is_halt step.operation)
 
         by_tree : (step : Step W) → next q.left ≡ Some step → class_of step.operation ≡ class.Tree → (changes : Bool) → changes_tree step.operation ≡ changes
