@@ -20,45 +20,27 @@ use Rattle.fk_lockstep_one_group.proofs.Beside.{Held, held, carried, next_held}
 -- where each operation leads that changes who waits
 begin_waits : (place to : Where) → goes place o.Begin false ≡ Some to → to ≡ w.Waits
 begin_waits w.InRoot to e = cc
-begin_waits w.Waits to e = absurd (cc)
-begin_waits w.InGroup to e = absurd (cc)
-begin_waits w.InBody to e = absurd (cc)
-begin_waits w.BehindBody to e = absurd (cc)
+begin_waits place to e = absurd (cc)
 
 end_waits : (place to : Where) → goes place o.End true ≡ Some to → to ≡ w.Waits
-end_waits w.InRoot to e = absurd (cc)
-end_waits w.Waits to e = absurd (cc)
 end_waits w.InGroup to e = cc
-end_waits w.InBody to e = absurd (cc)
-end_waits w.BehindBody to e = absurd (cc)
+end_waits place to e = absurd (cc)
 
 farm_behind : (place to : Where) → goes place o.Farm false ≡ Some to → to ≡ w.BehindBody
-farm_behind w.InRoot to e = absurd (cc)
-farm_behind w.Waits to e = absurd (cc)
 farm_behind w.InGroup to e = cc
-farm_behind w.InBody to e = absurd (cc)
-farm_behind w.BehindBody to e = absurd (cc)
+farm_behind place to e = absurd (cc)
 
 seq_behind : (place to : Where) → goes place o.Seq false ≡ Some to → to ≡ w.BehindBody
-seq_behind w.InRoot to e = absurd (cc)
-seq_behind w.Waits to e = absurd (cc)
 seq_behind w.InGroup to e = cc
-seq_behind w.InBody to e = absurd (cc)
-seq_behind w.BehindBody to e = absurd (cc)
+seq_behind place to e = absurd (cc)
 
 no_split : (place : Where) (by : SplitKind) (to : Where) → goes place (o.Split by) true ≡ Some to → ⊥
 no_split w.InRoot by to e = absurd (cc)
-no_split w.Waits by to e = absurd (cc)
-no_split w.InGroup by to e = absurd (cc)
-no_split w.InBody by to e = absurd (cc)
-no_split w.BehindBody by to e = absurd (cc)
+no_split place by to e = absurd (cc)
 
 no_shrink : (place to : Where) → goes place o.Shrink true ≡ Some to → ⊥
 no_shrink w.InRoot to e = absurd (cc)
-no_shrink w.Waits to e = absurd (cc)
-no_shrink w.InGroup to e = absurd (cc)
-no_shrink w.InBody to e = absurd (cc)
-no_shrink w.BehindBody to e = absurd (cc)
+no_shrink place to e = absurd (cc)
 
 -- who waits resumes, and who is behind a body meets the others
 waits_joint : (op : Operation) (to : Where) → goes w.Waits op true ≡ Some to → is_joint op ≡ true
