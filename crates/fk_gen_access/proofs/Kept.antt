@@ -12,7 +12,7 @@ use Rattle.fk_sim_block.specs.Suits.{Flows, nothing}
 use Rattle.fk_gen.specs.Registers.{a0, a1, a2, a3}
 use Rattle.fk_gen.specs.Keeps.{Keeps}
 use Rattle.fk_gen.proofs.Values.{other_word}
-use Rattle.fk_gen.proofs.Standing.{lies_in, waiting_kept}
+use Rattle.fk_gen.proofs.Standing.{lies_in, waiting_kept, stands_with}
 
 -- a memory is as it was below a word
 pub record SameBelow (bound : ℕ) (m m' : Memory) : Type 0 where
@@ -81,20 +81,20 @@ module _ (places : Places) where
       let start = l.start in
       let low = l.values in
       let short = l.few in (
-        record {
-          nought = same.nought ∙ stands.nought;
-          frame = same.frame ∙ stands.frame;
-          behind = same.behind ∙ stands.behind;
-          number = same.number ∙ stands.number;
-          rank = same.rank ∙ stands.rank;
-          size = same.size ∙ stands.size;
-          top = top';
-          local = same.local ∙ stands.local;
-          shared_data = same.shared_data ∙ stands.shared_data;
-          private_heap = same.private_heap ∙ stands.private_heap;
-          shared_mask = same.shared_mask ∙ stands.shared_mask;
-          devices = same.devices ∙ stands.devices;
-          heap_mask = same.heap_mask ∙ stands.heap_mask;
+        stands_with places p (went p j vs heap top) h h' stands (
+          same.nought,
+          same.frame,
+          same.behind,
+          same.number,
+          same.rank,
+          same.size,
+          same.local,
+          same.shared_data,
+          same.private_heap,
+          same.shared_mask,
+          same.devices,
+          same.heap_mask,
+        ) refl refl top' (record {
           running = record {
             home = flows.main ∙ frame.home;
             values = values;
@@ -107,7 +107,7 @@ module _ (places : Places) where
               (λ k le lt. below.same k (omega arith)) stands.waiting;
           own = λ k lt. below.same (7 + k) (omega arith) ∙ stands.own k lt;
           heap = heap';
-        },
+        }),
         record {
           node = same.node;
           body = same.body;
