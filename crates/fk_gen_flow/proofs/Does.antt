@@ -27,6 +27,7 @@ use Rattle.fk_sim_block.proofs.Standing.{operations_are_next}
 use Rattle.fk_gen.specs.Lines.{label_of}
 use Rattle.fk_gen.specs.InPlace.{HasBlock, HasLabels}
 use Rattle.fk_gen.specs.Keeps.{Keeps, DoesAnd}
+use Rattle.fk_gen.proofs.Standing.{stands_with}
 use Rattle.fk_gen.proofs.Values.{values_before}
 use Rattle.fk_gen.proofs.Walk.{private}
 use Rattle.fk_gen.proofs.Jumps.{jumps}
@@ -90,25 +91,12 @@ jump_goes core image bound places i op block flows t p h holds e at =
       at = record {
         live = at.live;
         at = ap (λ k. 4 * k) (block.labels.blocks op.target);
-        stands = record {
-          nought = stands.nought;
-          frame = stands.frame;
-          behind = stands.behind;
-          number = stands.number;
-          rank = stands.rank;
-          size = stands.size;
-          top = stands.top;
-          local = stands.local;
-          shared_data = stands.shared_data;
-          private_heap = stands.private_heap;
-          shared_mask = stands.shared_mask;
-          devices = stands.devices;
-          heap_mask = stands.heap_mask;
+        stands = stands_with places p _ h _ stands (refl, refl, refl, refl, refl, refl, refl, refl, refl, refl, refl, refl) refl refl stands.top (record {
           running = flows_on places core nothing h.local _ i op.target p.runner.has.call p.runner.has.call (λ w. refl) flows refl frame.values frame;
           waiting = stands.waiting;
           own = stands.own;
           heap = stands.heap;
-        };
+        });
       };
     }
 
@@ -144,26 +132,13 @@ module _ (core : List CoreOp) (image : Image) (bound : ℕ → ℕ) (places : Pl
       → StandsFor places (owner_of (branched p way)) (record (writes h 5 v) { pc = pc })
   branch_stands p h v j pc e stands flows way f g =
       let frame = subst (λ j. HasFrame places h.local (length p.runner.has.callers) j p.runner.has.call) e stands.running in
-      record {
-        nought = stands.nought;
-        frame = stands.frame;
-        behind = stands.behind;
-        number = stands.number;
-        rank = stands.rank;
-        size = stands.size;
-        top = stands.top;
-        local = stands.local;
-        shared_data = stands.shared_data;
-        private_heap = stands.private_heap;
-        shared_mask = stands.shared_mask;
-        devices = stands.devices;
-        heap_mask = stands.heap_mask;
+      stands_with places p (owner_of (branched p way)) h (record (writes h 5 v) { pc = pc }) stands (refl, refl, refl, refl, refl, refl, refl, refl, refl, refl, refl, refl) refl refl stands.top (record {
         running = subst (λ j. HasFrame places h.local (length p.runner.has.callers) j (drop_last 1 p.runner.has).call) (sym f)
             (flows_on places core nothing h.local _ i j p.runner.has.call (drop_last 1 p.runner.has).call (λ w. refl) flows refl (values_before 1 h.local _ (values p.runner.has) frame.values) frame);
         waiting = rw g stands.waiting;
         own = stands.own;
         heap = stands.heap;
-      }
+      })
 
   -- it has branched, and keeps what a block keeps that makes no call
   abbrev HasBranched : Owner → (way : Bool) → (h h' : Hart) → Type 0
