@@ -28,6 +28,7 @@ use Rattle.fk_sim_block.specs.Suits.{writes}
 use Rattle.fk_sim_block.specs.Block.{Enters, HasDone, member_of}
 use Rattle.fk_gen.specs.Keeps.{Keeps, DoesAnd, BlockDoesBy, peak}
 use Rattle.fk_gen.specs.Lines.{label_of}
+use Rattle.fk_gen.proofs.Standing.{stands_with}
 use Rattle.fk_gen.proofs.Jumps.{jumps, jal_private}
 use Rattle.fk_gen.proofs.Does.{local_part, asks}
 use Rattle.fk_sim_block.specs.Node.{Nestings, StandsInNode, HasOuter, HasNestings, LieBelow, saved_at, first_word, control_address}
@@ -257,20 +258,7 @@ jumps_stay_in_node core image bound places nestings i op block flows few stay se
       at = record {
         live = member.at.live;
         at = ap (λ k. 4 * k) (block.labels.blocks op.target);
-        stands = record {
-          nought = s.nought;
-          frame = s.frame;
-          behind = s.behind;
-          number = s.number;
-          rank = s.rank;
-          size = s.size;
-          top = s.top;
-          local = s.local;
-          shared_data = s.shared_data;
-          private_heap = s.private_heap;
-          shared_mask = s.shared_mask;
-          devices = s.devices;
-          heap_mask = s.heap_mask;
+        stands = stands_with places p _ h _ s (refl, refl, refl, refl, refl, refl, refl, refl, refl, refl, refl, refl) refl refl s.top (record {
           running = record {
             home = flows.main ∙ running.home;
             values = running.values;
@@ -279,7 +267,7 @@ jumps_stay_in_node core image bound places nestings i op block flows few stay se
           waiting = s.waiting;
           own = s.own;
           heap = s.heap;
-        };
+        });
       };
       node = record {
         node = member.node.node;

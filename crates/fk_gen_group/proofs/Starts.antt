@@ -28,7 +28,7 @@ use Rattle.fk_sim_block.specs.Block.{IsRunning, Enters}
 use Rattle.fk_gen.specs.Lines.{quiet, at_value, label_of, high_part, low_part}
 use Rattle.fk_gen.specs.InPlace.{LinesAt}
 use Rattle.fk_gen.proofs.Values.{values_before, number_of_parts}
-use Rattle.fk_gen.proofs.Standing.{SameRegisters, with_list}
+use Rattle.fk_gen.proofs.Standing.{SameRegisters, in_memory, stands_with, with_list}
 use Rattle.fk_gen.proofs.Walk.{Quiets, Plain, LocalAt, TellsInputs, quiet_lines, walk, told_of, walked, lines_split, runs_join, private, can_run_goes}
 use Rattle.fk_gen.proofs.Jumps.{jumps, goes_to_pc, jal_private, jalr_goes}
 use Rattle.fk_sim_block.specs.Node.{Polling, Nestings, IsRoot, HasOuter, HasNestings, HasSaved, OwnsHeader, past_levels, saved_at, first_word, root_words, closing_word, agreed_word, control_address}
@@ -59,25 +59,7 @@ under_root places nestings processors number m (i ∷ indices) l is none held = 
 
 -- a hart stands for its processor wherever it goes
 stands_anywhere : (places : Places) (p : Owner) (h : Hart) (pc : ℕ) → StandsFor places p h → StandsFor places p (goes_to_pc h pc)
-stands_anywhere places p h pc s = record {
-  nought = s.nought;
-  frame = s.frame;
-  behind = s.behind;
-  number = s.number;
-  rank = s.rank;
-  size = s.size;
-  top = s.top;
-  local = s.local;
-  shared_data = s.shared_data;
-  private_heap = s.private_heap;
-  shared_mask = s.shared_mask;
-  devices = s.devices;
-  heap_mask = s.heap_mask;
-  running = s.running;
-  waiting = s.waiting;
-  own = s.own;
-  heap = s.heap;
-}
+stands_anywhere places p h pc s = stands_with places p p h (goes_to_pc h pc) s (refl, refl, refl, refl, refl, refl, refl, refl, refl, refl, refl, refl) refl refl s.top (in_memory places p h s)
 
 module _ (core : List CoreOp) (image : Image) (bound : ℕ → ℕ) (places : Places) (nestings : Nestings) (i : ℕ) (op : CoreOp) (shared : HasStart image bound)
     (place : IsInPlace core image bound places nestings i op Begin) (leads : LevelsStay nestings i op.target) where
