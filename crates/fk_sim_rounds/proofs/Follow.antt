@@ -16,11 +16,11 @@ use Rattle.fk_machine.specs.Hart.{Hart, Shared, Setting as MachineSetting}
 use Rattle.fk_machine.specs.Cycle.{turns}
 use Rattle.fk_sim_nodes.specs.Source.{AllPass, FaultsAfter}
 use Rattle.fk_sim_nodes.specs.Alone.{later}
-use Rattle.fk_sim_nodes.specs.Node.{Member, numbered}
-use Rattle.fk_sim_nodes.specs.Whole.{planned, first_of}
+use Rattle.fk_sim_nodes.specs.Node.{Member, Words, numbered}
+use Rattle.fk_sim_nodes.specs.Whole.{planned, first_of, IsCut}
 use Rattle.fk_sim_match.specs.Stage.{Stage, counts_for}
 use Rattle.fk_sim_match.specs.Plan.{IsBound}
-use Rattle.fk_sim_block.specs.Owner.{Owner, idle, core_source}
+use Rattle.fk_sim_block.specs.Owner.{Commons, Owner, idle, core_source}
 use Rattle.fk_sim_block.specs.Stands.{Places}
 use Rattle.fk_sim_block.specs.Block.{gone_to}
 use Rattle.fk_sim_rounds.proofs.Cycles.{runs_later}
@@ -132,6 +132,32 @@ module _ (core : List CoreOp) (image : Image) (places : Places) (nestings : Nest
       IsBound (core_source core setting) image (plan_of s.tree spaces nodes) (blocks_of core image places nestings setting (plan_of s.tree spaces nodes) (plans.first_of spaces)) t stages hs l
       (λ g. sh.control)) (sym are) f.bound))
 
+-- a cycle that is cut is a stopped round
+pub cut_follows : (core : List CoreOp) (image : Image) (places : Places) (nestings : Nestings) (setting : Setting) (spaces : ℕ → Space) (s : State Position) (nodes : List ℕ) (t : MachineSetting) (printed : List ℕ)
+    (stages : List Stage) (hs : List Hart) (sh : Shared) (words : ℕ → Words) (ps : List Owner) (shared : Commons) → JumpsLead core → AreInOrder 0 s.runners → IsBeside core s ps shared
+    → is_allowed (next core) setting (counts_for stages) s ≡ true → planned image hs ≡ counts_for stages → IsCut (core_source core setting) image words printed 0 hs ps shared (turns t 0 hs sh)
+    → FollowsFault core image places nestings setting spaces s nodes t printed stages hs sh
+cut_follows core image places nestings setting spaces s nodes t printed stages hs sh words ps shared leads order beside may counts c =
+    let zero_is : 0 + c.place ≡ c.place = omega arith in
+    let fault = is_fault core setting s ps shared leads order beside stages c.place c.site c.store (subst (λ x. FaultsAfter (core_source core setting) c.place c.site x ps shared c.store) counts c.faults) in
+    record {
+      site = c.site;
+      place = c.place;
+      stops = c.stops ∙ ap (λ k. Some (Faulted c.site k)) zero_is;
+      counts = c.counts ∙ ap (first_of (suc c.place)) counts ∙ first_cut (suc c.place) (counts_for stages);
+      stopped = record {
+        running = beside.going;
+        whole = counts_for stages;
+        allowed = may;
+        fault = record { site = c.site; processor = c.place };
+        faults = fault.whole;
+        is_cut = refl;
+      };
+      shared = c.store;
+      shows = c.shows;
+      fault = fault;
+    }
+
 -- where nobody unites with others
 abbrev Follows : (core : List CoreOp) → Image → Places → Nestings → Setting → (spaces : ℕ → Space) → State Position → (nodes : List ℕ) → MachineSetting → (printed : List ℕ) → List Stage → List Hart → Shared → Type 0
 Follows core image places nestings setting spaces s nodes t printed stages hs sh =
@@ -223,27 +249,7 @@ follows_apart core image places nestings cycles firsts main setting spaces s nod
                       (all_landed core (owners_after s.tree x whole.did)) (λ g. sh.control) done.shared.control) (sym e) b.on,
                 );
           }))
-          (λ c.
-          let zero_is : 0 + c.place ≡ c.place = omega arith in
-          let fault = is_fault core setting s f.ps f.shared leads f.order f.beside stages c.place c.site c.store (subst (λ x. FaultsAfter source c.place c.site x f.ps f.shared c.store) cycle.0 c.faults) in
-          inr
-          (inl (record {
-            site = c.site;
-            place = c.place;
-            stops = c.stops ∙ ap (λ k. Some (Faulted c.site k)) zero_is;
-            counts = c.counts ∙ ap (first_of (suc c.place)) cycle.0 ∙ first_cut (suc c.place) (counts_for stages);
-            stopped = record {
-              running = f.beside.going;
-              whole = counts_for stages;
-              allowed = may;
-              fault = record { site = c.site; processor = c.place };
-              faults = fault.whole;
-              is_cut = refl;
-            };
-            shared = c.store;
-            shows = c.shows;
-            fault = fault;
-          })))
+          (λ c. inr (inl (cut_follows core image places nestings setting spaces s nodes t printed stages hs sh (plan_of s.tree spaces nodes).words f.ps f.shared leads f.order f.beside may cycle.0 c)))
           cycle.1,
     )
 

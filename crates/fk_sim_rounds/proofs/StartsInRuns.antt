@@ -11,11 +11,10 @@ use Rattle.fk_meaning.specs.Round.{Runner, State, taking, result, is_allowed, al
 use Rattle.fk_core.specs.declared.op.CoreOp.{CoreOp}
 use Rattle.fk_core.specs.Next.{Position, next}
 use Rattle.fk_image.specs.declared.Image.{Image}
-use Rattle.fk_machine.specs.declared.stand.Stand.TheVariants.{Faulted}
 use Rattle.fk_machine.specs.Hart.{Hart, Shared, Setting as MachineSetting}
 use Rattle.fk_machine.specs.Cycle.{turns, unprinted}
 use Rattle.fk_sim_nodes.specs.Node.{Member, numbered, of_node, AreAsMany}
-use Rattle.fk_sim_nodes.specs.Source.{AllPass, FaultsAfter, Passes, Shows}
+use Rattle.fk_sim_nodes.specs.Source.{AllPass, Passes, Shows}
 use Rattle.fk_sim_nodes.specs.Alone.{later}
 use Rattle.fk_sim_nodes.specs.Whole.{first_of}
 use Rattle.fk_sim_match.specs.Stage.{Stage, Ended, Acts, Meets, IsOver, Pairwise, Remains, count_of_stage, counts_for, kept}
@@ -37,7 +36,6 @@ use Rattle.fk_sim_rounds.specs.Rounds.{IsTree, IsBefore}
 use Rattle.fk_sim_rounds.specs.Start.{IsBeforeStart}
 use Rattle.fk_sim_rounds.specs.Unite.{AreInRoot}
 use Rattle.fk_sim_rounds.proofs.Cycles.{runs_later}
-use Rattle.fk_sim_rounds.proofs.Rounds.{first_cut}
 use Rattle.fk_sim_rounds.proofs.Groups.{many_length}
 use Rattle.fk_sim_rounds.proofs.Trees.{all_keep}
 use Rattle.fk_sim_rounds.proofs.Starts.{of_all, many_numbered, rounds_start}
@@ -47,11 +45,11 @@ use Rattle.fk_sim_rounds.specs.Homes.{AllHome, AllNext, AllFrom}
 use Rattle.fk_sim_rounds.specs.Union.{IsNearBegin, AreNearBegin, IsUnited}
 use Rattle.fk_sim_rounds.specs.Starts.{CyclesFollowStarts}
 use Rattle.fk_sim_rounds.proofs.Landed.{allowed_land}
-use Rattle.fk_sim_rounds.proofs.Results.{is_after, is_fault}
+use Rattle.fk_sim_rounds.proofs.Results.{is_after}
 use Rattle.fk_sim_rounds.proofs.Homes.{homes_go_on}
 use Rattle.fk_sim_rounds.proofs.HomesBegin.{steps_begin, homes_begin}
 use Rattle.fk_sim_rounds.proofs.Allowed.{is_next, allowed}
-use Rattle.fk_sim_rounds.proofs.Follow.{many_runners, in_order_back, landed_homes, all_land, idle_keep, idle_stay, still_landed}
+use Rattle.fk_sim_rounds.proofs.Follow.{cut_follows, many_runners, in_order_back, landed_homes, all_land, idle_keep, idle_stay, still_landed}
 
 -- who takes the beginning of the group takes it for the tree
 takes_begin : (core : List CoreOp) (setting : Setting) (i : ℕ) (op : CoreOp) (s : Commons) (p : Owner)
@@ -297,26 +295,6 @@ cycles_follow_starts core image places nestings cycles firsts main setting space
                 ))
                 r.goes;
           }))
-          (λ c.
-          let zero_is : 0 + c.place ≡ c.place = omega arith in
-          let fault = is_fault core setting s f.ps f.shared leads f.order f.beside stages c.place c.site c.store (subst (λ x. FaultsAfter source c.place c.site x f.ps f.shared c.store) cycle.0 c.faults) in
-          inr
-          (record {
-            site = c.site;
-            place = c.place;
-            stops = c.stops ∙ ap (λ k. Some (Faulted c.site k)) zero_is;
-            counts = c.counts ∙ ap (first_of (suc c.place)) cycle.0 ∙ first_cut (suc c.place) (counts_for stages);
-            stopped = record {
-              running = f.beside.going;
-              whole = counts_for stages;
-              allowed = is_may;
-              fault = record { site = c.site; processor = c.place };
-              faults = fault.whole;
-              is_cut = refl;
-            };
-            shared = c.store;
-            shows = c.shows;
-            fault = fault;
-          }))
+          (λ c. inr (cut_follows core image places nestings setting spaces s nodes t printed stages hs sh (plan_of s.tree spaces nodes).words f.ps f.shared leads f.order f.beside is_may cycle.0 c))
           cycle.1,
     )
