@@ -1,5 +1,5 @@
 -- What is so of each element of a list.
-use Rattle.std.proofs.Common.{◌≡◌, inl, inr, ℕ, zero, suc, ◌≤◌, List, [], ◌∷◌, ◌++◌, Some, slice_get, refl, sym, ◌∙◌, subst}
+use Rattle.std.proofs.Common.{◌≡◌, inl, inr, ℕ, zero, suc, ◌≤◌, List, [], ◌∷◌, ◌++◌, Contains, Some, slice_get, refl, sym, ◌∙◌, subst, arith}
 use Rattle.std.proofs.lemmas.Bool.{cases_order}
 use Rattle.std.proofs.lemmas.Option.{same_Some}
 use Rattle.fk_types_rules.proofs.Counting.{times, apart}
@@ -15,6 +15,20 @@ front_of P (x ∷ xs) ys h = (h.0, front_of P xs ys h.1)
 pub rest_of : {X : Type 0} (P : X → Type 0) (xs ys : List X) → Each P (xs ++ ys) → Each P ys
 rest_of P [] ys h = h
 rest_of P (x ∷ xs) ys h = rest_of P xs ys h.1
+
+-- and of lists in a row
+pub two_of : {X : Type 0} (P : X → Type 0) (xs ys : List X) → Each P (xs ++ ys) → Each P xs × Each P ys
+two_of P xs ys h = (front_of P xs ys h, rest_of P xs ys h)
+
+pub three_of : {X : Type 0} (P : X → Type 0) (xs ys zs : List X) → Each P (xs ++ ys ++ zs) → Each P xs × Each P ys × Each P zs
+three_of P xs ys zs h =
+    let both = two_of P xs ys (front_of P (xs ++ ys) zs h) in
+    (both.0, both.1, rest_of P (xs ++ ys) zs h)
+
+pub four_of : {X : Type 0} (P : X → Type 0) (xs ys zs ws : List X) → Each P (xs ++ ys ++ zs ++ ws) → Each P xs × Each P ys × Each P zs × Each P ws
+four_of P xs ys zs ws h =
+    let three = three_of P xs ys zs (front_of P (xs ++ ys ++ zs) ws h) in
+    (three.0, three.1, three.2, rest_of P (xs ++ ys ++ zs) ws h)
 
 pub each : {X : Type 0} (P : X → Type 0) (xs : List X) → ((i : ℕ) (x : X) → slice_get xs i ≡ Some x → P x) → Each P xs
 each P [] h = tt
@@ -40,3 +54,9 @@ same_at token xs once i j x y is other same = elim (cases_order i j) [
   where
     both : i ≡ j → Some x ≡ Some y
     both e = sym is ∙ subst (λ k. slice_get xs i ≡ slice_get xs k) e refl ∙ other
+
+-- and of each that is among them
+pub of_each : {X : Type 0} (P : X → Type 0) (xs : List X) → Each P xs → (x : X) → Contains xs x → P x
+of_each P [] h x (k, low, is) = absurd (omega (arith, low))
+of_each P (y ∷ xs) h x (zero, low, is) = subst P is h.0
+of_each P (y ∷ xs) h x (suc k, low, is) = of_each P xs h.1 x (k, omega (arith, low), is)

@@ -70,7 +70,7 @@ use Rattle.fk_lockstep_structure.specs.InPlace.{Splits, StatementInPlace, Statem
 use Rattle.fk_lockstep_structure.proofs.Forms.{inner_group}
 use Rattle.fk_check_laws.specs.Correct.{IsCorrect}
 use Rattle.fk_check_laws.specs.Valid.{IsValid, may_run, callable, may_call}
-use Rattle.fk_check_laws.proofs.Each.{Each, front_of, rest_of}
+use Rattle.fk_check_laws.proofs.Each.{Each, front_of, rest_of, two_of, three_of, four_of}
 use Rattle.fk_check_laws.proofs.Typed.{Unbroken}
 use Rattle.fk_check_laws.proofs.Notes.{among, binding_is, Theirs}
 use Rattle.fk_check_laws.proofs.Statements as fit
@@ -503,23 +503,18 @@ module _ (program : ProgramTree) (facts : Facts) (valid : IsValid program facts)
         }
     statement_good result who main x outer held at (p.IfElse spot condition body otherwise) a o b' f =
         let shared = λ (thing : ℕ → Option Thing). is_shared thing condition in
-        let ts = r.statement_tokens ◌∷◌ (g.Branch ∷ outer) body in
-        let us = r.statement_tokens ◌∷◌ (g.Branch ∷ outer) otherwise in
-        let ms = n.scope (statement_marks body) in
-        let ns = n.scope (statement_marks otherwise) in
-        let a' = front_of Right (r.tree_tokens outer condition ++ ts) us a.1 in
-        let b'' = front_of Stands (tree_marks condition ++ ms) ns b' in
+        let rs = three_of Right (r.tree_tokens outer condition) (r.statement_tokens ◌∷◌ (g.Branch ∷ outer) body) (r.statement_tokens ◌∷◌ (g.Branch ∷ outer) otherwise) a.1 in
+        let ms = three_of Stands (tree_marks condition) (n.scope (statement_marks body)) (n.scope (statement_marks otherwise)) b' in
+        let fs = two_of Fine (statement_pieces result body) (statement_pieces result otherwise) f.1 in
         let o' = λ (thing : ℕ → Option Thing). front_of (Mine thing) (s.condition_tokens thing (held thing) spot condition ++ s.statement_tokens thing ◌∷◌ (h.Branch (shared thing) ∷ held thing) body)
         (s.statement_tokens thing ◌∷◌ (h.Branch (shared thing) ∷ held thing) otherwise) (o thing) in
-        let v = used (is_group who) outer at.runs role.Condition condition (front_of Right (r.tree_tokens outer condition) ts a') (front_of Stands (tree_marks condition) ms b'') f.0 in
+        let v = used (is_group who) outer at.runs role.Condition condition rs.0 ms.0 f.0 in
         let arm = in_arm shared spot (λ thing. condition_is held condition spot _ thing (o' thing)) at in
-        let s' = statement_good result (inner who) main _ (g.Branch ∷ outer) (λ thing. h.Branch (shared thing) ∷ held thing) arm body
-        (rest_of Right (r.tree_tokens outer condition) ts a') (λ thing. rest_of (Mine thing) (s.condition_tokens thing (held thing) spot condition) _ (o' thing))
-        (scope_of (statement_marks body) (rest_of Stands (tree_marks condition) ms b'')) (front_of Fine (statement_pieces result body) (statement_pieces result otherwise) f.1) in
-        let t' = statement_good result (inner who) main _ (g.Branch ∷ outer) (λ thing. h.Branch (shared thing) ∷ held thing) arm otherwise
-        (rest_of Right (r.tree_tokens outer condition ++ ts) us a.1)
+        let s' = statement_good result (inner who) main _ (g.Branch ∷ outer) (λ thing. h.Branch (shared thing) ∷ held thing) arm body rs.1
+        (λ thing. rest_of (Mine thing) (s.condition_tokens thing (held thing) spot condition) _ (o' thing)) (scope_of (statement_marks body) ms.1) fs.0 in
+        let t' = statement_good result (inner who) main _ (g.Branch ∷ outer) (λ thing. h.Branch (shared thing) ∷ held thing) arm otherwise rs.2
         (λ thing. rest_of (Mine thing) (s.condition_tokens thing (held thing) spot condition ++ s.statement_tokens thing ◌∷◌ (h.Branch (shared thing) ∷ held thing) body) _ (o thing))
-        (scope_of (statement_marks otherwise) (rest_of Stands (tree_marks condition ++ ms) ns b')) (rest_of Fine (statement_pieces result body) (statement_pieces result otherwise) f.1) in
+        (scope_of (statement_marks otherwise) ms.2) fs.1 in
         record {
           shaped = (v.fits, s'.shaped, t'.shaped);
           in_place = (splits_in_group (is_group who) outer at.runs spot w.If a.0, v.in_place, s'.in_place, t'.in_place);
@@ -558,30 +553,16 @@ module _ (program : ProgramTree) (facts : Facts) (valid : IsValid program facts)
         }
     statement_good result who main x outer held at (p.For spot first condition after body) a o b' f =
         let shared = λ (thing : ℕ → Option Thing). s.is_condition_shared thing condition in
-        let t1 = r.optional_tokens outer first in
-        let t2 = r.optional_tokens outer condition in
-        let t3 = r.optional_tokens outer after in
-        let ts = r.statement_tokens ◌∷◌ (g.Loop ∷ outer) body in
-        let m1 = optional_marks first in
-        let m2 = optional_marks condition in
-        let m3 = optional_marks after in
-        let ms = n.scope (statement_marks body) in
-        let f1 = optional_pieces role.Alone first in
-        let f2 = optional_pieces role.Condition condition in
-        let f3 = optional_pieces role.Alone after in
-        let heads = front_of Right (t1 ++ t2 ++ t3) ts a.1 in
-        let marks = front_of Stands (m1 ++ m2 ++ m3) ms b' in
-        let parts = front_of Fine (f1 ++ f2 ++ f3) (statement_pieces result body) f in
-        let v1 = used_or (is_group who) outer at.runs role.Alone first (front_of Right t1 t2 (front_of Right (t1 ++ t2) t3 heads)) (front_of Stands m1 m2 (front_of Stands (m1 ++ m2) m3 marks))
-        (front_of Fine f1 f2 (front_of Fine (f1 ++ f2) f3 parts)) in
-        let v2 = used_or (is_group who) outer at.runs role.Condition condition (rest_of Right t1 t2 (front_of Right (t1 ++ t2) t3 heads)) (rest_of Stands m1 m2 (front_of Stands (m1 ++ m2) m3 marks))
-        (rest_of Fine f1 f2 (front_of Fine (f1 ++ f2) f3 parts)) in
-        let v3 = used_or (is_group who) outer at.runs role.Alone after (rest_of Right (t1 ++ t2) t3 heads) (rest_of Stands (m1 ++ m2) m3 marks) (rest_of Fine (f1 ++ f2) f3 parts) in
+        let rs = four_of Right (r.optional_tokens outer first) (r.optional_tokens outer condition) (r.optional_tokens outer after) (r.statement_tokens ◌∷◌ (g.Loop ∷ outer) body) a.1 in
+        let ms = four_of Stands (optional_marks first) (optional_marks condition) (optional_marks after) (n.scope (statement_marks body)) b' in
+        let fs = four_of Fine (optional_pieces role.Alone first) (optional_pieces role.Condition condition) (optional_pieces role.Alone after) (statement_pieces result body) f in
+        let v1 = used_or (is_group who) outer at.runs role.Alone first rs.0 ms.0 fs.0 in
+        let v2 = used_or (is_group who) outer at.runs role.Condition condition rs.1 ms.1 fs.1 in
+        let v3 = used_or (is_group who) outer at.runs role.Alone after rs.2 ms.2 fs.2 in
         let s' = statement_good result (inner who) main _ (g.Loop ∷ outer) (λ thing. h.Loop (shared thing) ∷ held thing)
-        (in_loop shared spot (λ thing. head_is held spot first condition after _ thing (o thing)) at) body
-        (rest_of Right (t1 ++ t2 ++ t3) ts a.1)
+        (in_loop shared spot (λ thing. head_is held spot first condition after _ thing (o thing)) at) body rs.3
         (λ thing. rest_of (Mine thing) (s.head_tokens thing (held thing) spot first condition after) _ (o thing))
-        (scope_of (statement_marks body) (rest_of Stands (m1 ++ m2 ++ m3) ms b')) (rest_of Fine (f1 ++ f2 ++ f3) (statement_pieces result body) f) in
+        (scope_of (statement_marks body) ms.3) fs.3 in
         record {
           shaped = (option_fits (is_group who) outer at.runs first v1, option_fits (is_group who) outer at.runs condition v2, option_fits (is_group who) outer at.runs after v3, s'.shaped);
           in_place = (
@@ -632,24 +613,15 @@ module _ (program : ProgramTree) (facts : Facts) (valid : IsValid program facts)
           noted = λ e. tt;
         }
     statement_good result who main x outer held at (p.Fork spot parts part rank body) a o b' f =
-        let t1 = r.tree_tokens outer parts in
-        let t2 = r.tree_tokens outer part in
-        let t3 = r.optional_tokens outer rank in
-        let ts = r.statement_tokens ◌∷◌ (g.Fork ∷ outer) body in
-        let m1 = tree_marks parts in
-        let m2 = tree_marks part in
-        let m3 = optional_marks rank in
-        let ms = n.scope (statement_marks body) in
-        let f3 = optional_pieces role.Word rank in
-        let heads = front_of Right (t1 ++ t2 ++ t3) ts a.1 in
-        let marks = front_of Stands (m1 ++ m2 ++ m3) ms b' in
-        let v1 = used (is_group who) outer at.runs role.Word parts (front_of Right t1 t2 (front_of Right (t1 ++ t2) t3 heads)) (front_of Stands m1 m2 (front_of Stands (m1 ++ m2) m3 marks)) f.0 in
-        let v2 = used (is_group who) outer at.runs role.Word part (rest_of Right t1 t2 (front_of Right (t1 ++ t2) t3 heads)) (rest_of Stands m1 m2 (front_of Stands (m1 ++ m2) m3 marks)) f.1.0 in
-        let v3 = used_or (is_group who) outer at.runs role.Word rank (rest_of Right (t1 ++ t2) t3 heads) (rest_of Stands (m1 ++ m2) m3 marks) (front_of Fine f3 (statement_pieces result body) f.1.1) in
-        let s' = statement_good result OfGroup main none (g.Fork ∷ outer) (λ thing. h.Body Synchronous ∷ held thing) in_fork_body body
-        (rest_of Right (t1 ++ t2 ++ t3) ts a.1)
+        let rs = four_of Right (r.tree_tokens outer parts) (r.tree_tokens outer part) (r.optional_tokens outer rank) (r.statement_tokens ◌∷◌ (g.Fork ∷ outer) body) a.1 in
+        let ms = four_of Stands (tree_marks parts) (tree_marks part) (optional_marks rank) (n.scope (statement_marks body)) b' in
+        let fs = two_of Fine (optional_pieces role.Word rank) (statement_pieces result body) f.1.1 in
+        let v1 = used (is_group who) outer at.runs role.Word parts rs.0 ms.0 f.0 in
+        let v2 = used (is_group who) outer at.runs role.Word part rs.1 ms.1 f.1.0 in
+        let v3 = used_or (is_group who) outer at.runs role.Word rank rs.2 ms.2 fs.0 in
+        let s' = statement_good result OfGroup main none (g.Fork ∷ outer) (λ thing. h.Body Synchronous ∷ held thing) in_fork_body body rs.3
         (λ thing. rest_of (Mine thing) (s.parts_tokens thing (held thing) parts part rank) _ (o thing))
-        (scope_of (statement_marks body) (rest_of Stands (m1 ++ m2 ++ m3) ms b')) (rest_of Fine f3 (statement_pieces result body) f.1.1) in
+        (scope_of (statement_marks body) ms.3) fs.1 in
         record {
           shaped = (v1.fits, v2.fits, option_fits (is_group who) outer at.runs rank v3, s'.shaped);
           in_place = (

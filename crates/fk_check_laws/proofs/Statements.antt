@@ -29,7 +29,7 @@ use Rattle.fk_meaning.specs.Calls as c
 use Rattle.fk_core_flat.specs.Fitting as f
 use Rattle.fk_check_laws.specs.Correct.{IsCorrect}
 use Rattle.fk_check_laws.specs.Conditions.{OptionBegins, LoopsBegin, AllLoopsBegin}
-use Rattle.fk_check_laws.proofs.Each.{Each, front_of, rest_of}
+use Rattle.fk_check_laws.proofs.Each.{Each, front_of, rest_of, two_of, three_of, four_of}
 use Rattle.fk_check_laws.proofs.Typed.{Unbroken}
 use Rattle.fk_check_laws.proofs.Notes.{tables, Theirs, Unmisplaced}
 use Rattle.fk_check_laws.proofs.Named.{env, known}
@@ -147,17 +147,12 @@ module _ (program : ProgramTree) (facts : Facts) (valid : IsCorrect program fact
               (scope_of (statement_marks body) (rest_of Stands (tree_marks condition) ms b')) f'.1 k,
         )
     statement_fits result l outer at (p.IfElse spot condition body otherwise) a b' f' k =
-        let ts = r.statement_tokens ◌∷◌ (g.Branch ∷ outer) body in
-        let us = r.statement_tokens ◌∷◌ (g.Branch ∷ outer) otherwise in
-        let ms = n.scope (statement_marks body) in
-        let ns = n.scope (statement_marks otherwise) in
-        let a' = front_of Right (r.tree_tokens outer condition ++ ts) us a.1 in
-        let b'' = front_of Stands (tree_marks condition ++ ms) ns b' in (
-          used outer role.Condition condition (front_of Right (r.tree_tokens outer condition) ts a') (front_of Stands (tree_marks condition) ms b'') f'.0,
-          statement_fits result l (g.Branch ∷ outer) at body (rest_of Right (r.tree_tokens outer condition) ts a')
-              (scope_of (statement_marks body) (rest_of Stands (tree_marks condition) ms b'')) (front_of Fine (statement_pieces result body) (statement_pieces result otherwise) f'.1) k.0,
-          statement_fits result l (g.Branch ∷ outer) at otherwise (rest_of Right (r.tree_tokens outer condition ++ ts) us a.1)
-              (scope_of (statement_marks otherwise) (rest_of Stands (tree_marks condition ++ ms) ns b')) (rest_of Fine (statement_pieces result body) (statement_pieces result otherwise) f'.1) k.1,
+        let rs = three_of Right (r.tree_tokens outer condition) (r.statement_tokens ◌∷◌ (g.Branch ∷ outer) body) (r.statement_tokens ◌∷◌ (g.Branch ∷ outer) otherwise) a.1 in
+        let ms = three_of Stands (tree_marks condition) (n.scope (statement_marks body)) (n.scope (statement_marks otherwise)) b' in
+        let fs = two_of Fine (statement_pieces result body) (statement_pieces result otherwise) f'.1 in (
+          used outer role.Condition condition rs.0 ms.0 f'.0,
+          statement_fits result l (g.Branch ∷ outer) at body rs.1 (scope_of (statement_marks body) ms.1) fs.0 k.0,
+          statement_fits result l (g.Branch ∷ outer) at otherwise rs.2 (scope_of (statement_marks otherwise) ms.2) fs.1 k.1,
         )
     statement_fits result l outer at (p.While spot condition body) a b' f' k =
         let ts = r.statement_tokens ◌∷◌ (g.Loop ∷ outer) body in
@@ -178,27 +173,13 @@ module _ (program : ProgramTree) (facts : Facts) (valid : IsCorrect program fact
               (scope_of (statement_marks body) (front_of Stands ms (tree_marks condition) b')) (front_of Fine (statement_pieces result body) (q.Used role.Condition condition ∷ []) f') k.1,
         )
     statement_fits result l outer at (p.For spot first condition after body) a b' f' k =
-        let t1 = r.optional_tokens outer first in
-        let t2 = r.optional_tokens outer condition in
-        let t3 = r.optional_tokens outer after in
-        let ts = r.statement_tokens ◌∷◌ (g.Loop ∷ outer) body in
-        let m1 = optional_marks first in
-        let m2 = optional_marks condition in
-        let m3 = optional_marks after in
-        let ms = n.scope (statement_marks body) in
-        let f1 = optional_pieces role.Alone first in
-        let f2 = optional_pieces role.Condition condition in
-        let f3 = optional_pieces role.Alone after in
-        let heads = front_of Right (t1 ++ t2 ++ t3) ts a.1 in
-        let marks = front_of Stands (m1 ++ m2 ++ m3) ms b' in
-        let parts = front_of Fine (f1 ++ f2 ++ f3) (statement_pieces result body) f' in (
-          used_or outer role.Alone first (front_of Right t1 t2 (front_of Right (t1 ++ t2) t3 heads)) (front_of Stands m1 m2 (front_of Stands (m1 ++ m2) m3 marks))
-              (front_of Fine f1 f2 (front_of Fine (f1 ++ f2) f3 parts)),
-          condition_fits condition (used_or outer role.Condition condition (rest_of Right t1 t2 (front_of Right (t1 ++ t2) t3 heads))
-              (rest_of Stands m1 m2 (front_of Stands (m1 ++ m2) m3 marks)) (rest_of Fine f1 f2 (front_of Fine (f1 ++ f2) f3 parts))) k.0,
-          used_or outer role.Alone after (rest_of Right (t1 ++ t2) t3 heads) (rest_of Stands (m1 ++ m2) m3 marks) (rest_of Fine (f1 ++ f2) f3 parts),
-          statement_fits result true (g.Loop ∷ outer) (λ e. refl) body (rest_of Right (t1 ++ t2 ++ t3) ts a.1)
-              (scope_of (statement_marks body) (rest_of Stands (m1 ++ m2 ++ m3) ms b')) (rest_of Fine (f1 ++ f2 ++ f3) (statement_pieces result body) f') k.1,
+        let rs = four_of Right (r.optional_tokens outer first) (r.optional_tokens outer condition) (r.optional_tokens outer after) (r.statement_tokens ◌∷◌ (g.Loop ∷ outer) body) a.1 in
+        let ms = four_of Stands (optional_marks first) (optional_marks condition) (optional_marks after) (n.scope (statement_marks body)) b' in
+        let fs = four_of Fine (optional_pieces role.Alone first) (optional_pieces role.Condition condition) (optional_pieces role.Alone after) (statement_pieces result body) f' in (
+          used_or outer role.Alone first rs.0 ms.0 fs.0,
+          condition_fits condition (used_or outer role.Condition condition rs.1 ms.1 fs.1) k.0,
+          used_or outer role.Alone after rs.2 ms.2 fs.2,
+          statement_fits result true (g.Loop ∷ outer) (λ e. refl) body rs.3 (scope_of (statement_marks body) ms.3) fs.3 k.1,
         )
     statement_fits result l outer at (p.Start spot count body) a b' f' k =
         let ts = r.statement_tokens ◌∷◌ (g.Start ∷ outer) body in
@@ -213,22 +194,13 @@ module _ (program : ProgramTree) (facts : Facts) (valid : IsCorrect program fact
     statement_fits result l outer at (p.Seq spot body) a b' f' k =
         statement_fits result l (g.Seq ∷ outer) (in_body l outer) body a.1 (scope_of (statement_marks body) b') f' k
     statement_fits result l outer at (p.Fork spot parts part rank body) a b' f' k =
-        let t1 = r.tree_tokens outer parts in
-        let t2 = r.tree_tokens outer part in
-        let t3 = r.optional_tokens outer rank in
-        let ts = r.statement_tokens ◌∷◌ (g.Fork ∷ outer) body in
-        let m1 = tree_marks parts in
-        let m2 = tree_marks part in
-        let m3 = optional_marks rank in
-        let ms = n.scope (statement_marks body) in
-        let f3 = optional_pieces role.Word rank in
-        let heads = front_of Right (t1 ++ t2 ++ t3) ts a.1 in
-        let marks = front_of Stands (m1 ++ m2 ++ m3) ms b' in (
-          used outer role.Word parts (front_of Right t1 t2 (front_of Right (t1 ++ t2) t3 heads)) (front_of Stands m1 m2 (front_of Stands (m1 ++ m2) m3 marks)) f'.0,
-          used outer role.Word part (rest_of Right t1 t2 (front_of Right (t1 ++ t2) t3 heads)) (rest_of Stands m1 m2 (front_of Stands (m1 ++ m2) m3 marks)) f'.1.0,
-          used_or outer role.Word rank (rest_of Right (t1 ++ t2) t3 heads) (rest_of Stands (m1 ++ m2) m3 marks) (front_of Fine f3 (statement_pieces result body) f'.1.1),
-          statement_fits result l (g.Fork ∷ outer) (in_body l outer) body (rest_of Right (t1 ++ t2 ++ t3) ts a.1)
-              (scope_of (statement_marks body) (rest_of Stands (m1 ++ m2 ++ m3) ms b')) (rest_of Fine f3 (statement_pieces result body) f'.1.1) k,
+        let rs = four_of Right (r.tree_tokens outer parts) (r.tree_tokens outer part) (r.optional_tokens outer rank) (r.statement_tokens ◌∷◌ (g.Fork ∷ outer) body) a.1 in
+        let ms = four_of Stands (tree_marks parts) (tree_marks part) (optional_marks rank) (n.scope (statement_marks body)) b' in
+        let fs = two_of Fine (optional_pieces role.Word rank) (statement_pieces result body) f'.1.1 in (
+          used outer role.Word parts rs.0 ms.0 f'.0,
+          used outer role.Word part rs.1 ms.1 f'.1.0,
+          used_or outer role.Word rank rs.2 ms.2 fs.0,
+          statement_fits result l (g.Fork ∷ outer) (in_body l outer) body rs.3 (scope_of (statement_marks body) ms.3) fs.1 k,
         )
     statement_fits result l outer at (p.Barrier spot) a b' f' k = tt
     statement_fits result l outer at (p.Break spot) a b' f' k =

@@ -32,7 +32,7 @@ use Rattle.fk_sharing.specs.Tokens.{is_struct}
 use Rattle.fk_meaning_forms.specs.declared.tables.Home.{Home}
 use Rattle.fk_meaning_forms.specs.declared.tables.Home.TheVariants as h
 use Rattle.fk_meaning_forms.specs.Tables.{no_binding, note, slot, kind_at, is_array}
-use Rattle.fk_check_laws.proofs.Each.{Each, one_of}
+use Rattle.fk_check_laws.proofs.Each.{Each, one_of, of_each}
 use Rattle.fk_check_laws.proofs.Typed.{Unbroken, IsGood}
 use Rattle.fk_check_laws.proofs.Named.{IsKnown, meant_at, declared_low}
 use Rattle.fk_check_laws.proofs.Declared.{IsHomeFor, header_at}
@@ -45,7 +45,6 @@ use Rattle.fk_lower_laws.specs.Typed.{StandsAs, IsNoWord}
 use Rattle.fk_lower_laws.proofs.Sizes.{IsSound, has_sound}
 use Rattle.fk_lower_laws.proofs.Tokens.{IsSoundType, kind_is, kind_words, array_is}
 use Rattle.fk_lower_laws.proofs.Places.{lies_within}
-use Rattle.fk_lower_laws.proofs.Parts.{of_each}
 use Rattle.fk_lower_laws.proofs.Addresses.{room_may}
 use Rattle.fk_lower_laws.proofs.Valid.{IsGiven, about, words_declared, is_scalar, IsPiece, are_pieces}
 

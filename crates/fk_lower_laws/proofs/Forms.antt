@@ -38,9 +38,8 @@ use Rattle.fk_meaning.proofs.Kept.{is_predeclared, entered}
 use Rattle.fk_core_flat.specs.Fitting.{NameFits, Takes, Fits, OptionFits}
 use Rattle.fk_compile_text.specs.Plain.{is_plain}
 use Rattle.fk_lower_laws.proofs.Along.{AllOf}
-use Rattle.fk_check_laws.proofs.Each.{Each, front_of, rest_of}
+use Rattle.fk_check_laws.proofs.Each.{Each, front_of, rest_of, three_of}
 use Rattle.fk_lower_laws.specs.Named.{HasWord, IsNamed}
-use Rattle.fk_lower_laws.proofs.Parts.{three_of}
 use Rattle.fk_lower_laws.proofs.Ok.{names_none, HasItsWord, freely, gets, sets, Ok, ended, on, branch, enters}
 
 module _ (tables : Tables) (functions : (binding : ℕ) → Signature) (has_body : (binding : ℕ) → Bool) (firsts words : ℕ)

@@ -13,7 +13,6 @@ mod Whole
 pub mod WordNumbers
 mod References
 pub mod Near
-mod Parts
 pub mod Regions
 pub mod Taken
 mod Walk

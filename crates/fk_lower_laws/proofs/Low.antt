@@ -19,9 +19,8 @@ use Rattle.fk_core_typing.specs.Values as w
 use Rattle.fk_core_typing.specs.Typed.{Typed}
 use Rattle.fk_core_typing.specs.Heights.{raised, results_of, height}
 use Rattle.fk_lower_laws.proofs.Along.{AllOf}
-use Rattle.fk_check_laws.proofs.Each.{Each}
+use Rattle.fk_check_laws.proofs.Each.{Each, three_of, four_of}
 use Rattle.fk_lower_laws.specs.Room.{HasFew}
-use Rattle.fk_lower_laws.proofs.Parts.{three_of, four_of}
 
 -- an operation that is plain leaves as many values on both ways
 leaves_so : (op : Operation) (onward : Bool) → is_plain op ≡ true → leaves op onward ≡ pushes op

@@ -19,9 +19,8 @@ use Rattle.fk_meaning_forms.specs.Tables.{Tables, no_binding, note, slot}
 use Rattle.fk_meaning_forms.specs.Expressions.{Coded, nowhere, plain, agreed, Signature, Standing, addressed, assigned, predeclared, placed, variable, value}
 use Rattle.fk_meaning_forms.specs.Statements.{Inside, is_scalar, used_or, value_or, declared, all_declared, part_frame, leaving, tested, looping, left_by, executed, all_executed, end_of, body_of}
 use Rattle.fk_core_flat.specs.Fitting.{Fits, OptionFits, OptionConditionFits, VariablesFit, StatementFits, StatementsFit}
-use Rattle.fk_check_laws.proofs.Each.{Each, front_of}
+use Rattle.fk_check_laws.proofs.Each.{Each, front_of, two_of, three_of, four_of}
 use Rattle.fk_lower_laws.specs.Named.{HasWord, IsNamed}
-use Rattle.fk_lower_laws.proofs.Parts.{two_of, three_of, four_of}
 use Rattle.fk_lower_laws.proofs.Ok.{names_none, freely, sets, Ok, ended, on, branch, looped, looped_first, quits, broken, continued, left}
 use Rattle.fk_lower_laws.proofs.Forms as e
 

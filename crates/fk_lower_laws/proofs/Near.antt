@@ -24,9 +24,8 @@ use Rattle.fk_layout.specs.Layout.{tables_by}
 use Rattle.fk_parse_laws.specs.Every.{TreeHas, LinksHave, TreesHave, SuffixesHave, OptionHas, VariablesHave, StatementHas, StatementsHave, BodyHas}
 use Rattle.fk_lower_laws.specs.WordRoom.{most_words, near_members, ItemsAreNear}
 use Rattle.fk_check_laws.specs.Correct.{IsCorrect}
-use Rattle.fk_lower_laws.proofs.Parts.{two_of, three_of, four_of}
 use Rattle.fk_lower_laws.proofs.References.{Referred, AllReferred, all_refer}
-use Rattle.fk_check_laws.proofs.Each.{Each, front_of, rest_of}
+use Rattle.fk_check_laws.proofs.Each.{Each, front_of, rest_of, two_of, three_of, four_of}
 use Rattle.fk_check_laws.proofs.Named.{env}
 use Rattle.fk_check_laws.proofs.Numbers.{number_low}
 use Rattle.fk_lower_laws.proofs.WordNumbers.{below, declared_number}

@@ -10,9 +10,8 @@ use Rattle.fk_types_obligations.specs.declared.piece.Role.{Role}
 use Rattle.fk_types_obligations.specs.declared.piece.Role.TheVariants as role
 use Rattle.fk_types_obligations.specs.Pieces as q
 use Rattle.fk_types_obligations.specs.Pieces.{PieceTree, optional_pieces, variables_pieces, file_pieces, parameters_pieces, statement_pieces, statements_pieces, body_pieces, item_pieces, items_pieces}
-use Rattle.fk_lower_laws.proofs.Parts.{two_of, three_of, four_of}
 use Rattle.fk_lower_laws.proofs.References.{Referred, AllReferred, all_refer}
-use Rattle.fk_check_laws.proofs.Each.{Each, front_of, rest_of}
+use Rattle.fk_check_laws.proofs.Each.{Each, front_of, rest_of, two_of, three_of, four_of}
 use Rattle.fk_parse_laws.specs.Trim.{ParametersAreTrim, ItemsAreTrim}
 use Rattle.fk_lower_laws.proofs.Regions.{join}
 

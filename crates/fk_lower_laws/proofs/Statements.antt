@@ -44,7 +44,7 @@ use Rattle.fk_parse_laws.specs.Every.{TreeHas, OptionHas, VariablesHave, Stateme
 use Rattle.fk_parse_laws.specs.Trim.{nonempty_lists}
 use Rattle.fk_core_flat.specs.Fitting.{is_defined, StatementFits, StatementsFit}
 use Rattle.fk_types_bindings.proofs.Below.{declared_below}
-use Rattle.fk_check_laws.proofs.Each.{Each, front_of, rest_of}
+use Rattle.fk_check_laws.proofs.Each.{Each, front_of, rest_of, two_of, three_of, four_of}
 use Rattle.fk_check_laws.proofs.Typed.{Unbroken, so_not, value_there, There, Not}
 use Rattle.fk_check_laws.proofs.Notes.{among, binding_is}
 use Rattle.fk_check_laws.proofs.Named.{known as named, declared_low}
@@ -56,7 +56,6 @@ use Rattle.fk_lower_laws.specs.Ways.{placed_way, way}
 use Rattle.fk_lower_laws.specs.Asked.{IsTarget, NameAsks, Asked, ValueAsked, OptionValueAsked, UsedAsked, OptionUsedAsked, ScalarAsked, VariablesAsked, ReturnAsked, StatementAsked, StatementsAsked}
 use Rattle.fk_lower_laws.specs.Typed.{IsNothing, StandsAs}
 use Rattle.fk_lower_laws.proofs.Typing.{tree_is, gives_value, gives_by}
-use Rattle.fk_lower_laws.proofs.Parts.{two_of, three_of, four_of}
 use Rattle.fk_lower_laws.proofs.Sizes.{has_sound}
 use Rattle.fk_lower_laws.proofs.Tokens.{void_is}
 use Rattle.fk_lower_laws.proofs.Places.{Homes}
