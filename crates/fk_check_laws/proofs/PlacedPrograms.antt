@@ -1,8 +1,7 @@
 -- The functions of a valid program are in place.
-use Rattle.std.proofs.Common.{◌≡◌, ◌≢◌, ◌⊎◌, inl, inr, ℕ, zero, suc, Bool, true, false, not, List, [], ◌∷◌, ◌++◌, codes, Option, Some, None, slice_get, refl, sym, ap, subst, ◌∙◌}
-use Rattle.std.specs.Prelude.{◌==◌, IsSome, is_some, if◌then◌else◌}
+use Rattle.std.proofs.Common.{◌≡◌, ◌≢◌, ◌⊎◌, inl, inr, ℕ, suc, Bool, true, false, not, List, [], ◌∷◌, ◌++◌, codes, Option, Some, None, slice_get, refl, sym, ap, subst, ◌∙◌}
+use Rattle.std.specs.Prelude.{◌==◌, is_some, if◌then◌else◌}
 use Rattle.std.proofs.lemmas.Bool.{false≢true, false_from_ne_true, and_parts, not-true, eqb-true}
-use Rattle.std.proofs.lemmas.Option.{same_Some}
 use Rattle.std.proofs.lemmas.Slice.Eq.{bytes_eq-Decides}
 use Rattle.fk_syntax.specs.declared.facts.Facts.{Facts}
 use Rattle.fk_syntax.specs.declared.program.Mode.{Mode}
@@ -12,8 +11,6 @@ use Rattle.fk_check_rules.specs.declared.rule.Rule.TheVariants as rules
 use Rattle.fk_sharing_class.specs.declared.thing.Thing.{Thing}
 use Rattle.fk_types_names.specs.Outline as n
 use Rattle.fk_types_names.specs.Outline.{declarations, outline, variables_marks, body_marks, statements_marks, item_marks, items_marks}
-use Rattle.fk_types_name_rules.specs.Headers.{HasBodyAt, BodyHere}
-use Rattle.fk_types_name_rules.proofs.ListLemmas.{at_some}
 use Rattle.fk_types_obligations.specs.Pieces.{PieceTree, pieces, parameters_pieces, body_pieces, statements_pieces, item_pieces, items_pieces}
 use Rattle.fk_types_rules.specs.Pieces.{PieceBreaks}
 use Rattle.fk_types_rules.specs.Bound.{piece_references, pieces_references}
@@ -42,7 +39,7 @@ use Rattle.fk_check_laws.specs.Valid.{IsValid, may_run, callable, may_call, Vali
 use Rattle.fk_check_laws.proofs.Each.{Each, each, front_of, rest_of}
 use Rattle.fk_check_laws.proofs.Typed.{Unbroken}
 use Rattle.fk_check_laws.proofs.Notes.{among}
-use Rattle.fk_check_laws.proofs.Bodies.{no_header}
+use Rattle.fk_check_laws.proofs.Main.{there_is_main}
 use Rattle.fk_check_laws.proofs.Things.{thing, thing_tells}
 use Rattle.fk_check_laws.proofs.PlacedNotes.{tables, correct, all_right, all_ours}
 use Rattle.fk_check_laws.proofs.Named.{env, unbroken_pieces}
@@ -235,36 +232,6 @@ module _ (program : ProgramTree) (facts : Facts) (valid : IsValid program facts)
 
   -- ---- there is one `main`, with a body
 
-  in_functions : (P : FunctionTree → Type 0) (xs : List ItemTree) (i : ℕ) (f : FunctionTree) → slice_get xs i ≡ Some (FunctionItem f) → IsSome f.body → Each P (functions_of xs) → P f
-  in_functions P [] i f is some h = absurd (cc)
-  in_functions P (x ∷ xs) zero f is some h = first f.body refl (subst (λ y. Each P (functions_of (y ∷ xs))) (same_Some x (FunctionItem f) is) h)
-    where
-      first : (o : Option Statements) → f.body ≡ o → Each P (with_body f o (functions_of xs)) → P f
-      first None has h = absurd (false≢true (sym (ap is_some has) ∙ some))
-      first (Some body) has h = h.0
-  in_functions P (StructItem name members ∷ xs) (suc i) f is some h = in_functions P xs i f is some h
-  in_functions P (VariablesItem variables ∷ xs) (suc i) f is some h = in_functions P xs i f is some h
-  in_functions P (FunctionItem g' ∷ xs) (suc i) f is some h = in_functions P xs i f is some (others g'.body h)
-    where
-      others : (o : Option Statements) → Each P (with_body g' o (functions_of xs)) → Each P (functions_of xs)
-      others None h = h
-      others (Some body) h = h.1
-
-  module _ (none : Each (λ f. is_main f ≡ false) fs) where
-    abbrev name : List ℕ
-    name = codes "main"
-
-    no_body : (k : ℕ) → HasBodyAt program.items name k → ⊥
-    no_body k has = let x = at_some (BodyHere name) program.items k has in by x.0 x.1 x.2
-      where
-        by : (x : ItemTree) → slice_get program.items k ≡ Some x → BodyHere name x → ⊥
-        by (StructItem other members) is here = here
-        by (VariablesItem variables) is here = here
-        by (FunctionItem f) is here = false≢true (sym (in_functions (λ g'. is_main g' ≡ false) program.items k f is here.1 none) ∙ (bytes_eq-Decides f.name.bytes name).1 here.0)
-
-    there_is_main : ⊥
-    there_is_main = valid.known.types.kept program.end rules.NoMain (inl (inr (inr (inr (inr (refl, inl (no_header program facts (correct program facts valid) name no_body, refl)))))))
-
   main_is : (gs : List FunctionTree) → Each IsFine gs → ((f : FunctionTree) × IsFine f × (is_main f ≡ true) × (main_in (tables program facts valid) gs ≡ binding_of (tables program facts valid) f)) ⊎ Each (λ f. is_main f ≡ false) gs
   main_is [] h = inr tt
   main_is (f ∷ gs) h = by (is_main f) refl (main_is gs h.1)
@@ -285,7 +252,7 @@ module _ (program : ProgramTree) (facts : Facts) (valid : IsValid program facts)
         let same = eqb-true (binding_of (tables program facts valid) f) (main_of (tables program facts valid) program) e ∙ found.3 in
         let one = same_header f found.0 (sym (number_of f k) ∙ ap (slice_get (declarations program)) same ∙ number_of found.0 found.1) in
         subst (λ x. is_main x ≡ true) (sym one) found.2
-    | inr none ↦ absurd (there_is_main none)
+    | inr none ↦ absurd (there_is_main program facts (correct program facts valid) none)
   ]
 
   -- a function that runs by itself has no `sh` parameters
