@@ -2,8 +2,6 @@
 use Rattle.std.proofs.Common.{◌≡◌, ℕ, zero, suc, ◌+◌, ◌<◌, ◌==◌, Bool, true, false, List, [], ◌∷◌, length, slice_get, Option, Some, None, if◌then◌else◌, refl, sym, subst, arith}
 use Rattle.fk_meaning_operation.specs.declared.operation.Operation.{Operation}
 use Rattle.fk_meaning_operation.specs.declared.operation.Operation.TheVariants as o
-use Rattle.fk_meaning_operation.specs.declared.operation.Multiprefix.{Multiprefix}
-use Rattle.fk_meaning_operation.specs.declared.operation.Multiprefix.TheVariants.{MpAdd, MpMax, MpAnd, MpOr}
 use Rattle.fk_meaning_operation.specs.declared.operation.Variable.TheVariants as v
 use Rattle.fk_meaning_operation.specs.declared.kinds.Class.TheVariants.{Local, Request, Tree}
 use Rattle.fk_meaning_operation.specs.Kinds.{class_of}
@@ -29,20 +27,8 @@ use Rattle.fk_num.specs.Op.{applied}
 use Rattle.fk_core_typing.specs.AddressValues as ch
 use Rattle.fk_core_typing.specs.AddressValues.{after, change, pushed_by, called, unchanged, no_constants, constants_behind, is_address, joined_constant}
 use Rattle.fk_core_typing.specs.LocalAddresses.{AreSameIn, Leads, Calls, HasKnowledge, Fits as FitsAt}
+use Rattle.fk_core_typing.proofs.DepthSteps.{no_local, no_step}
 use Rattle.fk_core_typing.proofs.AddressValues.{Knows, nothing, dropped, all_kept, one_pushed, any_pushed, one_replaced, two_replaced, two_joined, any_joined, words_taken, passed, taken_callers, outer_values, outer_callers, divides, last_holds, second_holds, HasConstants, no_constant, fewer_constants, constant_pushed, constant_joined, joined_may, joined_two}
-
--- a multiprefix is a request
-no_local : (by : Multiprefix) → class_of (o.Combine by) ≡ Local → ⊥
-no_local MpAdd e = absurd (cc)
-no_local MpMax e = absurd (cc)
-no_local MpAnd e = absurd (cc)
-no_local MpOr e = absurd (cc)
-
-no_step : (by : Multiprefix) → class_of (o.Combine by) ≡ Tree → ⊥
-no_step MpAdd e = absurd (cc)
-no_step MpMax e = absurd (cc)
-no_step MpAnd e = absurd (cc)
-no_step MpOr e = absurd (cc)
 
 -- what is known of the caller's values stays so, with a result or without
 behind_call : (shared_alone : Bool) (known : ℕ → Bool) (n : ℕ) (gives : Bool) (v : ℕ) (p : Processor) → Knows shared_alone known (values p)

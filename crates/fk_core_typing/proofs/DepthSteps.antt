@@ -21,13 +21,13 @@ use Rattle.fk_core_typing.specs.LocalDepths.{results, needs, leaves, is_ordinary
 use Rattle.fk_core_typing.proofs.DepthValues.{Leaves, length_before, stays, pushed, dropped, replaced, replaced_two, kept_last, stored_in, joins, takes_words, frames, blocks, outer, divides}
 
 -- a multiprefix is a request
-no_local : (by : Multiprefix) → class_of (o.Combine by) ≡ Local → ⊥
+pub no_local : (by : Multiprefix) → class_of (o.Combine by) ≡ Local → ⊥
 no_local MpAdd e = absurd (cc)
 no_local MpMax e = absurd (cc)
 no_local MpAnd e = absurd (cc)
 no_local MpOr e = absurd (cc)
 
-no_step : (by : Multiprefix) → class_of (o.Combine by) ≡ Tree → ⊥
+pub no_step : (by : Multiprefix) → class_of (o.Combine by) ≡ Tree → ⊥
 no_step MpAdd e = absurd (cc)
 no_step MpMax e = absurd (cc)
 no_step MpAnd e = absurd (cc)
