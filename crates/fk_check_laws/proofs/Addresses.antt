@@ -8,7 +8,7 @@ use Rattle.fk_syntax.specs.declared.facts.Facts.{Facts}
 use Rattle.fk_syntax.specs.declared.sign.Sign.{Sign}
 use Rattle.fk_syntax.specs.declared.sign.Sign.TheVariants as g
 use Rattle.fk_syntax.specs.Tree as t
-use Rattle.fk_syntax.specs.Tree.{Named, Tree, Links, Trees, Suffixes}
+use Rattle.fk_syntax.specs.Tree.{Named, Tree, Links}
 use Rattle.fk_syntax.specs.Program.{DeclaredTree, ProgramTree}
 use Rattle.fk_check_rules.specs.declared.rule.Rule.{Rule}
 use Rattle.fk_check_rules.specs.declared.rule.Rule.TheVariants as rules

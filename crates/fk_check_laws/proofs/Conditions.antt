@@ -7,11 +7,11 @@ use Rattle.fk_syntax.specs.Program as p
 use Rattle.fk_syntax.specs.Program.{Statement, Statements, FunctionTree, ItemTree, ProgramTree, StructItem, VariablesItem, FunctionItem}
 use Rattle.fk_check_rules.specs.declared.rule.Rule.TheVariants as rules
 use Rattle.fk_types_names.specs.Outline as n
-use Rattle.fk_types_names.specs.Outline.{MarkTree, outline, tree_marks, optional_marks, variables_marks, statement_marks, statements_marks, body_marks, item_marks, items_marks}
+use Rattle.fk_types_names.specs.Outline.{MarkTree, tree_marks, optional_marks, variables_marks, statement_marks, statements_marks, body_marks, item_marks, items_marks}
 use Rattle.fk_types_judgments.specs.Term.{term_of, first_place}
 use Rattle.fk_types_obligations.specs.declared.piece.Role.TheVariants as role
 use Rattle.fk_types_obligations.specs.Pieces as q
-use Rattle.fk_types_obligations.specs.Pieces.{PieceTree, pieces, optional_pieces, parameters_pieces, statement_pieces, statements_pieces, body_pieces, item_pieces, items_pieces}
+use Rattle.fk_types_obligations.specs.Pieces.{PieceTree, optional_pieces, parameters_pieces, statement_pieces, statements_pieces, body_pieces, item_pieces, items_pieces}
 use Rattle.fk_regions.specs.Tokens as r
 use Rattle.fk_sharing_class.specs.declared.thing.Thing.{Thing}
 use Rattle.fk_sharing.specs.declared.around.Holder.{Holder}
@@ -30,7 +30,7 @@ use Rattle.fk_check_laws.specs.Conditions as c
 use Rattle.fk_check_laws.specs.Conditions.{OptionBegins, LoopsBegin, AllLoopsBegin, BodyBegins, FunctionsBegin}
 use Rattle.fk_check_laws.proofs.Each.{Each, front_of, rest_of}
 use Rattle.fk_check_laws.proofs.Typed as y
-use Rattle.fk_check_laws.proofs.Typed.{Unbroken, so_not}
+use Rattle.fk_check_laws.proofs.Typed.{so_not}
 use Rattle.fk_check_laws.proofs.Notes.{tables}
 use Rattle.fk_check_laws.proofs.Named.{env, known}
 use Rattle.fk_check_laws.proofs.Expressions.{told}

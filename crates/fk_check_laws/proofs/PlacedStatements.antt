@@ -17,7 +17,7 @@ use Rattle.fk_sharing_class.specs.Class.{is_shared}
 use Rattle.fk_types_names.specs.declared.names.Meaning.{Meaning}
 use Rattle.fk_types_names.specs.declared.names.Meaning.TheVariants as m
 use Rattle.fk_types_names.specs.Outline as n
-use Rattle.fk_types_names.specs.Outline.{DeclarationTree, MarkTree, Declares, Uses, declarations, outline, tree_marks, optional_marks, variable_marks, variables_marks, statement_marks, statements_marks}
+use Rattle.fk_types_names.specs.Outline.{DeclarationTree, MarkTree, Declares, Uses, declarations, outline, tree_marks, optional_marks, variables_marks, statement_marks, statements_marks}
 use Rattle.fk_types_names.specs.Means.{binding, MeansAt}
 use Rattle.fk_types_judgments.specs.Term.{term_of}
 use Rattle.fk_types_judgments.specs.Names.{Meant, Main, is_text, IsDeclared}
@@ -26,11 +26,10 @@ use Rattle.fk_types_structs.specs.Types.{structs_of}
 use Rattle.fk_types_obligations.specs.declared.piece.Role.{Role}
 use Rattle.fk_types_obligations.specs.declared.piece.Role.TheVariants as role
 use Rattle.fk_types_obligations.specs.Pieces as q
-use Rattle.fk_types_obligations.specs.Pieces.{PieceTree, pieces, optional_pieces, variables_pieces, statement_pieces, statements_pieces}
+use Rattle.fk_types_obligations.specs.Pieces.{PieceTree, optional_pieces, variables_pieces, statement_pieces, statements_pieces}
 use Rattle.fk_types_references.specs.References.{ReferenceTree, Name, tree_references, optional_references}
 use Rattle.fk_types_rules.specs.Pieces.{if_there, InitialBreaks, UsedBreaks}
 use Rattle.fk_types_rules.specs.Bound as b
-use Rattle.fk_types_rules.specs.Bound.{piece_references, pieces_references}
 use Rattle.fk_types_bindings.proofs.Below.{declared_below}
 use Rattle.fk_types_bindings.proofs.BodyLemmas.{declared_here}
 use Rattle.fk_regions.specs.declared.around.Holder as gh

@@ -7,7 +7,7 @@ use Rattle.fk_syntax.specs.Program as p
 use Rattle.fk_syntax.specs.Program.{DeclaredTree, Statement, Statements, ProgramTree}
 use Rattle.fk_check_rules.specs.declared.rule.Rule.TheVariants as rules
 use Rattle.fk_types_names.specs.Outline as n
-use Rattle.fk_types_names.specs.Outline.{MarkTree, Declares, Uses, outline, tree_marks, optional_marks, variables_marks, statement_marks, statements_marks}
+use Rattle.fk_types_names.specs.Outline.{MarkTree, outline, tree_marks, optional_marks, variables_marks, statement_marks, statements_marks}
 use Rattle.fk_types_judgments.specs.Term.{term_of}
 use Rattle.fk_types_judgments.specs.Broken.{Broken}
 use Rattle.fk_types_obligations.specs.declared.piece.Role.{Role}

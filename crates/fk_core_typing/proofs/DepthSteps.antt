@@ -1,23 +1,22 @@
 -- A processor whose values go with the depths of a list, and what an operation makes of it.
-use Rattle.std.proofs.Common.{◌≡◌, ℕ, zero, suc, ◌+◌, ◌-◌, ◌≤◌, Bool, true, false, if◌then◌else◌, List, [], ◌∷◌, length, slice_get, Option, Some, None, refl, sym, ap, ◌∙◌, subst, arith}
+use Rattle.std.proofs.Common.{◌≡◌, ℕ, zero, suc, ◌+◌, ◌-◌, ◌≤◌, Bool, true, false, if◌then◌else◌, List, [], ◌∷◌, length, slice_get, Option, None, refl, sym, ap, ◌∙◌, subst, arith}
 use Rattle.std.proofs.lemmas.Option.{slice_get_past}
 use Rattle.fk_meaning_operation.specs.declared.operation.Operation.{Operation}
 use Rattle.fk_meaning_operation.specs.declared.operation.Operation.TheVariants as o
 use Rattle.fk_meaning_operation.specs.declared.operation.Multiprefix.{Multiprefix}
 use Rattle.fk_meaning_operation.specs.declared.operation.Multiprefix.TheVariants.{MpAdd, MpMax, MpAnd, MpOr}
-use Rattle.fk_meaning_operation.specs.declared.kinds.Class.{Class}
 use Rattle.fk_meaning_operation.specs.declared.kinds.Class.TheVariants.{Local, Request, Tree}
 use Rattle.fk_meaning_operation.specs.Kinds.{class_of}
-use Rattle.fk_meaning.specs.Processor.{Call, Processor, Setting, values, last, before, with_values, drop_last, enter_level, leave_level}
+use Rattle.fk_meaning.specs.Processor.{Call, Processor, Setting, values, last, before, drop_last, enter_level, leave_level}
 use Rattle.fk_meaning.specs.Local.{local, is_onward, to_caller, unframed}
 use Rattle.fk_meaning.specs.Request.{with_answer}
 use Rattle.fk_meaning.specs.Group.{does, goes_onward, stays as stays_in, is_taken, part, start_level, with_size}
-use Rattle.fk_layout_sizes.specs.Operations.{takes, pushes}
+use Rattle.fk_layout_sizes.specs.Operations.{takes}
 use Rattle.fk_core.specs.declared.op.CoreOp.{CoreOp}
-use Rattle.fk_core.specs.Next.{Position, position, led_by, landing_by, landing, behind_jump, follows, returned}
+use Rattle.fk_core.specs.Next.{Position, position, led_by, landing_by, behind_jump, follows, returned}
 use Rattle.fk_core_typing.specs.declared.places.Within.{Within}
 use Rattle.fk_core_typing.specs.declared.places.Within.TheVariants.{Main, Called}
-use Rattle.fk_core_typing.specs.LocalDepths.{results, needs, leaves, is_ordinary, Comes, GoesOn}
+use Rattle.fk_core_typing.specs.LocalDepths.{results, needs, leaves, Comes, GoesOn}
 use Rattle.fk_core_typing.proofs.DepthValues.{Leaves, length_before, stays, pushed, dropped, replaced, replaced_two, kept_last, stored_in, joins, takes_words, frames, blocks, outer, divides}
 
 -- a multiprefix is a request

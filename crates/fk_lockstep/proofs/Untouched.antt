@@ -7,7 +7,7 @@ use Rattle.fk_meaning_operation.specs.declared.operation.Operation.TheVariants a
 use Rattle.fk_tree.specs.declared.node.Kind.{Kind}
 use Rattle.fk_tree.specs.declared.node.Kind.TheVariants.{Lockstep, Waiting, Asynchronous}
 use Rattle.fk_tree.specs.Tree as t
-use Rattle.fk_tree.specs.Tree.{Node, Tree, members_of, members, parent, is_member, node_of, with_node, with_kind, is_in, is_from, place_in, split, first_part, left_by, shrink, kind_after}
+use Rattle.fk_tree.specs.Tree.{Node, Tree, members_of, members, parent, is_member, node_of, with_kind, is_in, place_in, split, first_part, left_by, shrink, kind_after}
 use Rattle.fk_tree.proofs.Lists.{kept_member}
 use Rattle.fk_tree.proofs.Shapes.{with_other, kind_members, from_below}
 use Rattle.fk_meaning.specs.Processor.{Processor, Setting, values}
