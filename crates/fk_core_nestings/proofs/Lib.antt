@@ -1,0 +1,4 @@
+pub mod Noted
+pub mod Passes
+pub mod Empty
+pub mod Examples

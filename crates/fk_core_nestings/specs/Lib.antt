@@ -1,0 +1,2 @@
+pub mod Nestings
+pub mod Found
