@@ -1,5 +1,5 @@
 -- What is to be kept grows with what is kept, and sets that grow by it stay the least.
-use Rattle.std.proofs.Common.{◌≡◌, ℕ, zero, suc, ◌+◌, ◌-◌, ◌<◌, ◌≤◌, Bool, true, false, true≢false, List, [], ◌∷◌, length, slice_get, get_or, take, drop, ◌++◌, Option, Some, None, ap, sym, refl, ◌∙◌, subst, arith, ◌⊎◌, inl, inr, eq-eqb}
+use Rattle.std.proofs.Common.{◌≡◌, ℕ, zero, suc, ◌-◌, ◌<◌, ◌≤◌, Bool, true, false, true≢false, List, [], ◌∷◌, length, slice_get, get_or, take, drop, ◌++◌, Option, Some, None, ap, sym, refl, ◌∙◌, arith, ◌⊎◌, inl, inr, eq-eqb}
 use Rattle.std.specs.Prelude.{◌==◌, ◌||◌, ◌&&◌, not, slice_set, if◌then◌else◌}
 use Rattle.std.proofs.lemmas.Bool.{eqb-true, cases_lt}
 use Rattle.std.proofs.Math.Seq.{take-append_seam}
@@ -8,12 +8,12 @@ use Rattle.fk_meaning_operation.specs.declared.operation.Operation.{Operation}
 use Rattle.fk_meaning_operation.specs.declared.operation.Operation.TheVariants.{Enter, Leave, Halt}
 use Rattle.fk_core.specs.declared.op.CoreOp.{CoreOp}
 use Rattle.fk_core.specs.Numbers.{operation_of}
-use Rattle.fk_core.specs.Next.{is_jump, follows}
+use Rattle.fk_core.specs.Next.{is_jump, behind_jump, follows}
 use Rattle.fk_sim_block.specs.Suits.{writes}
 use Rattle.fk_core_liveness.specs.declared.set.Set.{Set}
 use Rattle.fk_core_liveness.specs.Sets.{is_in}
 use Rattle.fk_core_liveness.specs.Frames.{kept_in}
-use Rattle.fk_core_liveness.specs.Live.{reads, needed, kept_behind, asked_by, asked_of, asked, IsLive, IsLeast, words_in}
+use Rattle.fk_core_liveness.specs.Live.{reads, needed, kept_behind, asked_by, asked_of, asked, IsLeast, words_in}
 
 abbrev Words : Type 0
 Words = (index word : ℕ) → Bool
@@ -37,7 +37,7 @@ and_more false b n f e = absurd (true≢false (sym e))
 module _ (core : List CoreOp) (keeps others : Words) (more : (i word : ℕ) → keeps i word ≡ true → others i word ≡ true) where
   behind_more : (operation : Operation) (i target word : ℕ)
       → kept_behind core keeps operation i target word ≡ true → kept_behind core others operation i target word ≡ true
-  behind_more (Enter arguments) i target word e = more (suc (suc i)) word e
+  behind_more (Enter arguments) i target word e = more (behind_jump core (suc i)) word e
   behind_more (Leave gives framed) i target word e = e
   behind_more Halt i target word e = e
   behind_more operation i target word e =

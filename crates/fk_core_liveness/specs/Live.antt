@@ -8,7 +8,7 @@ use Rattle.fk_meaning_operation.specs.declared.operation.OwnValue.TheVariants.{V
 use Rattle.fk_meaning_operation.specs.declared.operation.Variable.TheVariants.{Private}
 use Rattle.fk_core.specs.declared.op.CoreOp.{CoreOp}
 use Rattle.fk_core.specs.Numbers.{operation_of}
-use Rattle.fk_core.specs.Next.{is_jump, follows}
+use Rattle.fk_core.specs.Next.{is_jump, behind_jump, follows}
 use Rattle.fk_sim_block.specs.Suits.{writes}
 use Rattle.fk_core_liveness.specs.declared.set.Set.{Set}
 use Rattle.fk_core_liveness.specs.Frames.{kept_in}
@@ -25,9 +25,9 @@ needed operation behind word = (behind && not (writes operation word)) || reads 
 
 module _ (core : List CoreOp) (keeps : (index word : ℕ) → Bool) where
   -- What is kept where the running call goes on, on either branch. After a call it goes on after
-  -- the jump to the function.
+  -- the first jump, which leads to the function. What stands between is of the call that begins.
   abbrev pub kept_behind : Operation → (i target word : ℕ) → Bool
-  kept_behind (Enter arguments) i target word = keeps (suc (suc i)) word
+  kept_behind (Enter arguments) i target word = keeps (behind_jump core (suc i)) word
   kept_behind (Leave gives framed) i target word = false
   kept_behind Halt i target word = false
   kept_behind operation i target word =

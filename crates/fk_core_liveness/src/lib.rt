@@ -1,7 +1,6 @@
 //! The private words that a call keeps at each index of a flat list: the fewest that suffice.
 #![tactic(auto)]
 
-mod list;
 mod live;
 mod places;
 mod set;

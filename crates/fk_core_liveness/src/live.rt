@@ -5,9 +5,9 @@ ghost use Rattle.fk_core_liveness.specs.Frames.{kept_in};
 ghost use Rattle.fk_core_liveness.specs.Live as v;
 ghost use Rattle.fk_core_liveness.specs.Sets.{is_in};
 
-use crate::list::{follows, op_at};
 use crate::set::Set;
 use fk_core::CoreOp;
+use fk_core_list::{behind_jump, follows, op_at};
 use fk_meaning_operation::{Operation, OwnValue, Variable};
 use std::alloc::{AllocError, Global};
 
@@ -27,7 +27,7 @@ fn behind(ops: &[CoreOp], live: &[Set], operation: Operation, index: usize, targ
         ≡ v.kept_behind ops.now (v.words_in live.now) operation index target word }
 {
     match operation {
-        Operation::Enter(_) => set_at(live, index + 2),
+        Operation::Enter(_) => set_at(live, behind_jump(ops, index + 1)),
         Operation::Leave { .. } | Operation::Halt => Set::empty(),
         _ => {
             let onward = set_at(live, follows(ops, operation, index, target, true));
@@ -117,7 +117,8 @@ fn settle(ops: &[CoreOp], live: &mut [Set])
 
 /// The private words of the running call that may be read before they are written, at each index of
 /// a list: the fewest that include what each operation reads, and what is kept where it goes on and
-/// it doesn't write. A pass takes time linear in the list and no memory. The number of passes is
+/// it doesn't write. A pass takes time linear in the list and no memory, where each jump is the first
+/// after one call at most. The number of passes is
 /// one more than the depth of nested loops. Fails only if there isn't enough memory.
 pub fn live_words(alloc: Global, ops: &[CoreOp]) -> Result<Vec<Set>, AllocError>
     ensures live { IfOk result (λ sets. v.IsLive ops.now (v.words_in sets.items)) }

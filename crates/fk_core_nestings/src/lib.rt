@@ -1,11 +1,10 @@
 //! How a call stands in the groups of its function, at each index of a flat list.
 #![tactic(auto)]
 
-mod list;
 mod nesting;
-mod nestings;
+mod pass;
 #[cfg(test)]
 mod tests;
 
 pub use nesting::Nesting;
-pub use nestings::nestings;
+pub use pass::nestings;

@@ -94,13 +94,13 @@ module _ (bodies : ℕ → Code ℕ) (core : List CoreOp) (entry : ℕ → ℕ) 
     pub function : ℕ
     pub gives : Bool
     pub begins : ComesTo (sys.begin (o.Enter arguments) function gives) (suc i)
-    pub on : ComesTo (sys.behind_call (o.Enter arguments) gives (at i)) (suc (suc i))
+    pub behind : behind_jump core (suc i) ≡ suc (suc i)
+    pub on : ComesTo (sys.behind_call (o.Enter arguments) gives (at i)) (behind_jump core (suc i))
 
   called : (arguments i m target : ℕ) → Sounds i m (o.Enter arguments) target → Called' arguments i
   called arguments i m target s =
       let g = s.goes in
       let j = g.4 g.3.direct in
-      let back : behind_jump core (suc i) ≡ suc (suc i) = behind_jump_at core entry core (suc i) j.0 j.1 j.2 in
       record {
         entered = j.0;
         stands = j.1;
@@ -109,7 +109,8 @@ module _ (bodies : ℕ → Code ℕ) (core : List CoreOp) (entry : ℕ → ℕ) 
         function = g.0;
         gives = g.1;
         begins = g.5;
-        on = subst (ComesTo (sys.behind_call (o.Enter arguments) g.1 (at i))) back g.6;
+        behind = behind_jump_at core entry core (suc i) j.0 j.1 j.2;
+        on = g.6;
       }
 
   -- the words of a function are those of where the call goes on
@@ -119,7 +120,7 @@ module _ (bodies : ℕ → Code ℕ) (core : List CoreOp) (entry : ℕ → ℕ) 
   own_behind : (op : Operation) (i m target word : ℕ) → Sounds i m op target → kept_behind core own op i target word ≡ true → own i word ≡ true
   own_behind (o.Enter arguments) i m target word s k =
       let c = called arguments i m target s in
-      transported (sys.behind_call (o.Enter arguments) c.gives (at i)) i (suc (suc i)) word refl c.on k
+      transported (sys.behind_call (o.Enter arguments) c.gives (at i)) i (behind_jump core (suc i)) word refl c.on k
   own_behind (o.Leave gives framed) i m target word s k = absurd (cc)
   own_behind o.Halt i m target word s k = absurd (cc)
   own_behind op i m target word s k =
@@ -249,10 +250,12 @@ module _ (bodies : ℕ → Code ℕ) (core : List CoreOp) (entry : ℕ → ℕ) 
               let room = fit.room c.function in
               omega (arith, below, same, room)
               );
-          back = flows (sys.behind_call (o.Enter arguments) c.gives (at i)) nothing i (suc (suc i)) refl
-              (λ word k u. kept_before core keeps live i op (o.Enter arguments) stands word k refl) c.on;
-          room = room_at i (suc (suc i)) (suc (count i - arguments)) s.may.room (sym c.on.grants.words)
-              (sym c.on.grants.state.place) (let a = s.may.low in omega (arith, a));
+          back = subst (Flows core frames nothing i) c.behind
+              (flows (sys.behind_call (o.Enter arguments) c.gives (at i)) nothing i (behind_jump core (suc i)) refl
+              (λ word k u. kept_before core keeps live i op (o.Enter arguments) stands word k refl) c.on);
+          room = subst (λ j. HasRoom frames j (suc (count i - arguments))) c.behind
+              (room_at i (behind_jump core (suc i)) (suc (count i - arguments)) s.may.room (sym c.on.grants.words)
+              (sym c.on.grants.state.place) (let a = s.may.low in omega (arith, a)));
         }
 
     goes : (operation : Operation) (i : ℕ) (op : CoreOp) → StandsOp core i op operation → Sounds i op.site operation op.target → b.GoesOn core frames operation i op.target (count i)

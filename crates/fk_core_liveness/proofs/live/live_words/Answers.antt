@@ -1,4 +1,4 @@
-use Rattle.std.proofs.Common.{◌≡◌, true, length, ap, sym, ◌∙◌, arith}
+use Rattle.std.proofs.Common.{◌≡◌, length, ap, sym, ◌∙◌, arith}
 use Rattle.fk_core_liveness.specs.Live.{words_in}
 use Rattle.fk_core_liveness.proofs.Asked.{written_back}
 use Rattle.fk_core_liveness.proofs.live.live_words.Goals as goal

@@ -1,13 +1,13 @@
 //! The operations of a list, and where each goes on.
 
-ghost use Rattle.std.specs.Prelude.{◌≡◌, ◌<◌, [], length, slice_get};
+ghost use Rattle.std.specs.Prelude.{◌≡◌, ◌<◌, ◌≤◌, [], length, slice_get};
 ghost use Rattle.fk_core.specs.Next as n;
 
 use fk_core::CoreOp;
 use fk_meaning_operation::Operation;
 
 /// The operation or jump at an index, if there is one.
-pub(crate) fn op_at(ops: &[CoreOp], index: usize) -> Option<CoreOp>
+pub fn op_at(ops: &[CoreOp], index: usize) -> Option<CoreOp>
     ensures { result ≡ slice_get ops.now index }
 {
     match ops.get(index) {
@@ -17,7 +17,7 @@ pub(crate) fn op_at(ops: &[CoreOp], index: usize) -> Option<CoreOp>
 }
 
 /// The index where an operation goes on, in a call for which no other waits.
-pub(crate) fn follows(
+pub fn follows(
     ops: &[CoreOp],
     operation: Operation,
     index: usize,
@@ -38,4 +38,20 @@ pub(crate) fn follows(
         | Operation::Seq => if onward { index + 1 } else { target as usize },
         _ => index + 1,
     }
+}
+
+/// The index after the first jump from an index on, or the end of the list if there is none.
+pub fn behind_jump(ops: &[CoreOp], index: usize) -> usize
+    requires { index ≤ length ops.now }
+    ensures { result ≡ n.behind_jump ops.now index }
+{
+    let mut end = index;
+    'ops: while end < ops.len() {
+        let op = ops[end];
+        end += 1;
+        if op.is_jump() {
+            return end;
+        }
+    }
+    end
 }

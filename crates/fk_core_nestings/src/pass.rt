@@ -6,9 +6,9 @@ ghost use Rattle.fk_core_nestings.specs.declared.nesting.Nesting.{Nesting};
 ghost use Rattle.fk_core_nestings.specs.Nestings as n;
 ghost use Rattle.fk_core_nestings.specs.Found as f;
 
-use crate::list::{behind_jump, follows, op_at};
 use crate::nesting::Nesting;
 use fk_core::CoreOp;
+use fk_core_list::{behind_jump, follows, op_at};
 use fk_meaning_operation::{Operation, SplitKind};
 use std::alloc::{AllocError, Global};
 
