@@ -4,29 +4,29 @@ use Rattle.fk_core.specs.declared.op.CoreOp.{CoreOp}
 use Rattle.fk_core_nestings.specs.declared.nesting.Nesting.{Nesting}
 use Rattle.fk_core_nestings.specs.Nestings.{outermost, After}
 
-entry : (kind number target : ℕ) → CoreOp
+abbrev entry : (kind number target : ℕ) → CoreOp
 entry kind number target = record { kind = kind; site = 0; number = number; target = target; depth = 0 }
 
 -- start { sh int k; if ($) { sh int j[3]; if ($) 1; } else 2; while ($) 3; f(1); } with void f(sh int x) { $ && 5; }
-list : List CoreOp
+abbrev list : List CoreOp
 list =
     entry 23 0 28 ∷ entry 25 130 0 ∷ entry 27 1 9 ∷ entry 25 389 0 ∷ entry 27 0 7 ∷ entry 1 1 0 ∷ entry 29 0 7 ∷ entry 30 0 0 ∷ entry 29 0 11 ∷
     entry 1 2 0 ∷ entry 29 0 11 ∷ entry 30 0 0 ∷ entry 27 4 16 ∷ entry 28 0 16 ∷ entry 1 3 0 ∷ entry 0 0 13 ∷ entry 30 0 0 ∷ entry 22 1 22 ∷
     entry 25 258 0 ∷ entry 0 0 22 ∷ entry 4 0 0 ∷ entry 29 0 28 ∷ entry 1 4 0 ∷ entry 27 2 26 ∷ entry 1 5 0 ∷ entry 29 0 26 ∷ entry 30 0 0 ∷ entry 11 1 0 ∷ entry 30 0 0 ∷ entry 34 0 0 ∷ []
 
-inside : (levels opened words : ℕ) → Nesting
+abbrev inside : (levels opened words : ℕ) → Nesting
 inside levels opened words = record { levels = levels; opened = Some opened; frame = Some words }
 
-in_group : (words : ℕ) → Nesting
+abbrev in_group : (words : ℕ) → Nesting
 in_group words = record { levels = 0; opened = None; frame = Some words }
 
-nests : List Nesting
+abbrev nests : List Nesting
 nests =
     outermost ∷ in_group 0 ∷ in_group 1 ∷ inside 1 2 0 ∷ inside 1 2 3 ∷ inside 2 4 0 ∷ inside 2 4 0 ∷ inside 1 2 3 ∷ inside 1 2 3 ∷
     inside 1 2 0 ∷ inside 1 2 0 ∷ in_group 1 ∷ in_group 1 ∷ inside 1 12 0 ∷ inside 1 12 0 ∷ inside 1 12 0 ∷ in_group 1 ∷ in_group 1 ∷
     outermost ∷ outermost ∷ in_group 1 ∷ in_group 1 ∷ outermost ∷ outermost ∷ inside 1 23 0 ∷ inside 1 23 0 ∷ outermost ∷ outermost ∷ outermost ∷ outermost ∷ []
 
-nest : ℕ → Nesting
+abbrev nest : ℕ → Nesting
 nest i = get_or nests i outermost
 
 abbrev Fits : (i : ℕ) → Type 0

@@ -74,7 +74,7 @@ noted_splits found i n splits here j m is = split_stays found (noted found i n) 
   where
     by : ((found_at found j ≡ Some m) ⊎ ((j ≡ i) × (n ≡ m))) → SplitIsFound found m.opened
     by (inl e) = splits j m e
-    by (inr e) = subst (λ k. SplitIsFound found k.opened) e.1 here
+    by (inr e) = subst (λ (k : Nesting). SplitIsFound found k.opened) e.1 here
 
 -- ---- two indices
 

@@ -57,7 +57,7 @@ module _ (core : List CoreOp) (before found : Found) (index : ℕ) (new : Bool) 
 -- behind the list nothing leads on
 pub past_closed : (core : List CoreOp) (found : Found) (i : ℕ) → length core ≤ i → IsClosedAt core found i
 past_closed core found i le n is =
-    subst (λ op. AfterEntry (found_nest found) core (λ j m. j < length core → is_some (found_at found j) ≡ true) op i)
+    subst (λ (op : Option CoreOp). AfterEntry (found_nest found) core (λ j m. j < length core → is_some (found_at found j) ≡ true) op i)
     (sym (slice_get_past core i le)) tt
 
 pub all_closed : (core : List CoreOp) (before found : Found) (index : ℕ) → Gone core before found index false → length core ≤ index → IsClosed core found

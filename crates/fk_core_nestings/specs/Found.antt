@@ -54,7 +54,7 @@ abbrev pub noted : List (Option Nesting) → (index : ℕ) → Nesting → List 
 noted [] i n = []
 noted (None ∷ found) zero n = Some n ∷ found
 noted (Some m ∷ found) zero n = Some m ∷ found
-noted (known ∷ found) (suc i) n = known ∷ noted found i n
+noted (one ∷ found) (suc i) n = one ∷ noted found i n
 
 -- What is found with all that an operation tells of the indices to which it leads.
 abbrev pub noted_both : List (Option Nesting) → (i : ℕ) → Nesting → (j : ℕ) → Nesting

@@ -18,7 +18,7 @@ pub struct Nesting {
 
 impl Nesting {
     /// In the group of its function, and in the root.
-    pub fn outermost() -> Nesting
+    pub(crate) fn outermost() -> Nesting
         ensures { result ≡ n.outermost }
     {
         Nesting {
@@ -29,7 +29,7 @@ impl Nesting {
     }
 
     /// In the group of `start`, around which there is the root alone.
-    pub fn in_start() -> Nesting
+    pub(crate) fn in_start() -> Nesting
         ensures { result ≡ n.in_start }
     {
         Nesting {
@@ -40,7 +40,7 @@ impl Nesting {
     }
 
     /// In a part that the split at an index opens.
-    pub fn in_part(self, split: usize) -> Nesting
+    pub(crate) fn in_part(self, split: usize) -> Nesting
         ensures { result ≡ n.in_part split self }
     {
         Nesting {
@@ -51,7 +51,7 @@ impl Nesting {
     }
 
     /// After a frame of this many words.
-    pub fn with_frame(self, words: u32) -> Nesting
+    pub(crate) fn with_frame(self, words: u32) -> Nesting
         ensures { result ≡ n.with_frame words self }
     {
         Nesting {
