@@ -27,6 +27,7 @@ use Rattle.fk_gen.proofs.Values.{values_put, other_word}
 use Rattle.fk_gen.proofs.Standing.{InMemory, in_memory, stands_with, value_written}
 use Rattle.fk_gen.proofs.Walk.{can_run_goes, LocalAt}
 use Rattle.fk_sim_block.specs.Node.{Nestings, HasOuter, OwnsHeader, control_address, agreed_word}
+use Rattle.fk_sim_block.proofs.Spaces.{space_kept}
 use Rattle.fk_sim_block.specs.Lockstep.{IsMember, AreMembers, AllEnter, HaveStepped, highest_value, stepped, is_due}
 use Rattle.fk_gen_group.specs.Laws.{IsInPlace, GroupsAgree}
 use Rattle.fk_gen_group.proofs.Members.{Both, all_stand, entered, at_block, each_on, each_standing, stand_on, all_alone, all_at_own, own_word, values_of, no_values, told_highest, all_due, apart}
@@ -222,6 +223,7 @@ module _ (core : List CoreOp) (image : Image) (bound : ℕ → ℕ) (places : Pl
           node = record {
             node = keeps 10 (λ e. omega arith) ∙ member.node.node;
             body = tt;
+            space = space_kept p.runner.has.level p.runner.has.outer first_hart (last_hart m) (keeps 12 (λ e. omega arith)) (keeps 13 (λ e. omega arith)) member.node.space;
             outer = (subst (λ l. HasOuter places nestings setting.processors (number_of p) l (suc i ∷ callers) p.runner.has.outer) (sym local) outer, member.node.outer.1);
           };
           words = member.words;

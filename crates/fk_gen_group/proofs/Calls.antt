@@ -72,7 +72,7 @@ module _ (core : List CoreOp) (image : Image) (places : Places) (nestings : Nest
       outer_of_call places nestings setting.processors (number_of p) m.hart.local h'.local i back (suc i) callers p.runner.has.outer levels.few levels.stay levels.none (omega arith)
       (λ x lt. keeps.words x (omega arith))
       (subst (λ a. HasOuter places nestings setting.processors (number_of p) m.hart.local (a ∷ callers) p.runner.has.outer) en.index member.node.outer.0) in
-      stands_in_node places nestings setting runs first m p (owner_of d) h' member keeps.node keeps.body did.group
+      stands_in_node places nestings setting runs first m p (owner_of d) h' member keeps.node keeps.body keeps.frames keeps.blocks did.group
       (subst (λ cs. HasNestings places nestings setting.processors (number_of p) h'.local (owner_of d).runner.left.at (owner_of d).runner.left.callers cs p.runner.has.outer) (sym did.callers)
       (subst (λ (l : Position). HasNestings places nestings setting.processors (number_of p) h'.local l.at l.callers calls p.runner.has.outer) (sym did.left)
       (on, (omega arith, member.node.outer.1))))
@@ -120,7 +120,7 @@ module _ (core : List CoreOp) (image : Image) (places : Places) (nestings : Nest
       let on =
       outer_of_caller places nestings setting.processors (number_of p) m.hart.local h'.local i l.back l.call l.backs' l.calls' p.runner.has.outer levels.few levels.none below many
       (λ x lt. keeps.words x (omega arith)) held in
-      stands_in_node places nestings setting runs first m p (owner_of d) h' member keeps.node keeps.body did.group
+      stands_in_node places nestings setting runs first m p (owner_of d) h' member keeps.node keeps.body keeps.frames keeps.blocks did.group
       (subst (λ cs. HasNestings places nestings setting.processors (number_of p) h'.local (owner_of d).runner.left.at (owner_of d).runner.left.callers cs p.runner.has.outer)
       (sym (did.callers ∙ ap past l.are_calls))
       (subst (λ (x : Position). HasNestings places nestings setting.processors (number_of p) h'.local x.at x.callers l.calls' p.runner.has.outer)

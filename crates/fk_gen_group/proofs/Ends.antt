@@ -144,6 +144,7 @@ module _ (core : List CoreOp) (image : Image) (bound : ℕ → ℕ) (places : Pl
         node = record {
           node = refl;
           body = omega arith;
+          space = tt;
           outer = (at_root places nestings setting.processors (number_of p) first_hart.local (op.target ∷ callers) l none held, next.1.1);
         };
         words = refl;

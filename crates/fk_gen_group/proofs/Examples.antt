@@ -8,7 +8,7 @@ use Rattle.fk_machine.specs.Hart.{Hart}
 use Rattle.fk_sim_block.specs.Owner.{Owner}
 use Rattle.fk_sim_nodes.specs.Node.{Member}
 use Rattle.fk_sim_block.specs.Stands.{Frames, Places, StandsAt}
-use Rattle.fk_sim_block.specs.Node.{Nestings, HasLevelRoom, root_words}
+use Rattle.fk_sim_block.specs.Node.{Nestings, HasLevelRoom, root_words, control_address}
 use Rattle.fk_sim_block.specs.Lockstep.{IsMember}
 use Rattle.fk_gen_group.specs.Start.{gathering_of}
 
@@ -31,7 +31,7 @@ setting = record { processors = 4; globals = 0; inputs = 0 }
 
 -- a memory where word 7 begins the level of the group
 saved : Memory
-saved i = if i == 8 then 2 else if i == 9 then 3 else if i == 10 then 0x18000000 else 0
+saved i = if i == 7 then 3 else if i == 8 then 0x18000000 else if i == 9 then 0x18200000 else 0
 
 -- processor 2 in the root, in the group of `start`, and in a part of it
 in_level : (index : ℕ) → Level → List Level → Owner
@@ -65,6 +65,8 @@ registers level node body r =
     else if r == 9 then 0x20000100
     else if r == 10 then node
     else if r == 11 then body
+    else if r == 12 then control_address level.space.frames
+    else if r == 13 then control_address level.space.blocks
     else if r == 18 then level.number
     else if r == 19 then level.rank
     else if r == 20 then level.size
@@ -113,7 +115,7 @@ unfolding in_root in_level hart registers places frames setting nestings levels_
 is_in_root = record {
   number = refl;
   at = stands 0 (first_level setting 2) [] 0x18400000 4;
-  node = record { node = refl; body = refl; outer = ((omega arith, tt, tt), tt) };
+  node = record { node = refl; body = refl; space = tt; outer = ((omega arith, tt, tt), tt) };
   words = refl;
 }
 
@@ -122,7 +124,7 @@ unfolding in_start in_level group hart registers places frames setting nestings 
 is_in_start = record {
   number = refl;
   at = stands 3 group (first_level setting 2 ∷ []) 0x18000000 7;
-  node = record { node = refl; body = tt; outer = ((omega arith, tt, record { number = refl; rank = refl; size = refl }), tt) };
+  node = record { node = refl; body = tt; space = (refl, refl); outer = ((omega arith, tt, record { number = refl; rank = refl; size = refl }), tt) };
   words = refl;
 }
 
@@ -134,8 +136,9 @@ is_in_part = record {
   node = record {
     node = refl;
     body = tt;
+    space = (refl, refl);
     outer = (
-      (omega arith, (record { number = refl; rank = refl; size = refl; node = refl }, tt), record { number = refl; rank = refl; size = refl }),
+      (omega arith, (record { size = refl; node = refl; blocks = refl }, tt), record { number = refl; rank = refl; size = refl }),
       tt,
     );
   };

@@ -19,6 +19,7 @@ use Rattle.fk_sim_block.specs.Owner.{Owner, core_source}
 use Rattle.fk_sim_block.specs.Stands.{Places}
 use Rattle.fk_sim_block.specs.Block.{Enters}
 use Rattle.fk_sim_block.specs.Node.{Nestings}
+use Rattle.fk_sim_block.proofs.Spaces.{space_kept}
 use Rattle.fk_sim_block.specs.Lockstep.{IsMember, AllComeAlone, AllEnter, AreOfSize, HaveParted, highest_value, stepped, is_due}
 use Rattle.fk_gen_group.specs.Laws.{IsInPlace, GroupsSetFree}
 use Rattle.fk_gen_group.proofs.Members.{Both, all_stand, at_block, each_standing, all_alone, all_due, apart}
@@ -52,7 +53,12 @@ module _ (core : List CoreOp) (image : Image) (bound : ℕ → ℕ) (places : Pl
         is = record {
           number = member.number;
           at = behind.0;
-          node = record { node = member.node.node; body = omega arith; outer = behind.1 };
+          node = record {
+            node = member.node.node;
+            body = omega arith;
+            space = space_kept p.runner.has.level p.runner.has.outer m.hart (free_hart m) refl refl member.node.space;
+            outer = behind.1;
+          };
           words = member.words;
         };
       }

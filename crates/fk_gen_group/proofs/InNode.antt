@@ -31,7 +31,8 @@ use Rattle.fk_gen.specs.Lines.{label_of}
 use Rattle.fk_gen.proofs.Standing.{stands_with}
 use Rattle.fk_gen.proofs.Jumps.{jumps, jal_private}
 use Rattle.fk_gen.proofs.Does.{local_part, asks}
-use Rattle.fk_sim_block.specs.Node.{Nestings, StandsInNode, HasOuter, HasNestings, LieBelow, saved_at, first_word, control_address}
+use Rattle.fk_sim_block.specs.Node.{Nestings, StandsInNode, KnowsSpace, HasOuter, HasNestings, LieBelow, saved_at, first_word, control_address}
+use Rattle.fk_sim_block.proofs.Spaces.{space_kept}
 use Rattle.fk_sim_block.specs.Lockstep.{IsMember}
 use Rattle.fk_sim_block.specs.Law.{Cycles, BlockDoesInNode, HasDoneInNode, way_by, way_of}
 use Rattle.fk_gen_group.specs.InNode.{HasLevels, JumpsStayInNode}
@@ -45,16 +46,20 @@ pub record SameGroup (p q : Processor) : Type 0 where
   pub level : q.level ≡ p.level
   pub outer : q.outer ≡ p.outer
 
--- one that keeps a0 and a1, and finds the levels round its processor, which is in the same group
+-- one that keeps a0 to a3, and finds the levels round its processor, which is in the same group
 pub stands_in_node : (places : Places) (nestings : Nestings) (setting : Setting) (runs : Option ℕ) (first : ℕ) (m : Member) (p q : Owner) (h' : Hart)
-    → IsMember places nestings setting runs first m p → h'.registers 10 ≡ m.hart.registers 10 → h'.registers 11 ≡ m.hart.registers 11 → SameGroup p.runner.has q.runner.has
+    → IsMember places nestings setting runs first m p → h'.registers 10 ≡ m.hart.registers 10 → h'.registers 11 ≡ m.hart.registers 11 → h'.registers 12 ≡ m.hart.registers 12
+    → h'.registers 13 ≡ m.hart.registers 13 → SameGroup p.runner.has q.runner.has
     → HasNestings places nestings setting.processors (number_of p) h'.local q.runner.left.at q.runner.left.callers q.runner.has.callers p.runner.has.outer
     → StandsInNode places nestings setting runs q h'
-stands_in_node places nestings setting runs first m p q h' member node body group held = record {
+stands_in_node places nestings setting runs first m p q h' member node body frames blocks group held = record {
   node =
       node ∙ member.node.node
       ∙ sym (ap (λ l. control_address (first_word l q.runner.has.outer)) group.level ∙ ap (λ o. control_address (first_word p.runner.has.level o)) group.outer);
   body = body_kept runs (m.hart.registers 11) (h'.registers 11) body member.node.body;
+  space =
+      subst (λ l. KnowsSpace l q.runner.has.outer h') (sym group.level)
+      (subst (λ o. KnowsSpace p.runner.has.level o h') (sym group.outer) (space_kept p.runner.has.level p.runner.has.outer m.hart h' frames blocks member.node.space));
   outer =
       subst (λ k. HasNestings places nestings setting.processors k h'.local q.runner.left.at q.runner.left.callers q.runner.has.callers q.runner.has.outer) (sym group.number)
       (subst (λ o. HasNestings places nestings setting.processors (number_of p) h'.local q.runner.left.at q.runner.left.callers q.runner.has.callers o) (sym group.outer) held);
@@ -213,7 +218,7 @@ module _ (core : List CoreOp) (image : Image) (places : Places) (nestings : Nest
       let start = starts_behind places nestings n i few in
       keeps.words x (omega arith) (omega arith) (λ word w e. let apart = levels.apart (omega arith) word w in omega arith))
       (subst (λ a. HasOuter places nestings setting.processors (number_of p) m.hart.local (a ∷ callers) p.runner.has.outer) en.index outer) in
-      stands_in_node places nestings setting runs first m p (owner_of d) h' member keeps.node keeps.body same.same.group
+      stands_in_node places nestings setting runs first m p (owner_of d) h' member keeps.node keeps.body keeps.frames keeps.blocks same.same.group
       (subst (λ (l : Position). HasNestings places nestings setting.processors (number_of p) h'.local l.at l.callers (owner_of d).runner.has.callers p.runner.has.outer) (sym same.left)
       (on, subst (LieBelow places nestings callers) (sym same.same.callers) member.node.outer.1))
     where
@@ -272,6 +277,7 @@ jumps_stay_in_node core image bound places nestings i op block flows few stay se
       node = record {
         node = member.node.node;
         body = member.node.body;
+        space = space_kept p.runner.has.level p.runner.has.outer h (jumps h 0 (4 * bound (label_of op.target))) refl refl member.node.space;
         outer = (
           outer_by places nestings setting.processors (number_of p) h.local h.local i op.target callers p.runner.has.outer few stay (λ x le lt. refl) (λ x le lt. refl)
               (subst (λ a. HasOuter places nestings setting.processors (number_of p) h.local (a ∷ callers) p.runner.has.outer) at member.node.outer.0),

@@ -13,10 +13,9 @@ saved_kept m m' at zero levels same held = tt
 saved_kept m m' at (suc n) [] same held = absurd held
 saved_kept m m' at (suc n) (l ∷ levels) same held = (
   record {
-    number = same (at + 4 * n) (omega arith) (omega arith) ∙ held.0.number;
-    rank = same (at + 4 * n + 1) (omega arith) (omega arith) ∙ held.0.rank;
-    size = same (at + 4 * n + 2) (omega arith) (omega arith) ∙ held.0.size;
-    node = same (at + 4 * n + 3) (omega arith) (omega arith) ∙ held.0.node;
+    size = same (at + 4 * n) (omega arith) (omega arith) ∙ held.0.size;
+    node = same (at + 4 * n + 1) (omega arith) (omega arith) ∙ held.0.node;
+    blocks = same (at + 4 * n + 2) (omega arith) (omega arith) ∙ held.0.blocks;
   },
   saved_kept m m' at n levels (λ j le lt. same j le (omega arith)) held.1,
 )

@@ -22,6 +22,7 @@ use Rattle.fk_gen.specs.InPlace.{HasBlock}
 use Rattle.fk_gen.proofs.Walk.{private}
 use Rattle.fk_sim_block.specs.Node.{Nestings, StandsInNode, OwnsHeader, control_address, barrier_word, closing_word, body_register}
 use Rattle.fk_gen_group.specs.Meeting.{IsMeeting, HasMeeting, IsReadyToMeet}
+use Rattle.fk_sim_block.proofs.Spaces.{space_kept}
 use Rattle.fk_sim_block.specs.Lockstep.{IsMember}
 use Rattle.fk_gen_group.specs.Blocks.{meeting_of, meet_block}
 use Rattle.fk_sim_block.specs.Joint.{is_meeting}
@@ -51,6 +52,7 @@ module _ (core : List CoreOp) (image : Image) (bound : ℕ → ℕ) (places : Pl
         record {
           node = kept m.hart h 10 same (omega arith) ∙ member.node.node;
           body = body_kept runs (m.hart.registers 11) (h.registers 11) (kept m.hart h 11 same (omega arith)) member.node.body;
+          space = space_kept p.runner.has.level p.runner.has.outer m.hart h (kept m.hart h 12 same (omega arith)) (kept m.hart h 13 same (omega arith)) member.node.space;
           outer = next.1;
         },
       )

@@ -28,6 +28,7 @@ use Rattle.fk_gen.specs.Lines.{label_of}
 use Rattle.fk_gen.proofs.Walk.{private}
 use Rattle.fk_gen.proofs.Jumps.{jumps, goes_to_pc, jal_private, beq_taken, beq_on}
 use Rattle.fk_sim_block.specs.Node.{Nestings, OwnsHeader, control_address, agreed_word}
+use Rattle.fk_sim_block.proofs.Spaces.{space_kept}
 use Rattle.fk_sim_block.specs.Lockstep.{IsMember, AllComeAlone, LevelsStay, HaveParted, NoneIs, IsLowest, one_runs, is_due}
 use Rattle.fk_gen_group.specs.Laws.{IsInPlace, GroupsSendOne}
 use Rattle.fk_gen_group.proofs.Members.{Both, all_stand, entered, at_block, each_on, stand_on, all_alone, all_at_own, all_due, apart}
@@ -277,6 +278,7 @@ module _ (core : List CoreOp) (image : Image) (bound : ℕ → ℕ) (places : Pl
           node = record {
             node = kept near.hart m.hart 10 most (omega arith) ∙ member.node.node;
             body = omega arith;
+            space = space_kept p.runner.has.level p.runner.has.outer near.hart (lowest_hart m.hart) (kept near.hart m.hart 12 most (omega arith)) (kept near.hart m.hart 13 most (omega arith)) member.node.space;
             outer = behind.1;
           };
           words = member.words;
@@ -313,6 +315,7 @@ module _ (core : List CoreOp) (image : Image) (bound : ℕ → ℕ) (places : Pl
           node = record {
             node = kept near.hart (other_hart m.hart) 10 most (omega arith) ∙ member.node.node;
             body = tt;
+            space = space_kept p.runner.has.level p.runner.has.outer near.hart (other_hart m.hart) (kept near.hart (other_hart m.hart) 12 most (omega arith)) (kept near.hart (other_hart m.hart) 13 most (omega arith)) member.node.space;
             outer = behind.1;
           };
           words = member.words;

@@ -1,11 +1,14 @@
--- How many go into the group of `start`, as its lines compute it.
-use Rattle.std.proofs.Common.{◌≡◌, ℕ, ◌*◌, ◌/◌, ◌^◌, ◌<◌, ◌≤◌, true, false, sym, ap, ◌∙◌, arith, ◌⊎◌, inl, inr}
+-- How many go into the group of `start`, and where its blocks end, as its lines compute it.
+use Rattle.std.proofs.Common.{◌≡◌, ℕ, ◌+◌, ◌-◌, ◌*◌, ◌/◌, ◌^◌, ◌<◌, ◌≤◌, true, false, sym, ap, ◌∙◌, arith, ◌⊎◌, inl, inr}
 use Rattle.std.specs.Prelude.{nat_lt, min, if◌then◌else◌}
 use Rattle.std.specs.Int.{from_bool}
 use Rattle.std.proofs.lemmas.Bool.{cases_lt, lt-ltb, le-ltb}
 use Rattle.std.proofs.Math.Nat.{min-eq_left, min-eq_right}
 use Rattle.fk_num.specs.Word.{word, word_sum}
+use Rattle.fk_num.specs.Op.{applied}
+use Rattle.fk_num.specs.declared.operator.Op.TheVariants.{Add, Shl, ShrU}
 use Rattle.fk_meaning.specs.Group.{not_negative}
+use Rattle.fk_sim_block.specs.Node.{control_address}
 
 -- 0 for a negative word
 abbrev pub positive : (v : ℕ) → ℕ
@@ -55,3 +58,10 @@ below_lesser n c size lt = by (cases_lt c size)
     by : (c < size) ⊎ (size ≤ c) → nat_lt n (min c size) ≡ nat_lt n c
     by (inl less) = ap (nat_lt n) (min-eq_left {n = c} {m = size} (omega arith))
     by (inr le) = ap (nat_lt n) (min-eq_right {n = size} {m = c} le) ∙ lt-ltb n size lt ∙ sym (lt-ltb n c (omega arith))
+
+-- the address of the control word halfway from the one with this address to those of the root
+abbrev pub halfway : (address : ℕ) → ℕ
+halfway a = applied Shl (applied ShrU (applied Add (0x18400 * 4096) a) 3) 2
+
+pub halfway_is : (low : ℕ) → low ≤ 2 ^ 20 → halfway (control_address low) ≡ control_address (low + (2 ^ 20 - low) / 2)
+halfway_is low le = omega arith

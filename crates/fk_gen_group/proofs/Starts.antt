@@ -1,5 +1,5 @@
 -- The beginning of `start`.
-use Rattle.std.proofs.Common.{◌≡◌, ℕ, suc, ◌+◌, ◌*◌, ◌/◌, ◌%◌, ◌<◌, ◌≤◌, List, [], ◌∷◌, ◌++◌, length, map, Bool, true, false, Some, None, sym, ap, subst, ◌∙◌, arith, refl}
+use Rattle.std.proofs.Common.{◌≡◌, ℕ, suc, ◌+◌, ◌*◌, ◌/◌, ◌%◌, ◌^◌, ◌<◌, ◌≤◌, List, [], ◌∷◌, ◌++◌, length, map, Bool, true, false, Some, None, sym, ap, subst, ◌∙◌, arith, refl}
 use Rattle.std.specs.Prelude.{◌==◌, ◌||◌, nat_lt, if◌then◌else◌}
 use Rattle.std.proofs.Math.Nat.{min-le_right}
 use Rattle.fk_num.specs.Word.{Memory, word_sum}
@@ -44,7 +44,8 @@ use Rattle.fk_gen_group.proofs.Phases.{kept_at, keeps_polling, on_its_way}
 use Rattle.fk_gen_group.proofs.Members.{Both, all_stand, each_on, all_at_own, own_word, values_of, no_values, told_highest, all_due, apart}
 use Rattle.fk_gen_group.proofs.Last.{value_word, is_value, is_last}
 use Rattle.fk_gen_group.proofs.Behind.{goes_behind_with}
-use Rattle.fk_gen_group.proofs.Sizes.{sized, sized_is, below_lesser}
+use Rattle.fk_gen_group.proofs.Sizes.{sized, sized_is, below_lesser, halfway, halfway_is}
+use Rattle.fk_sim_block.proofs.Spaces.{space_kept}
 
 -- the root is round a processor that enters the group
 under_root : (places : Places) (nestings : Nestings) (processors number : ℕ) (m : Memory) (indices : List ℕ) (l : Level) → IsRoot processors number l → NoneSaved nestings indices
@@ -84,7 +85,8 @@ module _ (core : List CoreOp) (image : Image) (bound : ℕ → ℕ) (places : Pl
   abbrev group_code : Quiets
   group_code =
       (Addi 20 28 0, Plain) ∷ (Lw 5 26 28, TellsInputs) ∷ (Slli 5 5 2, Plain) ∷ (Lui 6 (high_part (group_words globals)), Plain) ∷
-      (Addi 6 6 (low_part (group_words globals)), Plain) ∷ (Add 10 5 6, Plain) ∷ []
+      (Addi 6 6 (low_part (group_words globals)), Plain) ∷ (Add 10 5 6, Plain) ∷ (Addi 12 10 32, Plain) ∷
+      (Lui 5 0x18400, Plain) ∷ (Add 5 5 10, Plain) ∷ (Srli 5 5 3, Plain) ∷ (Slli 13 5 2, Plain) ∷ []
 
   lines_behind : LinesAt image bound (base + 11) telling_lines × LinesAt image bound (base + 13) size_lines × LinesAt image bound (base + 21) (parting_lines globals)
   lines_behind =
@@ -348,6 +350,7 @@ module _ (core : List CoreOp) (image : Image) (bound : ℕ → ℕ) (places : Pl
             node = record {
               node = met.met.others 10 refl ∙ met.member.node.node;
               body = met.met.others 11 refl ∙ met.member.node.body;
+              space = space_kept p.runner.has.level p.runner.has.outer met.first waiting_hart (met.met.others 12 refl) (met.met.others 13 refl) met.member.node.space;
               outer = next.1;
             };
             words = refl;
@@ -364,7 +367,7 @@ module _ (core : List CoreOp) (image : Image) (bound : ℕ → ℕ) (places : Pl
       abbrev body_hart : Hart
       body_hart = jumps told_part 0 (4 * (places.block i + 3))
 
-      goes_in : is_taken v p.runner.has ≡ true → RunsPrivately image t m.number 16 told_hart body_hart
+      goes_in : is_taken v p.runner.has ≡ true → RunsPrivately image t m.number 21 told_hart body_hart
       goes_in e =
           let parting = lines_behind.2 in
           let tail = lines_split image bound (suc (suc (base + 21))) (quiet_lines group_code) (quiet (Jalr 0 1 4) ∷ []) parting.1.1 in
@@ -377,18 +380,18 @@ module _ (core : List CoreOp) (image : Image) (bound : ℕ → ℕ) (places : Pl
           let to = link in
           let devices : knows.hart.registers 26 ≡ 0x30000000 = met.met.others 26 refl ∙ met.enters.at.stands.devices in
           let part_pc : part_hart.pc ≡ 4 * suc (suc (base + 21)) = omega arith in
-          let w = walked image bound t2 m.number running.code group_code (suc (suc (base + 21))) part_hart tail.0 part_pc sizes.2 (tt, (ap (λ a. word_sum a 28) devices, (tt, (tt, (tt, (tt, tt)))))) in
+          let w = walked image bound t2 m.number running.code group_code (suc (suc (base + 21))) part_hart tail.0 part_pc sizes.2 (tt, (ap (λ a. word_sum a 28) devices, (tt, (tt, (tt, (tt, (tt, (tt, (tt, (tt, (tt, tt))))))))))) in
           let aligned : 4 * (places.block i + 3) % 4 ≡ 0 = omega arith in
           let target : word_sum (knows.hart.registers 1) 4 / 2 * 2 ≡ 4 * (places.block i + 3) = omega arith in
-          let k = suc (suc (base + 21)) + 6 in
-          runs_join image t m.number 8 8 told_hart sized_hart body_hart sizes.0 (
+          let k = suc (suc (base + 21)) + 11 in
+          runs_join image t m.number 8 13 told_hart sized_hart body_hart sizes.0 (
             part_hart,
             private image t1 m.number (base + 21) (Bltu 19 28 8) sized_hart part_hart running.code parting.0 pc sizes.2
                 (λ s. (s.reserved, bltu-taken t1 m.number 19 28 8 sized_hart s (goes_on ∙ e) (omega arith))),
-            runs_join image t2 m.number 6 1 part_hart told_part body_hart w.runs (
+            runs_join image t2 m.number 11 1 part_hart told_part body_hart w.runs (
               body_hart,
-              private image (in_cycles 6 t2) m.number k (Jalr 0 1 4) told_part body_hart running.code tail.1.0 w.pc w.live
-                  (λ s. (s.reserved, jalr_goes (in_cycles 6 t2) m.number 0 1 4 (4 * (places.block i + 3)) told_part s target aligned)),
+              private image (in_cycles 11 t2) m.number k (Jalr 0 1 4) told_part body_hart running.code tail.1.0 w.pc w.live
+                  (λ s. (s.reserved, jalr_goes (in_cycles 11 t2) m.number 0 1 4 (4 * (places.block i + 3)) told_part s target aligned)),
               refl,
             ),
           )
@@ -412,6 +415,30 @@ module _ (core : List CoreOp) (image : Image) (bound : ℕ → ℕ) (places : Pl
           let parts = number_of_parts (group_words globals) in
           let low = ap (λ (s : _). s.low) met.root.space in
           omega arith
+
+      -- the space of the group, which is whole
+      group_frames_is : body_hart.registers 12 ≡ control_address p.runner.has.level.space.frames
+      group_frames_is =
+          let words = group_words_is in
+          let low = ap (λ (s : _). s.low) met.root.space in
+          let frames = ap (λ (s : _). s.frames) met.root.space in
+          let few = shared.few in
+          let few_inputs = running.few_inputs in
+          let inputs = running.inputs in
+          let globals_is = running.globals in
+          ap (λ a. word_sum a 32) words ∙ omega arith
+
+      group_blocks_is : body_hart.registers 13 ≡ control_address p.runner.has.level.space.blocks
+      group_blocks_is =
+          let words = group_words_is in
+          let low = ap (λ (s : _). s.low) met.root.space in
+          let blocks = ap (λ (s : _). s.blocks) met.root.space in
+          let few = shared.few in
+          let few_inputs = running.few_inputs in
+          let inputs = running.inputs in
+          let globals_is = running.globals in
+          let within : p.runner.has.level.space.low ≤ 2 ^ 20 = omega arith in
+          ap halfway words ∙ halfway_is p.runner.has.level.space.low within ∙ ap control_address (ap (λ n. n + (2 ^ 20 - n) / 2) low ∙ sym blocks)
 
       is_in_group : IsMember places nestings setting None (first_word grouped.runner.has.level grouped.runner.has.outer) (record m { hart = body_hart }) grouped
       is_in_group =
@@ -452,6 +479,7 @@ module _ (core : List CoreOp) (image : Image) (bound : ℕ → ℕ) (places : Pl
             node = record {
               node = group_words_is;
               body = tt;
+              space = (group_frames_is, group_blocks_is);
               outer = (
                 subst (λ o. HasOuter places nestings setting.processors (number_of p) knows.hart.local indices (p.runner.has.level ∷ o)) (sym met.root.outer)
                     (under_root places nestings setting.processors (number_of p) knows.hart.local indices p.runner.has.level met.root.level none outer),
@@ -474,7 +502,7 @@ module _ (core : List CoreOp) (image : Image) (bound : ℕ → ℕ) (places : Pl
       }
 
       abbrev steps_behind : (onward : Bool) → ℕ
-      steps_behind onward = if onward then 16 else 11
+      steps_behind onward = if onward then 21 else 11
 
       part_of : (hart : Hart) (taken : Bool) → is_taken v p.runner.has ≡ taken → RunsPrivately image t m.number (steps_behind taken) told_hart hart
           → IsMember places nestings setting (runs_behind_start setting taken) (first_word (went taken).runner.has.level (went taken).runner.has.outer) (record m { hart = hart }) (went taken)
@@ -494,7 +522,7 @@ module _ (core : List CoreOp) (image : Image) (bound : ℕ → ℕ) (places : Pl
     -- ---- all of them
 
     abbrev AllCome : ℕ → List Member → List Owner → Type 0
-    AllCome v ms ps = AllComeToParts core image places nestings i op setting (later (later t0)) (λ onward. if onward then 16 else 11) v lowest ms ps
+    AllCome v ms ps = AllComeToParts core image places nestings i op setting (later (later t0)) (λ onward. if onward then 21 else 11) v lowest ms ps
 
     all_come : (v : ℕ) (ms : List Member) (ps : List Owner) → Both (Knows v) ms ps → AllCome v ms ps
     all_come v [] [] all = tt
@@ -535,7 +563,7 @@ module _ (core : List CoreOp) (image : Image) (bound : ℕ → ℕ) (places : Pl
         (all_at_own Met mine (λ h. word_sum (h.registers 10) 8) w ms ps at_agreed all))
 
     abbrev Behind : List Owner → Memory → List Member → Memory → Type 0
-    Behind ps own ms' own' = HaveStarted core image places nestings i op setting (later (later t0)) (λ onward. if onward then 16 else 11) lowest ps own ms' own'
+    Behind ps own ms' own' = HaveStarted core image places nestings i op setting (later (later t0)) (λ onward. if onward then 21 else 11) lowest ps own ms' own'
 
     commit_cycle : (ms : List Member) (ps : List Owner) (before own : Memory) → HaveStored ps before ms own → NodeCycle image mine (later t0) 1 ms own (λ ms' own'. Behind ps before ms' own')
     commit_cycle ms ps before own has =

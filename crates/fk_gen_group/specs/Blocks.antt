@@ -17,8 +17,8 @@ use Rattle.fk_gen.specs.Registers.{zero_register, ra, t0, t1, t2, t3}
 use Rattle.fk_gen.specs.Lines.{quiet, commits, goes_to, at_value, label_of, high_part, low_part}
 use Rattle.fk_gen.specs.InPlace.{LinesAt}
 use Rattle.fk_gen.specs.declared.placed.Placed.{Placed}
-use Rattle.fk_sim_block.specs.Node.{node_register, body_register, barrier_word, closing_word}
-use Rattle.fk_sim_block.specs.Node.{agreed_word, control_address}
+use Rattle.fk_sim_block.specs.Node.{node_register, body_register, frames_register, blocks_register}
+use Rattle.fk_sim_block.specs.Node.{barrier_word, closing_word, agreed_word, control_address}
 use Rattle.fk_gen_group.specs.Meeting.{Meeting, meeting_lines}
 
 -- A meeting whose leaving is the operation, with the number of members in a register.
@@ -108,7 +108,8 @@ abbrev pub group_words : (globals : ℕ) → ℕ
 group_words globals = control_address globals
 
 -- A processor whose number is not below the size goes back to wait. The others get the size of
--- their group, and its control words.
+-- their group, its control words and its space. The frames begin after the header. The blocks begin
+-- at the end of the space, which is halfway from its first word to the root's control words.
 abbrev pub parting_lines : (globals : ℕ) → List MarkedLine
 parting_lines globals =
     quiet (Bltu rank_register t3 8) ∷ quiet (Jalr zero_register ra 0) ∷
@@ -116,7 +117,9 @@ parting_lines globals =
     quiet (Lw t0 device_register 28) ∷ quiet (Slli t0 t0 2) ∷
     quiet (Lui t1 (high_part (group_words globals))) ∷
     quiet (Addi t1 t1 (low_part (group_words globals))) ∷ quiet (Add node_register t0 t1)
-    ∷ quiet (Jalr zero_register ra 4) ∷ []
+    ∷ quiet (Addi frames_register node_register 32) ∷
+    quiet (Lui t0 0x18400) ∷ quiet (Add t0 t0 node_register) ∷ quiet (Srli t0 t0 3) ∷
+    quiet (Slli blocks_register t0 2) ∷ quiet (Jalr zero_register ra 4) ∷ []
 
 abbrev pub meet_lines : List MarkedLine
 meet_lines = quiet (Addi t2 node_register (4 * closing_word)) ∷ meeting_lines gathering

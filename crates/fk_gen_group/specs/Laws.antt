@@ -75,7 +75,7 @@ GroupsEnd =
 
 -- At the beginning of `start` all processors meet in the root, after at most 9 cycles. Two cycles
 -- after the one in which they leave they commit, and know the last value of the highest. Those with
--- numbers below it come 16 cycles later to the body, in the group. The others come 11 cycles later
+-- numbers below it come 21 cycles later to the body, in the group. The others come 11 cycles later
 -- to where they wait.
 abbrev pub GroupsStart : Type 0
 GroupsStart =
@@ -84,4 +84,4 @@ GroupsStart =
     → HasStart image bound → IsInPlace core image bound places nestings i op Begin
     → LevelsStay nestings i op.target
     → BlockStarts core image places nestings i op (gathered_at bound)
-    (who_comes bound op.depth) 9 1 (λ onward. if onward then 16 else 11)
+    (who_comes bound op.depth) 9 1 (λ onward. if onward then 21 else 11)

@@ -10,7 +10,7 @@ use fk_asm::Assembler;
 use fk_gen::numbers::{high_part, low_part};
 use fk_gen::registers::{DEVICES, RA, RANK, SIZE, T0, T1, T2, T3, ZERO};
 use fk_gen::{BlockLine, emit_lines};
-use fk_gen_flow::registers::NODE;
+use fk_gen_flow::registers::{BLOCKS, FRAMES, NODE};
 use fk_isa::Instruction;
 use std::alloc::AllocError;
 
@@ -31,7 +31,7 @@ const INPUTS_DEVICE: u32 = 28;
 /// caller binds `START_LABEL` to the code's first line.
 pub fn emit_start(into: &mut Assembler, globals: u32) -> Result<(), AllocError>
     requires few { globals ≤ 2 ^ 19 }
-    requires room { length into.old.lines + 30 < 2 ^ 30 }
+    requires room { length into.old.lines + 35 < 2 ^ 30 }
     requires free { AreFollowed into.old }
     ensures added { OnOk result (into.new ≡ with_block into.old (start_lines globals)) }
 {
@@ -104,10 +104,10 @@ fn emit_size(into: &mut Assembler) -> Result<(), AllocError>
 }
 
 // A processor whose number is not below the size goes back to wait. The others get the size of
-// their group, and its control words.
+// their group, its control words and its space.
 fn emit_parting(into: &mut Assembler, globals: u32) -> Result<(), AllocError>
     requires few { globals ≤ 2 ^ 19 }
-    requires room { length into.old.lines + 9 < 2 ^ 30 }
+    requires room { length into.old.lines + 14 < 2 ^ 30 }
     requires free { AreFollowed into.old }
     ensures added { OnOk result (into.new ≡ with_block into.old (parting_lines globals)) }
 {
@@ -123,6 +123,11 @@ fn emit_parting(into: &mut Assembler, globals: u32) -> Result<(), AllocError>
             BlockLine::quiet(Instruction::Lui(T1, high_part(words))),
             BlockLine::quiet(Instruction::Addi(T1, T1, low_part(words))),
             BlockLine::quiet(Instruction::Add(NODE, T0, T1)),
+            BlockLine::quiet(Instruction::Addi(FRAMES, NODE, 32)),
+            BlockLine::quiet(Instruction::Lui(T0, 0x18400)),
+            BlockLine::quiet(Instruction::Add(T0, T0, NODE)),
+            BlockLine::quiet(Instruction::Srli(T0, T0, 3)),
+            BlockLine::quiet(Instruction::Slli(BLOCKS, T0, 2)),
             BlockLine::quiet(Instruction::Jalr(ZERO, RA, 4)),
         ],
     )

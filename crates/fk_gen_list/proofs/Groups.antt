@@ -106,7 +106,7 @@ module _ (core : List CoreOp) (image : Image) (bound : ℕ → ℕ) (places : Pl
       let there = gathered_at bound in
       let coming = who_comes bound op.depth in
       let block = groups_start core image bound places nestings i op code.start (in_place i op Begin stands refl) (levels.leads i op Begin stands refl) in
-      let begun : BlockStarts core image places nestings i op there coming most_to_start 1 (λ onward. if onward then 16 else 11) = record {
+      let begun : BlockStarts core image places nestings i op there coming most_to_start 1 (λ onward. if onward then 21 else 11) = record {
         meets = λ setting t mine m p owns en member root.
             let met = block.meets setting t mine m p owns en member root in
             (met.0, omega (arith, met.1), met.2);

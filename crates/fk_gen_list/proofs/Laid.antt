@@ -78,7 +78,7 @@ length-copying = let e = length-chain copy_label copy_offset copy_lines 2 copyin
 pub length-clearing : length clearing_lines ≡ 57
 length-clearing = let e = length-chain clear_label clear_offset clear_lines 1 clearing_chain in omega (arith, e)
 
-pub length-start : (globals : ℕ) → length (start_lines globals) ≡ 30
+pub length-start : (globals : ℕ) → length (start_lines globals) ≡ 35
 length-start globals = refl
 
 -- a chain stands in an image where it stands among its lines
@@ -138,7 +138,7 @@ module _ (block : Placed → List MarkedLine) (opening : List MarkedLine) (globa
       let clearing = length-clearing in
       omega (arith, sum, first, clearing)
 
-  pub length-front : length (front opening globals) ≡ length opening + 200
+  pub length-front : length (front opening globals) ≡ length opening + 205
   length-front =
       let sum = length-append (calls_front opening) (start_lines globals) in
       let first = length-calls in

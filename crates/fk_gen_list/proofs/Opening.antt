@@ -31,6 +31,7 @@ groups_begin core image bound places nestings firsts main opening are is_main no
       node = record {
         node = begun.node;
         body = begun.body;
+        space = tt;
         outer = root_nestings places nestings setting.processors number main begun.begins.hart.local none main_room;
       };
     }

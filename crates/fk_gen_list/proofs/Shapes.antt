@@ -385,4 +385,4 @@ start_goes n globals =
     (All-from_recursion IsUnlabeled group.telling_lines (refl, (refl, tt)))
     (All-append IsUnlabeled group.size_lines (group.parting_lines globals)
     (All-from_recursion IsUnlabeled group.size_lines (refl, (refl, (refl, (refl, (refl, (refl, (refl, (refl, tt)))))))))
-    (All-from_recursion IsUnlabeled (group.parting_lines globals) (refl, (refl, (refl, (refl, (refl, (refl, (refl, (refl, (refl, tt)))))))))))))
+    (All-from_recursion IsUnlabeled (group.parting_lines globals) (refl, (refl, (refl, (refl, (refl, (refl, (refl, (refl, (refl, (refl, (refl, (refl, (refl, (refl, tt))))))))))))))))))

@@ -65,7 +65,7 @@ module _ (core : List CoreOp) (kept : List Set) (main : ℕ) (firsts : List ℕ)
   pub few_firsts : length firsts ≤ 56
   few_firsts = let few = is.suits.few in let same = is.of_file in omega arith
 
-  pub length-whole : length whole ≡ 3 * length firsts + 215 + length (flat_map block_of ops)
+  pub length-whole : length whole ≡ 3 * length firsts + 220 + length (flat_map block_of ops)
   length-whole =
       let sum = length-append (front opening globals) (flat_map block_of ops) in
       let first = length-front block_of opening globals ops in

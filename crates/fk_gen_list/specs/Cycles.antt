@@ -45,7 +45,7 @@ before_of op Seq = 3
 before_of op operation = before_in (lone_kind operation) op operation
 
 abbrev pub behind_of : Placed → Operation → (onward : Bool) → ℕ
-behind_of here Begin onward = if onward then 16 else 11
+behind_of here Begin onward = if onward then 21 else 11
 behind_of here Agree onward = 1
 behind_of here Seq onward = 2
 behind_of here End onward = 6

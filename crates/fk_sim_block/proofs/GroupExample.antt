@@ -28,6 +28,7 @@ use Rattle.fk_sim_block.specs.Stands.{Places, HasValues}
 use Rattle.fk_sim_block.specs.Next.{StandsOp, step_at as step_of}
 use Rattle.fk_sim_block.specs.Ready.{is_alone}
 use Rattle.fk_sim_block.specs.Block.{IsRunning, BlockHalts, beginner}
+use Rattle.fk_sim_block.proofs.Spaces.{space_kept}
 use Rattle.fk_sim_block.proofs.Standing.{operations_are_next}
 use Rattle.fk_sim_block.proofs.Example.{drops, halts}
 use Rattle.fk_sim_block.specs.Node.{Nestings}
@@ -151,7 +152,7 @@ begins image code setting t number running =
           };
         };
       };
-      node = record { node = refl; body = omega (arith, e, few); outer = ((omega arith, tt, tt), tt) };
+      node = record { node = refl; body = omega (arith, e, few); space = tt; outer = ((omega arith, tt, tt), tt) };
     }
 
 values_before : (m : Memory) (behind : ℕ) (vs : List ℕ) → HasValues m behind vs → HasValues m behind (before 1 vs)
@@ -206,7 +207,7 @@ drop_does image code at setting t runs first m p en member =
                   };
                 };
               };
-              node = record { node = member.node.node; body = member.node.body; outer = member.node.outer };
+              node = record { node = member.node.node; body = member.node.body; space = space_kept p.runner.has.level p.runner.has.outer h (moves h) refl refl member.node.space; outer = member.node.outer };
             },
           );
         });

@@ -2,6 +2,8 @@
 pub mod Standing
 -- the law of blocks, made once
 pub mod Example
+-- the space that a hart knows
+pub mod Spaces
 -- members of a group in lockstep
 pub mod Together
 -- the law, made once

@@ -47,13 +47,20 @@ pub record IsAtRest (first : ℕ) (own : Memory) : Type 0 where
 
 -- ---- what a hart has of its node and of the groups around it
 
--- Registers of a hart: the address of its node's first control word, and how many members run the
--- body of an asynchronous node.
+-- Registers of a hart: the address of its node's first control word; how many members run the body
+-- of an asynchronous node; and, in its group's space, the addresses of the first control word after
+-- the frames, and of that of the first block.
 abbrev pub node_register : ℕ
 node_register = 10
 
 abbrev pub body_register : ℕ
 body_register = 11
+
+abbrev pub frames_register : ℕ
+frames_register = 12
+
+abbrev pub blocks_register : ℕ
+blocks_register = 13
 
 -- Where in the code a hart polls, and which registers change while it does.
 pub record Polling : Type 0 where
@@ -89,13 +96,13 @@ pub record IsRoot (processors processor : ℕ) (level : Level) : Type 0 where
   pub rank : level.rank ≡ processor
   pub size : level.size ≡ processors
 
--- A level is four words: `@`, `$`, the size of the group, and the address of its node's first
--- control word.
+-- A level has four words, of which three are used: the size of the group, and the addresses of its
+-- node's first control word and of that of its first block. `@` and `$` stay in a part of any split
+-- but a `fork`. How many words the frames take is known where a part ends.
 pub record HasLevel (memory : Memory) (at : ℕ) (level : Level) (outer : List Level) : Type 0 where
-  pub number : memory at ≡ level.number
-  pub rank : memory (at + 1) ≡ level.rank
-  pub size : memory (at + 2) ≡ level.size
-  pub node : memory (at + 3) ≡ control_address (first_word level outer)
+  pub size : memory at ≡ level.size
+  pub node : memory (at + 1) ≡ control_address (first_word level outer)
+  pub blocks : memory (at + 2) ≡ control_address level.space.blocks
 
 -- `count` levels of a frame from a word on. The innermost level has the highest words.
 abbrev pub HasSaved : Memory → (at count : ℕ) → List Level → Type 0
@@ -113,6 +120,13 @@ abbrev pub IsOutermost : (processors number : ℕ) → List Level → Type 0
 IsOutermost processors number [] = Unit {0}
 IsOutermost processors number (l ∷ []) = IsRoot processors number l
 IsOutermost processors number (l ∷ m ∷ levels) = ⊥
+
+-- A hart knows the space of its group. In the root there is no group.
+abbrev pub KnowsSpace : Level → (outer : List Level) → Hart → Type 0
+KnowsSpace level [] h = Unit {0}
+KnowsSpace level (o ∷ outer) h =
+    (h.registers frames_register ≡ control_address level.space.frames)
+    × (h.registers blocks_register ≡ control_address level.space.blocks)
 
 module _ (places : Places) (nestings : Nestings) where
   -- The first word of the levels of a frame, where `waiting` other calls wait.
@@ -151,5 +165,6 @@ module _ (places : Places) (nestings : Nestings) where
     pub node : h.registers node_register
         ≡ control_address (first_word p.runner.has.level p.runner.has.outer)
     pub body : IfSome runs (λ n. h.registers body_register ≡ n)
+    pub space : KnowsSpace p.runner.has.level p.runner.has.outer h
     pub outer : HasNestings setting.processors (number_of p) h.local p.runner.left.at
         p.runner.left.callers p.runner.has.callers p.runner.has.outer
