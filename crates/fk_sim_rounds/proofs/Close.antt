@@ -162,7 +162,7 @@ module _ (core : List CoreOp) (image : Image) (places : Places) (nestings : Nest
         number = sym home.number_is;
         at = subst (λ h. law.StandsAt places (settle d) h) (sym here) (subst (λ p. law.StandsAt places p x.1) (sym e) met.left.0);
         node = subst (λ h. StandsInNode places nestings setting None (settle d) h) (sym here)
-            (subst (λ p. StandsInNode places nestings setting None p x.1) (sym e) (record { node = node.node; body = tt; outer = node.outer }));
+            (subst (λ p. StandsInNode places nestings setting None p x.1) (sym e) (record { node = node.node; body = tt; space = node.space; outer = node.outer }));
         words = home.words ∙ ap (first_of spaces) at';
       })
       other.1)
