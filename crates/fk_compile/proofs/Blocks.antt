@@ -1,12 +1,14 @@
 -- Plain operations have blocks, with their targets in the list, and find their values.
-use Rattle.std.proofs.Common.{◌≡◌, ℕ, ◌<◌, ◌≤◌, List, length, true, false, arith, refl, inl, inr}
+use Rattle.std.proofs.Common.{◌≡◌, ℕ, suc, ◌<◌, ◌≤◌, List, [], length, true, false, arith, refl, inl, inr}
 use Rattle.std.proofs.lemmas.Option.{slice_get_within}
+use Rattle.std.proofs.lemmas.List.Elements.{All-head}
 use Rattle.fk_meaning_operation.specs.declared.operation.OwnValue.TheVariants.{FrameAddress}
 use Rattle.fk_meaning_operation.specs.declared.operation.Multiprefix.{Multiprefix}
 use Rattle.fk_meaning_operation.specs.declared.operation.Multiprefix.TheVariants.{MpAdd, MpMax, MpAnd, MpOr}
 use Rattle.fk_meaning_operation.specs.declared.operation.Operation.{Operation}
-use Rattle.fk_meaning_operation.specs.declared.operation.Operation.TheVariants.{Get, Branch, Leave, Combine, Heap, Begin, Agree, Frame, Block, Split, Shrink, End, Resume, Farm, Seq, Meet, Halt}
+use Rattle.fk_meaning_operation.specs.declared.operation.Operation.TheVariants.{Get, Branch, Leave, Enter, Combine, Heap, Begin, Agree, Frame, Block, Split, Shrink, End, Resume, Farm, Seq, Meet, Halt}
 use Rattle.fk_core.specs.declared.op.CoreOp.{CoreOp}
+use Rattle.fk_core.specs.Next.{behind_jump}
 use Rattle.fk_core_flat.specs.Items.{straight, way_of}
 use Rattle.fk_core_typing.specs.LocalDepths.{needs}
 use Rattle.fk_sim_block.specs.Next.{StandsOp}
@@ -65,6 +67,8 @@ plain_lists_have_blocks bodies core entry shaped listed plain leads = record {
   operations = λ i op operation stands. own_block operation (plain i op operation stands.stands stands.is_read);
   targets = λ i op operation stands target.
       target_within core leads i op operation stands (straight_has_no_target bodies core entry shaped listed i op operation stands) target;
+  returns = λ i op n stands.
+      All-head (λ j. j < length core) (behind_jump core (suc i)) [] (leads.within i op (Enter n) stands.stands stands.is_read refl true).callers;
 }
 
 none : (depth : ℕ) → 0 ≤ depth

@@ -28,7 +28,7 @@ use Rattle.fk_compile.specs.PlainLists.{StepsFindValues}
 use Rattle.fk_sim_runs.specs.Follow.{CarriesGroups}
 use Rattle.fk_core_liveness.specs.declared.set.Set.{Set}
 use Rattle.fk_lower_laws.specs.Certain.{HasFrames}
-use Rattle.fk_gen_list.specs.Generable.{IsGenerable, HasCode}
+use Rattle.fk_gen_list.specs.Generable.{IsGenerable, HasCode, places_in}
 use Rattle.fk_compile.specs.Lists.{HasListOf, IsGrouped}
 use Rattle.fk_compile.specs.Faithful.{in_image, in_table, words_by}
 use Rattle.fk_compile.proofs.Limits.{sites_fit, commits_fit, commits_rise}
@@ -96,19 +96,19 @@ module _ (program : ProgramTree) (facts : Facts) (layout : Layout) (laid : IsLay
       }
 
       given : StepsFindValues → (block : (index : ℕ) → ℕ) × (start : Gathering)
-          × GroupLaw core image (record { block = block; frames = p.held.frames }) (none_saved start) (cycles_of core (vec_len layout.words) kept) layout.firsts.items main
+          × GroupLaw core image (places_in core block p.held.frames) (none_saved start) (cycles_of core (vec_len layout.words) kept) layout.firsts.items main
       given values = p.law image p.held.frames has p.held.suits p.held.keeps p.held.of_file (values core p.grouped.can.enough)
 
       pub is_compiled : StepsFindValues → IsCompiled program facts core main image
       is_compiled values = let law = given values in record {
         list = p.list;
-        places = record { block = law.0; frames = p.held.frames };
+        places = places_in core law.0 p.held.frames;
         nestings = none_saved law.1;
         cycles = cycles_of core (vec_len layout.words) kept;
         carries =
             subst
             (λ (firsts : List ℕ).
-            CarriesGroups core main firsts (record { block = law.0; frames = p.held.frames }) (none_saved law.1) (cycles_of core (vec_len layout.words) kept) image)
+            CarriesGroups core main firsts (places_in core law.0 p.held.frames) (none_saved law.1) (cycles_of core (vec_len layout.words) kept) image)
             laid.firsts
             (record {
               one_group = p.grouped.one_group law.1;

@@ -66,7 +66,10 @@ waiting_kept places m m' [] [] few same held = tt
 waiting_kept places m m' (i ∷ backs) (c ∷ calls) few same held =
     let n = length calls in (
       record {
-        code = ap (λ v. v + 16) (same (64 * suc n) (omega arith) (omega arith)) ∙ held.0.code;
+        begun_at = held.0.begun_at;
+        word = held.0.word;
+        point = held.0.point;
+        code = same (64 * suc n) (omega arith) (omega arith) ∙ held.0.code;
         frame = same (64 * suc n + 1) (omega arith) (omega arith) ∙ held.0.frame;
         result = same (64 * suc n + 2) (omega arith) (omega arith) ∙ held.0.result;
         room = held.0.room;

@@ -10,4 +10,6 @@ pub struct Placed {
     pub globals: u32,
     /// Whether the call that it begins has private words after its arguments that have to be 0.
     pub clears: bool,
+    /// The index where the caller goes on after the call that it begins, or 0 if it begins none.
+    pub back: u32,
 }

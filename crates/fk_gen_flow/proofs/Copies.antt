@@ -14,7 +14,7 @@ use Rattle.fk_gen.specs.InPlace.{LinesAt}
 use Rattle.fk_gen.proofs.Values.{same_word, other_word}
 use Rattle.fk_gen.proofs.Jumps.{jumps}
 use Rattle.fk_gen_flow.specs.Calls.{copy_lines, own_copies, frame_lines, HasChain}
-use Rattle.fk_gen_flow.proofs.Walk.{Comes, IsAbout, there, first, writing, storing, word_before, near_word, lw_goes, sw_goes, link_goes}
+use Rattle.fk_gen_flow.proofs.Walk.{Comes, IsAbout, there, first, writing, storing, word_before, near_word, lw_goes, sw_goes, skip_goes}
 
 -- ---- arguments
 
@@ -120,25 +120,25 @@ shared_are_copies image bound copying = record { copies = copying.parts; next = 
 
 -- ---- the new frame
 
--- a hart whose frame is the new one, that has stored the address of the instruction behind its link, and goes on at word b
+-- a hart whose frame is the new one, that has stored the address of the line behind its link, and goes on behind the lines of the frame
 pub record Framed (h h' : Hart) (e k : ℕ) : Type 0 where
   pub live : h'.ended ≡ false
-  pub at : h'.pc ≡ 4 * (k + 4)
+  pub at : h'.pc ≡ 4 * (k + 5)
   pub same : (r : ℕ) → (r == 1) ≡ false → (r == 8) ≡ false → (r == 9) ≡ false → h'.registers r ≡ h.registers r
   pub start : h'.registers 8 ≡ local_address e
   pub behind : h'.registers 9 ≡ local_address (e + 64)
   pub code : h'.local e ≡ 4 * suc k
   pub others : (j : ℕ) → (j ≡ e → ⊥) → h'.local j ≡ h.local j
 
-pub frame_comes : (image : Image) (bound : ℕ → ℕ) (number e k : ℕ) (Goal : Hart → Type 0) (t : Setting) (h : Hart) → LinesAt image bound k frame_lines
+pub frame_comes : (image : Image) (bound : ℕ → ℕ) (number e k back : ℕ) (Goal : Hart → Type 0) (t : Setting) (h : Hart) → LinesAt image bound k (frame_lines back)
     → e + 64 ≤ 16384 → IsAbout image t k h → h.registers 9 ≡ local_address e → ((h' : Hart) → Framed h h' e k → Goal h') → Comes image t number 4 h Goal
-frame_comes image bound number e k Goal t h lines few about to goal =
+frame_comes image bound number e k back Goal t h lines few about to goal =
     let l0 = lines.0 in
-    let l1 = lines.1.0 in
-    let l2 = lines.1.1.0 in
-    let l3 = lines.1.1.1.0 in
+    let l1 = lines.1.1.0 in
+    let l2 = lines.1.1.1.0 in
+    let l3 = lines.1.1.1.1.0 in
     let within = l3.within in
-    let h1 = jumps h 1 (4 * suc k) in
+    let h1 = jumps h 1 (4 * suc (suc k)) in
     let link = h1.registers 1 in
     let m = put h.local e link in
     let h2 : Hart = record (moves h1) { local = m } in
@@ -147,16 +147,16 @@ frame_comes image bound number e k Goal t h lines few about to goal =
     let t1 = later t in
     let t2 = later t1 in
     let t3 = later t2 in
-    let about1 : IsAbout image t1 (suc k) h1 = record { code = about.code; live = about.live; at = refl } in
-    let about2 = storing image t1 (suc k) h1 m about1 l1.within in
-    let about3 = writing image t2 (suc (suc k)) h2 8 (word_sum (h.registers 9) 0) about2 l2.within in
-    let about4 = writing image t3 (suc (suc (suc k))) h3 9 (word_sum (h.registers 9) 256) about3 l3.within in
+    let about1 : IsAbout image t1 (suc (suc k)) h1 = record { code = about.code; live = about.live; at = refl } in
+    let about2 = storing image t1 (suc (suc k)) h1 m about1 l1.within in
+    let about3 = writing image t2 (suc (suc (suc k))) h2 8 (word_sum (h.registers 9) 0) about2 l2.within in
+    let about4 = writing image t3 (suc (suc (suc (suc k)))) h3 9 (word_sum (h.registers 9) 256) about3 l3.within in
     let pc = about.at in
     let at4 = about4.at in
-    first image t number 3 k _ h h1 Goal about l0 (link_goes t number 1 k h about.at l0.within)
-    (first image t1 number 2 (suc k) _ h1 h2 Goal about1 l1 (sw_goes t1 number 9 1 0 e h1 (near_word e 0 e (h.registers 9) 0 to refl (omega arith) (omega arith)))
-    (first image t2 number 1 (suc (suc k)) _ h2 h3 Goal about2 l2 (λ s. (s.reserved, refl))
-    (first image t3 number 0 (suc (suc (suc k))) _ h3 h4 Goal about3 l3 (λ s. (s.reserved, refl))
+    first image t number 3 k _ h h1 Goal about l0 (skip_goes t number 1 k h about.at l0.within)
+    (first image t1 number 2 (suc (suc k)) _ h1 h2 Goal about1 l1 (sw_goes t1 number 9 1 0 e h1 (near_word e 0 e (h.registers 9) 0 to refl (omega arith) (omega arith)))
+    (first image t2 number 1 (suc (suc (suc k))) _ h2 h3 Goal about2 l2 (λ s. (s.reserved, refl))
+    (first image t3 number 0 (suc (suc (suc (suc k)))) _ h3 h4 Goal about3 l3 (λ s. (s.reserved, refl))
     (there image _ number _ Goal (goal h4 (record {
       live = about.live;
       at = omega arith;

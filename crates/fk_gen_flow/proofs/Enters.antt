@@ -1,6 +1,6 @@
 -- A call.
 use Rattle.std.proofs.Common.{◌≡◌, ℕ, zero, suc, ◌+◌, ◌-◌, ◌*◌, ◌<◌, ◌≤◌, ◌^◌, List, [], ◌∷◌, ◌++◌, length, eq-eqb, Bool, Some, None, true, false, ap, subst, sym, ◌∙◌, arith, refl, inl, inr}
-use Rattle.std.specs.Prelude.{◌==◌, ◌⊎◌, slice_get, nat_lt, nat_le, if◌then◌else◌}
+use Rattle.std.specs.Prelude.{◌==◌, ◌⊎◌, nat_lt, nat_le, if◌then◌else◌}
 use Rattle.std.proofs.lemmas.List.{length-append}
 use Rattle.std.proofs.lemmas.Bool.{lt-ltb, le-ltb, cases_lt, ne_eqb}
 use Rattle.fk_num.specs.Word.{Memory, put, word_sum}
@@ -11,7 +11,7 @@ use Rattle.fk_meaning.specs.Processor.{Call, Setting, values, before}
 use Rattle.fk_meaning.specs.Request.{entered}
 use Rattle.fk_meaning.specs.Round.{answered}
 use Rattle.fk_core.specs.declared.op.CoreOp.{CoreOp}
-use Rattle.fk_core.specs.Next.{position, behind_jump, is_jump}
+use Rattle.fk_core.specs.Next.{position, behind_jump}
 use Rattle.fk_image.specs.declared.Image.{Image}
 use Rattle.fk_isa.specs.declared.instruction.Instruction.TheVariants.{Lui, Addi, Sw}
 use Rattle.fk_machine.specs.declared.stand.Stand.TheVariants.{Faulted}
@@ -36,9 +36,9 @@ use Rattle.fk_gen.proofs.Values.{same_word, other_word, values_before, length_be
 use Rattle.fk_gen.proofs.Standing.{frame_kept, waiting_kept}
 use Rattle.fk_gen.proofs.Walk.{private, lines_split}
 use Rattle.fk_gen.proofs.Jumps.{jumps, goes_to_pc, bne_taken, bne_on}
-use Rattle.fk_gen_flow.specs.Calls.{enter_block, own_copies, copies_by, clears_by, word_lines, frame_lines, most_privates, HasShared}
+use Rattle.fk_gen_flow.specs.Calls.{enter_block, own_copies, copies_by, clears_by, word_lines, frame_lines, past_return, most_own, most_privates, HasShared}
 use Rattle.fk_gen_flow.specs.Keeps.{KeepsBelow, BlockKeeps, copying_takes, clearing_takes, call_takes}
-use Rattle.fk_gen_flow.specs.Laws.{ClearsEnough}
+use Rattle.fk_gen_flow.specs.Laws.{ClearsEnough, return_in}
 use Rattle.fk_gen_flow.proofs.Walk.{Comes, IsAbout, first, writing, storing, next_word, words_back, near_word, sw_goes, jal_goes, jalr_goes}
 use Rattle.fk_gen_flow.proofs.Frames.{room_below, flows_on}
 use Rattle.fk_gen_flow.proofs.Does.{about_block}
@@ -46,25 +46,19 @@ use Rattle.fk_gen_flow.proofs.Begins.{number_of_parts}
 use Rattle.fk_gen_flow.proofs.Copies.{Copied, Framed, arguments_at, copies_come, copy_cycles, few_copies, frame_comes, own_are_copies, shared_are_copies}
 use Rattle.fk_gen_flow.proofs.Clears.{arguments_end, clears_come, clear_cycles, few_clears}
 
--- ---- where a call returns
-
-pub behind_here : (core : List CoreOp) (i : ℕ) (op : CoreOp) → slice_get core i ≡ Some op → is_jump op ≡ true → behind_jump core i ≡ suc i
-behind_here [] i op e f = absurd (cc)
-behind_here (o ∷ core) zero op e f =
-    let same : o ≡ op = cc in
-    let jump : is_jump o ≡ true = ap is_jump same ∙ f in
-    rw jump
-behind_here (o ∷ core) (suc i) op e f = ap suc (behind_here core i op e f)
-
 -- ---- the processor that has entered
 
 module _ (core : List CoreOp) (image : Image) (bound : ℕ → ℕ) (places : Places) (i : ℕ) (op : CoreOp) (n : ℕ) (clears : Bool) where
-  abbrev pub entering : (p : Owner) → (back : ℕ) → Doing
-  entering p back = record { acting = record { due = None; runner = record { left = position (suc i) (back ∷ p.runner.left.callers); has = entered n p.runner.has } }; heap = p.heap }
+  -- where its caller goes on
+  abbrev pub onward : ℕ
+  onward = behind_jump core (suc i)
+
+  abbrev pub entering : (p : Owner) → Doing
+  entering p = record { acting = record { due = None; runner = record { left = position (suc i) (onward ∷ p.runner.left.callers); has = entered n p.runner.has } }; heap = p.heap }
 
   -- memory when a call has begun: its frame has a header and its private words
   record HasBegun (m m' : Memory) (p : Owner) (s e : ℕ) : Type 0 where
-    pub code : m' e + 16 ≡ 4 * places.block (suc (suc i))
+    pub code : m' e ≡ 4 * (places.block (suc i) - past_return)
     pub frame : m' (e + 1) ≡ local_address (frame_start places (length p.runner.has.callers))
     pub result : m' (e + 2) ≡ local_address (s - 1)
     pub copies : (a : ℕ) → a < n → m' (e + 7 + a) ≡ m (s - suc a)
@@ -73,14 +67,14 @@ module _ (core : List CoreOp) (image : Image) (bound : ℕ → ℕ) (places : Pl
     pub above : (j : ℕ) → e + 64 ≤ j → m' j ≡ m j
 
   entered_stands : (p : Owner) (h h' : Hart) (s : ℕ) → p.runner.left.at ≡ i → length (values p.runner.has) ≡ op.depth → StandsAt places p h → Fits core places.frames i op (Enter n)
-      → ClearsEnough places.frames i clears (Enter n) → places.frames.of_file ≤ 56 → length p.runner.has.callers < 255 → s ≡ frame_end (length p.runner.has.callers) - (op.depth - n)
+      → ClearsEnough places.frames i clears (Enter n) → places.returns i ≡ Some (return_in core places.block i) → places.frames.of_file ≤ 56 → length p.runner.has.callers < 255 → s ≡ frame_end (length p.runner.has.callers) - (op.depth - n)
       → HasBegun h.local h'.local p s (frame_end (length p.runner.has.callers))
       → h'.ended ≡ false → h'.pc ≡ 4 * places.block (suc i)
       → ((r : ℕ) → (r == 1) ≡ false → (r == 5) ≡ false → (r == 6) ≡ false → (r == 7) ≡ false → (r == 8) ≡ false → (r == 9) ≡ false → h'.registers r ≡ h.registers r)
       → h'.registers 8 ≡ local_address (frame_end (length p.runner.has.callers))
       → h'.registers 9 ≡ local_address (frame_end (length p.runner.has.callers) + 64)
-      → HasDone core image places (entering p (suc (suc i))) h'
-  entered_stands p h h' s e depth at fits enough few waiting from begun live pc same start behind =
+      → HasDone core image places (entering p) h'
+  entered_stands p h h' s e depth at fits enough point few waiting from begun live pc same start behind =
       let stands = at.stands in
       let w = length p.runner.has.callers in
       let end = frame_end w in
@@ -91,9 +85,9 @@ module _ (core : List CoreOp) (image : Image) (bound : ℕ → ℕ) (places : Pl
       let held = subst (λ j. HasFrame places h.local w j p.runner.has.call) e stands.running in
       let left = length_before n vs in
       let call' : Call = record (p.runner.has.call) { values = before n vs } in
-      let flowed = flows_on places core nothing h.local w i (suc (suc i)) p.runner.has.call call' (λ x. refl) calls.back refl (values_before n h.local end vs held.values) held in
+      let flowed = flows_on places core nothing h.local w i onward p.runner.has.call call' (λ x. refl) calls.back refl (values_before n h.local end vs held.values) held in
       let many : length (before n vs) ≡ op.depth - n = omega arith in
-      let room = subst (λ d. HasRoom places.frames (suc (suc i)) (suc d)) (sym many) calls.room in
+      let room = subst (λ d. HasRoom places.frames onward (suc d)) (sym many) calls.room in
       let more : (suc w == 0) ≡ false = ne_eqb (suc w) 0 (λ f. omega arith) in
       record {
         done = refl;
@@ -124,12 +118,15 @@ module _ (core : List CoreOp) (image : Image) (bound : ℕ → ℕ) (places : Pl
             };
             waiting = (
               record {
+                begun_at = i;
+                word = places.block (suc i) - past_return;
+                point = point;
                 code = begun.code;
                 frame = begun.frame;
                 result = begun.result ∙ omega arith;
                 room = room;
               },
-              frame_kept places h.local h'.local w (suc (suc i)) (length (before n vs)) call' few (room_below places (suc (suc i)) (length (before n vs)) (suc (length (before n vs))) (omega arith) room) (omega arith) (λ j a b. begun.below j b) flowed,
+              frame_kept places h.local h'.local w onward (length (before n vs)) call' few (room_below places onward (length (before n vs)) (suc (length (before n vs))) (omega arith) room) (omega arith) (λ j a b. begun.below j b) flowed,
               waiting_kept places h.local h'.local p.runner.left.callers p.runner.has.callers few (λ j a b. begun.below j (omega arith)) stands.waiting,
             );
             own = λ j lt. begun.below (7 + j) (omega arith) ∙ stands.own j lt;
@@ -182,18 +179,18 @@ few_by false true n le = omega arith
 few_by false false n le = omega arith
 
 pub few_take : (clears : Bool) (n : ℕ) → n ≤ 56 → call_takes clears n ≤ 183
-few_take clears n le = few_by (nat_le n 1) clears n le
+few_take clears n le = few_by (nat_le n (most_own clears)) clears n le
 
 -- from the commit on
-all_take : (clears : Bool) (n : ℕ) → argument_cycles (nat_le n 1) n (clearing_cycles clears n 4) ≡ call_takes clears n
+all_take : (clears : Bool) (n : ℕ) → argument_cycles (nat_le n (most_own clears)) n (clearing_cycles clears n 4) ≡ call_takes clears n
 all_take clears n =
-    let e = arguments_take (nat_le n 1) n (clearing_cycles clears n 4) in
+    let e = arguments_take (nat_le n (most_own clears)) n (clearing_cycles clears n 4) in
     let f = clears_take clears n 4 in
     omega arith
 
-module _ (core : List CoreOp) (image : Image) (bound : ℕ → ℕ) (places : Places) (i : ℕ) (op : CoreOp) (n : ℕ) (clears : Bool)
+module _ (core : List CoreOp) (image : Image) (bound : ℕ → ℕ) (places : Places) (i : ℕ) (op : CoreOp) (n : ℕ) (clears : Bool) (back : ℕ)
     (few : places.frames.of_file ≤ 56) (small : op.site < 2 ^ 32) (shared : HasShared image bound)
-    (block : HasBlock image bound places i (enter_block clears n op.depth op.site)) (behind : places.block (suc (suc i)) ≡ suc (places.block (suc i)))
+    (block : HasBlock image bound places i (enter_block clears n op.depth op.site back)) (point : places.returns i ≡ Some (return_in core places.block i))
     (stands_op : StandsOp core i op (Enter n)) (fits : Fits core places.frames i op (Enter n)) (enough : ClearsEnough places.frames i clears (Enter n)) where
   -- what becomes of the depth
   answer_of : (p : Owner) → Commons → Bool → nodes.Part Commons Doing
@@ -203,11 +200,9 @@ module _ (core : List CoreOp) (image : Image) (bound : ℕ → ℕ) (places : Pl
   unfolding answer_of
   asked setting s p b e is = operations_are_next core i op (Enter n) setting s p stands_op e ∙ ap (answer_of p s) is
 
-  served : (setting : Setting) (s : Commons) (p : Owner) → p.runner.left.at ≡ i → length p.runner.has.callers < 255 → part core setting 1 s p ≡ nodes.Passes s (entering core image bound places i op n clears p (suc (suc i)))
+  served : (setting : Setting) (s : Commons) (p : Owner) → p.runner.left.at ≡ i → length p.runner.has.callers < 255 → part core setting 1 s p ≡ nodes.Passes s (entering core image bound places i op n clears p)
   unfolding answer_of
-  served setting s p e lt =
-      asked setting s p true e (lt-ltb (suc (length p.runner.has.callers)) 256 (omega arith))
-      ∙ ap (λ b. nodes.Passes s (entering core image bound places i op n clears p b)) (behind_here core (suc i) fits.goes_on.entry fits.goes_on.stands fits.goes_on.leads)
+  served setting s p e lt = asked setting s p true e (lt-ltb (suc (length p.runner.has.callers)) 256 (omega arith))
 
   refused : (setting : Setting) (s : Commons) (p : Owner) → p.runner.left.at ≡ i → 255 ≤ length p.runner.has.callers → part core setting 1 s p ≡ nodes.Breaks op.site
   unfolding answer_of
@@ -223,7 +218,7 @@ module _ (core : List CoreOp) (image : Image) (bound : ℕ → ℕ) (places : Pl
     s = end - (op.depth - n)
 
     abbrev Goal : Hart → Type 0
-    Goal h' = HasDone core image places (entering core image bound places i op n clears p (suc (suc i))) h' × KeepsBelow end h h'
+    Goal h' = HasDone core image places (entering core image bound places i op n clears p) h' × KeepsBelow end h h'
 
     record HasStored : Type 0 where
       pub first : h4.registers 7 ≡ local_address (s - 1)
@@ -240,7 +235,7 @@ module _ (core : List CoreOp) (image : Image) (bound : ℕ → ℕ) (places : Pl
 
     -- with them and the frame it has begun its call
     has_begun : (kf : ℕ) (hx hf : Hart) → HasStored → HasWords h4.local hx.local
-        → ((r : ℕ) → (r == 5) ≡ false → (r == 6) ≡ false → hx.registers r ≡ h4.registers r) → Framed hx hf end kf → places.block (suc i) ≡ kf + 4 → Goal hf
+        → ((r : ℕ) → (r == 5) ≡ false → (r == 6) ≡ false → hx.registers r ≡ h4.registers r) → Framed hx hf end kf → places.block (suc i) ≡ kf + 5 → Goal hf
     has_begun kf hx hf stored words same framed next =
         let stands = at.stands in
         let looks = fits.values in
@@ -250,9 +245,9 @@ module _ (core : List CoreOp) (image : Image) (bound : ℕ → ℕ) (places : Pl
         let code = framed.code in
         let old : (j : ℕ) → (j ≡ end → ⊥) → hf.local j ≡ hx.local j = framed.others in
         let below : (j : ℕ) → j < end → hf.local j ≡ h.local j = λ j lt. old j (λ f. omega arith) ∙ words.others j (inl (omega arith)) ∙ stored.others j (inl lt) in (
-          entered_stands core image bound places i op n clears p h hf s index depth at fits enough few waiting refl
+          entered_stands core image bound places i op n clears p h hf s index depth at fits enough point few waiting refl
               (record {
-                code = omega (arith, code, next, behind);
+                code = omega (arith, code, next);
                 frame = old (end + 1) (λ f. omega arith) ∙ words.others (end + 1) (inl (omega arith)) ∙ stored.frame ∙ stands.frame;
                 result = old (end + 2) (λ f. omega arith) ∙ words.others (end + 2) (inl (omega arith)) ∙ stored.result;
                 copies = λ a lt. old (end + 7 + a) (λ f. omega arith) ∙ words.copies a lt ∙ stored.others (s - suc a) (inl (omega arith));
@@ -272,22 +267,22 @@ module _ (core : List CoreOp) (image : Image) (bound : ℕ → ℕ) (places : Pl
         )
 
     -- the new frame
-    frame_begins : (t : MachineSetting) (k : ℕ) (hx : Hart) → IsAbout image t k hx → HasStored → LinesAt image bound k frame_lines
+    frame_begins : (t : MachineSetting) (k : ℕ) (hx : Hart) → IsAbout image t k hx → HasStored → LinesAt image bound k (frame_lines back)
         → HasWords h4.local hx.local → ((r : ℕ) → (r == 5) ≡ false → (r == 6) ≡ false → hx.registers r ≡ h4.registers r)
-        → places.block (suc i) ≡ k + 4 → Comes image t (number_of p) 4 hx Goal
+        → places.block (suc i) ≡ k + 5 → Comes image t (number_of p) 4 hx Goal
     frame_begins t k hx about stored lines words same next =
-        frame_comes image bound (number_of p) end k Goal t hx lines (omega arith) about (same 9 refl refl ∙ stored.same 9 refl ∙ at.stands.behind)
+        frame_comes image bound (number_of p) end k back Goal t hx lines (omega arith) about (same 9 refl refl ∙ stored.same 9 refl ∙ at.stands.behind)
         (λ hf framed. has_begun k hx hf stored words same framed next)
 
     -- what is cleared
     words_come : (b : Bool) (t : MachineSetting) (k : ℕ) (hc : Hart) → clears ≡ b → IsAbout image t k hc → HasStored → LinesAt image bound k (clears_by b n)
-        → LinesAt image bound (k + length (clears_by b n)) frame_lines → Copied h4.local hc.local s end n
+        → LinesAt image bound (k + length (clears_by b n)) (frame_lines back) → Copied h4.local hc.local s end n
         → ((r : ℕ) → (r == 5) ≡ false → (r == 6) ≡ false → hc.registers r ≡ h4.registers r)
-        → places.block (suc i) ≡ k + length (clears_by b n) + 4 → Comes image t (number_of p) (clearing_cycles b n 4) hc Goal
+        → places.block (suc i) ≡ k + length (clears_by b n) + 5 → Comes image t (number_of p) (clearing_cycles b n 4) hc Goal
     words_come false t k hc does about stored lines frame copied same next =
         let few_arguments = fits.goes_on.few in
         let here : k + 0 ≡ k = omega arith in
-        frame_begins t k hc about stored (subst (λ j. LinesAt image bound j frame_lines) here frame)
+        frame_begins t k hc about stored (subst (λ j. LinesAt image bound j (frame_lines back)) here frame)
         (record {
           copies = copied.copies;
           zeros = λ e. absurd (cc);
@@ -307,17 +302,17 @@ module _ (core : List CoreOp) (image : Image) (bound : ℕ → ℕ) (places : Pl
         let within = l0.within in
         let h5 = jumps hc 6 (4 * entry) in
         let begin : IsAbout image (later t) entry h5 = record { code = about.code; live = about.live; at = refl } in
-        let back : h5.registers 6 + 0 ≡ 4 * suc k = omega arith in
+        let linked : h5.registers 6 + 0 ≡ 4 * suc k = omega arith in
         let here : k + 1 ≡ suc k = omega arith in
         first image t number (clear_cycles last 5) k _ hc h5 Goal about l0 (jal_goes t number 6 0 k entry hc about.at l0.within (block.labels.within (clear_label last)))
         (clears_come image bound number end 5 Goal shared.clearing (omega arith) last (later t) h5 (omega arith) begin
         (same 0 refl refl ∙ stored.same 0 refl ∙ at.stands.nought) (same 9 refl refl ∙ stored.same 9 refl ∙ at.stands.behind)
         (λ t' h' about' same' cleared.
         let hx = jumps h' 0 (4 * suc k) in
-        let link : h'.registers 6 + 0 ≡ 4 * suc k = ap (λ v. v + 0) (same' 6) ∙ back in
+        let link : h'.registers 6 + 0 ≡ 4 * suc k = ap (λ v. v + 0) (same' 6) ∙ linked in
         let there' : IsAbout image (later t') (suc k) hx = record { code = about'.code; live = about'.live; at = refl } in
         first image t' number 4 (bound (clear_label 0)) _ h' hx Goal about' shared.clearing.back.0 (jalr_goes t' number 0 6 0 (suc k) h' link (omega arith))
-        (frame_begins (later t') (suc k) hx there' stored (subst (λ j. LinesAt image bound j frame_lines) here frame)
+        (frame_begins (later t') (suc k) hx there' stored (subst (λ j. LinesAt image bound j (frame_lines back)) here frame)
         (record {
           copies = λ a lt. cleared.others (end + 7 + a) (inl (omega arith)) ∙ copied.copies a lt;
           zeros = λ e a le lt. cleared.zeros a (omega arith) lt;
@@ -359,28 +354,28 @@ module _ (core : List CoreOp) (image : Image) (bound : ℕ → ℕ) (places : Pl
         let pc = about.at in
         let h5 = jumps h4 6 (4 * entry) in
         let begin : IsAbout image (later t) entry h5 = record { code = about.code; live = about.live; at = refl } in
-        let back : h5.registers 6 + 0 ≡ 4 * suc k7 = omega arith in
+        let linked : h5.registers 6 + 0 ≡ 4 * suc k7 = omega arith in
         let here : suc k7 ≡ k7 + 1 = omega arith in
         first image t number (copy_cycles n (suc rest)) k7 _ h4 h5 Goal about l0 (jal_goes t number 6 0 k7 entry h4 about.at l0.within (block.labels.within (copy_label n)))
         (copies_come image bound number s end (suc rest) 56 (λ m. bound (copy_label m)) Goal (shared_are_copies image bound shared.copying) (omega arith) (omega arith) (omega arith) n (later t) h5 few_arguments (omega arith) begin
         stored.first (stored.same 9 refl ∙ at.stands.behind)
         (λ t' h' about' same copied.
         let hx = jumps h' 0 (4 * suc k7) in
-        let link : h'.registers 6 + 0 ≡ 4 * suc k7 = ap (λ v. v + 0) (same 6 refl) ∙ back in
+        let link : h'.registers 6 + 0 ≡ 4 * suc k7 = ap (λ v. v + 0) (same 6 refl) ∙ linked in
         let there' : IsAbout image (later t') (suc k7) hx = record { code = about'.code; live = about'.live; at = refl } in
         first image t' number rest (bound (copy_label 0)) _ h' hx Goal about' shared.copying.back.0 (jalr_goes t' number 0 6 0 (suc k7) h' link (omega arith))
         (after (later t') hx (subst (λ k. IsAbout image (later t') k hx) here there') copied (λ r a b. same r a ∙ rw b))))
 
-    call_comes : (own : Bool) (t : MachineSetting) (k7 : ℕ) → IsAbout image t k7 h4 → HasStored → LinesAt image bound k7 ((copies_by own n ++ clears_by clears n) ++ frame_lines)
-        → places.block (suc i) ≡ k7 + length (copies_by own n ++ clears_by clears n) + 4 → Comes image t (number_of p) (argument_cycles own n (clearing_cycles clears n 4)) h4 Goal
+    call_comes : (own : Bool) (t : MachineSetting) (k7 : ℕ) → IsAbout image t k7 h4 → HasStored → LinesAt image bound k7 ((copies_by own n ++ clears_by clears n) ++ frame_lines back)
+        → places.block (suc i) ≡ k7 + length (copies_by own n ++ clears_by clears n) + 5 → Comes image t (number_of p) (argument_cycles own n (clearing_cycles clears n 4)) h4 Goal
     call_comes own t k7 about stored lines next =
-        let split = lines_split image bound k7 (copies_by own n ++ clears_by clears n) frame_lines lines in
+        let split = lines_split image bound k7 (copies_by own n ++ clears_by clears n) (frame_lines back) lines in
         let words = lines_split image bound k7 (copies_by own n) (clears_by clears n) split.0 in
         let total = length-append (copies_by own n) (clears_by clears n) in
         let there' : k7 + length (copies_by own n ++ clears_by clears n) ≡ k7 + length (copies_by own n) + length (clears_by clears n) = omega arith in
         arguments_come own (clearing_cycles clears n 4) t k7 about stored words.0
         (λ t' h' about' copied same.
-        words_come clears t' (k7 + length (copies_by own n)) h' refl about' stored words.1 (subst (λ k. LinesAt image bound k frame_lines) there' split.1) copied same (omega arith))
+        words_come clears t' (k7 + length (copies_by own n)) h' refl about' stored words.1 (subst (λ k. LinesAt image bound k (frame_lines back)) there' split.1) copied same (omega arith))
 
   -- 255 calls wait already
   faults : (setting : Setting) (t : MachineSetting) (p : Owner) (h : Hart) → Enters core image places setting t i op (Enter n) p h → 255 ≤ length p.runner.has.callers
@@ -440,7 +435,7 @@ module _ (core : List CoreOp) (image : Image) (bound : ℕ → ℕ) (places : Pl
 
   -- else there is room
   begins : (setting : Setting) (t : MachineSetting) (p : Owner) (h : Hart) → Enters core image places setting t i op (Enter n) p h → length p.runner.has.callers < 255
-      → DoesAnd core image places setting t p h 3 (argument_cycles (nat_le n 1) n (clearing_cycles clears n 4)) (KeepsBelow (frame_end (length p.runner.has.callers)) h)
+      → DoesAnd core image places setting t p h 3 (argument_cycles (nat_le n (most_own clears)) n (clearing_cycles clears n 4)) (KeepsBelow (frame_end (length p.runner.has.callers)) h)
   begins setting t p h enters lt =
       let number = number_of p in
       let stands = enters.at.stands in
@@ -480,7 +475,7 @@ module _ (core : List CoreOp) (image : Image) (bound : ℕ → ℕ) (places : Pl
       let short = few_take clears n few_arguments in
       let all = all_take clears n in
       let words = word_lines clears n in
-      let total = length-append words frame_lines in
+      let total = length-append words (frame_lines back) in
       let next = block.next in
       record {
         few_before = omega arith;
@@ -502,7 +497,7 @@ module _ (core : List CoreOp) (image : Image) (bound : ℕ → ℕ) (places : Pl
             does = λ s. inl (record {
               hart = h4;
               store = s;
-              done = entering core image bound places i op n clears p (suc (suc i));
+              done = entering core image bound places i op n clears p;
               part = served setting s p enters.index lt;
               goes = λ earlier sh shows. (
                 _,
@@ -512,7 +507,7 @@ module _ (core : List CoreOp) (image : Image) (bound : ℕ → ℕ) (places : Pl
                 λ j e. refl,
               );
               follows =
-                  let comes = call_comes p h h4 enters.index enters.ready.depth enters.at lt (nat_le n 1) (later t3) (suc (suc (suc k4))) about4
+                  let comes = call_comes p h h4 enters.index enters.ready.depth enters.at lt (nat_le n (most_own clears)) (later t3) (suc (suc (suc k4))) about4
                   (record {
                     first = first_place;
                     same = λ r f. rw f;

@@ -18,33 +18,44 @@ use Rattle.fk_sim_block.specs.Next.{StandsOp}
 use Rattle.fk_sim_block.specs.Suits.{Fits}
 use Rattle.fk_sim_block.specs.Block.{HasDone}
 use Rattle.fk_sim_block.proofs.Standing.{operations_are_next}
+use Rattle.fk_gen.specs.Lines.{label_of}
 use Rattle.fk_gen.specs.InPlace.{HasBlock, LinesAt}
 use Rattle.fk_gen.proofs.Values.{same_word, other_word, values_kept}
 use Rattle.fk_gen.proofs.Standing.{waiting_kept}
 use Rattle.fk_gen.proofs.Jumps.{jumps}
-use Rattle.fk_gen_flow.specs.Flow.{leave_block, returning}
+use Rattle.fk_gen_flow.specs.Flow.{jump_block, leave_block, returning}
 use Rattle.fk_gen_flow.specs.Keeps.{KeepsBelow, BlockKeeps, result_word}
-use Rattle.fk_gen_flow.proofs.Walk.{Comes, IsAbout, IsLocal, there, first, writing, storing, value_word, near_word, lw_goes, sw_goes, jalr_goes}
+use Rattle.fk_gen_flow.specs.Laws.{CallsReturn}
+use Rattle.fk_gen_flow.proofs.Walk.{Comes, IsAbout, IsLocal, there, first, writing, storing, value_word, near_word, lw_goes, sw_goes, jal_goes, jalr_goes}
 use Rattle.fk_gen_flow.proofs.Frames.{Last, last_of, last_value, start_of}
-use Rattle.fk_gen_flow.proofs.Does.{lw_does, about_block, block_within}
+use Rattle.fk_gen_flow.proofs.Does.{lw_does, about_block}
 
--- ---- the last three instructions
+-- ---- the last three instructions, and the jump to which the call returns
 
-abbrev pub back_to : Hart → (w target : ℕ) → Hart
-back_to h w target = jumps (writes (writes h 9 (word_sum (h.registers 8) 0)) 8 (h.local w)) 0 (4 * target)
+abbrev pub back_to : Hart → (w word target : ℕ) → Hart
+back_to h w word target = jumps (jumps (writes (writes h 9 (word_sum (h.registers 8) 0)) 8 (h.local w)) 0 (4 * word)) 0 (4 * target)
 
-pub returning_comes : (image : Image) (bound : ℕ → ℕ) (t : MachineSetting) (number k w target : ℕ) (h : Hart) (Goal : Hart → Type 0) → IsAbout image t k h
-    → LinesAt image bound k returning → IsLocal (word_sum (h.registers 8) 4) w → h.registers 6 + 16 ≡ 4 * target → target ≤ 262144
-    → Goal (back_to h w target) → Comes image t number 3 h Goal
-returning_comes image bound t number k w target h Goal about lines is back le goal =
+pub returning_comes : (image : Image) (bound : ℕ → ℕ) (t : MachineSetting) (number k w word back : ℕ) (h : Hart) (Goal : Hart → Type 0) → IsAbout image t k h
+    → LinesAt image bound k returning → LinesAt image bound word (jump_block back) → IsLocal (word_sum (h.registers 8) 4) w → h.registers 6 ≡ 4 * word
+    → bound (label_of back) ≤ 262144 → Goal (back_to h w word (bound (label_of back))) → Comes image t number 4 h Goal
+returning_comes image bound t number k w word back h Goal about lines jump is link le goal =
+    let target = bound (label_of back) in
+    let within = jump.0.within in
     let h1 = writes h 9 (word_sum (h.registers 8) 0) in
     let h2 = writes h1 8 (h.local w) in
+    let h3 = jumps h2 0 (4 * word) in
+    let linked : h2.registers 6 + 0 ≡ 4 * word = omega (arith, link) in
+    let t1 = later t in
+    let t2 = later t1 in
+    let t3 = later t2 in
     let about1 = writing image t k h 9 (word_sum (h.registers 8) 0) about lines.0.within in
-    let about2 = writing image (later t) (suc k) h1 8 (h.local w) about1 lines.1.0.within in
-    first image t number 2 k _ h h1 Goal about lines.0 (λ s. (s.reserved, refl))
-    (first image (later t) number 1 (suc k) _ h1 h2 Goal about1 lines.1.0 (lw_goes (later t) number 8 8 4 w h1 is)
-    (first image (later (later t)) number 0 (suc (suc k)) _ h2 (jumps h2 0 (4 * target)) Goal about2 lines.1.1.0 (jalr_goes (later (later t)) number 0 6 16 target h2 back le)
-    (there image _ number _ Goal goal)))
+    let about2 = writing image t1 (suc k) h1 8 (h.local w) about1 lines.1.0.within in
+    let about3 : IsAbout image t3 word h3 = record { code = about.code; live = about.live; at = refl } in
+    first image t number 3 k _ h h1 Goal about lines.0 (λ s. (s.reserved, refl))
+    (first image t1 number 2 (suc k) _ h1 h2 Goal about1 lines.1.0 (lw_goes t1 number 8 8 4 w h1 is)
+    (first image t2 number 1 (suc (suc k)) _ h2 h3 Goal about2 lines.1.1.0 (jalr_goes t2 number 0 6 0 word h2 linked (omega arith))
+    (first image t3 number 0 word _ h3 (jumps h3 0 (4 * target)) Goal about3 jump.0 (jal_goes t3 number 0 0 word target h3 refl within le)
+    (there image _ number _ Goal goal))))
 
 -- ---- what a processor is then
 
@@ -144,10 +155,10 @@ module _ (core : List CoreOp) (image : Image) (bound : ℕ → ℕ) (places : Pl
         };
       }
 
-module _ (core : List CoreOp) (image : Image) (bound : ℕ → ℕ) (places : Places) (i : ℕ) (op : CoreOp) (few : places.frames.of_file ≤ 56) where
+module _ (core : List CoreOp) (image : Image) (bound : ℕ → ℕ) (places : Places) (i : ℕ) (op : CoreOp) (few : places.frames.of_file ≤ 56) (calls : CallsReturn core image bound places) where
   -- without a value
   leave_without : HasBlock image bound places i (leave_block false op.depth) → StandsOp core i op (Leave false false)
-      → BlockKeeps core image places 0 (λ way. 3) i op (Leave false false)
+      → BlockKeeps core image places 0 (λ way. 4) i op (Leave false false)
   leave_without block stands_op setting t p h enters =
       let number = number_of p in
       let at = enters.at in
@@ -163,20 +174,22 @@ module _ (core : List CoreOp) (image : Image) (bound : ℕ → ℕ) (places : Pl
       let r = 64 * suc m - suc (length l.call.values) in
       let h1 = writes h 6 (h.local w) in
       let about1 = writing image t k h 6 (h.local w) about block.lines.0.within in
-      let target = places.block l.back in
+      let jump = calls.jumps l.returns.begun_at _ l.returns.point in
+      let target = bound (label_of l.back) in
       let Goal : Hart → Type 0 = λ h'. HasDone core image places (ended core image bound places i op false p h.local l) h' × KeepsBelow (result_word p.runner.has.callers) h h' in
-      lw_does core image places setting t p h (ended core image bound places i op false p h.local l) (KeepsBelow (result_word p.runner.has.callers) h) k 6 8 0 w 3 about block.lines.0 (near_word (64 * suc m) 0 w (h.registers 8) 0 start refl (omega arith) (omega arith)) (omega arith)
+      lw_does core image places setting t p h (ended core image bound places i op false p h.local l) (KeepsBelow (result_word p.runner.has.callers) h) k 6 8 0 w 4 about block.lines.0 (near_word (64 * suc m) 0 w (h.registers 8) 0 start refl (omega arith) (omega arith)) (omega arith)
       (ended_part core image bound places i op false setting p h.local l stands_op enters.index)
-      (returning_comes image bound (later t) number (suc k) (w + 1) target h1 Goal about1 block.lines.1 (near_word (64 * suc m) 1 (w + 1) (h.registers 8) 4 start refl (omega arith) (omega arith)) l.returns.code (block_within bound places l.back block.labels) (
-        ended_stands core image bound places i op false p h (back_to h1 (w + 1) target) l r at
+      (returning_comes image bound (later t) number (suc k) (w + 1) l.returns.word l.back h1 Goal about1 block.lines.1 jump (near_word (64 * suc m) 1 (w + 1) (h.registers 8) 4 start refl (omega arith) (omega arith)) l.returns.code
+      (block.labels.within (label_of l.back)) (
+        ended_stands core image bound places i op false p h (back_to h1 (w + 1) l.returns.word target) l r at
             (record { live = refl; same = λ r' a b c d e. rw (d, e, b) })
-            few waiting refl (λ j ne. refl) l.frame.values refl refl l.returns.frame (omega (arith, start)),
+            few waiting refl (λ j ne. refl) l.frame.values refl (ap (λ k. 4 * k) (block.labels.blocks l.back)) l.returns.frame (omega (arith, start)),
         record { node = refl; body = refl; frames = refl; blocks = refl; words = λ j lt. refl },
       ))
 
   -- with one
   leave_with : HasBlock image bound places i (leave_block true op.depth) → StandsOp core i op (Leave true false) → Fits core places.frames i op (Leave true false)
-      → BlockKeeps core image places 0 (λ way. 6) i op (Leave true false)
+      → BlockKeeps core image places 0 (λ way. 7) i op (Leave true false)
   leave_with block stands_op fits setting t p h enters =
       let number = number_of p in
       let at = enters.at in
@@ -211,27 +224,29 @@ module _ (core : List CoreOp) (image : Image) (bound : ℕ → ℕ) (places : Pl
       let about2 = writing image (later t) (suc k) h1 6 (h.local w) about1 l1.within in
       let about3 = writing image (later (later t)) (suc (suc k)) h2 7 (h.local (w + 2)) about2 l2.within in
       let about4 = storing image (later (later (later t))) (suc (suc (suc k))) h3 m' about3 l3.within in
-      let target = places.block l.back in
+      let jump = calls.jumps l.returns.begun_at _ l.returns.point in
+      let target = bound (label_of l.back) in
       let here : result_word p.runner.has.callers ≡ r = ap result_word l.are_calls in
       let Goal : Hart → Type 0 = λ h'. HasDone core image places (ended core image bound places i op true p h.local l) h' × KeepsBelow (result_word p.runner.has.callers) h h' in
       let stored : m' r ≡ last (values p.runner.has) = same_word h.local r v ∙ value in
       let others : (j : ℕ) → (j ≡ r → ⊥) → m' j ≡ h.local j = λ j ne. other_word h.local r v j ne in
-      lw_does core image places setting t p h (ended core image bound places i op true p h.local l) (KeepsBelow (result_word p.runner.has.callers) h) k 5 9 _ taken 6 about block.lines.0 (value_word (frame_end n) op.depth (h.registers 9) stands.behind (omega arith) (omega arith) (omega arith)) (omega arith)
+      lw_does core image places setting t p h (ended core image bound places i op true p h.local l) (KeepsBelow (result_word p.runner.has.callers) h) k 5 9 _ taken 7 about block.lines.0 (value_word (frame_end n) op.depth (h.registers 9) stands.behind (omega arith) (omega arith) (omega arith)) (omega arith)
       (ended_part core image bound places i op true setting p h.local l stands_op enters.index)
-      (first image (later t) number 5 (suc k) _ h1 h2 Goal about1 l1 (lw_goes (later t) number 6 8 0 w h1 (near_word (64 * suc m) 0 w (h.registers 8) 0 start refl (omega arith) (omega arith)))
-      (first image (later (later t)) number 4 (suc (suc k)) _ h2 h3 Goal about2 l2 (lw_goes (later (later t)) number 7 8 8 (w + 2) h2 (near_word (64 * suc m) 2 (w + 2) (h.registers 8) 8 start refl (omega arith) (omega arith)))
-      (first image (later (later (later t))) number 3 (suc (suc (suc k))) _ h3 h4 Goal about3 l3 (sw_goes (later (later (later t))) number 7 5 0 r h3 (near_word r 0 r (h3.registers 7) 0 l.returns.result refl (omega arith) (omega arith)))
-      (returning_comes image bound (later (later (later (later t)))) number (suc (suc (suc (suc k)))) (w + 1) target h4 Goal about4 block.lines.1.1.1.1 (near_word (64 * suc m) 1 (w + 1) (h.registers 8) 4 start refl (omega arith) (omega arith)) l.returns.code (block_within bound places l.back block.labels) (
-        ended_stands core image bound places i op true p h (back_to h4 (w + 1) target) l r at
+      (first image (later t) number 6 (suc k) _ h1 h2 Goal about1 l1 (lw_goes (later t) number 6 8 0 w h1 (near_word (64 * suc m) 0 w (h.registers 8) 0 start refl (omega arith) (omega arith)))
+      (first image (later (later t)) number 5 (suc (suc k)) _ h2 h3 Goal about2 l2 (lw_goes (later (later t)) number 7 8 8 (w + 2) h2 (near_word (64 * suc m) 2 (w + 2) (h.registers 8) 8 start refl (omega arith) (omega arith)))
+      (first image (later (later (later t))) number 4 (suc (suc (suc k))) _ h3 h4 Goal about3 l3 (sw_goes (later (later (later t))) number 7 5 0 r h3 (near_word r 0 r (h3.registers 7) 0 l.returns.result refl (omega arith) (omega arith)))
+      (returning_comes image bound (later (later (later (later t)))) number (suc (suc (suc (suc k)))) (w + 1) l.returns.word l.back h4 Goal about4 block.lines.1.1.1.1 jump (near_word (64 * suc m) 1 (w + 1) (h.registers 8) 4 start refl (omega arith) (omega arith)) l.returns.code
+      (block.labels.within (label_of l.back)) (
+        ended_stands core image bound places i op true p h (back_to h4 (w + 1) l.returns.word target) l r at
             (record { live = refl; same = λ r' a b c d e. rw (d, e, c, b, a) })
             few waiting refl others
             (stored, values_kept h.local m' (frame_end m) l.call.values (omega arith) (λ j a b. others j (λ f. omega arith)) l.frame.values)
-            refl refl (others (w + 1) (λ f. omega arith) ∙ l.returns.frame) (omega (arith, start)),
+            refl (ap (λ k. 4 * k) (block.labels.blocks l.back)) (others (w + 1) (λ f. omega arith) ∙ l.returns.frame) (omega (arith, start)),
         record { node = refl; body = refl; frames = refl; blocks = refl; words = λ j lt. others j (λ f. omega arith) },
       )))))
 
 pub leave_keeps : (core : List CoreOp) (image : Image) (bound : ℕ → ℕ) (places : Places) (i : ℕ) (op : CoreOp) (gives : Bool) → places.frames.of_file ≤ 56
-    → HasBlock image bound places i (leave_block gives op.depth) → StandsOp core i op (Leave gives false) → Fits core places.frames i op (Leave gives false)
-    → BlockKeeps core image places 0 (λ way. if gives then 6 else 3) i op (Leave gives false)
-leave_keeps core image bound places i op true few block stands_op fits = leave_with core image bound places i op few block stands_op fits
-leave_keeps core image bound places i op false few block stands_op fits = leave_without core image bound places i op few block stands_op
+    → CallsReturn core image bound places → HasBlock image bound places i (leave_block gives op.depth) → StandsOp core i op (Leave gives false) → Fits core places.frames i op (Leave gives false)
+    → BlockKeeps core image places 0 (λ way. if gives then 7 else 4) i op (Leave gives false)
+leave_keeps core image bound places i op true few calls block stands_op fits = leave_with core image bound places i op few calls block stands_op fits
+leave_keeps core image bound places i op false few calls block stands_op fits = leave_without core image bound places i op few calls block stands_op

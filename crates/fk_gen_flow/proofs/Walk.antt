@@ -88,7 +88,7 @@ pub jalr_goes : (t : Setting) (number rd rs imm target : ℕ) (h : Hart) → h.r
     → (s : Shared) → GoesAlone (perform t number (Jalr rd rs imm) h s) (jumps h rd (4 * target)) s
 jalr_goes t number rd rs imm target h e le s = (s.reserved, jalr t number rd rs imm (4 * target) h s (omega arith) (omega arith))
 
--- one to the next instruction
-pub link_goes : (t : Setting) (number rd k : ℕ) (h : Hart) → h.pc ≡ 4 * k → k < 262144
-    → (s : Shared) → GoesAlone (perform t number (Jal rd 4) h s) (jumps h rd (4 * suc k)) s
-link_goes t number rd k h e lt s = (s.reserved, jal t number rd 4 (4 * suc k) h s (omega arith) (omega arith))
+-- one past the next instruction
+pub skip_goes : (t : Setting) (number rd k : ℕ) (h : Hart) → h.pc ≡ 4 * k → k < 262144
+    → (s : Shared) → GoesAlone (perform t number (Jal rd 8) h s) (jumps h rd (4 * suc (suc k))) s
+skip_goes t number rd k h e lt s = (s.reserved, jal t number rd 8 (4 * suc (suc k)) h s (omega arith) (omega arith))

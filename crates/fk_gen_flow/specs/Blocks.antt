@@ -20,24 +20,26 @@ is_flow (Enter arguments) = true
 is_flow Halt = true
 is_flow operation = false
 
-abbrev pub block_by : (clears : Bool) → CoreOp → Option Operation → List MarkedLine
-block_by clears op (Some (Branch onward)) = branch_block onward op.depth op.target
-block_by clears op (Some (Leave gives framed)) = leave_block gives op.depth
-block_by clears op (Some (Enter arguments)) = enter_block clears arguments op.depth op.site
-block_by clears op (Some Halt) = halt_block
-block_by clears op operation = []
+abbrev pub block_by : (clears : Bool) (back : ℕ) → CoreOp → Option Operation → List MarkedLine
+block_by clears back op (Some (Branch onward)) = branch_block onward op.depth op.target
+block_by clears back op (Some (Leave gives framed)) = leave_block gives op.depth
+block_by clears back op (Some (Enter arguments)) =
+    enter_block clears arguments op.depth op.site back
+block_by clears back op (Some Halt) = halt_block
+block_by clears back op operation = []
 
 -- The block of a jump or of an operation. A call clears the private words after its arguments if
--- `clears` is true.
-abbrev pub flow_block : (clears : Bool) → CoreOp → List MarkedLine
-flow_block clears op = if is_jump op then jump_block op.target
-    else block_by clears op (operation_of op.kind op.number)
+-- `clears` is true, and its caller goes on at the index `back`.
+abbrev pub flow_block : (clears : Bool) (back : ℕ) → CoreOp → List MarkedLine
+flow_block clears back op = if is_jump op then jump_block op.target
+    else block_by clears back op (operation_of op.kind op.number)
 
--- The target of a branch has a label, and a call has its arguments.
-abbrev pub HasOperands : (depth target : ℕ) → Option Operation → Type 0
-HasOperands depth target (Some (Branch onward)) = target < 2 ^ 31
-HasOperands depth target (Some (Enter arguments)) = arguments ≤ depth
-HasOperands depth target operation = Unit {0}
+-- The target of a branch has a label, and so has the index where the caller of a call goes on. A
+-- call has its arguments.
+abbrev pub HasOperands : (depth target back : ℕ) → Option Operation → Type 0
+HasOperands depth target back (Some (Branch onward)) = target < 2 ^ 31
+HasOperands depth target back (Some (Enter arguments)) = (arguments ≤ depth) × (back < 2 ^ 31)
+HasOperands depth target back operation = Unit {0}
 
 abbrev pub is_some_flow : Option Operation → Bool
 is_some_flow (Some operation) = is_flow operation
@@ -50,5 +52,5 @@ pub record HasFlow (placed : Placed) : Type 0 where
       ⊎ (is_some_flow (operation_of placed.op.kind placed.op.number) ≡ true)
   pub depth : is_jump placed.op ≡ false → placed.op.depth ≤ 56
   pub jump : is_jump placed.op ≡ true → placed.op.target < 2 ^ 31
-  pub operands : HasOperands placed.op.depth placed.op.target
+  pub operands : HasOperands placed.op.depth placed.op.target placed.back
       (operation_of placed.op.kind placed.op.number)

@@ -1,6 +1,6 @@
 -- The block of a call, and the code that all calls share.
 use Rattle.std.specs.Prelude.{◌≡◌, ℕ, zero, suc, ◌+◌, ◌-◌, ◌<◌, nat_le, Bool, true, false, List, []}
-use Rattle.std.specs.Prelude.{◌∷◌, ◌++◌}
+use Rattle.std.specs.Prelude.{◌∷◌, ◌++◌, if◌then◌else◌}
 use Rattle.fk_image.specs.declared.Image.{Image}
 use Rattle.fk_isa.specs.declared.instruction.Instruction.TheVariants.{Lui, Jal, Jalr, Bne, Lw, Sw}
 use Rattle.fk_isa.specs.declared.instruction.Instruction.TheVariants.{Addi}
@@ -10,6 +10,7 @@ use Rattle.fk_gen.specs.Registers.{zero_register, ra, t0, t1, t2}
 use Rattle.fk_gen.specs.Lines.{quiet, commits, goes_to, at_value, at_private, high_part, low_part}
 use Rattle.fk_gen.specs.Lines.{copy_label, clear_label}
 use Rattle.fk_gen.specs.InPlace.{LinesAt}
+use Rattle.fk_gen_flow.specs.Flow.{jump_line}
 
 -- The lines up to the commit of a call. Where 255 calls wait already, the word after the frame is
 -- the first of the private heap, and the site goes to the device that faults. Else the lines of
@@ -33,19 +34,28 @@ abbrev pub own_copies : (arguments : ℕ) → List MarkedLine
 own_copies zero = []
 own_copies (suc k) = copy_lines k ++ own_copies k
 
--- Up to one argument is copied in the block of the call, and more by the code that all calls share.
+-- The most arguments that are copied in the block of the call: one, or none if the call clears words.
+-- More are copied by the code that all calls share. So a block has at most 14 words.
+abbrev pub most_own : (clears : Bool) → ℕ
+most_own clears = if clears then 0 else 1
+
 abbrev pub copies_by : (few : Bool) (arguments : ℕ) → List MarkedLine
 copies_by true arguments = own_copies arguments
 copies_by false arguments = goes_to (Jal t1 0) (copy_label arguments) ∷ []
 
-abbrev pub argument_lines : (arguments : ℕ) → List MarkedLine
-argument_lines arguments = copies_by (nat_le arguments 1) arguments
+abbrev pub argument_lines : (clears : Bool) (arguments : ℕ) → List MarkedLine
+argument_lines clears arguments = copies_by (nat_le arguments (most_own clears)) arguments
 
--- Sets up the new frame. Its caller goes on after the jump that follows.
-abbrev pub frame_lines : List MarkedLine
-frame_lines =
-    quiet (Jal ra 4) ∷ quiet (Sw end_register ra 0) ∷ quiet (Addi frame_register end_register 0) ∷
-    quiet (Addi end_register end_register 256) ∷ []
+-- Sets up the new frame, and jumps over the line to which the call returns. That line leads to the
+-- index where the caller goes on.
+abbrev pub frame_lines : (back : ℕ) → List MarkedLine
+frame_lines back =
+    quiet (Jal ra 8) ∷ jump_line back ∷ quiet (Sw end_register ra 0) ∷
+    quiet (Addi frame_register end_register 0) ∷ quiet (Addi end_register end_register 256) ∷ []
+
+-- How many words before the end of its block a call returns.
+abbrev pub past_return : ℕ
+past_return = 4
 
 -- The number of private words that a frame has room for, and so the most arguments of a call.
 abbrev pub most_privates : ℕ
@@ -57,11 +67,11 @@ clears_by true arguments = goes_to (Jal t1 0) (clear_label (most_privates - argu
 clears_by false arguments = []
 
 abbrev pub word_lines : (clears : Bool) (arguments : ℕ) → List MarkedLine
-word_lines clears arguments = argument_lines arguments ++ clears_by clears arguments
+word_lines clears arguments = argument_lines clears arguments ++ clears_by clears arguments
 
-abbrev pub enter_block : (clears : Bool) (arguments depth site : ℕ) → List MarkedLine
-enter_block clears arguments depth site =
-    depth_lines arguments depth site ++ (word_lines clears arguments ++ frame_lines)
+abbrev pub enter_block : (clears : Bool) (arguments depth site back : ℕ) → List MarkedLine
+enter_block clears arguments depth site back =
+    depth_lines arguments depth site ++ (word_lines clears arguments ++ frame_lines back)
 
 -- The code that all calls share is two chains of parts, the last part first. There is a label
 -- before each part, and one before the chain's end, which goes back to the call. In one chain each

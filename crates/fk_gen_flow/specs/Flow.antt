@@ -25,12 +25,12 @@ branch_block onward depth target =
     commits (Lw t0 end_register (at_value depth)) ∷ quiet (passes onward) ∷ jump_line target ∷ []
 
 -- The end of the block that ends a call. The frame of the waiting call is that of the running call
--- again. The hart goes on four words after the address in t1: past the rest of the block of the
--- call, and past the jump after it.
+-- again. The hart returns into the block that began the call, to the address in t1, where a jump
+-- leads to the index where the waiting call goes on.
 abbrev pub returning : List MarkedLine
 returning =
     quiet (Addi end_register frame_register 0) ∷ quiet (Lw frame_register frame_register 4) ∷
-    quiet (Jalr zero_register t1 16) ∷ []
+    quiet (Jalr zero_register t1 0) ∷ []
 
 abbrev pub leave_block : (gives : Bool) (depth : ℕ) → List MarkedLine
 leave_block true depth =

@@ -16,7 +16,7 @@ use Rattle.fk_sim_block.specs.Suits.{writes}
 use Rattle.fk_sim_block.specs.Block.{Enters}
 use Rattle.fk_gen.specs.Registers.{a0, a1, a2, a3}
 use Rattle.fk_gen.specs.Keeps.{Keeps, DoesAnd, peak}
-use Rattle.fk_gen_flow.specs.Calls.{most_privates}
+use Rattle.fk_gen_flow.specs.Calls.{most_privates, most_own}
 
 -- ---- cycles
 
@@ -37,12 +37,13 @@ clearing_takes clears arguments = if clears then most_privates - arguments + 2 e
 
 abbrev pub call_takes : (clears : Bool) (arguments : ℕ) → ℕ
 call_takes clears arguments =
-    copying_takes (nat_le arguments 1) arguments + clearing_takes clears arguments + 4
+    copying_takes (nat_le arguments (most_own clears)) arguments + clearing_takes clears arguments
+    + 4
 
 -- The number of cycles after a commit, by the branch that the operation takes.
 abbrev pub behind_commit : (clears : Bool) → Operation → (onward : Bool) → ℕ
 behind_commit clears (Branch turned) onward = if onward then 1 else 2
-behind_commit clears (Leave gives framed) onward = if gives then 6 else 3
+behind_commit clears (Leave gives framed) onward = if gives then 7 else 4
 behind_commit clears (Enter arguments) onward = call_takes clears arguments
 behind_commit clears operation onward = 0
 

@@ -1,21 +1,21 @@
 -- What the blocks of control flow do in place.
-use Rattle.std.specs.Prelude.{◌≡◌, ℕ, suc, ◌^◌, ◌<◌, ◌≤◌, List, Bool, true, Some, slice_get}
+use Rattle.std.specs.Prelude.{◌≡◌, ℕ, suc, ◌-◌, ◌^◌, ◌<◌, ◌≤◌, List, Bool, true, Some, slice_get}
 use Rattle.std.specs.Prelude.{slice_index}
 use Rattle.fk_meaning_operation.specs.declared.operation.Operation.{Operation}
 use Rattle.fk_meaning_operation.specs.declared.operation.Operation.TheVariants.{Enter, Halt}
 use Rattle.fk_meaning.specs.Processor.{Setting}
 use Rattle.fk_core.specs.declared.op.CoreOp.{CoreOp}
-use Rattle.fk_core.specs.Next.{is_jump}
+use Rattle.fk_core.specs.Next.{is_jump, behind_jump}
 use Rattle.fk_image.specs.declared.Image.{Image}
 use Rattle.fk_machine.specs.Hart.{Setting as MachineSetting}
-use Rattle.fk_sim_block.specs.Stands.{Places, Frames}
+use Rattle.fk_sim_block.specs.Stands.{Places, Frames, ReturnPoint}
 use Rattle.fk_sim_block.specs.Next.{StandsOp}
 use Rattle.fk_sim_block.specs.Ready.{is_alone}
 use Rattle.fk_sim_block.specs.Suits.{Flows, Fits, nothing}
 use Rattle.fk_sim_block.specs.Block.{IsRunning, BlockDoes, BlockJumps, BlockHalts, Begins, beginner}
-use Rattle.fk_gen.specs.InPlace.{HasBlock}
+use Rattle.fk_gen.specs.InPlace.{HasBlock, LinesAt}
 use Rattle.fk_gen_flow.specs.Flow.{jump_block}
-use Rattle.fk_gen_flow.specs.Calls.{HasShared}
+use Rattle.fk_gen_flow.specs.Calls.{HasShared, past_return}
 use Rattle.fk_gen_flow.specs.Opening.{AreFirsts, HasOpening}
 use Rattle.fk_gen_flow.specs.Blocks.{is_flow, flow_block}
 use Rattle.fk_gen_flow.specs.Keeps.{BlockKeeps, before_commit, behind_commit}
@@ -27,6 +27,23 @@ JumpsGo =
     → is_jump op ≡ true
     → HasBlock image bound places i (jump_block op.target)
     → Flows core places.frames nothing i op.target → BlockJumps core image places i op
+
+-- A call at an index returns into its own block, and its caller goes on after the first jump from the
+-- next index on.
+abbrev pub return_in : List CoreOp → (block : (index : ℕ) → ℕ) → (i : ℕ) → ReturnPoint
+return_in core block i = record {
+  word = block (suc i) - past_return;
+  index = behind_jump core (suc i);
+}
+
+-- The calls of a list return there, and at each word to which a call returns stands the jump to
+-- where its caller goes on.
+pub record CallsReturn (core : List CoreOp) (image : Image) (bound : ℕ → ℕ)
+    (places : Places) : Type 0 where
+  pub points : (i : ℕ) (op : CoreOp) (arguments : ℕ) → StandsOp core i op (Enter arguments)
+      → places.returns i ≡ Some (return_in core places.block i)
+  pub jumps : (i : ℕ) (point : ReturnPoint) → places.returns i ≡ Some point
+      → LinesAt image bound point.word (jump_block point.index)
 
 -- The jumps of a list have their blocks.
 abbrev pub JumpsStand : List CoreOp → Image → (bound : ℕ → ℕ) → Places → Type 0
@@ -41,15 +58,15 @@ ClearsEnough frames i clears (Enter arguments) = (word : ℕ) → frames.keeps (
 ClearsEnough frames i clears operation = Unit {0}
 
 -- The blocks of branches, calls and ends of calls do their operations, where the image also has the
--- code that calls share and the jumps.
+-- code that calls share and the jumps to which calls return.
 abbrev pub FlowBlocksDo : Type 0
 FlowBlocksDo =
     (core : List CoreOp) (image : Image) (places : Places) (bound : ℕ → ℕ) (i : ℕ) (op : CoreOp)
-    (operation : Operation) (clears : Bool)
+    (operation : Operation) (clears : Bool) (back : ℕ)
     → StandsOp core i op operation → is_alone operation ≡ true → is_flow operation ≡ true
     → op.site < 2 ^ 32
-    → HasBlock image bound places i (flow_block clears op) → HasShared image bound
-    → JumpsStand core image bound places
+    → HasBlock image bound places i (flow_block clears back op) → HasShared image bound
+    → CallsReturn core image bound places
     → places.frames.of_file ≤ 56 → Fits core places.frames i op operation
     → ClearsEnough places.frames i clears operation
     → BlockDoes core image places i op operation
@@ -59,11 +76,11 @@ FlowBlocksDo =
 abbrev pub FlowBlocksKeep : Type 0
 FlowBlocksKeep =
     (core : List CoreOp) (image : Image) (places : Places) (bound : ℕ → ℕ) (i : ℕ) (op : CoreOp)
-    (operation : Operation) (clears : Bool)
+    (operation : Operation) (clears : Bool) (back : ℕ)
     → StandsOp core i op operation → is_alone operation ≡ true → is_flow operation ≡ true
     → op.site < 2 ^ 32
-    → HasBlock image bound places i (flow_block clears op) → HasShared image bound
-    → JumpsStand core image bound places
+    → HasBlock image bound places i (flow_block clears back op) → HasShared image bound
+    → CallsReturn core image bound places
     → places.frames.of_file ≤ 56 → Fits core places.frames i op operation
     → ClearsEnough places.frames i clears operation
     → BlockKeeps core image places (before_commit operation)
@@ -73,8 +90,8 @@ FlowBlocksKeep =
 abbrev pub HaltsEnd : Type 0
 HaltsEnd =
     (core : List CoreOp) (image : Image) (places : Places) (bound : ℕ → ℕ) (i : ℕ) (op : CoreOp)
-    (clears : Bool) → StandsOp core i op Halt
-    → HasBlock image bound places i (flow_block clears op) → BlockHalts core image places i op
+    (clears : Bool) (back : ℕ) → StandsOp core i op Halt
+    → HasBlock image bound places i (flow_block clears back op) → BlockHalts core image places i op
 
 -- From its start each hart comes to the block where `main` begins, with the first values of private
 -- variables.

@@ -19,8 +19,6 @@ use std::alloc::AllocError;
 pub const FIRST_LABEL: u32 = 128;
 /// The offset of the device that ends its hart, from the first device, in bytes.
 const HALT_DEVICE: u32 = 12;
-/// The offset of the place where a caller goes on, from the address that its call stores, in bytes.
-const CALL_REST: u32 = 16;
 
 /// The blocks of jumps, branches, calls, ends of calls and halts.
 #[derive(Clone, Copy, Drop)]
@@ -31,10 +29,11 @@ impl Blocks<Placed> for FlowBlocks {
 
     ghost has_block = { HasFlow };
 
-    ghost block = { λ placed. flow_block placed.clears placed.op };
+    ghost block = { λ placed. flow_block placed.clears placed.back placed.op };
 
     fn emit_op(&self, op: &Placed, into: &mut Assembler) -> Result<(), AllocError> {
         let clears = op.clears;
+        let back = op.back;
         let op = op.op;
         if op.is_jump() {
             return emit_jump(into, op.target);
@@ -43,7 +42,7 @@ impl Blocks<Placed> for FlowBlocks {
             Some(Operation::Branch(onward)) => emit_branch(into, onward, op.depth, op.target),
             Some(Operation::Leave { gives, .. }) => emit_leave(into, gives, op.depth),
             Some(Operation::Enter(arguments)) => {
-                emit_enter(into, clears, arguments, op.depth, op.site)
+                emit_enter(into, clears, arguments, op.depth, op.site, back)
             }
             Some(Operation::Halt) => emit_halt(into),
             _ => Ok(()),
@@ -119,7 +118,7 @@ fn emit_leave(into: &mut Assembler, gives: bool, depth: u32) -> Result<(), Alloc
                 BlockLine::quiet(Instruction::Sw(T2, T0, 0)),
                 BlockLine::quiet(Instruction::Addi(END, FRAME, 0)),
                 BlockLine::quiet(Instruction::Lw(FRAME, FRAME, 4)),
-                BlockLine::quiet(Instruction::Jalr(ZERO, T1, CALL_REST)),
+                BlockLine::quiet(Instruction::Jalr(ZERO, T1, 0)),
             ],
         )
     } else {
@@ -129,7 +128,7 @@ fn emit_leave(into: &mut Assembler, gives: bool, depth: u32) -> Result<(), Alloc
                 BlockLine::commits(Instruction::Lw(T1, FRAME, 0)),
                 BlockLine::quiet(Instruction::Addi(END, FRAME, 0)),
                 BlockLine::quiet(Instruction::Lw(FRAME, FRAME, 4)),
-                BlockLine::quiet(Instruction::Jalr(ZERO, T1, CALL_REST)),
+                BlockLine::quiet(Instruction::Jalr(ZERO, T1, 0)),
             ],
         )
     }

@@ -1,12 +1,14 @@
 //! The block of a call, and the code that all calls share.
 
-ghost use Rattle.std.specs.Prelude.{◌≡◌, ◌+◌, ◌^◌, ◌<◌, ◌≤◌, All, OnOk, OnErr, length};
+ghost use Rattle.std.specs.Prelude.{◌≡◌, ◌+◌, ◌^◌, ◌<◌, ◌≤◌, All, OnOk, OnErr, length, true};
+ghost use Rattle.std.specs.Prelude.{false};
 ghost use Rattle.fk_asm.specs.Assembly.{AreFollowed};
 ghost use Rattle.fk_asm.specs.Block.{GoesToMade, HasBegun, with_block};
 ghost use Rattle.fk_gen_flow.specs.Calls.{depth_lines, copy_lines, clear_lines, argument_lines};
 ghost use Rattle.fk_gen_flow.specs.Calls.{clears_by, word_lines, frame_lines, enter_block};
 ghost use Rattle.fk_gen_flow.specs.Calls.{back_lines, most_privates};
 
+use crate::blocks::FIRST_LABEL;
 use fk_asm::Assembler;
 use fk_gen::numbers::{at_private, at_value, high_part, low_part};
 use fk_gen::registers::{DEVICES, END, FRAME, HEAP, RA, T0, T1, T2, ZERO};
@@ -28,21 +30,24 @@ pub(crate) fn emit_enter(
     arguments: u32,
     depth: u32,
     site: u32,
+    back: u32,
 ) -> Result<(), AllocError>
     requires depth { depth ≤ 56 }
     requires arguments { arguments ≤ depth }
-    requires labels { All (GoesToMade into.old.bound) (enter_block clears arguments depth site) }
+    requires near { back < 2 ^ 31 }
+    requires labels { All (GoesToMade into.old.bound)
+        (enter_block clears arguments depth site back) }
     requires room { length into.old.lines
-        + length (enter_block clears arguments depth site) < 2 ^ 30 }
+        + length (enter_block clears arguments depth site back) < 2 ^ 30 }
     requires free { AreFollowed into.old }
     ensures added { OnOk result
-        (into.new ≡ with_block into.old (enter_block clears arguments depth site)) }
+        (into.new ≡ with_block into.old (enter_block clears arguments depth site back)) }
     ensures begun { OnErr result
-        (HasBegun (enter_block clears arguments depth site) into.old into.new) }
+        (HasBegun (enter_block clears arguments depth site back) into.old into.new) }
 {
     emit_depth(into, arguments, depth, site)?;
     emit_words(into, clears, arguments)?;
-    emit_frame(into)
+    emit_frame(into, back)
 }
 
 // The lines up to the commit. Where no more calls may wait, the site faults.
@@ -73,12 +78,12 @@ fn emit_depth(into: &mut Assembler, arguments: u32, depth: u32, site: u32) -> Re
 fn emit_words(into: &mut Assembler, clears: bool, arguments: u32) -> Result<(), AllocError>
     requires arguments { arguments ≤ 56 }
     requires labels { All (GoesToMade into.old.bound) (word_lines clears arguments) }
-    requires room { length into.old.lines + length (word_lines clears arguments) + 4 < 2 ^ 30 }
+    requires room { length into.old.lines + length (word_lines clears arguments) + 5 < 2 ^ 30 }
     requires free { AreFollowed into.old }
     ensures added { OnOk result (into.new ≡ with_block into.old (word_lines clears arguments)) }
     ensures begun { OnErr result (HasBegun (word_lines clears arguments) into.old into.new) }
 {
-    emit_arguments(into, arguments)?;
+    emit_arguments(into, clears, arguments)?;
     emit_clears(into, clears, arguments)
 }
 
@@ -99,13 +104,48 @@ fn emit_clears(into: &mut Assembler, clears: bool, arguments: u32) -> Result<(),
 }
 
 // Copies the arguments into the new frame.
-fn emit_arguments(into: &mut Assembler, arguments: u32) -> Result<(), AllocError>
+fn emit_arguments(into: &mut Assembler, clears: bool, arguments: u32) -> Result<(), AllocError>
     requires arguments { arguments ≤ 56 }
-    requires labels { All (GoesToMade into.old.bound) (argument_lines arguments) }
+    requires labels { All (GoesToMade into.old.bound) (argument_lines clears arguments) }
     requires room { length into.old.lines + 4 < 2 ^ 30 }
     requires free { AreFollowed into.old }
-    ensures added { OnOk result (into.new ≡ with_block into.old (argument_lines arguments)) }
-    ensures begun { OnErr result (HasBegun (argument_lines arguments) into.old into.new) }
+    ensures added { OnOk result
+        (into.new ≡ with_block into.old (argument_lines clears arguments)) }
+    ensures begun { OnErr result (HasBegun (argument_lines clears arguments) into.old into.new) }
+{
+    if clears {
+        emit_all_copies(into, arguments)
+    } else {
+        emit_own_copies(into, arguments)
+    }
+}
+
+// Copies the arguments of a call that clears words.
+fn emit_all_copies(into: &mut Assembler, arguments: u32) -> Result<(), AllocError>
+    requires arguments { arguments ≤ 56 }
+    requires labels { All (GoesToMade into.old.bound) (argument_lines true arguments) }
+    requires room { length into.old.lines + 4 < 2 ^ 30 }
+    requires free { AreFollowed into.old }
+    ensures added { OnOk result (into.new ≡ with_block into.old (argument_lines true arguments)) }
+    ensures begun { OnErr result (HasBegun (argument_lines true arguments) into.old into.new) }
+{
+    match arguments {
+        0 => Ok(()),
+        _ => emit_lines(
+            into,
+            &[BlockLine::goes_to(Instruction::Jal(T1, 0), arguments)],
+        ),
+    }
+}
+
+// Copies the arguments of a call that clears no words.
+fn emit_own_copies(into: &mut Assembler, arguments: u32) -> Result<(), AllocError>
+    requires arguments { arguments ≤ 56 }
+    requires labels { All (GoesToMade into.old.bound) (argument_lines false arguments) }
+    requires room { length into.old.lines + 4 < 2 ^ 30 }
+    requires free { AreFollowed into.old }
+    ensures added { OnOk result (into.new ≡ with_block into.old (argument_lines false arguments)) }
+    ensures begun { OnErr result (HasBegun (argument_lines false arguments) into.old into.new) }
 {
     match arguments {
         0 => Ok(()),
@@ -117,17 +157,21 @@ fn emit_arguments(into: &mut Assembler, arguments: u32) -> Result<(), AllocError
     }
 }
 
-// Makes the new frame that of the running call.
-fn emit_frame(into: &mut Assembler) -> Result<(), AllocError>
-    requires room { length into.old.lines + 4 < 2 ^ 30 }
+// Makes the new frame that of the running call. The call returns to the second of these lines, which
+// leads to where its caller goes on.
+fn emit_frame(into: &mut Assembler, back: u32) -> Result<(), AllocError>
+    requires near { back < 2 ^ 31 }
+    requires labels { All (GoesToMade into.old.bound) (frame_lines back) }
+    requires room { length into.old.lines + 5 < 2 ^ 30 }
     requires free { AreFollowed into.old }
-    ensures added { OnOk result (into.new ≡ with_block into.old frame_lines) }
-    ensures begun { OnErr result (HasBegun frame_lines into.old into.new) }
+    ensures added { OnOk result (into.new ≡ with_block into.old (frame_lines back)) }
+    ensures begun { OnErr result (HasBegun (frame_lines back) into.old into.new) }
 {
     emit_lines(
         into,
         &[
-            BlockLine::quiet(Instruction::Jal(RA, 4)),
+            BlockLine::quiet(Instruction::Jal(RA, 8)),
+            BlockLine::goes_to(Instruction::Jal(ZERO, 0), FIRST_LABEL + back),
             BlockLine::quiet(Instruction::Sw(END, RA, 0)),
             BlockLine::quiet(Instruction::Addi(FRAME, END, 0)),
             BlockLine::quiet(Instruction::Addi(END, END, 256)),

@@ -17,7 +17,7 @@ frames : Frames
 frames = record { keeps = λ index word. false; is_main = λ index. true; of_file = 0 }
 
 places : Places
-places = record { block = λ index. index; frames = frames }
+places = record { block = λ index. index; returns = λ index. None; frames = frames }
 
 levels_at : ℕ → ℕ
 levels_at index = if index == 9 then 1 else 0

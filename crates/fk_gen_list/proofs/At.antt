@@ -14,13 +14,13 @@ module _ (core : List CoreOp) (globals : ℕ) (kept : List Set) (i : ℕ) (op : 
   before_is = ap before_at stands.stands ∙ ap (λ o. option_map_or (before_of op) o 0) stands.is_read
 
   abbrev pub behind_here : Bool → ℕ
-  behind_here onward = behind_of (placed globals kept i op) operation onward
+  behind_here onward = behind_of (placed core globals kept i op) operation onward
 
   abbrev pub behind_there : Bool → ℕ
-  behind_there onward = behind_at globals kept i (slice_get core i) onward
+  behind_there onward = behind_at core globals kept i (slice_get core i) onward
 
   -- on either way
   pub behind_is : behind_there ≡ behind_here
   behind_is =
-      ap (λ o. λ onward. behind_at globals kept i o onward) stands.stands
-      ∙ ap (λ o. λ onward. option_map_or (λ x. behind_of (placed globals kept i op) x onward) o 0) stands.is_read
+      ap (λ o. λ onward. behind_at core globals kept i o onward) stands.stands
+      ∙ ap (λ o. λ onward. option_map_or (λ x. behind_of (placed core globals kept i op) x onward) o 0) stands.is_read

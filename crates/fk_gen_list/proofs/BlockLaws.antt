@@ -28,10 +28,11 @@ use Rattle.fk_gen_flow.specs.Laws.{JumpsStand}
 use Rattle.fk_gen_group.specs.Blocks.{is_group_step}
 use Rattle.fk_gen_flow.proofs.Law.{block_of_jump, jumps_go, flow_blocks_do, halts_end, harts_begin}
 use Rattle.fk_gen_list.specs.Kinds.{kind_of, kind_by, block_in, block_of}
-use Rattle.fk_gen_list.specs.Generable.{AreKept}
+use Rattle.fk_gen_list.specs.Generable.{AreKept, return_at}
 use Rattle.fk_gen_list.specs.Layout.{placed}
 use Rattle.fk_gen_list.proofs.AllPlaced.{clears_enough}
 use Rattle.fk_gen_list.proofs.Suited.{alone_is_no_step, kind_here, has_expression}
+use Rattle.fk_gen_list.proofs.Returns.{calls_return}
 
 -- the constants of operations, their sites and the globals are in range
 pub record AreInRange (core : List CoreOp) (globals : ℕ) : Type 0 where
@@ -41,11 +42,12 @@ pub record AreInRange (core : List CoreOp) (globals : ℕ) : Type 0 where
 
 module _ (core : List CoreOp) (image : Image) (places : Places) (bound : ℕ → ℕ) (kept : List Set) where
   abbrev here : (i : ℕ) → CoreOp → Placed
-  here i op = placed (length image.globals.items) kept i op
+  here i op = placed core (length image.globals.items) kept i op
 
   -- the block of each index is in its place, and so is the code that all calls share
   pub record AreInPlace : Type 0 where
     pub blocks : (i : ℕ) (op : CoreOp) → slice_get core i ≡ Some op → HasBlock image bound places i (block_of (here i op))
+    pub returns : (i : ℕ) → places.returns i ≡ return_at core places.block i (slice_get core i)
     pub shared : HasShared image bound
 
   abbrev block_or : Option Operation → CoreOp → List MarkedLine
@@ -57,7 +59,7 @@ module _ (core : List CoreOp) (image : Image) (places : Places) (bound : ℕ →
 
   jumps_stand : AreInPlace → JumpsStand core image bound places
   jumps_stand in_place i op at jump =
-      subst (HasBlock image bound places i) (block_of_jump (here i op).clears op jump)
+      subst (HasBlock image bound places i) (block_of_jump (here i op).clears (here i op).back op jump)
       (subst (λ k. HasBlock image bound places i (block_in k (here i op))) (jump_kind op jump) (in_place.blocks i op at))
 
   -- the block of an operation that is no step of a group, by its kind
@@ -74,7 +76,8 @@ module _ (core : List CoreOp) (image : Image) (places : Places) (bound : ℕ →
       → HasBlock image bound places i (block_in (kind_by flow access false) (here i op))
       → BlockDoes core image places i op operation
   does_by main suits are ranges in_place i op operation stands alone true access f a has =
-      flow_blocks_do core image places bound i op operation (here i op).clears stands alone f (ranges.sites i op stands.stands) has in_place.shared (jumps_stand in_place) suits.few
+      flow_blocks_do core image places bound i op operation (here i op).clears (here i op).back stands alone f (ranges.sites i op stands.stands) has in_place.shared
+      (calls_return core image bound places kept in_place.blocks in_place.returns) suits.few
       (suits.fits i op operation stands) (clears_enough places.frames kept i (operation_of op.kind op.number) operation are stands.is_read)
   does_by main suits are ranges in_place i op operation stands alone false true f a has =
       access_blocks_do core image bound places i op operation stands a (ranges.sites i op stands.stands)
@@ -93,7 +96,7 @@ module _ (core : List CoreOp) (image : Image) (places : Places) (bound : ℕ →
     alone = λ i op operation stands alone.
         does_by main suits are ranges in_place i op operation stands alone (is_flow operation) (accesses.is_access (Some operation)) refl refl
         (block_here in_place i op operation stands (alone_is_no_step operation alone));
-    halts = λ i op stands. halts_end core image places bound i op (here i op).clears stands (block_here in_place i op Halt stands refl);
+    halts = λ i op stands. halts_end core image places bound i op (here i op).clears (here i op).back stands (block_here in_place i op Halt stands refl);
     jumps = λ i op at jump. jumps_go core image places bound i op jump (jumps_stand in_place i op at jump) (suits.jumps i op at jump);
     begins = λ setting t number running lt.
         harts_begin core image places bound firsts main opening (record { few = suits.few; within = omega arith; words = words }) suits.begins setting t number running;

@@ -12,20 +12,21 @@ use Rattle.fk_isa.specs.Find.{row}
 use Rattle.fk_asm.specs.declared.code.Code.{Code}
 use Rattle.fk_asm.specs.Assembly.{Assembly, instructions}
 use Rattle.fk_asm.specs.Block.{MarkedLine}
+use Rattle.fk_sim_block.specs.Stands.{ReturnPoint}
 use Rattle.fk_sim_block.specs.Next.{StandsOp}
 use Rattle.fk_core_liveness.specs.declared.set.Set.{Set}
 use Rattle.fk_gen.specs.declared.placed.Placed.{Placed}
 use Rattle.fk_gen.specs.InPlace.{LinesAt, HasBlock}
 use Rattle.fk_gen_flow.specs.Opening.{opening_lines}
 use Rattle.fk_gen_group.specs.Blocks.{start_label, start_lines, is_group_step}
-use Rattle.fk_gen_list.specs.Generable.{IsGenerable, DoesTheList, CodeStands, has_target, most_words}
+use Rattle.fk_gen_list.specs.Generable.{IsGenerable, DoesTheList, CodeStands, places_in, return_at, has_target, most_words}
 use Rattle.fk_gen_list.specs.Kinds.{HasBlockOf, block_of}
 use Rattle.fk_gen_list.specs.Layout.{placed, all_placed, front, place, all_lines, IsLaid}
 use Rattle.fk_gen_list.proofs.InImage.{IsAssembled, bound_in}
 use Rattle.fk_gen_list.proofs.Laid.{places, has_labels, has_opening, has_shared, has_start, has_block}
 use Rattle.fk_gen_list.proofs.AllPlaced.{placed_get, all_from}
 use Rattle.fk_gen_list.proofs.Whole.{assembled}
-use Rattle.fk_gen_list.proofs.Suited.{has_block_of, has_operands, jump_has}
+use Rattle.fk_gen_list.proofs.Suited.{back_within, has_block_of, has_operands, jump_has}
 use Rattle.fk_gen_list.proofs.BlockLaws.{AreInRange, AreInPlace, law_of_blocks}
 
 never : {A : Type 0} → false ≡ true → A
@@ -50,25 +51,28 @@ module _ (core : List CoreOp) (kept : List Set) (main : ℕ) (firsts : List ℕ)
   -- ---- it has blocks
 
   operation_has : length core < 2 ^ 31 → (i : ℕ) (op : CoreOp) → slice_get core i ≡ Some op → is_jump op ≡ false → (o : Option Operation)
-      → operation_of op.kind op.number ≡ o → IsSome o → HasBlockOf (placed globals kept i op)
+      → operation_of op.kind op.number ≡ o → IsSome o → HasBlockOf (placed core globals kept i op)
   operation_has short i op at no_jump None e some = never some
   operation_has short i op at no_jump (Some operation) e some =
       let stands : StandsOp core i op operation = record { stands = at; no_jump = no_jump; is_read = e } in
       let fits = is.suits.fits i op operation stands in
-      has_block_of core is.frames i globals op operation (placed globals kept i op).clears stands fits is.suits.few (number_few i op at)
-      (has_operands core is.frames i op operation stands fits is.blocks short) (omega arith)
+      let here = placed core globals kept i op in
+      let begins = is.begins in
+      let back = back_within core is.blocks i op (operation_of op.kind op.number) at no_jump refl (omega arith) in
+      has_block_of core is.frames i globals op operation here.clears here.back stands fits is.suits.few (number_few i op at)
+      (has_operands core is.frames i here.back op operation stands fits is.blocks short (omega (arith, back))) (omega arith)
       (λ step. let there : op.target < length core = is.blocks.targets i op operation stands (step_has_target operation step) in omega arith)
       (is.blocks.operations i op operation stands)
 
-  has_by : length core < 2 ^ 31 → (i : ℕ) (op : CoreOp) → slice_get core i ≡ Some op → (jump : Bool) → is_jump op ≡ jump → HasBlockOf (placed globals kept i op)
+  has_by : length core < 2 ^ 31 → (i : ℕ) (op : CoreOp) → slice_get core i ≡ Some op → (jump : Bool) → is_jump op ≡ jump → HasBlockOf (placed core globals kept i op)
   has_by short i op at true jump =
       let within = is.blocks.jumps i op at jump in
-      jump_has op globals (placed globals kept i op).clears jump (omega arith)
+      jump_has op globals (placed core globals kept i op).clears (placed core globals kept i op).back jump (omega arith)
   has_by short i op at false jump = operation_has short i op at jump (operation_of op.kind op.number) refl (is.operations i op at jump)
 
   pub all_have : length core < 2 ^ 31 → All HasBlockOf (all_placed globals kept core)
   all_have short =
-      all_from HasBlockOf globals kept 0 core
+      all_from HasBlockOf core globals kept 0 core
       (λ i j op at same. has_by short j op (subst (λ k. slice_get core k ≡ Some op) (let e : i ≡ j = omega arith in e) at) (is_jump op) refl)
 
   -- ---- and an image with its code does what the law of blocks asks
@@ -89,18 +93,21 @@ module _ (core : List CoreOp) (kept : List Set) (main : ℕ) (firsts : List ℕ)
     stands image frames has of_file =
         let built : IsAssembled image a.bound (all_lines block_of opening globals ops) =
         assembled core kept main firsts globals is small a laid image code.words.items code.commits.items has.words has.commits rows entries in
-        let there = places block_of opening globals ops a laid frames in (
-          place block_of (length (front opening globals)) ops,
+        let block = place block_of (length (front opening globals)) ops in
+        let returns : (index : ℕ) → Option ReturnPoint = λ index. return_at core block index (slice_get core index) in
+        let there = places block_of opening globals ops a laid returns frames in (
+          block,
           (
             bound,
             record {
               opening = record {
-                labels = has_labels block_of opening globals ops a laid image built frames;
+                labels = has_labels block_of opening globals ops a laid image built returns frames;
                 lines = subst (λ n. LinesAt image bound 0 (opening_lines n firsts main)) (sym of_file) (has_opening block_of opening globals ops a laid image built);
               };
+              returns = λ i. refl;
               blocks = λ i op at.
-                  subst (λ n. HasBlock image bound there i (block_of (placed n kept i op))) (sym has.globals_of)
-                  (has_block block_of opening globals ops a laid image built frames i (placed globals kept i op) (placed_get globals kept 0 i i op core at (omega arith)));
+                  subst (λ n. HasBlock image bound there i (block_of (placed core n kept i op))) (sym has.globals_of)
+                  (has_block block_of opening globals ops a laid image built returns frames i (placed core globals kept i op) (placed_get core globals kept 0 i i op core at (omega arith)));
               shared = has_shared block_of opening globals ops a laid image built;
               start = record {
                 few = let e = has.globals_of in omega arith;
@@ -120,6 +127,6 @@ module _ (core : List CoreOp) (kept : List Set) (main : ℕ) (firsts : List ℕ)
           globals_few = let e = has.globals_of in omega arith;
         } in (
           all.0,
-          law_of_blocks core image (record { block = all.0; frames = frames }) all.1.0 kept firsts main suits keeps ranges
-              (record { blocks = whole.blocks; shared = whole.shared }) whole.opening (sym of_file) is.first_words,
+          law_of_blocks core image (places_in core all.0 frames) all.1.0 kept firsts main suits keeps ranges
+              (record { blocks = whole.blocks; returns = whole.returns; shared = whole.shared }) whole.opening (sym of_file) is.first_words,
         )

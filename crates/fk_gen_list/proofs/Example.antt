@@ -3,9 +3,9 @@ use Rattle.std.proofs.Common.{◌≡◌, ℕ, zero, suc, ◌^◌, ◌<◌, ◌�
 use Rattle.std.specs.Prelude.{slice_get}
 use Rattle.std.proofs.lemmas.List.Elements.{All-nil, All-from_recursion}
 use Rattle.fk_meaning_operation.specs.declared.operation.Operation.{Operation}
-use Rattle.fk_meaning_operation.specs.declared.operation.Operation.TheVariants.{Push, Begin, End, Resume, Halt}
+use Rattle.fk_meaning_operation.specs.declared.operation.Operation.TheVariants.{Push, Begin, End, Resume, Halt, Enter}
 use Rattle.fk_core.specs.declared.op.CoreOp.{CoreOp}
-use Rattle.fk_core.specs.Next.{is_jump}
+use Rattle.fk_core.specs.Next.{is_jump, behind_jump}
 use Rattle.fk_core.specs.Numbers.{operation_of}
 use Rattle.fk_sim_block.specs.Stands.{Frames, HasRoom}
 use Rattle.fk_sim_block.specs.Next.{StandsOp}
@@ -114,6 +114,10 @@ blocks = record {
       each (λ i op operation. has_target operation ≡ true → op.target < 5)
       (λ e. omega arith) (λ e. omega arith) (λ e. omega arith) (λ e. omega arith) (λ e. omega arith)
       i op operation stands.stands stands.is_read;
+  returns = λ i op n stands.
+      each (λ i op operation. operation ≡ Enter n → behind_jump core (suc i) < 5)
+      (λ e. absurd (cc)) (λ e. absurd (cc)) (λ e. absurd (cc)) (λ e. absurd (cc)) (λ e. absurd (cc))
+      i op (Enter n) stands.stands stands.is_read refl;
 }
 
 pub is_generable : IsGenerable core [] 0 []

@@ -116,6 +116,6 @@ module _ (core : List CoreOp) (frames : Frames) (main : ℕ) (suits : Suits core
       (subst (λ (x : CoreOp). operation_of x.kind x.number ≡ Some operation) (sym same) read)
       (subst (λ x. Fits core frames i x operation) (sym same) (suits.fits i op operation (stands_op core i op operation at read)))
 
-  pub few_behind_at : (i : ℕ) (onward : Bool) (o : Option CoreOp) → slice_get core i ≡ o → behind_at globals kept i o onward ≤ most_behind
+  pub few_behind_at : (i : ℕ) (onward : Bool) (o : Option CoreOp) → slice_get core i ≡ o → behind_at core globals kept i o onward ≤ most_behind
   few_behind_at i onward None at = omega arith
-  few_behind_at i onward (Some op) at = by_operation i op (placed globals kept i op) onward (operation_of op.kind op.number) refl refl at refl
+  few_behind_at i onward (Some op) at = by_operation i op (placed core globals kept i op) onward (operation_of op.kind op.number) refl refl at refl

@@ -54,7 +54,7 @@ module _ (core : List CoreOp) (image : Image) (bound : ℕ → ℕ) (places : Pl
   before i = before_at (slice_get core i)
 
   abbrev behind : (i : ℕ) → Bool → ℕ
-  behind i onward = behind_at globals kept i (slice_get core i) onward
+  behind i onward = behind_at core globals kept i (slice_get core i) onward
 
   agrees : (i : ℕ) (op : CoreOp) (lowest size : ℕ) → StandsOp core i op Agree
       → StepTogether core image places nestings i op Agree (λ ps. Unit {0}) (before i) (behind i true) None (λ p. None) lowest size

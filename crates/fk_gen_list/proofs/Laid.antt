@@ -9,7 +9,7 @@ use Rattle.fk_image.specs.declared.Image.{Image}
 use Rattle.fk_asm.specs.Assembly.{Assembly, empty}
 use Rattle.fk_asm.specs.Block.{MarkedLine, with_block}
 use Rattle.fk_asm.proofs.Straight.{with_block-append}
-use Rattle.fk_sim_block.specs.Stands.{Places, Frames}
+use Rattle.fk_sim_block.specs.Stands.{Places, ReturnPoint, Frames}
 use Rattle.fk_gen.specs.Lines.{copy_label, clear_label, label_of}
 use Rattle.fk_gen.specs.InPlace.{LinesAt, HasLabels, HasBlock}
 use Rattle.fk_gen_flow.specs.Calls.{chain_lines, copy_lines, clear_lines, back_lines, most_privates, HasChain, HasShared}
@@ -338,8 +338,8 @@ module _ (block : Placed → List MarkedLine) (opening : List MarkedLine) (globa
           omega arith
     ]
 
-    abbrev pub places : Frames → Places
-    places frames = record { block = place block (length (front opening globals)) ops; frames = frames }
+    abbrev pub places : ((index : ℕ) → Option ReturnPoint) → Frames → Places
+    places returns frames = record { block = place block (length (front opening globals)) ops; returns = returns; frames = frames }
 
     -- ---- all stands in an image
 
@@ -347,8 +347,8 @@ module _ (block : Placed → List MarkedLine) (opening : List MarkedLine) (globa
       abbrev all : List MarkedLine
       all = all_lines block opening globals ops
 
-      pub has_labels : (frames : Frames) → HasLabels bound (places frames)
-      has_labels frames = record {
+      pub has_labels : (returns : (index : ℕ) → Option ReturnPoint) (frames : Frames) → HasLabels bound (places returns frames)
+      has_labels returns frames = record {
         blocks = bound_block;
         within = λ label. let in' = bound_within label in let few = code.few in omega arith;
       }
@@ -388,9 +388,10 @@ module _ (block : Placed → List MarkedLine) (opening : List MarkedLine) (globa
           subst (λ k. LinesAt image bound k (start_lines globals)) (sym bound_start)
           (lines_at image a.bound all code end (length (calls_front opening)) (start_lines globals) (behind (calls_front opening) (start_lines globals) in_front))
 
-      pub has_block : (frames : Frames) (i : ℕ) (op : Placed) → slice_get ops i ≡ Some op → HasBlock image bound (places frames) i (block op)
-      has_block frames i op e = record {
-        labels = has_labels frames;
+      pub has_block : (returns : (index : ℕ) → Option ReturnPoint) (frames : Frames) (i : ℕ) (op : Placed) → slice_get ops i ≡ Some op
+          → HasBlock image bound (places returns frames) i (block op)
+      has_block returns frames i op e = record {
+        labels = has_labels returns frames;
         lines = lines_at image a.bound all code end (place block (length (front opening globals)) ops i) (block op)
             (within_blocks block all ops (length (front opening globals)) i op in_blocks e);
         next = place-suc block ops (length (front opening globals)) i op e;

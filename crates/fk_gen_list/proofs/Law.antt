@@ -55,7 +55,7 @@ module _ (core : List CoreOp) (image : Image) (places : Places) (bound : ℕ →
   globals = length image.globals.items
 
   abbrev here : (i : ℕ) → CoreOp → Placed
-  here i op = placed globals kept i op
+  here i op = placed core globals kept i op
 
   abbrev block_or : Option Operation → CoreOp → List MarkedLine
   block_or o op = option_map_or (expressions.expression_block globals op.depth) o []
@@ -64,7 +64,7 @@ module _ (core : List CoreOp) (image : Image) (places : Places) (bound : ℕ →
       → accesses.is_access (Some operation) ≡ access → HasBlock image bound places i (block_in (kind_by flow access false) (here i op))
       → BlockKeeps core image places (before_in (kind_by flow access false) op operation) (behind_in (kind_by flow access false) (here i op) operation) i op operation
   keeps_by i op operation stands alone true access f a has =
-      flow_blocks_keep core image places bound i op operation (here i op).clears stands alone f (ranges.words i op stands.stands).0 has code.shared code.jumps suits.few
+      flow_blocks_keep core image places bound i op operation (here i op).clears (here i op).back stands alone f (ranges.words i op stands.stands).0 has code.shared code.calls suits.few
       (suits.fits i op operation stands) (clears_enough places.frames kept i (operation_of op.kind op.number) operation are stands.is_read)
   keeps_by i op operation stands alone false true f a has =
       keeps_of core image places (accesses.before_commit operation op.site) (λ onward. accesses.behind_commit operation) i op operation f alone
@@ -89,9 +89,9 @@ module _ (core : List CoreOp) (image : Image) (places : Places) (bound : ℕ →
 
   -- and those at its index
   keeps : (i : ℕ) (op : CoreOp) (operation : Operation) → StandsOp core i op operation → is_alone operation ≡ true
-      → BlockKeeps core image places (before_at (slice_get core i)) (behind_at globals kept i (slice_get core i)) i op operation
+      → BlockKeeps core image places (before_at (slice_get core i)) (behind_at core globals kept i (slice_get core i)) i op operation
   keeps i op operation stands alone =
-      subst (λ o. BlockKeeps core image places (before_at o) (behind_at globals kept i o) i op operation) (sym stands.stands)
+      subst (λ o. BlockKeeps core image places (before_at o) (behind_at core globals kept i o) i op operation) (sym stands.stands)
       (subst (λ o. BlockKeeps core image places (option_map_or (before_of op) o 0) (λ onward. option_map_or (λ x. behind_of (here i op) x onward) o 0) i op operation) (sym stands.is_read)
       (by_kind i op operation alone
       (keeps_by i op operation stands alone (is_flow operation) (accesses.is_access (Some operation)) refl refl
@@ -108,5 +108,5 @@ lists_do_alone core kept image bound places nestings main suits are ranges code 
           (keeps core image places bound kept main suits are ranges code i op operation stands alone);
       jumps = λ i op at jump.
           jumps_stay_in_node core image bound places nestings i op (code.jumps i op at jump) (suits.jumps i op at jump) suits.few (levels.jumps i op at jump);
-      halts = λ i op stands. halts_end core image places bound i op (placed globals kept i op).clears stands (code.blocks i op Halt stands refl);
+      halts = λ i op stands. halts_end core image places bound i op (placed core globals kept i op).clears (placed core globals kept i op).back stands (code.blocks i op Halt stands refl);
     }

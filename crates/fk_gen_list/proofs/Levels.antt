@@ -1,12 +1,12 @@
 -- Lists in whose frames no level stands.
-use Rattle.std.proofs.Common.{◌≡◌, ℕ, suc, ◌-◌, ◌≤◌, List, subst, sym, arith, refl}
+use Rattle.std.proofs.Common.{◌≡◌, ℕ, suc, ◌-◌, ◌≤◌, List, subst, arith, refl}
 use Rattle.fk_meaning_operation.specs.declared.operation.Operation.{Operation}
 use Rattle.fk_meaning_operation.specs.declared.operation.Operation.TheVariants.{Push, Get, CopyLast, Leave, Enter}
 use Rattle.fk_core.specs.declared.op.CoreOp.{CoreOp}
+use Rattle.fk_core.specs.Next.{behind_jump}
 use Rattle.fk_sim_block.specs.Stands.{Frames, Places, HasRoom}
 use Rattle.fk_sim_block.specs.Suits.{Fits}
 use Rattle.fk_gen.specs.Keeps.{peak}
-use Rattle.fk_gen_flow.proofs.Enters.{behind_here}
 use Rattle.fk_sim_block.specs.Node.{Gathering, HasLevelRoom}
 use Rattle.fk_gen_group.specs.InNode.{LevelsFit, HasLevels}
 use Rattle.fk_gen_list.specs.Laws.{none_saved, LevelsNeedNoRoom}
@@ -30,12 +30,11 @@ module _ (core : List CoreOp) (places : Places) (start : Gathering) (few : place
   fit (Leave gives framed) fits = record { few = few; none = refl }
   fit (Enter n) fits =
       let calls = fits.goes_on in
-      let here = behind_here core (suc i) calls.entry calls.stands calls.leads in
       let inside = calls.inside in
       record {
         few = few;
         stay = record { levels = refl; behind = refl };
-        room = subst (λ j. HasLevelRoom places.frames (none_saved start) j (suc (op.depth - n))) (sym here) (room_of places.frames start (suc (suc i)) (suc (op.depth - n)) calls.room);
+        room = room_of places.frames start (behind_jump core (suc i)) (suc (op.depth - n)) calls.room;
         none = refl;
         entry = record { room = rw inside (omega arith); apart = λ some. absurd (omega arith) };
       }

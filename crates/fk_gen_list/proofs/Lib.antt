@@ -8,6 +8,8 @@ pub mod Shapes
 pub mod Whole
 pub mod Laying
 pub mod Suited
+-- where calls return
+pub mod Returns
 pub mod BlockLaws
 pub mod Done
 pub mod Steps

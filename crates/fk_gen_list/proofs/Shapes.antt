@@ -36,7 +36,7 @@ use Rattle.fk_gen_list.specs.Generable.{IsGenerable, most_words, words_by}
 use Rattle.fk_gen_list.specs.declared.kind.Kind.{Kind}
 use Rattle.fk_gen_list.specs.declared.kind.Kind.TheVariants.{Flow, Access, Group, Expression}
 use Rattle.fk_gen_list.specs.Kinds.{kind_of, kind_by, block_in, block_of}
-use Rattle.fk_gen_list.specs.Layout.{placed, placed_from}
+use Rattle.fk_gen_list.specs.Layout.{back_by, placed, placed_from}
 use Rattle.fk_gen_list.proofs.Chain.{IsUnlabeled}
 use Rattle.fk_gen_list.proofs.Laid.{GoesTo, IsLabel}
 use Rattle.fk_gen_list.proofs.Near.{IsFar}
@@ -87,13 +87,13 @@ expression_all globals d (Some operation) = first_all (expressions.expression_co
 -- ---- lines with labels
 
 -- what an operation goes to is there
-abbrev Leads : (n : ℕ) → CoreOp → Option Operation → Type 0
-Leads n op (Some (o.Branch onward)) = op.target < n
-Leads n op (Some (o.Enter arguments)) = arguments ≤ most_privates
-Leads n op (Some o.Begin) = op.target < n
-Leads n op (Some o.Seq) = op.target < n
-Leads n op (Some o.End) = op.target < n
-Leads n op operation = Unit {0}
+abbrev Leads : (n back : ℕ) → CoreOp → Option Operation → Type 0
+Leads n back op (Some (o.Branch onward)) = op.target < n
+Leads n back op (Some (o.Enter arguments)) = (arguments ≤ most_privates) × (back < n)
+Leads n back op (Some o.Begin) = op.target < n
+Leads n back op (Some o.Seq) = op.target < n
+Leads n back op (Some o.End) = op.target < n
+Leads n back op operation = Unit {0}
 
 jump_goes : (n target : ℕ) → target < n → GoesTo n (f.jump_line target)
 jump_goes n target lt = (inr (inr (omega arith, omega arith)), (0, refl))
@@ -112,76 +112,77 @@ clears_all : (n : ℕ) (clears : Bool) (arguments : ℕ) → All (GoesTo n) (cal
 clears_all n true arguments = All-from_recursion (GoesTo n) (calls.clears_by true arguments) ((inr (inl (omega arith, omega arith)), (6, refl)), tt)
 clears_all n false arguments = All-nil (GoesTo n)
 
-flow_all : (n : ℕ) (clears : Bool) (op : CoreOp) (operation : Option Operation) → Leads n op operation → All (GoesTo n) (flow.block_by clears op operation)
-flow_all n clears op (Some (o.Branch onward)) leads =
+flow_all : (n : ℕ) (clears : Bool) (back : ℕ) (op : CoreOp) (operation : Option Operation) → Leads n back op operation → All (GoesTo n) (flow.block_by clears back op operation)
+flow_all n clears back op (Some (o.Branch onward)) leads =
     All-from_recursion (GoesTo n) (f.branch_block onward op.depth op.target) (tt, (tt, (jump_goes n op.target leads, tt)))
-flow_all n clears op (Some (o.Leave true framed)) leads =
+flow_all n clears back op (Some (o.Leave true framed)) leads =
     All-from_recursion (GoesTo n) (f.leave_block true op.depth) (tt, (tt, (tt, (tt, (tt, (tt, (tt, tt)))))))
-flow_all n clears op (Some (o.Leave false framed)) leads =
+flow_all n clears back op (Some (o.Leave false framed)) leads =
     All-from_recursion (GoesTo n) (f.leave_block false op.depth) (tt, (tt, (tt, (tt, tt))))
-flow_all n clears op (Some (o.Enter arguments)) leads =
-    All-append (GoesTo n) (calls.depth_lines arguments op.depth op.site) (calls.word_lines clears arguments ++ calls.frame_lines)
+flow_all n clears back op (Some (o.Enter arguments)) leads =
+    All-append (GoesTo n) (calls.depth_lines arguments op.depth op.site) (calls.word_lines clears arguments ++ calls.frame_lines back)
     (All-from_recursion (GoesTo n) (calls.depth_lines arguments op.depth op.site) (tt, (tt, (tt, (tt, (tt, (tt, (tt, tt))))))))
-    (All-append (GoesTo n) (calls.word_lines clears arguments) calls.frame_lines
-    (All-append (GoesTo n) (calls.argument_lines arguments) (calls.clears_by clears arguments) (arguments_all n (nat_le arguments 1) arguments leads) (clears_all n clears arguments))
-    (All-from_recursion (GoesTo n) calls.frame_lines (tt, (tt, (tt, (tt, tt))))))
-flow_all n clears op (Some o.Halt) leads = All-from_recursion (GoesTo n) f.halt_block (tt, tt)
-flow_all n clears op operation leads = All-nil (GoesTo n)
+    (All-append (GoesTo n) (calls.word_lines clears arguments) (calls.frame_lines back)
+    (All-append (GoesTo n) (calls.argument_lines clears arguments) (calls.clears_by clears arguments)
+    (arguments_all n (nat_le arguments (calls.most_own clears)) arguments leads.0) (clears_all n clears arguments))
+    (All-from_recursion (GoesTo n) (calls.frame_lines back) (tt, (jump_goes n back leads.1, (tt, (tt, (tt, tt)))))))
+flow_all n clears back op (Some o.Halt) leads = All-from_recursion (GoesTo n) f.halt_block (tt, tt)
+flow_all n clears back op operation leads = All-nil (GoesTo n)
 
-flow_block_all : (n : ℕ) (clears : Bool) (op : CoreOp) → (is_jump op ≡ true → op.target < n)
-    → (is_jump op ≡ false → Leads n op (operation_of op.kind op.number)) → All (GoesTo n) (flow.flow_block clears op)
-flow_block_all n clears op jumps leads = by (is_jump op) jumps leads
+flow_block_all : (n : ℕ) (clears : Bool) (back : ℕ) (op : CoreOp) → (is_jump op ≡ true → op.target < n)
+    → (is_jump op ≡ false → Leads n back op (operation_of op.kind op.number)) → All (GoesTo n) (flow.flow_block clears back op)
+flow_block_all n clears back op jumps leads = by (is_jump op) jumps leads
   where
-    by : (jump : Bool) → (jump ≡ true → op.target < n) → (jump ≡ false → Leads n op (operation_of op.kind op.number))
-        → All (GoesTo n) (if jump then f.jump_block op.target else flow.block_by clears op (operation_of op.kind op.number))
+    by : (jump : Bool) → (jump ≡ true → op.target < n) → (jump ≡ false → Leads n back op (operation_of op.kind op.number))
+        → All (GoesTo n) (if jump then f.jump_block op.target else flow.block_by clears back op (operation_of op.kind op.number))
     by true jumps leads = jump_all n op.target (jumps refl)
-    by false jumps leads = flow_all n clears op (operation_of op.kind op.number) (leads refl)
+    by false jumps leads = flow_all n clears back op (operation_of op.kind op.number) (leads refl)
 
 meet_all : (n word size : ℕ) → All (GoesTo n) (group.meet_block word size)
 meet_all n word size =
     go_nowhere n (group.meet_block word size)
     (All-from_recursion IsUnlabeled (group.meet_block word size) (refl, (refl, (refl, (refl, (refl, (refl, (refl, (refl, (refl, (refl, (refl, tt))))))))))))
 
-group_all : (n : ℕ) (op : CoreOp) (operation : Option Operation) → Leads n op operation → All (GoesTo n) (group.block_of operation op.depth op.target)
-group_all n op (Some o.Begin) leads =
+group_all : (n back : ℕ) (op : CoreOp) (operation : Option Operation) → Leads n back op operation → All (GoesTo n) (group.block_of operation op.depth op.target)
+group_all n back op (Some o.Begin) leads =
     All-from_recursion (GoesTo n) (group.begin_block op.depth op.target) (tt, ((inl (omega arith), (1, refl)), (jump_goes n op.target leads, tt)))
-group_all n op (Some o.Agree) leads = All-from_recursion (GoesTo n) (group.agree_block op.depth) (tt, (tt, (tt, (tt, tt))))
-group_all n op (Some o.Farm) leads = All-from_recursion (GoesTo n) group.farm_block (tt, tt)
-group_all n op (Some o.Seq) leads =
+group_all n back op (Some o.Agree) leads = All-from_recursion (GoesTo n) (group.agree_block op.depth) (tt, (tt, (tt, (tt, tt))))
+group_all n back op (Some o.Farm) leads = All-from_recursion (GoesTo n) group.farm_block (tt, tt)
+group_all n back op (Some o.Seq) leads =
     All-from_recursion (GoesTo n) (group.seq_block op.target) (tt, (tt, (tt, (tt, (tt, (jump_goes n op.target leads, (tt, tt)))))))
-group_all n op (Some o.End) leads =
+group_all n back op (Some o.End) leads =
     All-from_recursion (GoesTo n) (group.end_block op.target) (tt, (tt, (tt, (tt, (tt, (tt, (jump_goes n op.target leads, tt)))))))
-group_all n op (Some o.Resume) leads = meet_all n 1 20
-group_all n op (Some (o.Meet false)) leads = meet_all n 0 11
-group_all n op (Some (o.Meet true)) leads = meet_all n 1 20
-group_all n op operation leads = All-nil (GoesTo n)
+group_all n back op (Some o.Resume) leads = meet_all n 1 20
+group_all n back op (Some (o.Meet false)) leads = meet_all n 0 11
+group_all n back op (Some (o.Meet true)) leads = meet_all n 1 20
+group_all n back op operation leads = All-nil (GoesTo n)
 
 -- a jump is no operation, and so none that leads anywhere
-leads_all : (n : ℕ) (op : CoreOp) (jump : Bool) → is_jump op ≡ jump → (is_jump op ≡ false → Leads n op (operation_of op.kind op.number))
-    → Leads n op (operation_of op.kind op.number)
-leads_all n op true j leads = subst (Leads n op) (sym (jump_none op j)) tt
-leads_all n op false j leads = leads j
+leads_all : (n back : ℕ) (op : CoreOp) (jump : Bool) → is_jump op ≡ jump → (is_jump op ≡ false → Leads n back op (operation_of op.kind op.number))
+    → Leads n back op (operation_of op.kind op.number)
+leads_all n back op true j leads = subst (Leads n back op) (sym (jump_none op j)) tt
+leads_all n back op false j leads = leads j
 
 block_all : (n : ℕ) (p : Placed) → (is_jump p.op ≡ true → p.op.target < n)
-    → (is_jump p.op ≡ false → Leads n p.op (operation_of p.op.kind p.op.number)) → All (GoesTo n) (block_of p)
+    → (is_jump p.op ≡ false → Leads n p.back p.op (operation_of p.op.kind p.op.number)) → All (GoesTo n) (block_of p)
 block_all n p jumps leads = by (kind_of p.op)
   where
     by : (kind : Kind) → All (GoesTo n) (block_in kind p)
-    by Flow = flow_block_all n p.clears p.op jumps leads
+    by Flow = flow_block_all n p.clears p.back p.op jumps leads
     by Access = go_nowhere n _ (access_all (operation_of p.op.kind p.op.number) p.op.depth p.op.site)
-    by Group = group_all n p.op (operation_of p.op.kind p.op.number) (leads_all n p.op (is_jump p.op) refl leads)
+    by Group = group_all n p.back p.op (operation_of p.op.kind p.op.number) (leads_all n p.back p.op (is_jump p.op) refl leads)
     by Expression = go_nowhere n _ (expression_all p.globals p.op.depth (operation_of p.op.kind p.op.number))
 
 -- ---- in a list
 
 leads_by : (core : List CoreOp) (kept : List Set) (main : ℕ) (firsts : List ℕ) (i : ℕ) (op : CoreOp) (operation : Option Operation)
     → IsGenerable core kept main firsts → slice_get core i ≡ Some op → is_jump op ≡ false → operation_of op.kind op.number ≡ operation
-    → Leads (length core) op operation
+    → Leads (length core) (back_by operation core i) op operation
 leads_by core kept main firsts i op (Some (o.Branch onward)) is e quiet' read =
     is.blocks.targets i op (o.Branch onward) (record { stands = e; no_jump = quiet'; is_read = read }) refl
 leads_by core kept main firsts i op (Some (o.Enter arguments)) is e quiet' read =
     let stands : StandsOp core i op (o.Enter arguments) = record { stands = e; no_jump = quiet'; is_read = read } in
-    (is.suits.fits i op (o.Enter arguments) stands).goes_on.few
+    ((is.suits.fits i op (o.Enter arguments) stands).goes_on.few, is.blocks.returns i op arguments stands)
 leads_by core kept main firsts i op (Some o.Begin) is e quiet' read = is.blocks.targets i op o.Begin (record { stands = e; no_jump = quiet'; is_read = read }) refl
 leads_by core kept main firsts i op (Some o.Seq) is e quiet' read = is.blocks.targets i op o.Seq (record { stands = e; no_jump = quiet'; is_read = read }) refl
 leads_by core kept main firsts i op (Some o.End) is e quiet' read = is.blocks.targets i op o.End (record { stands = e; no_jump = quiet'; is_read = read }) refl
@@ -192,9 +193,9 @@ jumps_to : (core : List CoreOp) (kept : List Set) (main : ℕ) (firsts : List �
 jumps_to core kept main firsts i op is e jump = is.blocks.jumps i op e jump
 
 pub op_goes : (core : List CoreOp) (kept : List Set) (main : ℕ) (firsts : List ℕ) (globals i : ℕ) (op : CoreOp) → IsGenerable core kept main firsts
-    → slice_get core i ≡ Some op → All (GoesTo (length core)) (block_of (placed globals kept i op))
+    → slice_get core i ≡ Some op → All (GoesTo (length core)) (block_of (placed core globals kept i op))
 op_goes core kept main firsts globals i op is e =
-    block_all (length core) (placed globals kept i op) (jumps_to core kept main firsts i op is e)
+    block_all (length core) (placed core globals kept i op) (jumps_to core kept main firsts i op is e)
     (λ quiet'. leads_by core kept main firsts i op (operation_of op.kind op.number) is e quiet' refl)
 
 -- ---- how many words
@@ -287,26 +288,26 @@ own_length : (n : ℕ) → length (calls.own_copies n) ≡ 2 * n
 own_length zero = refl
 own_length (suc n) = let e = own_length n in omega arith
 
-arguments_few : (own : Bool) (arguments : ℕ) → nat_le arguments 1 ≡ own → length (calls.copies_by own arguments) ≤ 2
-arguments_few true arguments e = let few = leb-true arguments 1 e in let all = own_length arguments in omega arith
-arguments_few false arguments e = omega arith
+arguments_few : (own : Bool) (most arguments : ℕ) → most ≤ 1 → nat_le arguments most ≡ own → length (calls.copies_by own arguments) ≤ suc most
+arguments_few true most arguments le e = let few = leb-true arguments most e in let all = own_length arguments in omega arith
+arguments_few false most arguments le e = omega arith
 
-clears_few : (clears : Bool) (arguments : ℕ) → length (calls.clears_by clears arguments) ≤ 1
-clears_few true arguments = omega arith
-clears_few false arguments = omega arith
+-- a call that clears copies by shared code
+few_words : (clears : Bool) (arguments : ℕ) → length (calls.argument_lines clears arguments) + length (calls.clears_by clears arguments) ≤ 2
+few_words true arguments = let few = arguments_few (nat_le arguments 0) 0 arguments (omega arith) refl in omega arith
+few_words false arguments = let few = arguments_few (nat_le arguments 1) 1 arguments (omega arith) refl in omega arith
 
-flow_words : (clears : Bool) (op : CoreOp) (operation : Option Operation) → length (flow.block_by clears op operation) ≤ words_by operation
-flow_words clears op (Some (o.Branch onward)) = omega arith
-flow_words clears op (Some (o.Leave true framed)) = omega arith
-flow_words clears op (Some (o.Leave false framed)) = omega arith
-flow_words clears op (Some (o.Enter arguments)) =
-    let all = length-append (calls.word_lines clears arguments) calls.frame_lines in
-    let both = length-append (calls.argument_lines arguments) (calls.clears_by clears arguments) in
-    let few = arguments_few (nat_le arguments 1) arguments refl in
-    let one = clears_few clears arguments in
+flow_words : (clears : Bool) (back : ℕ) (op : CoreOp) (operation : Option Operation) → length (flow.block_by clears back op operation) ≤ words_by operation
+flow_words clears back op (Some (o.Branch onward)) = omega arith
+flow_words clears back op (Some (o.Leave true framed)) = omega arith
+flow_words clears back op (Some (o.Leave false framed)) = omega arith
+flow_words clears back op (Some (o.Enter arguments)) =
+    let all = length-append (calls.word_lines clears arguments) (calls.frame_lines back) in
+    let both = length-append (calls.argument_lines clears arguments) (calls.clears_by clears arguments) in
+    let few = few_words clears arguments in
     omega arith
-flow_words clears op (Some o.Halt) = omega arith
-flow_words clears op operation = omega arith
+flow_words clears back op (Some o.Halt) = omega arith
+flow_words clears back op operation = omega arith
 
 group_words : (operation : Option Operation) (d target : ℕ) → length (group.block_of operation d target) ≤ words_by operation
 group_words (Some o.Begin) d target = omega arith
@@ -326,7 +327,7 @@ words_of true p operation j read = rw j (omega arith)
 words_of false p operation j read = by (kind_by (flow.is_some_flow operation) (accesses.is_access operation) (group.is_group_step operation))
   where
     by : (kind : Kind) → length (block_in kind p) ≤ words_by operation
-    by Flow = rw (j, read) (flow_words p.clears p.op operation)
+    by Flow = rw (j, read) (flow_words p.clears p.back p.op operation)
     by Access = rw read (access_words operation p.op.depth p.op.site)
     by Group = rw read (group_words operation p.op.depth p.op.target)
     by Expression = rw read (expression_words p.globals p.op.depth operation)
@@ -334,13 +335,13 @@ words_of false p operation j read = by (kind_by (flow.is_some_flow operation) (a
 block_words : (p : Placed) → length (block_of p) ≤ most_words p.op
 block_words p = words_of (is_jump p.op) p (operation_of p.op.kind p.op.number) refl refl
 
-pub all_words : (globals : ℕ) (kept : List Set) (k : ℕ) (core : List CoreOp) → length (flat_map block_of (placed_from globals kept k core)) ≤ sum_by most_words core
-all_words globals kept k [] = omega arith
-all_words globals kept k (op ∷ core) =
-    let rest = all_words globals kept (suc k) core in
-    let sum = length-append (block_of (placed globals kept k op)) (flat_map block_of (placed_from globals kept (suc k) core)) in
-    let most = sum_by-cons most_words op core in
-    let one = block_words (placed globals kept k op) in
+pub all_words : (core : List CoreOp) (globals : ℕ) (kept : List Set) (k : ℕ) (ops : List CoreOp) → length (flat_map block_of (placed_from core globals kept k ops)) ≤ sum_by most_words ops
+all_words core globals kept k [] = omega arith
+all_words core globals kept k (op ∷ ops) =
+    let rest = all_words core globals kept (suc k) ops in
+    let sum = length-append (block_of (placed core globals kept k op)) (flat_map block_of (placed_from core globals kept (suc k) ops)) in
+    let most = sum_by-cons most_words op ops in
+    let one = block_words (placed core globals kept k op) in
     omega (arith, rest, sum, most, one)
 
 -- ---- the opening

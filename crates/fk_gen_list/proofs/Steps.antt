@@ -116,7 +116,7 @@ module _ (core : List CoreOp) (kept : List Set) (main : ℕ) (firsts : List ℕ)
             ap (λ (a : Assembly). length a.lines) starts
             ∙ length-with_block (record cleared { bound = slice_set cleared.bound start_label (Some (length cleared.lines)) }) (start_lines globals) in
             let start = length-start globals in
-            let blocks = all_words globals kept 0 core in
+            let blocks = all_words core globals kept 0 core in
             omega (arith, w, few, grown, start, blocks, small)
 
         pub labels_free : (i : ℕ) → i < length core → slice_index_or started.bound (label_of i) None ≡ None

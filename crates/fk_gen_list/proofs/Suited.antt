@@ -1,6 +1,6 @@
 -- Lists that suit frames have blocks.
 use Rattle.std.proofs.Common.{◌≡◌, ℕ, suc, ◌^◌, ◌<◌, ◌≤◌, List, length, Bool, true, false, Option, Some, None, sym, ap, subst, ◌∙◌, arith, refl, ◌⊎◌, inl, inr, if◌then◌else◌}
-use Rattle.std.specs.Prelude.{◌==◌, ◌||◌, IsSomeAnd, option_map}
+use Rattle.std.specs.Prelude.{◌==◌, ◌||◌, IsSomeAnd, option_map, slice_get}
 use Rattle.std.proofs.lemmas.Bool.{eqb-true}
 use Rattle.fk_meaning_operation.specs.declared.operation.OwnValue.TheVariants.{Value, Rank, GroupNumber, ProcessorNumber, Processors, GroupSize, InputLength, FrameAddress, InputAddress}
 use Rattle.fk_meaning_operation.specs.declared.operation.Multiprefix.{Multiprefix}
@@ -23,6 +23,7 @@ use Rattle.fk_gen_flow.specs.Blocks.{is_flow, is_some_flow, HasOperands}
 use Rattle.fk_gen_group.specs.Blocks.{is_group_step}
 use Rattle.fk_gen_list.specs.declared.kind.Kind.TheVariants.{Group}
 use Rattle.fk_gen_list.specs.Kinds.{kind_of, kind_by, HasBlockIn, HasBlockOf}
+use Rattle.fk_gen_list.specs.Layout.{back_by}
 use Rattle.fk_gen_list.specs.Generable.{HasOwnBlock, HasBlocks}
 
 -- ---- the size of an index is the number of its operation
@@ -107,13 +108,19 @@ has_expression core frames i globals op (Leave gives true) read fits few number 
 has_expression core frames i globals op (Leave gives false) read fits few number some alone f a = never (sym f)
 has_expression core frames i globals op operation read fits few number some alone f a = absurd (cc)
 
+-- the caller of a call goes on in the list
+pub back_within : (core : List CoreOp) → HasBlocks core → (i : ℕ) (op : CoreOp) (o : Option Operation) → slice_get core i ≡ Some op → is_jump op ≡ false
+    → operation_of op.kind op.number ≡ o → 0 < length core → back_by o core i < length core
+back_within core blocks i op (Some (Enter n)) at no_jump read some = blocks.returns i op n (record { stands = at; no_jump = no_jump; is_read = read })
+back_within core blocks i op o at no_jump read some = some
+
 -- what a branch and a call ask for
-pub has_operands : (core : List CoreOp) (frames : Frames) (i : ℕ) (op : CoreOp) (operation : Operation) → StandsOp core i op operation
-    → Fits core frames i op operation → HasBlocks core → length core < 2 ^ 31 → HasOperands op.depth op.target (Some operation)
-has_operands core frames i op (Branch onward) stands fits blocks short =
+pub has_operands : (core : List CoreOp) (frames : Frames) (i back : ℕ) (op : CoreOp) (operation : Operation) → StandsOp core i op operation
+    → Fits core frames i op operation → HasBlocks core → length core < 2 ^ 31 → back < 2 ^ 31 → HasOperands op.depth op.target back (Some operation)
+has_operands core frames i back op (Branch onward) stands fits blocks short near =
     let there : op.target < length core = blocks.targets i op (Branch onward) stands refl in omega arith
-has_operands core frames i op (Enter n) stands fits blocks short = fits.values
-has_operands core frames i op operation stands fits blocks short = tt
+has_operands core frames i back op (Enter n) stands fits blocks short near = (fits.values, near)
+has_operands core frames i back op operation stands fits blocks short near = tt
 
 -- ---- steps of groups
 
@@ -151,15 +158,15 @@ no_halt : (operation : Operation) → (is_alone operation ≡ true) ⊎ (operati
 no_halt operation (inl alone) f = alone
 no_halt operation (inr e) f = never (sym f ∙ ap is_flow e)
 
-module _ (core : List CoreOp) (frames : Frames) (i globals : ℕ) (op : CoreOp) (operation : Operation) (clears : Bool) where
+module _ (core : List CoreOp) (frames : Frames) (i globals : ℕ) (op : CoreOp) (operation : Operation) (clears : Bool) (back : ℕ) where
   has_by : (flow access : Bool) → is_flow operation ≡ flow → is_access (Some operation) ≡ access → StandsOp core i op operation
-      → Fits core frames i op operation → frames.of_file ≤ 56 → op.number < 2 ^ 32 → HasOperands op.depth op.target (Some operation)
-      → globals ≤ 2 ^ 20 → (is_alone operation ≡ true) ⊎ (operation ≡ Halt) → HasBlockIn (kind_by flow access false) (record { op = op; globals = globals; clears = clears })
+      → Fits core frames i op operation → frames.of_file ≤ 56 → op.number < 2 ^ 32 → HasOperands op.depth op.target back (Some operation)
+      → globals ≤ 2 ^ 20 → (is_alone operation ≡ true) ⊎ (operation ≡ Halt) → HasBlockIn (kind_by flow access false) (record { op = op; globals = globals; clears = clears; back = back })
   has_by true access f a stands fits few number operands some alone = record {
     kind = inr (ap is_some_flow stands.is_read ∙ f);
     depth = λ e. shallow core frames i op operation fits;
     jump = λ e. never (sym stands.no_jump ∙ e);
-    operands = subst (HasOperands op.depth op.target) (sym stands.is_read) operands;
+    operands = subst (HasOperands op.depth op.target back) (sym stands.is_read) operands;
   }
   has_by false true f a stands fits few number operands some alone = record {
     access = ap is_access stands.is_read ∙ a;
@@ -171,23 +178,23 @@ module _ (core : List CoreOp) (frames : Frames) (i globals : ℕ) (op : CoreOp) 
 
   -- the kind of one that is no step of a group
   lone_has : is_group_step (Some operation) ≡ false → StandsOp core i op operation → Fits core frames i op operation → frames.of_file ≤ 56 → op.number < 2 ^ 32
-      → HasOperands op.depth op.target (Some operation) → globals ≤ 2 ^ 20 → (is_alone operation ≡ true) ⊎ (operation ≡ Halt)
-      → HasBlockOf (record { op = op; globals = globals; clears = clears })
+      → HasOperands op.depth op.target back (Some operation) → globals ≤ 2 ^ 20 → (is_alone operation ≡ true) ⊎ (operation ≡ Halt)
+      → HasBlockOf (record { op = op; globals = globals; clears = clears; back = back })
   lone_has no_step stands fits few number operands some alone =
-      subst (λ k. HasBlockIn k (record { op = op; globals = globals; clears = clears }))
+      subst (λ k. HasBlockIn k (record { op = op; globals = globals; clears = clears; back = back }))
       (sym (kind_here core i op operation stands ∙ ap (kind_by (is_flow operation) (is_access (Some operation))) no_step))
       (has_by (is_flow operation) (is_access (Some operation)) refl refl stands fits few number operands some alone)
 
   -- an operation that suits frames has a block
-  pub has_block_of : StandsOp core i op operation → Fits core frames i op operation → frames.of_file ≤ 56 → op.number < 2 ^ 32 → HasOperands op.depth op.target (Some operation)
+  pub has_block_of : StandsOp core i op operation → Fits core frames i op operation → frames.of_file ≤ 56 → op.number < 2 ^ 32 → HasOperands op.depth op.target back (Some operation)
       → globals ≤ 2 ^ 20 → (is_group_step (Some operation) ≡ true → op.target < 2 ^ 31) → HasOwnBlock operation
-      → HasBlockOf (record { op = op; globals = globals; clears = clears })
+      → HasBlockOf (record { op = op; globals = globals; clears = clears; back = back })
   has_block_of stands fits few number operands some near (inl alone) =
       lone_has (alone_is_no_step operation alone) stands fits few number operands some (inl alone)
   has_block_of stands fits few number operands some near (inr (inl halt)) =
       lone_has (ap (λ o. is_group_step (Some o)) halt) stands fits few number operands some (inr halt)
   has_block_of stands fits few number operands some near (inr (inr step)) =
-      subst (λ k. HasBlockIn k (record { op = op; globals = globals; clears = clears })) (sym (kind_here core i op operation stands ∙ step_kind operation step))
+      subst (λ k. HasBlockIn k (record { op = op; globals = globals; clears = clears; back = back })) (sym (kind_here core i op operation stands ∙ step_kind operation step))
       (record {
         kind = ap is_group_step stands.is_read ∙ step;
         depth = shallow core frames i op operation fits;
@@ -199,13 +206,13 @@ pub jump_none : (op : CoreOp) → is_jump op ≡ true → operation_of op.kind o
 jump_none op jump = ap (λ k. operation_of k op.number) (eqb-true op.kind 0 jump)
 
 -- but it has a block
-pub jump_has : (op : CoreOp) (globals : ℕ) (clears : Bool) → is_jump op ≡ true → op.target < 2 ^ 31 → HasBlockOf (record { op = op; globals = globals; clears = clears })
-jump_has op globals clears jump target =
+pub jump_has : (op : CoreOp) (globals : ℕ) (clears : Bool) (back : ℕ) → is_jump op ≡ true → op.target < 2 ^ 31 → HasBlockOf (record { op = op; globals = globals; clears = clears; back = back })
+jump_has op globals clears back jump target =
     let e = ap (λ b. kind_by (b || is_some_flow (operation_of op.kind op.number)) (is_access (operation_of op.kind op.number)) (is_group_step (operation_of op.kind op.number))) jump in
-    subst (λ k. HasBlockIn k (record { op = op; globals = globals; clears = clears })) (sym e)
+    subst (λ k. HasBlockIn k (record { op = op; globals = globals; clears = clears; back = back })) (sym e)
     (record {
       kind = inl jump;
       depth = λ no. never (sym no ∙ jump);
       jump = λ yes. target;
-      operands = subst (HasOperands op.depth op.target) (sym (jump_none op jump)) tt;
+      operands = subst (HasOperands op.depth op.target back) (sym (jump_none op jump)) tt;
     })

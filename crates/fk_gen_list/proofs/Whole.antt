@@ -40,13 +40,13 @@ module _ (core : List CoreOp) (kept : List Set) (main : ℕ) (firsts : List ℕ)
   whole = all_lines block_of opening globals ops
 
   pub length-ops : length ops ≡ length core
-  length-ops = length-placed globals kept 0 core
+  length-ops = length-placed core globals kept 0 core
 
   pub blocks_go : All (λ op. All (GoesTo (length ops)) (block_of op)) ops
   blocks_go =
-      all_from (λ op. All (GoesTo (length ops)) (block_of op)) globals kept 0 core
+      all_from (λ op. All (GoesTo (length ops)) (block_of op)) core globals kept 0 core
       (λ i j op at same.
-      subst (λ n. All (GoesTo n) (block_of (placed globals kept j op))) (sym length-ops)
+      subst (λ n. All (GoesTo n) (block_of (placed core globals kept j op))) (sym length-ops)
       (op_goes core kept main firsts globals j op is (subst (λ k. slice_get core k ≡ Some op) (let e : i ≡ j = omega arith in e) at)))
 
   pub all_go : All (GoesTo (length ops)) whole
@@ -77,7 +77,7 @@ module _ (core : List CoreOp) (kept : List Set) (main : ℕ) (firsts : List ℕ)
     few_words =
         let all = length-whole in
         let firsts' = few_firsts in
-        let blocks = all_words globals kept 0 core in
+        let blocks = all_words core globals kept 0 core in
         omega arith
 
     module _ (a : Assembly) (laid : IsLaid block_of opening globals ops a) where

@@ -2,9 +2,9 @@
 use Rattle.std.proofs.Common.{◌≡◌, ℕ, ◌≤◌, ◌^◌, List, length, true, ap, subst, sym, arith, refl}
 use Rattle.fk_core.specs.declared.op.CoreOp.{CoreOp}
 use Rattle.fk_asm.specs.declared.code.Code.{Code}
-use Rattle.fk_sim_block.specs.Stands.{Frames, Places, ahead}
+use Rattle.fk_sim_block.specs.Stands.{Frames, ahead}
 use Rattle.fk_core_liveness.specs.declared.set.Set.{Set}
-use Rattle.fk_gen_list.specs.Generable.{IsGenerable, CodeStands}
+use Rattle.fk_gen_list.specs.Generable.{IsGenerable, CodeStands, places_in}
 use Rattle.fk_gen_list.proofs.Done.{site_few, number_few}
 use Rattle.fk_sim_block.specs.Node.{Gathering, HasLevelRoom}
 use Rattle.fk_sim_block.specs.Law.{GroupLaw}
@@ -34,7 +34,7 @@ pub gives_group_law : (core : List CoreOp) (kept : List Set) (main : ℕ) (first
     → CodeStands core kept main firsts globals code → GivesGroupLaw core kept main firsts globals code
 gives_group_law core kept main firsts globals is few code stands image frames has suits keeps of_file looks =
     let all = stands image frames has of_file in
-    let places : Places = record { block = all.0; frames = frames } in
+    let places = places_in core all.0 frames in
     let start = gathering_of core all.1.0 in
     let ranges : AreInRange core image = record {
       words = λ i op at. (site_few core kept main firsts globals is few i op at, number_few core kept main firsts globals is few i op at);

@@ -56,15 +56,16 @@ abbrev pub before_at : Option CoreOp → ℕ
 before_at None = 0
 before_at (Some op) = option_map_or (before_of op) (operation_of op.kind op.number) 0
 
-abbrev pub behind_at : (globals : ℕ) → List Set → (index : ℕ) → Option CoreOp → (onward : Bool) → ℕ
-behind_at globals kept index None onward = 0
-behind_at globals kept index (Some op) onward =
-    option_map_or (λ operation. behind_of (placed globals kept index op) operation onward)
+abbrev pub behind_at : List CoreOp → (globals : ℕ) → List Set → (index : ℕ) → Option CoreOp
+    → (onward : Bool) → ℕ
+behind_at core globals kept index None onward = 0
+behind_at core globals kept index (Some op) onward =
+    option_map_or (λ operation. behind_of (placed core globals kept index op) operation onward)
     (operation_of op.kind op.number) 0
 
 -- The cycles in an image with this many words of globals, where calls keep these words.
 abbrev pub cycles_of : (core : List CoreOp) (globals : ℕ) (kept : List Set) → Cycles
 cycles_of core globals kept = record {
   before = λ i. before_at (slice_get core i);
-  behind = λ i onward. behind_at globals kept i (slice_get core i) onward;
+  behind = λ i onward. behind_at core globals kept i (slice_get core i) onward;
 }

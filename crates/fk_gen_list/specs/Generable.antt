@@ -1,14 +1,14 @@
 -- Lists for which code can be generated, and what the code does.
-use Rattle.std.specs.Prelude.{◌≡◌, ℕ, ◌<◌, ◌^◌, List, length, All, Bool, true, false, IsSome}
-use Rattle.std.specs.Prelude.{Option, Some, slice_get, if◌then◌else◌, ◌⊎◌}
+use Rattle.std.specs.Prelude.{◌≡◌, ℕ, suc, ◌<◌, ◌^◌, List, length, All, Bool, true, false, IsSome}
+use Rattle.std.specs.Prelude.{Option, Some, None, slice_get, if◌then◌else◌, ◌⊎◌}
 use Rattle.fk_meaning_operation.specs.declared.operation.Operation.{Operation}
 use Rattle.fk_meaning_operation.specs.declared.operation.Operation.TheVariants.{Branch, Enter, Halt}
 use Rattle.fk_core.specs.declared.op.CoreOp.{CoreOp}
-use Rattle.fk_core.specs.Next.{is_jump}
+use Rattle.fk_core.specs.Next.{is_jump, behind_jump}
 use Rattle.fk_core.specs.Numbers.{operation_of}
 use Rattle.fk_image.specs.declared.Image.{Image}
 use Rattle.fk_asm.specs.declared.code.Code.{Code}
-use Rattle.fk_sim_block.specs.Stands.{Frames, Places}
+use Rattle.fk_sim_block.specs.Stands.{Frames, Places, ReturnPoint}
 use Rattle.fk_sim_block.specs.Next.{StandsOp}
 use Rattle.fk_sim_block.specs.Ready.{is_alone}
 use Rattle.fk_sim_block.specs.Suits.{Suits}
@@ -17,6 +17,7 @@ use Rattle.fk_core_liveness.specs.declared.set.Set.{Set}
 use Rattle.fk_core_liveness.specs.Frames.{kept_in}
 use Rattle.fk_gen.specs.InPlace.{HasBlock}
 use Rattle.fk_gen_flow.specs.Calls.{HasShared}
+use Rattle.fk_gen_flow.specs.Laws.{return_in}
 use Rattle.fk_gen_flow.specs.Opening.{HasOpening}
 use Rattle.fk_gen_group.specs.Blocks.{HasStart, is_group_step}
 use Rattle.fk_gen_list.specs.Kinds.{block_of}
@@ -39,7 +40,8 @@ abbrev pub has_target : Operation → Bool
 has_target (Branch onward) = true
 has_target operation = is_group_step (Some operation)
 
--- A list of jumps and of operations that have blocks. Its targets are in the list.
+-- A list of jumps and of operations that have blocks. Its targets are in the list, and so is the
+-- index where the caller of a call goes on.
 pub record HasBlocks (core : List CoreOp) : Type 0 where
   pub jumps : (i : ℕ) (op : CoreOp) → slice_get core i ≡ Some op → is_jump op ≡ true
       → op.target < length core
@@ -47,6 +49,8 @@ pub record HasBlocks (core : List CoreOp) : Type 0 where
       → HasOwnBlock operation
   pub targets : (i : ℕ) (op : CoreOp) (operation : Operation) → StandsOp core i op operation
       → has_target operation ≡ true → op.target < length core
+  pub returns : (i : ℕ) (op : CoreOp) (arguments : ℕ) → StandsOp core i op (Enter arguments)
+      → behind_jump core (suc i) < length core
 
 -- A list of operations of processors in one group or in none. It suits some frames with as many
 -- private variables of file scope as there are first values, in which calls keep no words except
@@ -73,6 +77,26 @@ words_by operation = 15
 abbrev pub most_words : CoreOp → ℕ
 most_words op = if is_jump op then 1 else words_by (operation_of op.kind op.number)
 
+-- Where calls of a list return, if the block of each index is at its word: only calls return.
+abbrev pub return_by : List CoreOp → (block : (index : ℕ) → ℕ) → (index : ℕ) → Option Operation
+    → Option ReturnPoint
+return_by core block index (Some (Enter arguments)) = Some (return_in core block index)
+return_by core block index operation = None
+
+abbrev pub return_at : List CoreOp → (block : (index : ℕ) → ℕ) → (index : ℕ) → Option CoreOp
+    → Option ReturnPoint
+return_at core block index None = None
+return_at core block index (Some op) = if is_jump op then None
+    else return_by core block index (operation_of op.kind op.number)
+
+-- The places of a list in these frames, if the block of each index is at its word.
+abbrev pub places_in : List CoreOp → (block : (index : ℕ) → ℕ) → Frames → Places
+places_in core block frames = record {
+  block = block;
+  returns = λ index. return_at core block index (slice_get core index);
+  frames = frames;
+}
+
 -- An image has this code, and this many words of globals.
 pub record HasCode (code : Code) (globals : ℕ) (image : Image) : Type 0 where
   pub words : image.code.items ≡ code.words.items
@@ -87,17 +111,18 @@ DoesTheList core kept main firsts globals code =
     (image : Image) (frames : Frames) → HasCode code globals image → Suits core frames main
     → AreKept frames kept
     → frames.of_file ≡ length firsts → (block : (index : ℕ) → ℕ)
-    × BlockLaw core image (record { block = block; frames = frames }) firsts main
+    × BlockLaw core image (places_in core block frames) firsts main
 
 -- ---- an image with all of the code
 
 -- The image has the opening, the block of each index, which clears where it has to, and the code
--- that calls and beginnings of `start` share.
+-- that calls and beginnings of `start` share. Calls return into their blocks.
 pub record HasWholeCode (core : List CoreOp) (kept : List Set) (image : Image) (bound : ℕ → ℕ)
     (places : Places) (firsts : List ℕ) (main : ℕ) : Type 0 where
   pub opening : HasOpening image bound places firsts main
   pub blocks : (i : ℕ) (op : CoreOp) → slice_get core i ≡ Some op
-      → HasBlock image bound places i (block_of (placed (length image.globals.items) kept i op))
+      → HasBlock image bound places i (block_of (placed core (length image.globals.items) kept i op))
+  pub returns : (i : ℕ) → places.returns i ≡ return_at core places.block i (slice_get core i)
   pub shared : HasShared image bound
   pub start : HasStart image bound
 
@@ -107,4 +132,4 @@ abbrev pub CodeStands : (core : List CoreOp) (kept : List Set) (main : ℕ) (fir
 CodeStands core kept main firsts globals code =
     (image : Image) (frames : Frames) → HasCode code globals image → frames.of_file ≡ length firsts
     → (block : (index : ℕ) → ℕ) × ((bound : (label : ℕ) → ℕ)
-    × HasWholeCode core kept image bound (record { block = block; frames = frames }) firsts main)
+    × HasWholeCode core kept image bound (places_in core block frames) firsts main)

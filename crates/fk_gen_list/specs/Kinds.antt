@@ -25,7 +25,7 @@ kind_of op =
     (group.is_group_step operation)
 
 abbrev pub block_in : Kind → Placed → List MarkedLine
-block_in Flow placed = flow.flow_block placed.clears placed.op
+block_in Flow placed = flow.flow_block placed.clears placed.back placed.op
 block_in Access placed =
     accesses.block_of (operation_of placed.op.kind placed.op.number) placed.op.depth placed.op.site
 block_in Group placed =

@@ -17,7 +17,7 @@ use Rattle.fk_sim_block.specs.Block.{IsRunning, BlockHalts, beginner, most_befor
 use Rattle.fk_core_liveness.specs.declared.set.Set.{Set}
 use Rattle.fk_gen.specs.InPlace.{HasBlock}
 use Rattle.fk_gen_flow.specs.Calls.{HasShared}
-use Rattle.fk_gen_flow.specs.Laws.{JumpsStand}
+use Rattle.fk_gen_flow.specs.Laws.{JumpsStand, CallsReturn}
 use Rattle.fk_gen_list.specs.Kinds.{block_in}
 use Rattle.fk_gen_list.specs.Layout.{placed}
 use Rattle.fk_gen_list.specs.Generable.{AreKept}
@@ -36,14 +36,16 @@ is_lone Halt = true
 is_lone operation = is_alone operation
 
 -- The blocks of these operations are at their indices. Those of calls clear where words are kept
--- that are no arguments. The image also has the jumps and the code that calls share.
+-- that are no arguments. The image also has the jumps, those to which calls return among them, and
+-- the code that calls share.
 pub record HasLoneCode (core : List CoreOp) (kept : List Set) (image : Image) (bound : ℕ → ℕ)
     (places : Places) : Type 0 where
   pub blocks : (i : ℕ) (op : CoreOp) (operation : Operation) → StandsOp core i op operation
       → is_lone operation ≡ true
       → HasBlock image bound places i
-      (block_in (lone_kind operation) (placed (length image.globals.items) kept i op))
+      (block_in (lone_kind operation) (placed core (length image.globals.items) kept i op))
   pub jumps : JumpsStand core image bound places
+  pub calls : CallsReturn core image bound places
   pub shared : HasShared image bound
 
 -- The numbers of a list are words, and there are no more globals than shared words.

@@ -5,6 +5,7 @@ use Rattle.std.specs.Prelude.{Some, None, slice_get, slice_index_or, slice_set}
 use Rattle.fk_meaning_operation.specs.declared.operation.Operation.{Operation}
 use Rattle.fk_meaning_operation.specs.declared.operation.Operation.TheVariants.{Enter}
 use Rattle.fk_core.specs.declared.op.CoreOp.{CoreOp}
+use Rattle.fk_core.specs.Next.{behind_jump}
 use Rattle.fk_core.specs.Numbers.{operation_of}
 use Rattle.fk_asm.specs.Assembly.{Assembly, empty}
 use Rattle.fk_asm.specs.Block.{MarkedLine, with_block}
@@ -20,23 +21,31 @@ clears_by (Some (Enter arguments)) (Some set) =
     nat_lt arguments 64 && not (set.mask / 2 ^ arguments == 0)
 clears_by operation set = false
 
--- The operation at an index. The words that are kept as a call begins are those at the next index.
-abbrev pub placed : (globals : ℕ) → List Set → (index : ℕ) → CoreOp → Placed
-placed globals kept index op =
+-- The caller of a call goes on after the first jump from the next index on.
+abbrev pub back_by : Option Operation → List CoreOp → (index : ℕ) → ℕ
+back_by (Some (Enter arguments)) core index = behind_jump core (suc index)
+back_by operation core index = 0
+
+-- The operation at an index of a list. The words that are kept as a call begins are those at the next
+-- index.
+abbrev pub placed : List CoreOp → (globals : ℕ) → List Set → (index : ℕ) → CoreOp → Placed
+placed core globals kept index op =
     record {
       op = op;
       globals = globals;
       clears = clears_by (operation_of op.kind op.number) (slice_get kept (suc index));
+      back = back_by (operation_of op.kind op.number) core index;
     }
 
-abbrev pub placed_from : (globals : ℕ) → List Set → (index : ℕ) → List CoreOp → List Placed
-placed_from globals kept index [] = []
-placed_from globals kept index (op ∷ ops) =
-    placed globals kept index op ∷ placed_from globals kept (suc index) ops
+abbrev pub placed_from : List CoreOp → (globals : ℕ) → List Set → (index : ℕ) → List CoreOp
+    → List Placed
+placed_from core globals kept index [] = []
+placed_from core globals kept index (op ∷ ops) =
+    placed core globals kept index op ∷ placed_from core globals kept (suc index) ops
 
 -- All operations of a list.
 abbrev pub all_placed : (globals : ℕ) → List Set → List CoreOp → List Placed
-all_placed globals kept ops = placed_from globals kept 0 ops
+all_placed globals kept ops = placed_from ops globals kept 0 ops
 
 -- The word where the block of an index begins, given the word where the first one begins. The index
 -- after the list gives the word where the last block ends.

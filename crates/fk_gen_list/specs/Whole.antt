@@ -7,7 +7,7 @@ use Rattle.fk_sim_block.specs.Stands.{Frames, Places}
 use Rattle.fk_sim_block.specs.Suits.{Suits}
 use Rattle.fk_core_liveness.specs.declared.set.Set.{Set}
 use Rattle.fk_gen_flow.specs.Opening.{AreFirsts, HasOpening}
-use Rattle.fk_gen_list.specs.Generable.{AreKept, HasCode, HasWholeCode}
+use Rattle.fk_gen_list.specs.Generable.{AreKept, HasCode, HasWholeCode, places_in}
 use Rattle.fk_sim_block.specs.Node.{Gathering}
 use Rattle.fk_sim_block.specs.Law.{GroupLaw}
 use Rattle.fk_gen_group.specs.Start.{gathering_of}
@@ -51,5 +51,5 @@ GivesGroupLaw core kept main firsts globals code =
     → AreKept frames kept → frames.of_file ≡ length firsts
     → StepsHaveValues core
     → (block : (index : ℕ) → ℕ) × (start : Gathering)
-    × GroupLaw core image (record { block = block; frames = frames }) (none_saved start)
+    × GroupLaw core image (places_in core block frames) (none_saved start)
     (cycles_of core globals kept) firsts main

@@ -55,7 +55,7 @@ pub(crate) fn emit_blocks<B: Blocks<Placed>>(
 {
     for (i, op) in ops.iter().enumerate() {
         into.bind(FIRST_LABEL + i as u32)?;
-        blocks.emit_op(&placed(*op, kept, i, globals), into)?;
+        blocks.emit_op(&placed(*op, ops, kept, i, globals), into)?;
     }
     Ok(())
 }

@@ -1,10 +1,11 @@
 //! An operation with what its block depends on.
 
-ghost use Rattle.std.specs.Prelude.{◌≡◌, ◌<◌, ◌^◌, suc, slice_get};
+ghost use Rattle.std.specs.Prelude.{◌≡◌, ◌<◌, ◌^◌, length, suc, slice_get};
 ghost use Rattle.fk_core.specs.Numbers.{operation_of};
 ghost use Rattle.fk_gen_list.specs.Layout as layout;
 
 use fk_core::CoreOp;
+use fk_core_list::behind_jump;
 use fk_core_liveness::Set;
 use fk_gen::Placed;
 use fk_meaning_operation::Operation;
@@ -24,15 +25,29 @@ fn clears(op: CoreOp, kept: &[Set], index: usize) -> bool
     }
 }
 
+// The index where the caller of a call goes on, or 0 for other operations.
+fn back(op: CoreOp, ops: &[CoreOp], index: usize) -> u32
+    requires within { index < length ops.now }
+    requires small { length ops.now < 2 ^ 32 }
+    ensures { result ≡ layout.back_by (operation_of op.kind op.number) ops.now index }
+{
+    match op.operation() {
+        Some(Operation::Enter(_)) => behind_jump(ops, index + 1) as u32,
+        _ => 0,
+    }
+}
+
 /// The operation at an index of a list in which calls keep these words, in an image with `globals`
 /// words of globals.
-pub(crate) fn placed(op: CoreOp, kept: &[Set], index: usize, globals: u32) -> Placed
-    requires small { index < 2 ^ 32 }
-    ensures { result ≡ layout.placed globals kept.now index op }
+pub(crate) fn placed(op: CoreOp, ops: &[CoreOp], kept: &[Set], index: usize, globals: u32) -> Placed
+    requires within { index < length ops.now }
+    requires small { length ops.now < 2 ^ 32 }
+    ensures { result ≡ layout.placed ops.now globals kept.now index op }
 {
     Placed {
         op,
         globals,
         clears: clears(op, kept, index),
+        back: back(op, ops, index),
     }
 }

@@ -20,7 +20,6 @@ use Rattle.fk_core_flat.specs.Items.{way_of}
 use Rattle.fk_core_flat.specs.Items as w
 use Rattle.fk_core_flat.specs.Items.{Way}
 use Rattle.fk_core_flat.specs.Shape.{is_done, is_closed}
-use Rattle.fk_core_flat.proofs.Standing.{behind_jump_at}
 use Rattle.fk_core_typing.specs.LocalDepths.{is_ordinary}
 use Rattle.fk_sim_block.specs.Next.{StandsOp}
 use Rattle.fk_sim_block.specs.Stands.{Frames, HasRoom, ahead}
@@ -87,29 +86,20 @@ module _ (bodies : ℕ → Code ℕ) (core : List CoreOp) (entry : ℕ → ℕ) 
 
   -- where a call is entered, where it goes on behind it
   record Called' (arguments i : ℕ) : Type 0 where
-    pub entered : CoreOp
-    pub stands : slice_get core (suc i) ≡ Some entered
-    pub leads : is_jump entered ≡ true
     pub few : arguments ≤ 56
     pub function : ℕ
     pub gives : Bool
     pub begins : ComesTo (sys.begin (o.Enter arguments) function gives) (suc i)
-    pub behind : behind_jump core (suc i) ≡ suc (suc i)
     pub on : ComesTo (sys.behind_call (o.Enter arguments) gives (at i)) (behind_jump core (suc i))
 
   called : (arguments i m target : ℕ) → Sounds i m (o.Enter arguments) target → Called' arguments i
   called arguments i m target s =
       let g = s.goes in
-      let j = g.4 g.3.direct in
       record {
-        entered = j.0;
-        stands = j.1;
-        leads = j.2;
         few = g.3.few;
         function = g.0;
         gives = g.1;
         begins = g.5;
-        behind = behind_jump_at core entry core (suc i) j.0 j.1 j.2;
         on = g.6;
       }
 
@@ -239,9 +229,6 @@ module _ (bodies : ℕ → Code ℕ) (core : List CoreOp) (entry : ℕ → ℕ) 
     calls arguments i op stands s =
         let c = called arguments i op.site op.target s in
         record {
-          entry = c.entered;
-          stands = c.stands;
-          leads = c.leads;
           few = c.few;
           inside = ap is_main_place (sym c.begins.grants.state.place);
           kept = λ word k. (
@@ -250,12 +237,10 @@ module _ (bodies : ℕ → Code ℕ) (core : List CoreOp) (entry : ℕ → ℕ) 
               let room = fit.room c.function in
               omega (arith, below, same, room)
               );
-          back = subst (Flows core frames nothing i) c.behind
-              (flows (sys.behind_call (o.Enter arguments) c.gives (at i)) nothing i (behind_jump core (suc i)) refl
-              (λ word k u. kept_before core keeps live i op (o.Enter arguments) stands word k refl) c.on);
-          room = subst (λ j. HasRoom frames j (suc (count i - arguments))) c.behind
-              (room_at i (behind_jump core (suc i)) (suc (count i - arguments)) s.may.room (sym c.on.grants.words)
-              (sym c.on.grants.state.place) (let a = s.may.low in omega (arith, a)));
+          back = flows (sys.behind_call (o.Enter arguments) c.gives (at i)) nothing i (behind_jump core (suc i)) refl
+              (λ word k u. kept_before core keeps live i op (o.Enter arguments) stands word k refl) c.on;
+          room = room_at i (behind_jump core (suc i)) (suc (count i - arguments)) s.may.room (sym c.on.grants.words)
+              (sym c.on.grants.state.place) (let a = s.may.low in omega (arith, a));
         }
 
     goes : (operation : Operation) (i : ℕ) (op : CoreOp) → StandsOp core i op operation → Sounds i op.site operation op.target → b.GoesOn core frames operation i op.target (count i)

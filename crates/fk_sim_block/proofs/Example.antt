@@ -1,5 +1,5 @@
 -- The law of blocks, made once: a list that pushes a number, drops it and halts, in seventeen words.
-use Rattle.std.proofs.Common.{◌≡◌, ℕ, zero, suc, ◌+◌, ◌-◌, ◌*◌, ◌%◌, ◌<◌, List, [], ◌∷◌, length, Some, true, false, sym, ap, subst, ◌∙◌, arith, refl, inl, eq-eqb}
+use Rattle.std.proofs.Common.{◌≡◌, ℕ, zero, suc, ◌+◌, ◌-◌, ◌*◌, ◌%◌, ◌<◌, List, [], ◌∷◌, length, Some, None, true, false, sym, ap, subst, ◌∙◌, arith, refl, inl, eq-eqb}
 use Rattle.std.specs.Prelude.{◌==◌, if◌then◌else◌, slice_get}
 use Rattle.std.proofs.lemmas.Bool.{ne_eqb}
 use Rattle.fk_num.specs.Word.{Memory, put, word_sum}
@@ -45,6 +45,7 @@ core = pushes ∷ drops ∷ halts ∷ []
 abbrev pub places : Places
 places = record {
   block = λ i. if i == 0 then 12 else if i == 1 then 14 else 15;
+  returns = λ i. None;
   frames = record { keeps = λ i word. false; is_main = λ i. true; of_file = 0 };
 }
 
@@ -159,7 +160,10 @@ waiting_kept : (m m' : Memory) (backs : List ℕ) (calls : List Call) → ((j : 
 waiting_kept m m' [] [] same held = tt
 waiting_kept m m' (i ∷ backs) (c ∷ calls) same held = (
   record {
-    code = ap (λ v. v + 16) (same (64 * suc (length calls)) (omega arith)) ∙ held.0.code;
+    begun_at = held.0.begun_at;
+    word = held.0.word;
+    point = held.0.point;
+    code = same (64 * suc (length calls)) (omega arith) ∙ held.0.code;
     frame = same (64 * suc (length calls) + 1) (omega arith) ∙ held.0.frame;
     result = same (64 * suc (length calls) + 2) (omega arith) ∙ held.0.result;
     room = held.0.room;

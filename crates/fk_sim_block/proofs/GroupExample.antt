@@ -1,6 +1,6 @@
 -- The law of blocks of groups, made once: a list that drops a value and halts, in the root, in seventeen words. Steps of groups
 -- are none of it.
-use Rattle.std.proofs.Common.{◌≡◌, ℕ, zero, suc, ◌*◌, ◌%◌, List, [], ◌∷◌, Bool, Some, true, false, sym, ap, subst, ◌∙◌, arith, refl, inl, eq-eqb}
+use Rattle.std.proofs.Common.{◌≡◌, ℕ, zero, suc, ◌*◌, ◌%◌, List, [], ◌∷◌, Bool, Some, None, true, false, sym, ap, subst, ◌∙◌, arith, refl, inl, eq-eqb}
 use Rattle.std.specs.Prelude.{◌==◌, if◌then◌else◌, slice_get}
 use Rattle.fk_num.specs.Word.{Memory, word_sum}
 use Rattle.fk_meaning_operation.specs.declared.operation.Operation.{Operation}
@@ -41,6 +41,7 @@ core = drops ∷ halts ∷ []
 abbrev places : Places
 places = record {
   block = λ i. if i == 0 then 14 else 15;
+  returns = λ i. None;
   frames = record { keeps = λ i word. false; is_main = λ i. true; of_file = 0 };
 }
 

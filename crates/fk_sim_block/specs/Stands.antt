@@ -5,7 +5,7 @@
 -- first value highest. In the frame of `main` the private variables of file scope lie between the
 -- two, and the 7 words of its header are free for any use.
 use Rattle.std.specs.Prelude.{◌≡◌, ℕ, zero, suc, ◌+◌, ◌-◌, ◌*◌, ◌<◌, ◌≤◌, ◌==◌, List, [], ◌∷◌}
-use Rattle.std.specs.Prelude.{length, true, false, Bool}
+use Rattle.std.specs.Prelude.{length, true, false, Bool, Option, Some}
 use Rattle.fk_num.specs.Word.{Memory}
 use Rattle.fk_meaning.specs.Processor.{Call}
 use Rattle.fk_machine.specs.Hart.{Hart}
@@ -22,10 +22,17 @@ pub record Frames : Type 0 where
   -- The number of private variables of file scope.
   pub of_file : ℕ
 
--- Where blocks and variables lie.
+-- Where a call returns: to a word of the code, which leads to the block of an index.
+pub record ReturnPoint : Type 0 where
+  pub word : ℕ
+  pub index : ℕ
+
+-- Where blocks and variables lie, and where calls return.
 pub record Places : Type 0 where
   -- The word of the code where the block of each index of the list begins.
   pub block : (index : ℕ) → ℕ
+  -- Where a call returns that the operation at an index begins.
+  pub returns : (index : ℕ) → Option ReturnPoint
   pub frames : Frames
 
 -- The address of a word of the local memory.
@@ -111,11 +118,15 @@ module _ (places : Places) where
     pub privates : (i : ℕ) → places.frames.keeps at i ≡ true
         → memory (frame_start waiting + 7 + i) ≡ call.privates i
 
-  -- The header of a call: an address four words before the one to which it returns, the frame of
-  -- the call that waits for it, and the word where that call takes the result. The waiting call's
-  -- frame has room for that word.
+  -- The header of a call: the address to which it returns, the frame of the call that waits for it,
+  -- and the word where that call takes the result. The waiting call goes on at the index `back`,
+  -- where its frame has room for that word.
   pub record Returns (memory : Memory) (waiting back : ℕ) (call : Call) : Type 0 where
-    pub code : memory (frame_start (suc waiting)) + 16 ≡ 4 * places.block back
+    -- The index of the operation that began the call, and the word to which the call returns.
+    pub begun_at : ℕ
+    pub word : ℕ
+    pub point : places.returns begun_at ≡ Some (record { word = word; index = back })
+    pub code : memory (frame_start (suc waiting)) ≡ 4 * word
     pub frame : memory (frame_start (suc waiting) + 1) ≡ local_address (frame_start waiting)
     pub result : memory (frame_start (suc waiting) + 2)
         ≡ local_address (frame_end waiting - suc (length call.values))

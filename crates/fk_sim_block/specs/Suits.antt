@@ -16,7 +16,7 @@ use Rattle.fk_meaning_operation.specs.declared.operation.Operation.TheVariants.{
 use Rattle.fk_meaning_operation.specs.declared.operation.Operation.TheVariants.{Halt}
 use Rattle.fk_meaning_operation.specs.declared.operation.Variable.TheVariants.{Private, OfFile}
 use Rattle.fk_core.specs.declared.op.CoreOp.{CoreOp}
-use Rattle.fk_core.specs.Next.{is_jump, follows}
+use Rattle.fk_core.specs.Next.{is_jump, behind_jump, follows}
 use Rattle.fk_sim_block.specs.Next.{StandsOp}
 use Rattle.fk_sim_block.specs.Stands.{Frames, HasRoom, ahead}
 
@@ -56,18 +56,15 @@ module _ (core : List CoreOp) (frames : Frames) where
     pub kept : (word : ℕ) → frames.keeps j word ≡ true → written word ≡ false
         → frames.keeps i word ≡ true
 
-  -- A call begins with the jump at the next index. Its frame has room for the private words that
-  -- are kept there: its arguments, and others, which begin as 0. After the jump the caller's frame
-  -- has room for a result in place of the arguments.
+  -- A call begins at the next index. Its frame has room for the private words that are kept there:
+  -- its arguments, and others, which begin as 0. The caller goes on after the first jump from there
+  -- on, and its frame has room for a result in place of the arguments.
   pub record Calls (arguments i depth : ℕ) : Type 0 where
-    pub entry : CoreOp
-    pub stands : slice_get core (suc i) ≡ Some entry
-    pub leads : is_jump entry ≡ true
     pub few : arguments ≤ 56
     pub inside : frames.is_main (suc i) ≡ false
     pub kept : (word : ℕ) → frames.keeps (suc i) word ≡ true → word < 56
-    pub back : Flows nothing i (suc (suc i))
-    pub room : HasRoom frames (suc (suc i)) (suc (depth - arguments))
+    pub back : Flows nothing i (behind_jump core (suc i))
+    pub room : HasRoom frames (behind_jump core (suc i)) (suc (depth - arguments))
 
   -- Where the call goes on after an operation.
   abbrev pub GoesOn : Operation → (i target depth : ℕ) → Type 0

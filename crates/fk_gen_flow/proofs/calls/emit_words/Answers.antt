@@ -7,16 +7,16 @@ use Rattle.fk_gen_flow.proofs.calls.emit_words.Goals as goal
 
 pub emit_arguments-requires-clause-labels : goal.emit_arguments-requires-clause-labels
 emit_arguments-requires-clause-labels c =
-    all_front (GoesToMade c.args.into.now.bound) (argument_lines c.args.arguments) (clears_by c.args.clears c.args.arguments) c.requires.labels
+    all_front (GoesToMade c.args.into.now.bound) (argument_lines c.args.clears c.args.arguments) (clears_by c.args.clears c.args.arguments) c.requires.labels
 
 pub returns-in_err-emit_arguments-clause-begun : goal.returns-in_err-emit_arguments-clause-begun
 returns-in_err-emit_arguments-clause-begun c =
     on_err c.from_residual.result _
-    (begun_front c.args.into.now c.emit_arguments.new.into (argument_lines c.args.arguments) (clears_by c.args.clears c.args.arguments) c.in_err-emit_arguments.ensures.begun)
+    (begun_front c.args.into.now c.emit_arguments.new.into (argument_lines c.args.clears c.args.arguments) (clears_by c.args.clears c.args.arguments) c.in_err-emit_arguments.ensures.begun)
 
 pub emit_clears-requires-clause-labels : goal.emit_clears-requires-clause-labels
 emit_clears-requires-clause-labels c =
-    let xs = argument_lines c.args.arguments in
+    let xs = argument_lines c.args.clears c.args.arguments in
     let ys = clears_by c.args.clears c.args.arguments in
     bound_stays c.args.into.now c.emit_arguments.new.into xs ys c.in_ok-emit_arguments.ensures.added
     (all_back (GoesToMade c.args.into.now.bound) xs ys c.requires.labels)
@@ -24,13 +24,13 @@ emit_clears-requires-clause-labels c =
 pub returns-clause-added : goal.returns-clause-added
 returns-clause-added c =
     on_ok c.emit_clears.result _ _
-    (λ e. added_both c.args.into.now c.emit_arguments.new.into c.emit_clears.new.into (argument_lines c.args.arguments) (clears_by c.args.clears c.args.arguments)
+    (λ e. added_both c.args.into.now c.emit_arguments.new.into c.emit_clears.new.into (argument_lines c.args.clears c.args.arguments) (clears_by c.args.clears c.args.arguments)
     c.in_ok-emit_arguments.ensures.added e)
     c.emit_clears.ensures.added
 
 pub returns-clause-begun : goal.returns-clause-begun
 returns-clause-begun c =
     when_err c.emit_clears.result _ _
-    (λ b. begun_behind c.args.into.now c.emit_arguments.new.into c.emit_clears.new.into (argument_lines c.args.arguments) (clears_by c.args.clears c.args.arguments)
+    (λ b. begun_behind c.args.into.now c.emit_arguments.new.into c.emit_clears.new.into (argument_lines c.args.clears c.args.arguments) (clears_by c.args.clears c.args.arguments)
     c.in_ok-emit_arguments.ensures.added b)
     c.emit_clears.ensures.begun
