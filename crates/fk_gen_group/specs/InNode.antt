@@ -30,8 +30,8 @@ pub record HasLevels (core : List CoreOp) (places : Places) (nestings : Nestings
   pub stay : (onward : Bool)
       → LevelsStay nestings i (follows core operation i op.target [] onward).at
 
--- A call goes on after the jump that follows it, with the same levels, which have room beside the
--- values that are left and a result. The new frame has no levels.
+-- The caller of a call goes on after the first jump from the next index on, with the same levels,
+-- which have room beside the values that are left and a result. The new frame has no levels.
 pub record GivesLevels (core : List CoreOp) (places : Places) (nestings : Nestings)
     (i depth arguments : ℕ) : Type 0 where
   pub few : places.frames.of_file ≤ 56
