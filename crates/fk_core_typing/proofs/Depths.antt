@@ -110,10 +110,10 @@ module _ (bodies : ℕ → Code ℕ) (core : List CoreOp) (entry : ℕ → ℕ) 
       let next : suc i ≡ i + 1 = omega arith in (
         s.goes.1,
         (
-          subst (λ j. d.Comes core within j 0 (Called s.goes.1)) next (comes_to (bare (p.Called s.goes.1)) (suc i) s.goes.5),
+          subst (λ j. d.Comes core within j 0 (Called s.goes.1)) next (comes_to (bare (p.Called s.goes.1)) (suc i) s.goes.4),
           subst (λ j. d.Comes core within (behind_jump core j) (length (at i).values - arguments + results s.goes.1) (within i)) next
               (comes_with (behind_call arguments s.goes.1 (at i)) (behind_jump core (suc i)) (length (at i).values - arguments + results s.goes.1) (within i)
-              (changed_length arguments (results s.goes.1) (at i).values) refl s.goes.6),
+              (changed_length arguments (results s.goes.1) (at i).values) refl s.goes.5),
         ),
       )
   goes (o.Leave gives framed) i n target s = ap within_of s.goes

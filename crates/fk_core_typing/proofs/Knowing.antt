@@ -235,10 +235,10 @@ module _ (bodies : ℕ → Code ℕ) (core : List CoreOp) (entry : ℕ → ℕ) 
   goes : (op : Operation) (i n target : ℕ) → Sounds i n op target → k.GoesOn core within known constants op i target
   goes (o.Enter arguments) i n target s = record {
     gives = s.goes.1;
-    inside = sym s.goes.5.grants.place;
-    begins = bare_at (Called s.goes.1) (suc i) s.goes.5.grants;
+    inside = sym s.goes.4.grants.place;
+    begins = bare_at (Called s.goes.1) (suc i) s.goes.4.grants;
     back = leads (λ sh. called arguments s.goes.1) no_constants (behind_call arguments s.goes.1 (at i)) i (behind_jump core (suc i)) refl
-        (call_known arguments s.goes.1 (at i).values) (grants_itself (bare Main)).constants s.goes.6;
+        (call_known arguments s.goes.1 (at i).values) (grants_itself (bare Main)).constants s.goes.5;
   }
   goes (o.Leave gives framed) i n target s = s.goes
   goes o.Halt i n target s = s.goes

@@ -40,7 +40,7 @@ module _ (core : List CoreOp) (entry : ℕ → ℕ) (place_of : ℕ → Function
   inside op s i target w.either e n g true = subst (StaysInList core) (sym (goes_by core op w.either e i target [] true)) (record { at = g.0.below; callers = nobody })
   inside op s i target w.either e n g false = subst (StaysInList core) (sym (goes_by core op w.either e i target [] false)) (record { at = g.1.below; callers = nobody })
   inside op s i target w.onto e n g onward = subst (StaysInList core) (sym (goes_by core op w.onto e i target [] onward)) (record { at = g.below; callers = nobody })
-  inside op s i target w.into e n g onward = subst (StaysInList core) (sym (goes_by core op w.into e i target [] onward)) (record { at = g.5.below; callers = one (behind_jump core (suc i)) g.6.below })
+  inside op s i target w.into e n g onward = subst (StaysInList core) (sym (goes_by core op w.into e i target [] onward)) (record { at = g.4.below; callers = one (behind_jump core (suc i)) g.5.below })
   inside op s i target w.out e n g onward = absurd (true≢false (sym (out_ends op e) ∙ n))
 
 -- a function with code begins in the list

@@ -6,7 +6,7 @@ use Rattle.fk_meaning_operation.specs.declared.operation.Operation.{Operation}
 use Rattle.fk_meaning_forms.specs.Code.{Code, done, perform, choose, while, until, turn, again, quit, break, continue, call, ends}
 use Rattle.fk_core_liveness.specs.declared.places.FunctionKind.{FunctionKind}
 use Rattle.fk_core.specs.declared.op.CoreOp.{CoreOp}
-use Rattle.fk_core.specs.Next.{is_jump, behind_jump}
+use Rattle.fk_core.specs.Next.{behind_jump}
 use Rattle.fk_core.specs.Stands.{Loop, Around, is_first, is_start}
 use Rattle.fk_core_flat.specs.Items as w
 use Rattle.fk_core_flat.specs.Items.{Item, jump, act, Has, Way, way_of, goes_away, aim}
@@ -37,16 +37,12 @@ module _ (core : List CoreOp) (entry : ℕ → ℕ) (place_of : ℕ → Function
   at_index : (s : sys.State) (j : ℕ) (op : CoreOp) → state j ≡ s → slice_get core j ≡ Some op → Comes s j
   at_index s j op e stands = record { grants = subst (sys.Grants s) (sym e) (lawful.itself s); below = slice_get_within core j op stands }
 
-  -- a jump stands at an index
-  abbrev pub JumpStands : ℕ → Type 0
-  JumpStands i = (op : CoreOp) × (slice_get core i ≡ Some op) × (is_jump op ≡ true)
-
   abbrev pub Goes : Way → Operation → sys.State → (i target : ℕ) → Type 0
   Goes w.straight op s i target = Comes (sys.behind op true s) (suc i)
   Goes w.either op s i target = Comes (sys.behind op true s) (suc i) × Comes (sys.behind op false s) target
   Goes w.onto op s i target = Comes (sys.behind op true s) target
   Goes w.into op s i target =
-      (f : ℕ) × (gives : Bool) × (opening : Code ℕ) × sys.Calls op f gives opening × (is_done opening ≡ true → JumpStands (suc i))
+      (f : ℕ) × (gives : Bool) × (opening : Code ℕ) × sys.Calls op f gives opening
       × Comes (sys.begin op f gives) (suc i) × Comes (sys.behind_call op gives s) (behind_jump core (suc i))
   Goes w.out op s i target = sys.Ends op s
 
@@ -465,9 +461,7 @@ module _ (core : List CoreOp) (entry : ℕ → ℕ) (place_of : ℕ → Function
           let leads : Comes o (entry f') = comes_as o (sys.first f') (entry f') (lawful.enters op f' t.1 opening t.2) to in
           let leads_on : Comes (state a) (entry f') = subst (λ x. Comes x (entry f')) (sym mj.0) leads in
           let tail = tall rest _ (sys.height b) (lawful.called op f' t.1 opening s t.2) (λ z. (hh z).2) in
-          let direct : is_done opening ≡ true → JumpStands (suc i) =
-          λ z. subst JumpStands (let x = by_done (λ code. extent true code ≡ 0) opening z refl in let y : a ≡ suc i = omega arith in y) (j.0, j.1, j.2.0) in
-          let goes : Goes w.into op s i (entry f') = (f', t.1, opening, t.2, direct, subst (Comes o) first go, subst (Comes b) (sym back) fr.0) in (
+          let goes : Goes w.into op s i (entry f') = (f', t.1, opening, t.2, subst (Comes o) first go, subst (Comes b) (sym back) fr.0) in (
             stated s i n op (entry f') m.0 (record { may = t.0; height = λ z. (hh z).0; goes = by_way w.into op s i (entry f') p.0 goes }),
             sound_both (suc i) q.behind (q.openings ++ q.jumps) q.others (omega arith)
                 (sound_both (suc i) a q.openings q.jumps (omega arith)

@@ -53,7 +53,6 @@ pub record MaySized (firsts : ℕ) (op : Operation) (s : Sized) : Type 0 where
 module _ (firsts : ℕ) (place_of : ℕ → FunctionKind) (words most : ℕ → ℕ) where
   pub record CallsSized (op : Operation) (f : ℕ) (gives : Bool) (opening : Code ℕ) : Type 0 where
     pub place : place_of f ≡ Called gives
-    pub direct : is_done opening ≡ true
     pub few : takes op ≤ 56
 
   abbrev pub sizing : System
@@ -246,7 +245,7 @@ module _ (firsts : ℕ) (place_of : ℕ → FunctionKind) (words most : ℕ → 
           let lr = low_at rest (called_rises place_of op f t.1 s t.2) low.1 in (
             record { may = t.0; there = there_call op p.0; room = room; low = low.0; roomy = roomy_call op s p.0 },
             t.1,
-            record { place = t.2; direct = h.0; few = h.1 },
+            record { place = t.2; few = h.1 },
             done_judged opening None (sized (bare (Called t.1)) (words f) (most f)) h.0,
             all_sized rest inside l lh b e p.3 ls room t.4 h.2 lr,
           )

@@ -99,8 +99,8 @@ module _ (bodies : ℕ → Code ℕ) (core : List CoreOp) (entry : ℕ → ℕ) 
         few = g.3.few;
         function = g.0;
         gives = g.1;
-        begins = g.5;
-        on = g.6;
+        begins = g.4;
+        on = g.5;
       }
 
   -- the words of a function are those of where the call goes on
