@@ -8,3 +8,5 @@ pub mod Spaces
 pub mod Together
 -- the law, made once
 pub mod GroupExample
+-- a call with an opening
+mod CallExample

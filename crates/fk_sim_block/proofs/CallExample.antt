@@ -1,0 +1,174 @@
+-- A list that suits frames, with a call whose function runs two operations before the jump to it: its opening.
+use Rattle.std.proofs.Common.{◌≡◌, ℕ, zero, suc, ◌≤◌, List, [], ◌∷◌, Bool, Some, true, false, ap, subst, ◌∙◌, arith, refl}
+use Rattle.std.specs.Prelude.{◌==◌, ◌&&◌, ◌||◌, slice_get}
+use Rattle.std.proofs.lemmas.Bool.{and_parts, eqb-true}
+use Rattle.fk_meaning_operation.specs.declared.operation.OwnValue.TheVariants.{Value}
+use Rattle.fk_meaning_operation.specs.declared.operation.Operation.{Operation}
+use Rattle.fk_meaning_operation.specs.declared.operation.Operation.TheVariants.{Push, Get, DropLast, Leave, Enter, Halt}
+use Rattle.fk_meaning_operation.specs.declared.operation.Variable.TheVariants.{Private}
+use Rattle.fk_core.specs.declared.op.CoreOp.{CoreOp}
+use Rattle.fk_core.specs.Next.{is_jump, follows}
+use Rattle.fk_core.specs.Numbers.{operation_of}
+use Rattle.fk_sim_block.specs.Next.{StandsOp}
+use Rattle.fk_sim_block.specs.Stands.{Frames, HasRoom, ahead}
+use Rattle.fk_sim_block.specs.Suits.{Flows, Calls, Fits, Suits, nothing, writes}
+
+abbrev pushes : CoreOp
+pushes = record { kind = 1; site = 0; number = 7; target = 0; depth = 0 }
+
+abbrev enters : CoreOp
+enters = record { kind = 22; site = 0; number = 1; target = 0; depth = 1 }
+
+abbrev gets : CoreOp
+gets = record { kind = 2; site = 0; number = 0; target = 0; depth = 0 }
+
+abbrev drops : CoreOp
+drops = record { kind = 4; site = 0; number = 0; target = 0; depth = 1 }
+
+abbrev jumps : CoreOp
+jumps = record { kind = 0; site = 0; number = 0; target = 7; depth = 0 }
+
+abbrev halts : CoreOp
+halts = record { kind = 34; site = 0; number = 0; target = 0; depth = 0 }
+
+abbrev leaves : CoreOp
+leaves = record { kind = 11; site = 0; number = 2; target = 0; depth = 1 }
+
+-- indices 2 and 3 are the opening of the function at 7, which gives its argument; its caller goes on at 5
+abbrev core : List CoreOp
+core = pushes ∷ enters ∷ gets ∷ drops ∷ jumps ∷ drops ∷ halts ∷ gets ∷ leaves ∷ []
+
+abbrev of_main : ℕ → Bool
+of_main i = (i == 0) || ((i == 1) || ((i == 5) || (i == 6)))
+
+-- where the argument is kept
+abbrev has_argument : ℕ → Bool
+has_argument i = (i == 2) || ((i == 3) || ((i == 4) || (i == 7)))
+
+abbrev frames : Frames
+frames = record { keeps = λ index word. has_argument index && (word == 0); is_main = of_main; of_file = 0 }
+
+none_ahead : (of_main : Bool) → ahead frames of_main ≡ 0
+none_ahead true = refl
+none_ahead false = refl
+
+room : (index values : ℕ) → values ≤ 56 → HasRoom frames index values
+room index values few =
+    let none = none_ahead (of_main index) in
+    record {
+      header = omega (arith, none, few);
+      kept = λ word k. (
+          let first : word ≡ 0 = eqb-true word 0 (and_parts (has_argument index) (word == 0) k).1 in
+          omega (arith, none, few, first)
+          );
+    }
+
+-- what is so of each operation is so of the one at an index
+each : (P : ℕ → CoreOp → Operation → Type 0) → P 0 pushes (Push 7) → P 1 enters (Enter 1) → P 2 gets (Get (Value (Private 0))) → P 3 drops DropLast → P 5 drops DropLast → P 6 halts Halt
+    → P 7 gets (Get (Value (Private 0))) → P 8 leaves (Leave true false) → (i : ℕ) (op : CoreOp) (operation : Operation) → StandsOp core i op operation → P i op operation
+each P a b c d e f g h zero op operation at =
+    let same : pushes ≡ op = cc in
+    let reads : operation_of 1 7 ≡ Some operation = ap (λ o. operation_of o.kind o.number) same ∙ at.is_read in
+    let is : Push 7 ≡ operation = cc in
+    subst (λ x. P 0 op x) is (subst (λ x. P 0 x (Push 7)) same a)
+each P a b c d e f g h (suc zero) op operation at =
+    let same : enters ≡ op = cc in
+    let reads : operation_of 22 1 ≡ Some operation = ap (λ o. operation_of o.kind o.number) same ∙ at.is_read in
+    let is : Enter 1 ≡ operation = cc in
+    subst (λ x. P 1 op x) is (subst (λ x. P 1 x (Enter 1)) same b)
+each P a b c d e f g h (suc (suc zero)) op operation at =
+    let same : gets ≡ op = cc in
+    let reads : operation_of 2 0 ≡ Some operation = ap (λ o. operation_of o.kind o.number) same ∙ at.is_read in
+    let is : Get (Value (Private 0)) ≡ operation = cc in
+    subst (λ x. P 2 op x) is (subst (λ x. P 2 x (Get (Value (Private 0)))) same c)
+each P a b c d e f g h (suc (suc (suc zero))) op operation at =
+    let same : drops ≡ op = cc in
+    let reads : operation_of 4 0 ≡ Some operation = ap (λ o. operation_of o.kind o.number) same ∙ at.is_read in
+    let is : DropLast ≡ operation = cc in
+    subst (λ x. P 3 op x) is (subst (λ x. P 3 x DropLast) same d)
+each P a b c d e f g h (suc (suc (suc (suc zero)))) op operation at =
+    let same : jumps ≡ op = cc in
+    let jump : true ≡ false = ap is_jump same ∙ at.no_jump in
+    absurd (cc)
+each P a b c d e f g h (suc (suc (suc (suc (suc zero))))) op operation at =
+    let same : drops ≡ op = cc in
+    let reads : operation_of 4 0 ≡ Some operation = ap (λ o. operation_of o.kind o.number) same ∙ at.is_read in
+    let is : DropLast ≡ operation = cc in
+    subst (λ x. P 5 op x) is (subst (λ x. P 5 x DropLast) same e)
+each P a b c d e f g h (suc (suc (suc (suc (suc (suc zero)))))) op operation at =
+    let same : halts ≡ op = cc in
+    let reads : operation_of 34 0 ≡ Some operation = ap (λ o. operation_of o.kind o.number) same ∙ at.is_read in
+    let is : Halt ≡ operation = cc in
+    subst (λ x. P 6 op x) is (subst (λ x. P 6 x Halt) same f)
+each P a b c d e f g h (suc (suc (suc (suc (suc (suc (suc zero))))))) op operation at =
+    let same : gets ≡ op = cc in
+    let reads : operation_of 2 0 ≡ Some operation = ap (λ o. operation_of o.kind o.number) same ∙ at.is_read in
+    let is : Get (Value (Private 0)) ≡ operation = cc in
+    subst (λ x. P 7 op x) is (subst (λ x. P 7 x (Get (Value (Private 0)))) same g)
+each P a b c d e f g h (suc (suc (suc (suc (suc (suc (suc (suc zero)))))))) op operation at =
+    let same : leaves ≡ op = cc in
+    let reads : operation_of 11 2 ≡ Some operation = ap (λ o. operation_of o.kind o.number) same ∙ at.is_read in
+    let is : Leave true false ≡ operation = cc in
+    subst (λ x. P 8 op x) is (subst (λ x. P 8 x (Leave true false)) same h)
+each P a b c d e f g h (suc (suc (suc (suc (suc (suc (suc (suc (suc i))))))))) op operation at = absurd (let s = at.stands in cc)
+
+pushes_on : (onward : Bool) → Flows core frames (writes (Push 7)) 0 (follows core (Push 7) 0 0 [] onward).at
+pushes_on true = record { main = refl; kept = λ word k free. absurd (cc) }
+pushes_on false = record { main = refl; kept = λ word k free. absurd (cc) }
+
+gets_on : (onward : Bool) → Flows core frames (writes (Get (Value (Private 0)))) 2 (follows core (Get (Value (Private 0))) 2 0 [] onward).at
+gets_on true = record { main = refl; kept = λ word k free. k }
+gets_on false = record { main = refl; kept = λ word k free. k }
+
+drops_on : (onward : Bool) → Flows core frames (writes DropLast) 3 (follows core DropLast 3 0 [] onward).at
+drops_on true = record { main = refl; kept = λ word k free. k }
+drops_on false = record { main = refl; kept = λ word k free. k }
+
+result_goes : (onward : Bool) → Flows core frames (writes DropLast) 5 (follows core DropLast 5 0 [] onward).at
+result_goes true = record { main = refl; kept = λ word k free. absurd (cc) }
+result_goes false = record { main = refl; kept = λ word k free. absurd (cc) }
+
+gives_on : (onward : Bool) → Flows core frames (writes (Get (Value (Private 0)))) 7 (follows core (Get (Value (Private 0))) 7 0 [] onward).at
+gives_on true = record { main = refl; kept = λ word k free. absurd (cc) }
+gives_on false = record { main = refl; kept = λ word k free. absurd (cc) }
+
+-- the opening runs in the frame of the function
+calls : Calls core frames 1 1 1
+calls = record {
+  few = omega arith;
+  inside = refl;
+  kept = λ word k. (let first : word ≡ 0 = eqb-true word 0 k in omega (arith, first));
+  back = record { main = refl; kept = λ word k free. absurd (cc) };
+  room = room 5 1 (omega arith);
+}
+
+jumps_flow : (i : ℕ) (op : CoreOp) → slice_get core i ≡ Some op → is_jump op ≡ true → Flows core frames nothing i op.target
+jumps_flow zero op e f = let same : pushes ≡ op = cc in let g : false ≡ true = ap is_jump same ∙ f in absurd (cc)
+jumps_flow (suc zero) op e f = let same : enters ≡ op = cc in let g : false ≡ true = ap is_jump same ∙ f in absurd (cc)
+jumps_flow (suc (suc zero)) op e f = let same : gets ≡ op = cc in let g : false ≡ true = ap is_jump same ∙ f in absurd (cc)
+jumps_flow (suc (suc (suc zero))) op e f = let same : drops ≡ op = cc in let g : false ≡ true = ap is_jump same ∙ f in absurd (cc)
+jumps_flow (suc (suc (suc (suc zero)))) op e f =
+    let same : jumps ≡ op = cc in
+    subst (λ o. Flows core frames nothing 4 o.target) same (record { main = refl; kept = λ word k free. k })
+jumps_flow (suc (suc (suc (suc (suc zero))))) op e f = let same : drops ≡ op = cc in let g : false ≡ true = ap is_jump same ∙ f in absurd (cc)
+jumps_flow (suc (suc (suc (suc (suc (suc zero)))))) op e f = let same : halts ≡ op = cc in let g : false ≡ true = ap is_jump same ∙ f in absurd (cc)
+jumps_flow (suc (suc (suc (suc (suc (suc (suc zero))))))) op e f = let same : gets ≡ op = cc in let g : false ≡ true = ap is_jump same ∙ f in absurd (cc)
+jumps_flow (suc (suc (suc (suc (suc (suc (suc (suc zero)))))))) op e f = let same : leaves ≡ op = cc in let g : false ≡ true = ap is_jump same ∙ f in absurd (cc)
+jumps_flow (suc (suc (suc (suc (suc (suc (suc (suc (suc i))))))))) op e f = absurd (cc)
+
+pub suits : Suits core frames 0
+suits = record {
+  begins = refl;
+  few = omega arith;
+  jumps = jumps_flow;
+  fits =
+      each (λ i op operation. Fits core frames i op operation)
+      (record { values = omega arith; few = omega arith; room = room 0 0 (omega arith); place = room 0 1 (omega arith); goes_on = pushes_on })
+      (record { values = omega arith; few = omega arith; room = room 1 1 (omega arith); place = tt; goes_on = calls })
+      (record { values = omega arith; few = omega arith; room = room 2 0 (omega arith); place = (refl, room 2 1 (omega arith)); goes_on = gets_on })
+      (record { values = omega arith; few = omega arith; room = room 3 1 (omega arith); place = tt; goes_on = drops_on })
+      (record { values = omega arith; few = omega arith; room = room 5 1 (omega arith); place = tt; goes_on = result_goes })
+      (record { values = omega arith; few = omega arith; room = room 6 0 (omega arith); place = tt; goes_on = refl })
+      (record { values = omega arith; few = omega arith; room = room 7 0 (omega arith); place = (refl, room 7 1 (omega arith)); goes_on = gives_on })
+      (record { values = omega arith; few = omega arith; room = room 8 1 (omega arith); place = tt; goes_on = refl });
+}
