@@ -43,7 +43,7 @@ pub fn follows(
 /// The index after the first jump from an index on, or the end of the list if there is none.
 pub fn behind_jump(ops: &[CoreOp], index: usize) -> usize
     requires { index ≤ length ops.now }
-    ensures index { result ≡ n.behind_jump ops.now index }
+    ensures jump { result ≡ n.behind_jump ops.now index }
     ensures within { result ≤ length ops.now }
 {
     let mut end = index;

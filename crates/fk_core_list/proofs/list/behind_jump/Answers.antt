@@ -3,8 +3,8 @@ use Rattle.fk_core.specs.Next.{behind_jump}
 use Rattle.fk_core_list.proofs.Behind.{behind_at, behind_on, behind_end}
 use Rattle.fk_core_list.proofs.list.behind_jump.Goals as goal
 
-pub returns-then-is_jump-clause-index : goal.returns-then-is_jump-clause-index
-returns-then-is_jump-clause-index c =
+pub returns-then-is_jump-clause-jump : goal.returns-then-is_jump-clause-jump
+returns-then-is_jump-clause-jump c =
     let same = c.ops.invariant.same in
     let there : behind_jump c.args.ops.now c.ops.end ≡ suc c.ops.end
     = behind_at c.args.ops.now c.ops.end _ (omega (arith, c.ops-test.true)) (sym c.is_jump.ensures ∙ c.if-is_jump.true) in
@@ -20,5 +20,5 @@ ops-preserved c =
           ∙ c.ops.invariant.same;
     }
 
-pub returns-clause-index : goal.returns-clause-index
-returns-clause-index c = sym (behind_end c.args.ops.now c.ops.end (omega (arith, c.ops-test.false))) ∙ c.ops.invariant.same
+pub returns-clause-jump : goal.returns-clause-jump
+returns-clause-jump c = sym (behind_end c.args.ops.now c.ops.end (omega (arith, c.ops-test.false))) ∙ c.ops.invariant.same
