@@ -108,18 +108,26 @@ abbrev pub group_words : (globals : ℕ) → ℕ
 group_words globals = control_address globals
 
 -- A processor whose number is not below the size goes back to wait. The others get the size of
--- their group, its control words and its space. The frames begin after the header. The blocks begin
--- at the end of the space, which is halfway from its first word to the root's control words.
-abbrev pub parting_lines : (globals : ℕ) → List MarkedLine
-parting_lines globals =
+-- their group and its control words.
+abbrev pub node_lines : (globals : ℕ) → List MarkedLine
+node_lines globals =
     quiet (Bltu rank_register t3 8) ∷ quiet (Jalr zero_register ra 0) ∷
     quiet (Addi size_register t3 0) ∷
     quiet (Lw t0 device_register 28) ∷ quiet (Slli t0 t0 2) ∷
     quiet (Lui t1 (high_part (group_words globals))) ∷
-    quiet (Addi t1 t1 (low_part (group_words globals))) ∷ quiet (Add node_register t0 t1)
-    ∷ quiet (Addi frames_register node_register 32) ∷
+    quiet (Addi t1 t1 (low_part (group_words globals))) ∷ quiet (Add node_register t0 t1) ∷ []
+
+-- They get the space of their group and go to its body. The frames begin after the header. The
+-- blocks begin at the end of the space, which is halfway from its first word to the root's control
+-- words.
+abbrev pub space_lines : List MarkedLine
+space_lines =
+    quiet (Addi frames_register node_register 32) ∷
     quiet (Lui t0 0x18400) ∷ quiet (Add t0 t0 node_register) ∷ quiet (Srli t0 t0 3) ∷
     quiet (Slli blocks_register t0 2) ∷ quiet (Jalr zero_register ra 4) ∷ []
+
+abbrev pub parting_lines : (globals : ℕ) → List MarkedLine
+parting_lines globals = node_lines globals ++ space_lines
 
 abbrev pub meet_lines : List MarkedLine
 meet_lines = quiet (Addi t2 node_register (4 * closing_word)) ∷ meeting_lines gathering

@@ -4,6 +4,7 @@ ghost use Rattle.std.specs.Prelude.{◌≡◌, ◌+◌, ◌^◌, ◌<◌, ◌≤
 ghost use Rattle.fk_asm.specs.Assembly.{AreFollowed};
 ghost use Rattle.fk_asm.specs.Block.{with_block};
 ghost use Rattle.fk_gen_group.specs.Blocks.{meet_lines, telling_lines, size_lines, parting_lines};
+ghost use Rattle.fk_gen_group.specs.Blocks.{node_lines, space_lines};
 ghost use Rattle.fk_gen_group.specs.Blocks.{start_lines};
 
 use fk_asm::Assembler;
@@ -111,6 +112,17 @@ fn emit_parting(into: &mut Assembler, globals: u32) -> Result<(), AllocError>
     requires free { AreFollowed into.old }
     ensures added { OnOk result (into.new ≡ with_block into.old (parting_lines globals)) }
 {
+    emit_node(into, globals)?;
+    emit_space(into)
+}
+
+// The size of the group and its control words.
+fn emit_node(into: &mut Assembler, globals: u32) -> Result<(), AllocError>
+    requires few { globals ≤ 2 ^ 19 }
+    requires room { length into.old.lines + 8 < 2 ^ 30 }
+    requires free { AreFollowed into.old }
+    ensures added { OnOk result (into.new ≡ with_block into.old (node_lines globals)) }
+{
     let words = CONTROL + 4 * globals;
     emit_lines(
         into,
@@ -123,6 +135,19 @@ fn emit_parting(into: &mut Assembler, globals: u32) -> Result<(), AllocError>
             BlockLine::quiet(Instruction::Lui(T1, high_part(words))),
             BlockLine::quiet(Instruction::Addi(T1, T1, low_part(words))),
             BlockLine::quiet(Instruction::Add(NODE, T0, T1)),
+        ],
+    )
+}
+
+// The space of the group, and the way to its body.
+fn emit_space(into: &mut Assembler) -> Result<(), AllocError>
+    requires room { length into.old.lines + 6 < 2 ^ 30 }
+    requires free { AreFollowed into.old }
+    ensures added { OnOk result (into.new ≡ with_block into.old space_lines) }
+{
+    emit_lines(
+        into,
+        &[
             BlockLine::quiet(Instruction::Addi(FRAMES, NODE, 32)),
             BlockLine::quiet(Instruction::Lui(T0, 0x18400)),
             BlockLine::quiet(Instruction::Add(T0, T0, NODE)),
