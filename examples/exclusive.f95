@@ -7,7 +7,7 @@
    in the next one every fourth, and so on. A barrier stands between the turns, so nobody reads a
    count before it is written, and nobody else touches it meanwhile. So a PRAM of the weakest model,
    EREW, is enough. The sum by mpadd in histogram.f95 needs one turn, and concurrent writes. It
-   prints 8. Cost: 779 cycles. */
+   prints 8. Cost: 785 cycles. */
 #include <fork.h>
 #include <io.h>
 

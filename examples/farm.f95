@@ -7,7 +7,7 @@
    since some tasks take longer. Behind it they are one group again, in one cycle: so no flag or count
    is needed to know that all answers are there. A seq lets one member print while the others wait: the
    most divisors that a number has, 29 (of 1008), and the first number that has so many, 1008. A farm
-   takes 12 cycles beside its body. Cost: 286,223 cycles. */
+   takes 12 cycles beside its body. Cost: 286,233 cycles. */
 #include <fork.h>
 #include <io.h>
 

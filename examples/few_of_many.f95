@@ -14,7 +14,7 @@
        55555.
        666666
 
-   Cost: 3,048 cycles. */
+   Cost: 3,065 cycles. */
 #include <fork.h>
 #include <io.h>
 

@@ -6,7 +6,7 @@
    the number below. When all have passed the barrier, processor 0 follows the pointers from the last node
    to the first, and prints how many nodes there are and the sum of their values: 100, and 328350, the
    sum of the squares 0 to 99 * 99, whatever the order in which the nodes were taken.
-   Cost: 10,293 cycles. */
+   Cost: 10,395 cycles. */
 #include <fork.h>
 #include <io.h>
 

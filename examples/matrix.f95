@@ -6,7 +6,7 @@
    $ / 8 and column $ % 8. All members read a[row] and b[column] in one round each, which is a
    concurrent read: eight of them read the same word. The product of the matrix with a[i][j] = i + j and
    the unit matrix twice over is 2 (i + j): it prints the 64 elements, row by row. The loop counts in a
-   shared variable, so its condition is shared and all members stay together. Cost: 1,261 cycles; 8
+   shared variable, so its condition is shared and all members stay together. Cost: 1,267 cycles; 8
    turns, where one processor has 512. */
 #include <fork.h>
 #include <io.h>

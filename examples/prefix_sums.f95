@@ -9,7 +9,7 @@
    has nothing before it adds 0, and no processor takes another way than the others.
 
    It prints 1 3 6 10 15 21 28 36 45 55 66 78 91 105 120 136, a line each, in one cycle.
-   Cost: 679 cycles. */
+   Cost: 685 cycles. */
 #include <fork.h>
 #include <io.h>
 

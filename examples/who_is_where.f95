@@ -5,7 +5,7 @@
    Each processor notes a letter of what it is about to do: r runs alone in main, w waits there for the
    group, g is in the group, in lockstep, s runs a seq, f a farm, b waits at a barrier, e at the end of
    a farm. From time to time one of them copies all letters into the next row of the picture, and at
-   the end processor 0 prints it. Cost: 22,695 cycles. */
+   the end processor 0 prints it. Cost: 22,706 cycles. */
 #include <fork.h>
 #include <io.h>
 

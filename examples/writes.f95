@@ -6,7 +6,7 @@
    write their numbers to one word in one round the highest wins, and all read 7. When all write the
    same value, it doesn't matter who wins. When each writes to a word of its own, nobody loses: the
    exclusive writes below give 0 1 4 9 16 25 36 49. The group stays in lockstep, so no barrier is
-   needed between the writes and the reads. Cost: 197 cycles. */
+   needed between the writes and the reads. Cost: 201 cycles. */
 #include <fork.h>
 #include <io.h>
 
