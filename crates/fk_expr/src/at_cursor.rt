@@ -9,7 +9,7 @@ ghost use Rattle.fk_syntax.specs.View.{base_of, tree_of};
 ghost use Rattle.fk_expr.specs.Grammar.{Assignment, Comma, base};
 ghost use Rattle.fk_expr.specs.Reading.{inner, read_base, read_comma, read_assignment};
 ghost use Rattle.fk_parse_combinators.specs.Reads.{Reads};
-ghost use Rattle.fk_parse_combinators.specs.Faults.{Tells};
+ghost use Rattle.fk_parse_combinators.specs.Faults.{IsMemory, Tells};
 ghost use Rattle.fk_parse_combinators.specs.Ahead.{Shortens};
 ghost use Rattle.fk_parse_combinators.specs.Gives.{Gives};
 
@@ -74,6 +74,7 @@ pub fn base<'a>(cursor: &mut Cursor<'_, 'a>) -> Result<Base<'a>, SyntaxFault>
     ensures refused { IfErr result (Tells (λ stop. Reads (λ bound. base 0) cursor.old (Err stop))) }
     ensures read { Gives base_of result cursor.new (read_base cursor.old) }
     ensures shorter { IfOk result (λ _. Shortens cursor.old cursor.new) }
+    ensures no_memory { IfErr result (λ fault. ¬ IsMemory fault) }
 {
     types::base(cursor)
 }

@@ -1,12 +1,13 @@
 //! Parts of expressions without inner expressions.
 
-ghost use Rattle.std.specs.Prelude.{IfOk};
+ghost use Rattle.std.specs.Prelude.{IfErr, IfOk};
 ghost use Rattle.fk_syntax.specs.Tree.{TypeTree};
 ghost use Rattle.fk_syntax.specs.View.{tree_of, suffix_of, type_of};
 ghost use Rattle.fk_expr.specs.Reading.{inner, read_sizeof, read_enclosed_type, read_puts};
 ghost use Rattle.fk_expr.specs.Reading.{read_enclosed_text, read_mark, read_dot, read_arrow};
 ghost use Rattle.fk_parse_combinators.specs.Languages.{Placed};
 ghost use Rattle.fk_parse_combinators.specs.Ahead.{seen, Shortens};
+ghost use Rattle.fk_parse_combinators.specs.Faults.{IsMemory};
 ghost use Rattle.fk_parse_combinators.specs.Gives.{Gives, Makes};
 
 use crate::level::open;
@@ -22,6 +23,7 @@ pub(crate) fn size_of<'a>(cursor: &mut Cursor<'_, 'a>, left: u32) -> Result<Expr
     ensures read { Gives tree_of result cursor.new
         (read_sizeof (inner left) cursor.old) }
     ensures shorter { IfOk result (λ _. Shortens cursor.old cursor.new) }
+    ensures no_memory { IfErr result (λ fault. ¬ IsMemory fault) }
 {
     let word = cursor.expect(TokenKind::Sizeof)?;
     let kind = enclosed_type(cursor, left)?;
@@ -34,6 +36,7 @@ fn enclosed_type<'a>(cursor: &mut Cursor<'_, 'a>, left: u32) -> Result<TypeName<
     ensures read { Makes (λ (x : Placed × (TypeTree × Placed)). x.1.0) type_of result cursor.new
         (read_enclosed_type (inner left) cursor.old) }
     ensures shorter { IfOk result (λ _. Shortens cursor.old cursor.new) }
+    ensures no_memory { IfErr result (λ fault. ¬ IsMemory fault) }
 {
     open(cursor, TokenKind::OpenParenthesis, left)?;
     cursor.expect(TokenKind::OpenParenthesis)?;
@@ -47,6 +50,7 @@ fn enclosed_type<'a>(cursor: &mut Cursor<'_, 'a>, left: u32) -> Result<TypeName<
 pub(crate) fn puts<'a>(cursor: &mut Cursor<'_, 'a>, left: u32) -> Result<Expr<'a>, SyntaxFault>
     ensures read { Gives tree_of result cursor.new (read_puts (inner left) cursor.old) }
     ensures shorter { IfOk result (λ _. Shortens cursor.old cursor.new) }
+    ensures no_memory { IfErr result (λ fault. ¬ IsMemory fault) }
 {
     let word = cursor.expect(TokenKind::Puts)?;
     let text = enclosed_text(cursor, left)?;
@@ -59,6 +63,7 @@ fn enclosed_text<'a>(cursor: &mut Cursor<'_, 'a>, left: u32) -> Result<Numbered<
     ensures read { Makes (λ (x : Placed × (Placed × Placed)). x.1.0) seen result cursor.new
         (read_enclosed_text (inner left) cursor.old) }
     ensures shorter { IfOk result (λ _. Shortens cursor.old cursor.new) }
+    ensures no_memory { IfErr result (λ fault. ¬ IsMemory fault) }
 {
     open(cursor, TokenKind::OpenParenthesis, left)?;
     cursor.expect(TokenKind::OpenParenthesis)?;
@@ -72,6 +77,7 @@ fn enclosed_text<'a>(cursor: &mut Cursor<'_, 'a>, left: u32) -> Result<Numbered<
 pub(crate) fn mark<'a>(cursor: &mut Cursor<'_, 'a>) -> Result<Suffix<'a>, SyntaxFault>
     ensures read { Gives suffix_of result cursor.new (read_mark cursor.old) }
     ensures shorter { IfOk result (λ _. Shortens cursor.old cursor.new) }
+    ensures no_memory { IfErr result (λ fault. ¬ IsMemory fault) }
 {
     if cursor.next_is(TokenKind::Dot) {
         return dot(cursor);
@@ -90,6 +96,7 @@ pub(crate) fn mark<'a>(cursor: &mut Cursor<'_, 'a>) -> Result<Suffix<'a>, Syntax
 fn dot<'a>(cursor: &mut Cursor<'_, 'a>) -> Result<Suffix<'a>, SyntaxFault>
     ensures read { Gives suffix_of result cursor.new (read_dot cursor.old) }
     ensures shorter { IfOk result (λ _. Shortens cursor.old cursor.new) }
+    ensures no_memory { IfErr result (λ fault. ¬ IsMemory fault) }
 {
     let dot = cursor.expect(TokenKind::Dot)?;
     let member = cursor.expect(TokenKind::Word)?;
@@ -101,6 +108,7 @@ fn dot<'a>(cursor: &mut Cursor<'_, 'a>) -> Result<Suffix<'a>, SyntaxFault>
 fn arrow<'a>(cursor: &mut Cursor<'_, 'a>) -> Result<Suffix<'a>, SyntaxFault>
     ensures read { Gives suffix_of result cursor.new (read_arrow cursor.old) }
     ensures shorter { IfOk result (λ _. Shortens cursor.old cursor.new) }
+    ensures no_memory { IfErr result (λ fault. ¬ IsMemory fault) }
 {
     let arrow = cursor.expect(TokenKind::Arrow)?;
     let member = cursor.expect(TokenKind::Word)?;
