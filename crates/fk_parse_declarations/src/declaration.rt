@@ -1,11 +1,13 @@
 //! Declarations: variables, members of structs, and parameters.
 
-ghost use Rattle.std.specs.Prelude.{◌≡◌, ◌<◌, ◌^◌, ◌∷◌, ◌++◌, length, map, IfOk};
+ghost use Rattle.std.specs.Prelude.{◌≡◌, ◌<◌, ◌^◌, ◌∷◌, ◌++◌, length, map, IfErr};
+ghost use Rattle.std.specs.Prelude.{IfOk};
 ghost use Rattle.std.specs.Option.{option_map};
 ghost use Rattle.fk_syntax.specs.View.{base_of, tree_of};
 ghost use Rattle.fk_syntax.specs.ProgramView.{declared_of};
 ghost use Rattle.fk_parse_combinators.specs.Readers.{repeated};
 ghost use Rattle.fk_parse_combinators.specs.Ahead.{Shortens, Leaves};
+ghost use Rattle.fk_parse_combinators.specs.Faults.{IsMemory};
 ghost use Rattle.fk_parse_combinators.specs.Gives.{Gives, Makes};
 ghost use Rattle.fk_expr.specs.Reading.{inner, begins_type};
 ghost use Rattle.fk_parse_declarations.specs.Grammar.{declared, is_shared, joined_lists};
@@ -153,6 +155,7 @@ pub fn first_value<'a>(
 pub fn array_length(cursor: &mut Cursor) -> Result<Option<u32>, SyntaxFault>
     ensures read { Gives (λ found. found) result cursor.new (read_array_length cursor.old) }
     ensures few { IfOk result (λ _. Leaves cursor.old cursor.new) }
+    ensures no_memory { IfErr result (λ fault. ¬ IsMemory fault) }
 {
     let Some(_open) = cursor.accept(TokenKind::OpenBracket) else {
         return Ok(None);
@@ -203,6 +206,7 @@ pub fn add_members<'a>(
 fn member_name<'a>(cursor: &mut Cursor<'_, 'a>) -> Result<Declarator<'a>, SyntaxFault>
     ensures read { Gives declarator_of result cursor.new (read_member_name cursor.old) }
     ensures shorter { IfOk result (λ _. Shortens cursor.old cursor.new) }
+    ensures no_memory { IfErr result (λ fault. ¬ IsMemory fault) }
 {
     let stars = stars(cursor)?;
     let name = cursor.expect(TokenKind::Word)?.name();
@@ -258,6 +262,7 @@ fn some_parameters<'a>(
 fn parameter<'a>(cursor: &mut Cursor<'_, 'a>) -> Result<Declared<'a>, SyntaxFault>
     ensures read { Gives declared_of result cursor.new (read_parameter cursor.old) }
     ensures shorter { IfOk result (λ _. Shortens cursor.old cursor.new) }
+    ensures no_memory { IfErr result (λ fault. ¬ IsMemory fault) }
 {
     let shared = shared(cursor)?;
     let base = base(cursor)?;
@@ -276,6 +281,7 @@ fn parameter<'a>(cursor: &mut Cursor<'_, 'a>) -> Result<Declared<'a>, SyntaxFaul
 fn shared(cursor: &mut Cursor) -> Result<bool, SyntaxFault>
     ensures read { Makes is_shared (λ shared. shared) result cursor.new (read_sharing cursor.old) }
     ensures few { IfOk result (λ _. Leaves cursor.old cursor.new) }
+    ensures no_memory { IfErr result (λ fault. ¬ IsMemory fault) }
 {
     if !sharing_is_next(cursor) {
         return Ok(false);
