@@ -1,9 +1,10 @@
 //! Statements that have no others in them, but for declarations and empty statements.
 
-ghost use Rattle.std.specs.Prelude.{IfOk};
+ghost use Rattle.std.specs.Prelude.{IfErr, IfOk};
 ghost use Rattle.fk_syntax.specs.ProgramView.{statement_of};
 ghost use Rattle.fk_parse_combinators.specs.Languages.{spot};
 ghost use Rattle.fk_parse_combinators.specs.Ahead.{Shortens};
+ghost use Rattle.fk_parse_combinators.specs.Faults.{IsMemory};
 ghost use Rattle.fk_parse_combinators.specs.Gives.{Gives, Makes};
 ghost use Rattle.fk_expr.specs.Reading.{inner};
 ghost use Rattle.fk_parse_headers.specs.Reading.{read_plain, read_return, read_expression};
@@ -90,6 +91,7 @@ fn expression<'a>(
 fn plain(cursor: &mut Cursor, kind: TokenKind) -> Result<Spot, SyntaxFault>
     ensures read { Makes spot (λ at. at) result cursor.new (read_plain kind cursor.old) }
     ensures shorter { IfOk result (λ _. Shortens cursor.old cursor.new) }
+    ensures no_memory { IfErr result (λ fault. ¬ IsMemory fault) }
 {
     let word = cursor.expect(kind)?;
     cursor.expect(TokenKind::Semicolon)?;
