@@ -1,12 +1,13 @@
 -- The numbers of kinds in a set.
-use Rattle.std.proofs.Common.{◌≡◌, inl, inr, ℕ, zero, suc, ◌+◌, ◌≤◌, Bool, true, false, cond, not, ◌&&◌, ◌||◌, eqb, List, [], ◌∷◌, ◌++◌, map, length, Some, Decides, slice_get, refl, sym, ap, subst, ◌∙◌, arith}
+use Rattle.std.proofs.Common.{◌≡◌, inl, inr, ℕ, zero, suc, ◌+◌, ◌≤◌, Bool, true, false, cond, not, ◌&&◌, ◌||◌, eqb, List, [], ◌∷◌, ◌++◌, map, length, Some, Decides, slice_get, option_map, refl, sym, ap, subst, ◌∙◌, arith}
 use Rattle.std.proofs.Math.Bool.{beq}
 use Rattle.std.specs.Cmp.{booleans_Decides}
 use Rattle.std.specs.List.{list_any, position_or_len}
 use Rattle.std.proofs.lemmas.Bool.{false≢true, or_parts}
 use Rattle.std.proofs.lemmas.Bool.Decides.{Decides-and, Decides-like, Decides-eqb}
 use Rattle.std.proofs.lemmas.List.{length-map, length_push, map_push}
-use Rattle.std.proofs.lemmas.Option.{none-some, same_Some, slice_get_within}
+use Rattle.std.proofs.lemmas.Option.{none-some, same_Some, slice_get_within, slice_get-map}
+use Rattle.std.specs.Bool.{OnTrue}
 use Rattle.indexmap.specs.IndexSet.{insert_key}
 use Rattle.fk_syntax.specs.declared.facts.Kind.{Kind}
 use Rattle.fk_types_kinds.specs.declared.numbers.Row.{Row}
@@ -85,3 +86,9 @@ IsNumbered-last before after kind number (inr h) = omega (arith, h.1, length-map
 pub IsNumbered-few : (before after : List Row) (kind : Kind) (number : ℕ) → IsNumbered (kinds_in before) kind (kinds_in after) number → length after ≤ length before + 1
 IsNumbered-few before after kind number (inl h) = omega (arith, ap length h.0, length-map before kind_in, length-map after kind_in)
 IsNumbered-few before after kind number (inr h) = omega (arith, ap length h.0, length_push (kinds_in before) kind, length-map before kind_in, length-map after kind_in)
+
+-- the kind with a number is that of an equal row
+pub has_number : (rows : List Row) (number : ℕ) (known row : Row) → Some known ≡ slice_get rows number → (b : Bool) → b ≡ is_same known row
+    → OnTrue b (slice_get (kinds_in rows) number ≡ Some (kind_in row))
+has_number rows number known row there true same = slice_get-map kind_in rows number ∙ ap (option_map kind_in) (sym there) ∙ ap Some ((is_same-Decides known row).0 (sym same))
+has_number rows number known row there false same = tt

@@ -1,6 +1,8 @@
 //! The kinds of the types of tokens, and their numbers.
 
-ghost use Rattle.std.specs.Prelude.{◌≡◌, ◌^◌, ◌<◌, ◌≤◌, ◌+◌, length, IfOk, OnOk};
+ghost use Rattle.std.specs.Prelude.{◌≡◌, ◌^◌, ◌<◌, ◌≤◌, ◌+◌, Some, length, slice_get, IfOk};
+ghost use Rattle.std.specs.Prelude.{OnOk};
+ghost use Rattle.std.specs.Bool.{OnTrue};
 ghost use Rattle.fk_types_structs.specs.Whole.{structs_in, IsSound};
 ghost use Rattle.fk_types_kinds.specs.Rows.{kind_in, kinds_in};
 ghost use Rattle.fk_types_kinds.specs.Met.{IsNumbered, IsNext, AreMet};
@@ -45,20 +47,37 @@ impl Row {
     }
 }
 
-// The number of a kind among those that have occurred. A new one comes last.
-fn number_of(met: &mut IndexSet<Row>, kind: Kind) -> Result<usize, AllocError>
+// Whether the kind with this number is that of a row.
+fn is_kind(met: &IndexSet<Row>, number: usize, row: Row) -> bool
+    ensures { OnTrue result (slice_get (kinds_in met.now.keys) number ≡ Some (kind_in row)) }
+{
+    match met.get_index(number) {
+        Some(known) => *known == row,
+        None => false,
+    }
+}
+
+// The number of a kind among those that have occurred. A new one comes last. The set is searched
+// only if the kind doesn't have the number `likely`.
+fn number_of(met: &mut IndexSet<Row>, likely: usize, kind: Kind) -> Result<usize, AllocError>
     ensures numbered { IfOk result
         (λ number. IsNumbered (kinds_in met.old.keys) kind (kinds_in met.new.keys) number) }
     ensures last { IfOk result (λ number. number ≤ length met.old.keys) }
     ensures few { OnOk result (length met.new.keys ≤ length met.old.keys + 1) }
 {
-    let (number, _) = met.insert_full(Row::of(kind))?;
+    let row = Row::of(kind);
+    if is_kind(met, likely, row) {
+        return Ok(likely);
+    }
+    let (number, _) = met.insert_full(row)?;
     Ok(number)
 }
 
-// The number of the kind of one more token: 0 if it has no type.
+// The number of the kind of one more token: 0 if it has no type. `likely` is a number that the kind
+// is likely to have.
 fn meet(
     met: &mut IndexSet<Row>,
+    likely: u32,
     structs: &Structs,
     kind: &Option<ExpressionType>,
 ) -> Result<u32, AllocError>
@@ -70,7 +89,7 @@ fn meet(
 {
     match kind {
         Some(kind) => {
-            let number = number_of(met, kind_of(structs, kind))?;
+            let number = number_of(met, likely as usize, kind_of(structs, kind))?;
             Ok(number as u32)
         }
         None => Ok(0),
@@ -111,9 +130,13 @@ impl Kinds {
             kinds.list.items kinds.numbers.items) }
     {
         let mut met = IndexSet::new(alloc);
-        let mut numbers = Vec::new(alloc);
+        let mut numbers = Vec::with_capacity(alloc, types.len())?;
+        // Most tokens have the kind of the one before them.
+        let mut last = 0;
         for kind in types {
-            numbers.push(meet(&mut met, structs, kind)?)?;
+            let number = meet(&mut met, last, structs, kind)?;
+            numbers.push(number)?;
+            last = number;
         }
         let list = list_of(alloc, met.as_slice())?;
         Ok(Kinds { numbers, list })

@@ -8,8 +8,8 @@ use Rattle.fk_types_kinds.proofs.numbers.Kinds.of.Goals as goal
 pub loop-kind-preserved : goal.loop-kind-preserved
 loop-kind-preserved c = record {
   met = AreMet-more (structs_in c.args.structs.now) c.args.types.now c.loop-kind.kind-index _ (kinds_in c.loop-kind.met.keys) (kinds_in c.meet.new.met.keys)
-      c.loop-kind.numbers.items c.push.new.self.items c.in_ok-meet.field-0 c.loop-kind-test.true c.loop-kind.invariant.met c.in_ok-meet.ensures.next c.in_ok-push.ensures.items;
-  few = omega (arith, c.in_ok-meet.ensures.few);
+      c.loop-kind.numbers.items c.push.new.self.items c.in_ok-number.number c.loop-kind-test.true c.loop-kind.invariant.met c.in_ok-number.ensures.next c.in_ok-push.ensures.items;
+  few = omega (arith, c.in_ok-number.ensures.few);
 }
 
 pub returns : goal.returns
