@@ -1,6 +1,6 @@
 -- What a name denotes.
 use Rattle.std.specs.Prelude.{◌≡◌, ◌⊎◌, ℕ, ◌<◌, List, [], ◌∷◌, length, take, Some, slice_get}
-use Rattle.std.specs.Prelude.{Contains, codes, IsSome, IsSomeAnd}
+use Rattle.std.specs.Prelude.{Bool, Contains, codes, IsSome, IsSomeAnd, ◌==◌, ◌||◌}
 use Rattle.fk_syntax.specs.Tree.{Named}
 use Rattle.fk_syntax.specs.Program.{ProgramTree}
 use Rattle.fk_types_names.specs.declared.names.Meaning.{Meaning}
@@ -15,6 +15,10 @@ predeclared = codes "mpadd" ∷ codes "mpmax" ∷ codes "mpand" ∷ codes "mpor"
     ∷ codes "shmalloc" ∷ codes "shalloc" ∷ codes "malloc"
     ∷ codes "putint" ∷ codes "putchar" ∷ codes "groupsize"
     ∷ codes "__PROC_NR__" ∷ codes "__STARTED_PROCS__" ∷ codes "__input" ∷ codes "__inputs" ∷ []
+
+-- the first byte of a predeclared name
+abbrev pub is_initial : ℕ → Bool
+is_initial c = (c == 95) || (c == 103) || (c == 109) || (c == 112) || (c == 115)
 
 -- the number of the declaration at an index
 abbrev pub binding : List MarkTree → ℕ → ℕ

@@ -10,7 +10,7 @@ ghost use Rattle.fk_types_names.specs.Outline.{DeclarationTree, Declares, items_
 ghost use Rattle.fk_types_names.specs.OutlineView.{marks_in};
 ghost use Rattle.fk_types_names.specs.View.{mark_of};
 ghost use Rattle.fk_types_names.specs.Visible.{IsHidden, IsInnermost};
-ghost use Rattle.fk_types_names.specs.Means.{predeclared, StandsFor, MeansAt};
+ghost use Rattle.fk_types_names.specs.Means.{is_initial, predeclared, StandsFor, MeansAt};
 ghost use Rattle.fk_types_names.specs.Filling.{AreApart, AreFound, IsSurvey};
 ghost use Rattle.fk_types_names.specs.Reading.{IsAt, marks_of};
 
@@ -68,10 +68,24 @@ const PREDECLARED: [&[u8]; 14] = [
     b"__inputs",
 ];
 
+// Whether predeclared names begin with this byte.
+fn is_initial(byte: u8) -> bool
+    ensures { result ≡ is_initial byte }
+{
+    matches!(byte, b'_' | b'g' | b'm' | b'p' | b's')
+}
+
 /// Whether a name is predeclared.
 pub fn is_predeclared(name: &[u8]) -> bool
     ensures { IsTrue result ↔ Contains predeclared name.now }
 {
+    // Most names have another first byte.
+    if name.is_empty() {
+        return false;
+    }
+    if !is_initial(name[0]) {
+        return false;
+    }
     PREDECLARED.contains(&name)
 }
 
