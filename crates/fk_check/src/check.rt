@@ -10,7 +10,7 @@ use fk_regions::regions;
 use fk_sharing::sharing;
 use fk_syntax::{CheckFault, Facts, Program};
 use fk_types::types;
-use fk_types_names::resolve;
+use fk_types_names::{ScopedMarks, resolve};
 use std::alloc::Global;
 
 // The facts of a program, or the first of the faults of its regions and of its sharing. The result
@@ -46,10 +46,13 @@ pub fn checked(alloc: Global, program: &Program) -> Result<Facts, CheckFault>
     ensures kept { OnOk result (Keeps (program_of program.now)) }
     ensures refused { IfErr result (IsRefusal (program_of program.now)) }
 {
-    let Ok(names) = resolve(alloc, program) else {
+    let Ok(scoped) = ScopedMarks::of(alloc, program) else {
         return Err(CheckFault::Memory);
     };
-    let mut facts = types(alloc, program, &names)?;
+    let Ok(names) = resolve(alloc, program, &scoped) else {
+        return Err(CheckFault::Memory);
+    };
+    let mut facts = types(alloc, program, &scoped, &names)?;
     let placed = regions(alloc, program, &names, &mut facts);
     let shared = sharing(alloc, program, &names, &mut facts);
     told(facts, placed, shared)

@@ -6,6 +6,8 @@ ghost use Rattle.fk_syntax.specs.WellFormed.{IsWellFormed};
 ghost use Rattle.fk_types_structs.specs.Whole.{structs_in, IsSound};
 ghost use Rattle.fk_types_names.specs.Names.{AreNames};
 ghost use Rattle.fk_types_judgments.specs.Names.{Env};
+ghost use Rattle.fk_types_obligations.specs.Pieces as p;
+ghost use Rattle.fk_types_obligations.specs.PiecesView.{pieces_in};
 ghost use Rattle.fk_types_rules.specs.Noted.{AreTypes};
 ghost use Rattle.fk_types_rules.specs.Facts.{AreFactsIn};
 ghost use Rattle.fk_types.specs.Notes.{note_of, notes_of};
@@ -45,17 +47,19 @@ fn notes(alloc: Global, kinds: &[u32], bindings: &[u32]) -> Result<Vec<Note>, Al
     Ok(notes)
 }
 
-/// The facts of a program, by the types of its tokens.
+/// The facts of a program, by its pieces and the types of its tokens.
 pub(crate) fn facts<'k, 'p, 'a>(
     alloc: Global,
     program: &'p Program<'a>,
     structs: &'k Structs<'p, 'a>,
     names: &'k Names<'p, 'a>,
+    pieces: &Pieces<'p, 'a>,
     types: &'k [Option<ExpressionType>],
 ) -> Result<Facts, AllocError>
     requires well_formed { IsWellFormed (program_of program.now) }
     requires sound { IsSound structs.now }
     requires names { AreNames (program_of program.now) names.now }
+    requires pieces { pieces_in pieces.now ≡ p.pieces (program_of program.now) }
     requires tokens { length types.now ≡ (program_of program.now).tokens }
     requires small { length types.now ≤ 2 ^ 20 }
     ensures { IfOk result (λ facts. (env : Env) → env.structs ≡ structs_in structs.now
@@ -63,7 +67,6 @@ pub(crate) fn facts<'k, 'p, 'a>(
         → AreFactsIn env (program_of program.now) facts) }
 {
     let kinds = Kinds::of(alloc, structs, types)?;
-    let pieces = Pieces::of(alloc, &program.items)?;
     let bindings = bindings(alloc, structs, names, pieces.list(), types)?;
     let notes = notes(alloc, &kinds.numbers, &bindings)?;
     Ok(Facts {

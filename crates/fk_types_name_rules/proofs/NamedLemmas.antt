@@ -1,9 +1,9 @@
 -- The first declaration of a name in a scope is the innermost one that is visible.
 use Rattle.std.proofs.Common.{◌≡◌, ◌↔◌, ◌⊎◌, inl, inr, ℕ, ◌<◌, ◌≤◌, List, Bool, true, false, not, IsTrue, Some, refl, sym, ap, ◌∙◌, arith}
 use Rattle.std.specs.Prelude.{slice_get}
-use Rattle.std.proofs.lemmas.Bool.{false≢true}
+use Rattle.std.proofs.lemmas.Bool.{false≢true, false_from_ne_true}
 use Rattle.fk_types_names.specs.Outline.{MarkTree, DeclarationTree, name_of}
-use Rattle.fk_types_names.specs.Visible.{depth, IsVisible, IsInnermost}
+use Rattle.fk_types_names.specs.Visible.{depth, IsHidden, IsVisible, IsInnermost}
 use Rattle.fk_types_names.proofs.ReadingLemmas.{visible_depth}
 use Rattle.fk_types_name_rules.specs.Named.{IsBefore, IsFirstBefore, are_headers, IsAgain}
 
@@ -46,6 +46,12 @@ same_mark m n e = cc
 not_true : (b : Bool) → IsTrue (not b) → b ≡ false
 not_true true e = absurd (false≢true e)
 not_true false e = refl
+
+pub not_iff : {A : Type 0} (b : Bool) → IsTrue b ↔ A → IsTrue (not b) ↔ ¬ A
+not_iff b d = (λ e k. false≢true (sym (not_true b e) ∙ d.1 k), λ n. ap not (false_from_ne_true b (λ t. n (d.0 t))))
+
+pub again_hidden : (marks : List MarkTree) (at : ℕ) (d : DeclarationTree) → IsHidden marks (name_of d).bytes at → ¬ IsAgain marks at d
+again_hidden marks at d hidden h = hidden h.0 h.2.declares (before_visible marks (name_of d).bytes at h.0 h.2.before)
 
 module _ (marks : List MarkTree) (at : ℕ) (d : DeclarationTree) (o : ℕ) (i : IsInnermost marks (name_of d).bytes at o) where
   pub again_here : (mark : MarkTree) (b : Bool) → o < at → depth marks o ≡ depth marks at → slice_get marks o ≡ Some mark → b ≡ are_headers mark d → IsTrue (not b) ↔ IsAgain marks at d

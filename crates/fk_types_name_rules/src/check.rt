@@ -5,10 +5,7 @@ ghost use Rattle.fk_syntax.specs.ProgramView.{item_of, program_of};
 ghost use Rattle.fk_check_rules.specs.declared.rule.Rule.TheVariants.{NoMain};
 ghost use Rattle.fk_check_rules.specs.Least.{IsLeast, among, either};
 ghost use Rattle.fk_check_rules.specs.Told.{told};
-ghost use Rattle.fk_types_names.specs.Outline.{items_marks};
-ghost use Rattle.fk_types_names.specs.OutlineView.{marks_in};
-ghost use Rattle.fk_types_names.specs.View.{mark_of};
-ghost use Rattle.fk_types_names.specs.Reading.{IsAt, marks_of};
+ghost use Rattle.fk_types_names.specs.Scoped.{AreScoped, AreSound, all_marks};
 ghost use Rattle.fk_types_name_rules.specs.Headers.{HasNoMain};
 ghost use Rattle.fk_types_name_rules.specs.Found.{MarkBreaks, ItemBreaks};
 ghost use Rattle.fk_types_name_rules.specs.Known.{AreHeaders};
@@ -18,35 +15,19 @@ use crate::headers::Headers;
 use crate::named::mark_fault;
 use fk_check_rules::{Fault, Rule, fault_if, first_of};
 use fk_syntax::{Item, Place, Program};
-use fk_types_names::{Mark, Outline, Reader};
+use fk_types_names::ScopedMarks;
 use std::alloc::{AllocError, Global};
 
-// The first fault at a mark, for a reader that is before the first mark.
-fn fault_from<'m, 'p, 't>(
-    reader: &mut Reader<'m, 'p, 't>,
-    marks: &'m [Mark<'p, 't>],
-) -> Result<Option<Fault>, AllocError>
-    requires here { IsAt reader.old 0 }
-    requires same { marks_of reader.old ≡ map mark_of marks.now }
-    ensures { IfOk result (λ fault. IsLeast
-        (among (MarkBreaks (map mark_of marks.now)) (map mark_of marks.now)) fault) }
+// The first fault of the names in a program, where they are used or declared.
+fn marks_fault(scoped: &ScopedMarks) -> Option<Fault>
+    requires { AreSound scoped.now }
+    ensures { IsLeast (among (MarkBreaks (all_marks scoped.now)) (all_marks scoped.now)) result }
 {
     let mut fault = None;
-    for at in 0..marks.len() {
-        fault = first_of(fault, mark_fault(reader, marks, at));
-        reader.pass(at)?;
+    for at in 0..scoped.len() {
+        fault = first_of(fault, mark_fault(scoped, at));
     }
-    Ok(fault)
-}
-
-// The first fault of the names in an outline, where they are used or declared.
-fn marks_fault(alloc: Global, outline: &Outline) -> Result<Option<Fault>, AllocError>
-    ensures { IfOk result
-        (IsLeast (among (MarkBreaks (marks_in outline.now)) (marks_in outline.now))) }
-{
-    let marks = outline.marks();
-    let mut reader = Reader::new(alloc, marks)?;
-    fault_from(&mut reader, marks)
+    fault
 }
 
 // The first fault of the headers.
@@ -59,15 +40,6 @@ fn headers_fault(items: &[Item], headers: &Headers) -> Option<Fault>
         fault = first_of(fault, Headers::fault(items, at, item, headers));
     }
     fault
-}
-
-// The first fault of the names in items, where they are used or declared.
-fn named_fault(alloc: Global, items: &[Item]) -> Result<Option<Fault>, AllocError>
-    ensures { IfOk result (IsLeast (among (MarkBreaks (items_marks (map item_of items.now)))
-        (items_marks (map item_of items.now)))) }
-{
-    let outline = Outline::of(alloc, items)?;
-    marks_fault(alloc, &outline)
 }
 
 // The first fault of the collected headers of functions, in a text that ends at this place.
@@ -89,17 +61,21 @@ fn functions_fault(alloc: Global, items: &[Item], end: Place) -> Result<Option<F
     Ok(known_fault(items, end, &headers))
 }
 
-/// The first rule about the names of variables and functions that a program breaks, by its place
-/// and then by its number. The rules forbid: a name in an expression that denotes nothing; a name
-/// that is declared twice in one scope, or that is predeclared and declared at file scope; headers
-/// of one function that differ, or a function without a body or with two; no `main`, or one with
-/// parameters, `sync` or `straight`. It takes linear time, and fails only if there isn't enough
-/// memory.
-pub fn name_fault(alloc: Global, program: &Program) -> Result<Option<Fault>, AllocError>
+/// The first rule about the names of variables and functions that a program breaks, by its marks,
+/// by its place and then by its number. The rules forbid: a name in an expression that denotes
+/// nothing; a name that is declared twice in one scope, or that is predeclared and declared at file
+/// scope; headers of one function that differ, or a function without a body or with two; no `main`,
+/// or one with parameters, `sync` or `straight`. It takes linear time, and fails only if there isn't
+/// enough memory.
+pub fn name_fault(
+    alloc: Global,
+    program: &Program,
+    scoped: &ScopedMarks,
+) -> Result<Option<Fault>, AllocError>
+    requires { AreScoped (program_of program.now) scoped.now }
     ensures { IfOk result (IsLeast (NamesBreak (program_of program.now))) }
 {
-    let items: &[Item] = &program.items;
-    let marks = named_fault(alloc, items)?;
-    let functions = functions_fault(alloc, items, program.end)?;
+    let marks = marks_fault(scoped);
+    let functions = functions_fault(alloc, &program.items, program.end)?;
     Ok(first_of(marks, functions))
 }

@@ -1,5 +1,6 @@
 pub mod LocalLemmas
 pub mod ReadingLemmas
+pub mod ScopedLemmas
 pub mod TableLemmas
 pub mod SurveyLemmas
 pub mod WordLemmas

@@ -7,5 +7,6 @@ pub mod TableView
 pub mod OutlineView
 pub mod Locals
 pub mod Reading
+pub mod Scoped
 pub mod Filling
 pub mod Laws

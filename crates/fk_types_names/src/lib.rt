@@ -5,10 +5,11 @@ pub mod laws;
 mod names;
 mod outline;
 mod reader;
+mod scoped;
 mod survey;
 mod table;
 
 pub use names::{Meaning, Names, is_predeclared, resolve};
-pub use outline::{Declaration, Mark, Outline};
-pub use reader::Reader;
+pub use outline::{Declaration, Mark};
+pub use scoped::ScopedMarks;
 pub use table::Table;

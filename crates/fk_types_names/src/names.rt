@@ -1,21 +1,19 @@
 //! What names denote.
 
-ghost use Rattle.std.specs.Prelude.{◌≡◌, ℕ, ◌+◌, ◌<◌, Some, IfOk, OnOk, MatchOption, map, length};
+ghost use Rattle.std.specs.Prelude.{◌≡◌, ℕ, ◌+◌, ◌<◌, Some, IfOk, MatchOption, map, length};
 ghost use Rattle.std.specs.Prelude.{IsTrue, ◌↔◌, Contains, slice_get};
-ghost use Rattle.fk_syntax.specs.Program.{ProgramTree};
 ghost use Rattle.fk_syntax.specs.ProgramView.{program_of};
 ghost use Rattle.fk_syntax.specs.WellFormed.{IsWellFormed};
 ghost use Rattle.fk_types_names.specs.Names.{AreNames};
-ghost use Rattle.fk_types_names.specs.Outline.{DeclarationTree, Declares, items_marks};
-ghost use Rattle.fk_types_names.specs.OutlineView.{marks_in};
+ghost use Rattle.fk_types_names.specs.Outline.{DeclarationTree, Declares};
 ghost use Rattle.fk_types_names.specs.View.{mark_of};
 ghost use Rattle.fk_types_names.specs.Visible.{IsHidden, IsInnermost};
 ghost use Rattle.fk_types_names.specs.Means.{is_initial, predeclared, StandsFor, MeansAt};
 ghost use Rattle.fk_types_names.specs.Filling.{AreApart, AreFound, IsSurvey};
-ghost use Rattle.fk_types_names.specs.Reading.{IsAt, marks_of};
+ghost use Rattle.fk_types_names.specs.Scoped.{AreScoped, AreSound, all_marks};
 
-use crate::outline::{Declaration, Mark, Outline};
-use crate::reader::Reader;
+use crate::outline::{Declaration, Mark};
+use crate::scoped::ScopedMarks;
 use crate::survey::{declarations, definitions, numbers};
 use crate::table::Table;
 use fk_syntax::Program;
@@ -109,15 +107,15 @@ impl<'a> Survey<'a> {
     }
 
     // The mark of the declaration that a name denotes, whose innermost declaration is at `at`.
-    fn meant(reader: &Reader, at: usize, name: &[u8], survey: &Self) -> usize
-        requires known { IsSurvey (marks_of reader.now) survey.now }
-        requires within { at < length (marks_of reader.now) }
-        ensures within { result < length (marks_of reader.now) }
+    fn meant(scoped: &ScopedMarks, at: usize, name: &[u8], survey: &Self) -> usize
+        requires known { IsSurvey (all_marks scoped.now) survey.now }
+        requires within { at < length (all_marks scoped.now) }
+        ensures within { result < length (all_marks scoped.now) }
         ensures stands { (d : DeclarationTree)
-            → slice_get (marks_of reader.now) at ≡ Some (Declares d)
-            → StandsFor (marks_of reader.now) name.now at d result }
+            → slice_get (all_marks scoped.now) at ≡ Some (Declares d)
+            → StandsFor (all_marks scoped.now) name.now at d result }
     {
-        if !reader.mark(at).is_header() {
+        if !scoped.mark(at).is_header() {
             return at;
         }
         match survey.definitions.get(name) {
@@ -127,16 +125,21 @@ impl<'a> Survey<'a> {
     }
 
     // What a name denotes, where `innermost` is the mark of its innermost declaration.
-    fn meaning(reader: &Reader, innermost: Option<usize>, name: &[u8], survey: &Self) -> Meaning
-        requires known { IsSurvey (marks_of reader.now) survey.now }
-        requires within { (o : ℕ) → innermost ≡ Some o → o < length (marks_of reader.now) }
+    fn meaning(
+        scoped: &ScopedMarks,
+        innermost: Option<usize>,
+        name: &[u8],
+        survey: &Self,
+    ) -> Meaning
+        requires known { IsSurvey (all_marks scoped.now) survey.now }
+        requires within { (o : ℕ) → innermost ≡ Some o → o < length (all_marks scoped.now) }
         ensures { (from : ℕ) → MatchOption innermost
-            (IsHidden (marks_of reader.now) name.now from)
-            (IsInnermost (marks_of reader.now) name.now from)
-            → MeansAt (marks_of reader.now) name.now from result }
+            (IsHidden (all_marks scoped.now) name.now from)
+            (IsInnermost (all_marks scoped.now) name.now from)
+            → MeansAt (all_marks scoped.now) name.now from result }
     {
         match innermost {
-            Some(at) => Meaning::Declared(survey.numbers[Self::meant(reader, at, name, survey)]),
+            Some(at) => Meaning::Declared(survey.numbers[Self::meant(scoped, at, name, survey)]),
             None if is_predeclared(name) => Meaning::Predeclared,
             None => Meaning::Undeclared,
         }
@@ -144,93 +147,65 @@ impl<'a> Survey<'a> {
 }
 
 // Finds what the mark with this index denotes, if it is a name in an expression.
-fn find_at(reader: &Reader, at: usize, survey: &Survey, meanings: &mut [Option<Meaning>])
-    requires here { IsAt reader.now at }
-    requires within { at < length (marks_of reader.now) }
-    requires known { IsSurvey (marks_of reader.now) survey.now }
-    requires apart { AreApart (marks_of reader.now) (length meanings.old) }
-    requires before { AreFound (marks_of reader.now) (length meanings.old) meanings.old at }
-    ensures { AreFound (marks_of reader.now) (length meanings.old) meanings.new (at + 1) }
+fn find_at(scoped: &ScopedMarks, at: usize, survey: &Survey, meanings: &mut [Option<Meaning>])
+    requires sound { AreSound scoped.now }
+    requires within { at < length (all_marks scoped.now) }
+    requires known { IsSurvey (all_marks scoped.now) survey.now }
+    requires apart { AreApart (all_marks scoped.now) (length meanings.old) }
+    requires before { AreFound (all_marks scoped.now) (length meanings.old) meanings.old at }
+    ensures { AreFound (all_marks scoped.now) (length meanings.old) meanings.new (at + 1) }
 {
-    if let Mark::Uses(name) = reader.mark(at) {
-        let innermost = reader.innermost(name.bytes);
-        let meaning = Survey::meaning(reader, innermost, name.bytes, survey);
+    if let Mark::Uses(name) = scoped.mark(at) {
+        let innermost = scoped.innermost(at);
+        let meaning = Survey::meaning(scoped, innermost, name.bytes, survey);
         meanings[name.at as usize] = Some(meaning);
     }
 }
 
-// Finds what each name in an expression denotes, with a reader that is before the first mark.
-fn find_from(
-    reader: &mut Reader,
-    survey: &Survey,
-    meanings: &mut [Option<Meaning>],
-) -> Result<(), AllocError>
-    requires here { IsAt reader.old 0 }
-    requires known { IsSurvey (marks_of reader.old) survey.now }
-    requires apart { AreApart (marks_of reader.old) (length meanings.old) }
-    requires before { AreFound (marks_of reader.old) (length meanings.old) meanings.old 0 }
-    ensures { OnOk result (AreFound (marks_of reader.old) (length meanings.old) meanings.new
-        (length (marks_of reader.old))) }
-{
-    for at in 0..reader.end() {
-        find_at(reader, at, survey, meanings);
-        reader.pass(at)?;
-    }
-    Ok(())
-}
-
 // Finds what each name in an expression denotes.
-fn find_all(
-    alloc: Global,
-    marks: &[Mark],
-    survey: &Survey,
-    meanings: &mut [Option<Meaning>],
-) -> Result<(), AllocError>
-    requires known { IsSurvey (map mark_of marks.now) survey.now }
-    requires apart { AreApart (map mark_of marks.now) (length meanings.old) }
-    requires before { AreFound (map mark_of marks.now) (length meanings.old) meanings.old 0 }
-    ensures { OnOk result (AreFound (map mark_of marks.now) (length meanings.old) meanings.new
-        (length (map mark_of marks.now))) }
+fn find_all(scoped: &ScopedMarks, survey: &Survey, meanings: &mut [Option<Meaning>])
+    requires sound { AreSound scoped.now }
+    requires known { IsSurvey (all_marks scoped.now) survey.now }
+    requires apart { AreApart (all_marks scoped.now) (length meanings.old) }
+    requires before { AreFound (all_marks scoped.now) (length meanings.old) meanings.old 0 }
+    ensures { AreFound (all_marks scoped.now) (length meanings.old) meanings.new
+        (length (all_marks scoped.now)) }
 {
-    let mut reader = Reader::new(alloc, marks)?;
-    find_from(&mut reader, survey, meanings)
+    for at in 0..scoped.len() {
+        find_at(scoped, at, survey, meanings);
+    }
 }
 
 // What each name in an expression denotes, by the index of its token.
-fn meanings(alloc: Global, marks: &[Mark], tokens: u32) -> Result<Vec<Option<Meaning>>, AllocError>
-    requires { AreApart (map mark_of marks.now) tokens }
-    ensures { IfOk result
-        (λ found. AreFound (map mark_of marks.now) tokens found.items (length marks.now)) }
+fn meanings(
+    alloc: Global,
+    scoped: &ScopedMarks,
+    tokens: u32,
+) -> Result<Vec<Option<Meaning>>, AllocError>
+    requires sound { AreSound scoped.now }
+    requires apart { AreApart (all_marks scoped.now) tokens }
+    ensures { IfOk result (λ found. AreFound (all_marks scoped.now) tokens found.items
+        (length (all_marks scoped.now))) }
 {
-    let survey = Survey::of(alloc, marks)?;
+    let survey = Survey::of(alloc, scoped.list())?;
     let mut meanings = vec![in alloc; None; tokens as usize]?;
-    find_all(alloc, marks, &survey, &mut meanings)?;
+    find_all(scoped, &survey, &mut meanings);
     Ok(meanings)
 }
 
-// The names of the program that has this outline and this number of tokens.
-fn names_of<'p, 'a>(
+/// The declarations of a program, and what each name in its expressions denotes, by its marks, in
+/// linear time. It fails only if there isn't enough memory.
+pub fn resolve<'p, 'a>(
     alloc: Global,
-    outline: &Outline<'p, 'a>,
-    tokens: u32,
+    program: &'p Program<'a>,
+    scoped: &ScopedMarks<'p, 'a>,
 ) -> Result<Names<'p, 'a>, AllocError>
-    requires { AreApart (marks_in outline.now) tokens }
-    ensures { (program : ProgramTree) → IsWellFormed program → program.tokens ≡ tokens
-        → marks_in outline.now ≡ items_marks program.items → IfOk result (AreNames program) }
-{
-    let marks = outline.marks();
-    Ok(Names {
-        declarations: declarations(alloc, marks)?,
-        meanings: meanings(alloc, marks, tokens)?,
-    })
-}
-
-/// The declarations of a program, and what each name in its expressions denotes, in linear time. It
-/// fails only if there isn't enough memory.
-pub fn resolve<'p, 'a>(alloc: Global, program: &'p Program<'a>) -> Result<Names<'p, 'a>, AllocError>
-    requires { IsWellFormed (program_of program.now) }
+    requires well_formed { IsWellFormed (program_of program.now) }
+    requires scoped { AreScoped (program_of program.now) scoped.now }
     ensures { IfOk result (AreNames (program_of program.now)) }
 {
-    let outline = Outline::of(alloc, &program.items)?;
-    names_of(alloc, &outline, program.tokens)
+    Ok(Names {
+        declarations: declarations(alloc, scoped.list())?,
+        meanings: meanings(alloc, scoped, program.tokens)?,
+    })
 }

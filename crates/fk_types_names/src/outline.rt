@@ -86,13 +86,13 @@ impl Mark<'_, '_> {
 
 /// The marks of a text, in the order in which they are read.
 #[derive(Drop)]
-pub struct Outline<'p, 'a> {
+pub(crate) struct Outline<'p, 'a> {
     marks: Vec<Mark<'p, 'a>>,
 }
 
 impl<'p, 'a> Outline<'p, 'a> {
     /// The marks of a program. It fails only if there isn't enough memory.
-    pub fn of(alloc: Global, items: &'p [Item<'a>]) -> Result<Self, AllocError>
+    pub(crate) fn of(alloc: Global, items: &'p [Item<'a>]) -> Result<Self, AllocError>
         ensures { IfOk result (λ outline. marks_in outline ≡ items_marks (map item_of items.now)) }
     {
         let mut outline = Outline {
@@ -103,7 +103,7 @@ impl<'p, 'a> Outline<'p, 'a> {
     }
 
     /// The marks, in order.
-    pub fn marks(&self) -> &[Mark<'p, 'a>]
+    pub(crate) fn marks(&self) -> &[Mark<'p, 'a>]
         ensures { map mark_of result.now ≡ marks_in self.now }
     {
         &self.marks

@@ -26,7 +26,7 @@ struct Local<'a> {
 
 /// A reader of an outline, which knows the innermost declaration of each name.
 #[derive(Drop)]
-pub struct Reader<'m, 'p, 'a> {
+pub(crate) struct Reader<'m, 'p, 'a> {
     marks: &'m [Mark<'p, 'a>],
     // The number of scopes around each mark, and after the last one.
     depths: Vec<usize>,
@@ -39,7 +39,7 @@ pub struct Reader<'m, 'p, 'a> {
 
 impl<'m, 'p, 'a> Reader<'m, 'p, 'a> {
     /// A reader before the first mark. It fails only if there isn't enough memory.
-    pub fn new(alloc: Global, marks: &'m [Mark<'p, 'a>]) -> Result<Self, AllocError>
+    pub(crate) fn new(alloc: Global, marks: &'m [Mark<'p, 'a>]) -> Result<Self, AllocError>
         ensures start { IfOk result (λ reader. IsAt reader 0) }
         ensures marks { IfOk result (λ reader. reader.marks.now ≡ marks.entry.now) }
     {
@@ -53,13 +53,6 @@ impl<'m, 'p, 'a> Reader<'m, 'p, 'a> {
         })
     }
 
-    /// The index after the last mark.
-    pub(crate) fn end(&self) -> usize
-        ensures { result ≡ length (marks_of self.now) }
-    {
-        self.marks.len()
-    }
-
     /// The mark with this index.
     pub(crate) fn mark(&self, at: usize) -> &'m Mark<'p, 'a>
         requires { at < length (marks_of self.now) }
@@ -69,7 +62,7 @@ impl<'m, 'p, 'a> Reader<'m, 'p, 'a> {
     }
 
     /// The mark of the innermost declaration of a name.
-    pub fn innermost(&self, name: &[u8]) -> Option<usize>
+    pub(crate) fn innermost(&self, name: &[u8]) -> Option<usize>
         ensures { (at : ℕ) → IsAt self.now at → MatchOption result
             (IsHidden (marks_of self.now) name.now at)
             (IsInnermost (marks_of self.now) name.now at) }
@@ -78,7 +71,7 @@ impl<'m, 'p, 'a> Reader<'m, 'p, 'a> {
     }
 
     /// Passes the mark with this index. It fails only if there isn't enough memory.
-    pub fn pass(&mut self, at: usize) -> Result<(), AllocError>
+    pub(crate) fn pass(&mut self, at: usize) -> Result<(), AllocError>
         requires within { at < length self.old.marks.now }
         requires here { IsAt self.old at }
         ensures next { OnOk result (IsAt self.new (at + 1)) }
@@ -88,13 +81,11 @@ impl<'m, 'p, 'a> Reader<'m, 'p, 'a> {
         self.leave(at)
     }
 
-    /// The number of scopes around the mark with this index.
-    pub fn depth(&self, at: usize) -> usize
-        requires known { (here : ℕ) × IsAt self.now here }
-        requires within { at ≤ length (marks_of self.now) }
-        ensures { result ≡ depth (marks_of self.now) at }
+    /// The number of scopes around each mark, and after the last one.
+    pub(crate) fn into_depths(self) -> Vec<usize>
+        ensures { result.items ≡ self.entry.depths.items }
     {
-        self.depths[at]
+        self.depths
     }
 
     // Whether the innermost declaration of a name is in the scope of an index.
