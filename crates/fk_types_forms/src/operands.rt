@@ -242,14 +242,14 @@ pub(crate) fn element(whole: Option<Value>, by: Option<Value>) -> Option<Express
 }
 
 // The index of the struct that a root with this number of stars is.
-fn struct_of_root(root: Root, stars: u64) -> Option<usize>
+fn struct_of_root(root: Root, stars: u32) -> Option<usize>
     ensures { result ≡ y.struct_of_root root stars }
 {
     if stars > 0 {
         return None;
     }
     match root {
-        Root::Struct(index) => Some(index),
+        Root::Struct(index) => Some(index as usize),
         Root::Int | Root::Unsigned | Root::Void => None,
     }
 }
@@ -430,7 +430,7 @@ pub(crate) fn cast_type(kind: Option<DataType>, value: Option<Value>) -> Option<
 }
 
 // The integer type that a root with this number of stars is.
-fn integer_under(root: Root, stars: u64) -> Option<Value>
+fn integer_under(root: Root, stars: u32) -> Option<Value>
     ensures { result ≡ y.integer_under root stars }
 {
     if stars > 0 {

@@ -11,7 +11,7 @@ use fk_types_structs::{DataType, Root};
 pub struct Target {
     pub root: Root,
     /// The number of pointers from it to the root.
-    pub stars: u64,
+    pub stars: u32,
 }
 
 /// The type of a value.
@@ -43,7 +43,7 @@ pub enum ExpressionType {
 }
 
 // The value type of a root with this number of stars. `void` and structs have none.
-fn value_under(root: Root, stars: u64) -> Option<Value>
+fn value_under(root: Root, stars: u32) -> Option<Value>
     ensures { result ≡ value_under root stars }
 {
     if stars > 0 {

@@ -31,7 +31,7 @@ fn held_at(structs: &Structs, index: usize, place: usize) -> Option<usize>
                 stars: 0,
                 ..
             },
-        ) => Some(other),
+        ) => Some(other as usize),
         _ => None,
     }
 }

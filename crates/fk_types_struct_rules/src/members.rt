@@ -1,6 +1,6 @@
 //! The rules about structs and their members: double declarations and sizes.
 
-ghost use Rattle.std.specs.Prelude.{◌↔◌, map, IsTrue};
+ghost use Rattle.std.specs.Prelude.{◌↔◌, ◌<◌, length, map, IsTrue};
 ghost use Rattle.fk_syntax.specs.ProgramView.{declared_of};
 ghost use Rattle.fk_check_rules.specs.Least.{IsLeast, among};
 ghost use Rattle.fk_types_structs.specs.View.{outline_tree};
@@ -39,12 +39,13 @@ fn is_second_member(structs: &Structs, index: usize, place: usize, member: &Decl
 
 // The first fault of a struct by its name and its words.
 fn name_fault(structs: &Structs, index: usize, outline: &Outline) -> Option<Fault>
-    requires { IsSound structs.now }
+    requires sound { IsSound structs.now }
+    requires within { index < length (structs_in structs.now) }
     ensures { IsLeast
         (NameBreaks (structs_in structs.now) index (outline_tree outline.now)) result }
 {
     let kind = DataType {
-        root: Root::Struct(index),
+        root: Root::Struct(index as u32),
         stars: 0,
         length: None,
     };
@@ -81,7 +82,8 @@ fn members_fault(structs: &Structs, index: usize, members: &[Declared]) -> Optio
 
 // The first fault of a struct by its name, its words and its members.
 fn struct_fault(structs: &Structs, index: usize, outline: &Outline) -> Option<Fault>
-    requires { IsSound structs.now }
+    requires sound { IsSound structs.now }
+    requires within { index < length (structs_in structs.now) }
     ensures { IsLeast
         (StructBreaks (structs_in structs.now) index (outline_tree outline.now)) result }
 {

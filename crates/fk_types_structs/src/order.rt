@@ -22,7 +22,7 @@ pub(crate) fn held(kind: &Option<DataType>) -> Option<usize> {
                 stars: 0,
                 ..
             },
-        ) => Some(*index),
+        ) => Some(*index as usize),
         _ => None,
     }
 }

@@ -38,7 +38,7 @@ pub(crate) fn spelled(places: &Places, kind: &TypeName, length: Option<u32>) -> 
     match root_of(places, &kind.base) {
         Some(root) => Some(DataType {
             root,
-            stars: kind.stars as u64,
+            stars: kind.stars,
             length,
         }),
         None => None,

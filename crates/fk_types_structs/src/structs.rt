@@ -11,7 +11,7 @@ ghost use Rattle.fk_types_structs.specs.Sizes.{HasTypeWords, HasOffset};
 ghost use Rattle.fk_types_structs.specs.Whole.{structs_in, IsSound};
 
 use crate::layout::{Layout, layouts};
-use crate::names::{Places, struct_places};
+use crate::names::{MOST, Places, place_of, struct_places};
 use crate::outline::{Outline, outlines};
 use crate::spelling::{all_types, spelled};
 use crate::types::DataType;
@@ -30,13 +30,17 @@ pub struct Structs<'p, 'a> {
 }
 
 impl<'p, 'a> Structs<'p, 'a> {
-    /// The structs that some items declare. It fails only if there isn't enough memory.
+    /// The structs that some items declare. It fails only if there isn't enough memory, which
+    /// includes more structs than can be counted.
     pub fn new(alloc: Global, items: &'p [Item<'a>]) -> Result<Self, AllocError>
         ensures structs { IfOk result
             (λ kept. structs_in kept ≡ structs_of (map item_of items.now)) }
         ensures sound { IfOk result IsSound }
     {
         let outlines = outlines(alloc, items)?;
+        if outlines.len() > MOST {
+            return Err(AllocError);
+        }
         let places = struct_places(alloc, &outlines)?;
         let kinds = all_types(alloc, &places, &outlines)?;
         let sizes = struct_words(alloc, &kinds)?;
@@ -76,7 +80,7 @@ impl<'p, 'a> Structs<'p, 'a> {
         requires { IsSound self.now }
         ensures { result ≡ struct_named (structs_in self.now) name.now }
     {
-        self.places.get(name).copied()
+        place_of(&self.places, name)
     }
 
     /// The type that a base and stars spell, with the length of an array if it is one. There is
@@ -108,7 +112,7 @@ impl<'p, 'a> Structs<'p, 'a> {
         ensures { result ≡ member_named (structs_in self.now) index name.now }
     {
         let layout = self.layouts.get(index)?;
-        layout.places.get(name).copied()
+        place_of(&layout.places, name)
     }
 
     /// The type of the member at a position. There is none for an undeclared struct.

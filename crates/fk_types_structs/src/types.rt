@@ -7,7 +7,7 @@ pub enum Root {
     Unsigned,
     Void,
     /// A struct, by the index of its declaration among all structs of the text, from 0.
-    Struct(usize),
+    Struct(u32),
 }
 
 /// A type: an integer, `void`, a struct, a pointer or an array. `struct S **v[3]` has the struct as
@@ -16,7 +16,7 @@ pub enum Root {
 pub struct DataType {
     pub root: Root,
     /// The number of pointers to the root.
-    pub stars: u64,
+    pub stars: u32,
     /// The length of an array. Arrays of arrays and pointers to arrays aren't types.
     pub length: Option<u32>,
 }

@@ -19,7 +19,7 @@ pub const MOST_WORDS: u32 = 524_288;
 const TOO_MANY: u32 = MOST_WORDS + 1;
 
 // The number of words of a root under some pointers, given those of the structs.
-fn element_words(sizes: &[Option<u32>], root: Root, stars: u64) -> Option<u32>
+fn element_words(sizes: &[Option<u32>], root: Root, stars: u32) -> Option<u32>
     ensures { result ≡ element_words (sizes_of sizes.now) root stars }
 {
     if stars > 0 {
@@ -28,7 +28,7 @@ fn element_words(sizes: &[Option<u32>], root: Root, stars: u64) -> Option<u32>
     match root {
         Root::Int | Root::Unsigned => Some(1),
         Root::Void => Some(0),
-        Root::Struct(index) => sizes.get(index).copied().flatten(),
+        Root::Struct(index) => sizes.get(index as usize).copied().flatten(),
     }
 }
 

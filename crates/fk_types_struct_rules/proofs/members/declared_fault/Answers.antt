@@ -1,10 +1,14 @@
-use Rattle.std.proofs.Common.{◌+◌, sym, subst}
+use Rattle.std.proofs.Common.{◌+◌, length, sym, subst, ap, arith}
+use Rattle.std.proofs.lemmas.List.{length-map}
 use Rattle.fk_check_rules.specs.Least.{IsLeast, among_first, among}
 use Rattle.fk_types_structs.specs.View.{outline_tree}
 use Rattle.fk_types_structs.specs.Whole.{structs_in}
 use Rattle.fk_types_struct_rules.specs.Structs.{StructBreaks}
 use Rattle.fk_types_struct_rules.proofs.StructLemmas.{IsLeast-next, IsLeast-all}
 use Rattle.fk_types_struct_rules.proofs.members.declared_fault.Goals as goal
+
+pub struct_fault-requires-clause-within : goal.struct_fault-requires-clause-within
+struct_fault-requires-clause-within c = omega (arith, ap length c.outlines-outlines.ensures, length-map c.outlines-outlines.result.now outline_tree, c.loop-index-test.true)
 
 pub loop-index-preserved : goal.loop-index-preserved
 loop-index-preserved c =

@@ -1,3 +1,4 @@
+use Rattle.std.proofs.Common.{arith}
 use Rattle.fk_check_rules.specs.declared.rule.Rule.TheVariants as rules
 use Rattle.fk_check_rules.specs.Least.{only}
 use Rattle.fk_check_rules.proofs.LeastLemmas.{IsLeast-either}
@@ -7,6 +8,9 @@ use Rattle.fk_types_structs.specs.Whole.{structs_in}
 use Rattle.fk_types_struct_rules.specs.Declarations.{At, IsTooLarge}
 use Rattle.fk_types_struct_rules.specs.Structs.{whole, IsSecondStruct}
 use Rattle.fk_types_struct_rules.proofs.members.name_fault.Goals as goal
+
+pub overflow_cast-kind : goal.overflow_cast-kind
+overflow_cast-kind c = omega (arith, c.requires.sound.few, c.requires.within)
 
 pub returns : goal.returns
 returns c =

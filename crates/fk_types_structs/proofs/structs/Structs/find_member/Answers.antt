@@ -12,5 +12,5 @@ returns c =
     let h = c.in_ok-layout.ensures.lookup in
     let there = subst (λ xs. slice_get xs c.args.index ≡ Some c.in_ok-layout.layout.now) c.deref.ensures.value (slice_get_read c.deref.result.now (length c.deref.result.now) c.args.index c.in_ok-layout.layout.now refl h.3.0 h.1) in
     let at = AreLayouts-at (sizes_of c.args.self.now.sizes.items) (structs_in c.args.self.now) c.args.self.now.layouts.items c.args.index c.in_ok-layout.layout.now c.requires.layouts there in
-    c.copied.ensures ∙ c.get-2.ensures.value ∙ at.2.places c.args.name.now
+    c.place_of.ensures (member_names at.0.members) at.2.places
     ∙ sym (ap (option_and_then (λ (s : StructTree). first_of c.args.name.now (member_names s.members))) at.1)
