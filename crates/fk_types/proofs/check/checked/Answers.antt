@@ -1,10 +1,11 @@
-use Rattle.std.proofs.Common.{◌≡◌, Option, None, length, replicate, inl, inr, sym, ap, subst, refl, ◌∙◌, arith}
+use Rattle.std.proofs.Common.{◌≡◌, Option, None, length, map, replicate, inl, inr, sym, ap, subst, refl, ◌∙◌, arith}
 use Rattle.std.specs.Vec.{with_items}
 use Rattle.std.proofs.lemmas.List.{with_items_is, length-replicate}
-use Rattle.fk_syntax.specs.ProgramView.{program_of}
+use Rattle.fk_syntax.specs.ProgramView.{item_of, program_of}
 use Rattle.fk_check_rules.specs.declared.fault.Fault.{Fault}
 use Rattle.fk_check_rules.specs.Least.{IsLeast}
 use Rattle.fk_types_judgments.specs.Names.{Env}
+use Rattle.fk_types_obligations.specs.Pieces.{items_pieces}
 use Rattle.fk_types_forms.specs.Scope.{env_in}
 use Rattle.fk_types_environment.specs.Environment.{env_of}
 use Rattle.fk_types_rules.specs.Broken.{Broken}
@@ -22,11 +23,17 @@ filled c =
     let size : length c.program_fault.new.types ≡ c.in_ok-types.types.len = omega (arith, c.program_fault.auto.types, c.deref_mut.ensures.len) in
     with_items_is c.in_ok-types.types c.program_fault.new.types size
 
+pub program_fault-requires-clause-pieces : goal.program_fault-requires-clause-pieces
+program_fault-requires-clause-pieces c = c.in_ok-pieces.ensures ∙ ap (λ items. items_pieces (map item_of items)) c.deref.ensures.value
+
+pub facts-requires-clause-pieces : goal.facts-requires-clause-pieces
+facts-requires-clause-pieces c = c.in_ok-pieces.ensures ∙ ap (λ items. items_pieces (map item_of items)) c.deref.ensures.value
+
 pub facts-requires-clause-tokens : goal.facts-requires-clause-tokens
 facts-requires-clause-tokens c =
     let d = (goal.at.facts-requires-clause-tokens c).After-program_fault in
     let before : length c.deref_mut.result.now ≡ c.args.program.now.tokens = ap length (empty d) ∙ length-replicate c.args.program.now.tokens None in
-    omega (arith, ap length (c.deref.ensures.value ∙ filled d), c.program_fault.auto.types, before)
+    omega (arith, ap length (c.deref-in-None.ensures.value ∙ filled d), c.program_fault.auto.types, before)
 
 pub returns-in-Some-clause-answer : goal.returns-in-Some-clause-answer
 returns-in-Some-clause-answer c =
@@ -47,4 +54,4 @@ returns-clause-answer c =
     let told = subst (λ (e : Env). AreTypes e (program_of c.args.program.now) c.program_fault.new.types) c.scope-scope.ensures.env
     (typed program (env_in c.scope-scope.result) c.requires.well_formed c.deref_mut.result.now c.program_fault.new.types (empty (goal.at.returns-clause-answer c).After-program_fault) c.in_ok-fault.ensures.types) in
     accepted program env right c.in_ok-facts-in-None.facts least
-    (c.in_ok-facts-in-None.ensures env refl (subst (AreTypes env program) (sym (c.deref.ensures.value ∙ filled (goal.at.returns-clause-answer c).After-program_fault)) told))
+    (c.in_ok-facts-in-None.ensures env refl (subst (AreTypes env program) (sym (c.deref-in-None.ensures.value ∙ filled (goal.at.returns-clause-answer c).After-program_fault)) told))
