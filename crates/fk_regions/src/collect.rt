@@ -33,8 +33,9 @@ impl Tokens {
             (λ tokens. map seen tokens.items
             ≡ items_tokens within outside (map item_of items.now)) }
     {
+        // Most items have at least one of these tokens.
         let mut tokens = Tokens {
-            list: Vec::new(alloc),
+            list: Vec::with_capacity(alloc, items.len())?,
         };
         Self::add_items(items, &mut tokens)?;
         Ok(tokens.list)

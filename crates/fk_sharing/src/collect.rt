@@ -49,8 +49,9 @@ impl Tokens {
         ensures { IfOk result (λ tokens. map seen tokens.items
             ≡ items_tokens (thing_in names.now) within outside (map item_of items.now)) }
     {
+        // Most items have at least one of these tokens.
         let mut tokens = Tokens {
-            list: Vec::new(alloc),
+            list: Vec::with_capacity(alloc, items.len())?,
         };
         Self::add_items(items, names, &mut tokens)?;
         Ok(tokens.list)

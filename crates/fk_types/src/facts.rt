@@ -40,7 +40,7 @@ fn notes(alloc: Global, kinds: &[u32], bindings: &[u32]) -> Result<Vec<Note>, Al
     requires { length bindings.now ≡ length kinds.now }
     ensures { IfOk result (λ notes. notes.items ≡ notes_of kinds.now bindings.now) }
 {
-    let mut notes = Vec::new(alloc);
+    let mut notes = Vec::with_capacity(alloc, kinds.len())?;
     for (at, kind) in kinds.iter().enumerate() {
         notes.push(note_of(*kind, bindings[at]))?;
     }

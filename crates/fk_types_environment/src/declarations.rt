@@ -92,7 +92,7 @@ pub(crate) fn all_known(
     ensures { IfOk result (λ known. AllZip (IsKnown (structs_in structs.now))
         (map declaration_of declarations.now) known.items) }
 {
-    let mut known = Vec::new(alloc);
+    let mut known = Vec::with_capacity(alloc, declarations.len())?;
     for declaration in declarations {
         known.push(known_of(alloc, structs, declaration)?)?;
     }

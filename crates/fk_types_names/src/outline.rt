@@ -95,8 +95,9 @@ impl<'p, 'a> Outline<'p, 'a> {
     pub(crate) fn of(alloc: Global, items: &'p [Item<'a>]) -> Result<Self, AllocError>
         ensures { IfOk result (λ outline. marks_in outline ≡ items_marks (map item_of items.now)) }
     {
+        // Most items declare one name.
         let mut outline = Outline {
-            marks: Vec::new(alloc),
+            marks: Vec::with_capacity(alloc, items.len())?,
         };
         Self::add_items(items, &mut outline)?;
         Ok(outline)

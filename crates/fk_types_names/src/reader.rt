@@ -38,13 +38,18 @@ pub(crate) struct Reader<'m, 'p, 'a> {
 }
 
 impl<'m, 'p, 'a> Reader<'m, 'p, 'a> {
-    /// A reader before the first mark. It fails only if there isn't enough memory.
-    pub(crate) fn new(alloc: Global, marks: &'m [Mark<'p, 'a>]) -> Result<Self, AllocError>
+    /// A reader before the first mark. Its table begins with room for `room` names of file scope.
+    /// It fails only if there isn't enough memory.
+    pub(crate) fn new(
+        alloc: Global,
+        marks: &'m [Mark<'p, 'a>],
+        room: usize,
+    ) -> Result<Self, AllocError>
         ensures start { IfOk result (λ reader. IsAt reader 0) }
         ensures marks { IfOk result (λ reader. reader.marks.now ≡ marks.entry.now) }
     {
         let depths = depths(alloc, marks)?;
-        let visible = file_scope(alloc, marks, &depths)?;
+        let visible = file_scope(alloc, marks, &depths, room)?;
         Ok(Reader {
             marks,
             depths,

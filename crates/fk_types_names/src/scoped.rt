@@ -39,13 +39,18 @@ fn innermost_at(reader: &Reader, at: usize) -> Option<usize>
     }
 }
 
-// For each mark the innermost declaration of its name and the number of scopes around it.
-fn visible(alloc: Global, marks: &[Mark]) -> Result<(Vec<Option<usize>>, Vec<usize>), AllocError>
+// For each mark the innermost declaration of its name and the number of scopes around it. About
+// `room` names are declared at file scope.
+fn visible(
+    alloc: Global,
+    marks: &[Mark],
+    room: usize,
+) -> Result<(Vec<Option<usize>>, Vec<usize>), AllocError>
     ensures innermost { IfOk result (λ found.
         AreInnermost (map mark_of marks.now) found.0.items (length (map mark_of marks.now))) }
     ensures depths { IfOk result (λ found. AreDepths (map mark_of marks.now) found.1.items) }
 {
-    let mut reader = Reader::new(alloc, marks)?;
+    let mut reader = Reader::new(alloc, marks, room)?;
     let mut innermost = Vec::with_capacity(alloc, marks.len())?;
     for at in 0..marks.len() {
         innermost.push(innermost_at(&reader, at))?;
@@ -60,7 +65,7 @@ impl<'p, 'a> ScopedMarks<'p, 'a> {
         ensures { IfOk result (AreScoped (program_of program.now)) }
     {
         let outline = Outline::of(alloc, &program.items)?;
-        let (innermost, depths) = visible(alloc, outline.marks())?;
+        let (innermost, depths) = visible(alloc, outline.marks(), program.items.len())?;
         Ok(ScopedMarks {
             outline,
             depths,

@@ -18,7 +18,7 @@ use std::alloc::{AllocError, Global};
 pub(crate) fn depths(alloc: Global, marks: &[Mark]) -> Result<Vec<usize>, AllocError>
     ensures { IfOk result (λ depths. AreDepths (map mark_of marks.now) depths.items) }
 {
-    let mut depths = Vec::new(alloc);
+    let mut depths = Vec::with_capacity(alloc, marks.len() + 1)?;
     let mut opened = 0usize;
     let mut closed = 0usize;
     depths.push(0)?;
@@ -77,7 +77,7 @@ pub(crate) fn numbers(alloc: Global, marks: &[Mark]) -> Result<Vec<u32>, AllocEr
     ensures each { IfOk result (λ numbers. (k : ℕ) → k < length marks.now
         → slice_index numbers.items k ≡ binding (map mark_of marks.now) k) }
 {
-    let mut numbers = Vec::new(alloc);
+    let mut numbers = Vec::with_capacity(alloc, marks.len())?;
     let mut number = 0u32;
     for mark in marks {
         numbers.push(number)?;
@@ -99,17 +99,18 @@ fn file_name<'a>(mark: &Mark<'_, 'a>, depth: usize) -> Option<&'a [u8]>
     }
 }
 
-/// The first declaration of each name at file scope.
+/// The first declaration of each name at file scope. The table begins with room for `room` names.
 pub(crate) fn file_scope<'a>(
     alloc: Global,
     marks: &[Mark<'_, 'a>],
     depths: &[usize],
+    room: usize,
 ) -> Result<Table<'a>, AllocError>
     requires { AreDepths (map mark_of marks.now) depths.now }
     ensures { IfOk result (λ file. (name : List ℕ)
         → IsOfFile (map mark_of marks.now) name (shown file name)) }
 {
-    let mut firsts = Table::new(alloc);
+    let mut firsts = Table::with_room(alloc, room)?;
     for (at, mark) in marks.iter().enumerate() {
         firsts.set_first(file_name(mark, depths[at]), at)?;
     }

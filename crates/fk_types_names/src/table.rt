@@ -24,6 +24,15 @@ impl<'a> Table<'a> {
         }
     }
 
+    /// A table in which no name has a mark, with room for some names.
+    pub(crate) fn with_room(alloc: Global, room: usize) -> Result<Self, AllocError>
+        ensures { IfOk result (λ table. (name : List ℕ) → shown table name ≡ None) }
+    {
+        Ok(Table {
+            marks: IndexMap::with_capacity(alloc, room)?,
+        })
+    }
+
     /// The mark of a name.
     pub fn get(&self, name: &[u8]) -> Option<usize>
         ensures { result ≡ shown self.now name.now }

@@ -30,8 +30,9 @@ impl<'p, 'a> Pieces<'p, 'a> {
     pub fn of(alloc: Global, items: &'p [Item<'a>]) -> Result<Self, AllocError>
         ensures { IfOk result (λ into. pieces_in into ≡ items_pieces (map item_of items.now)) }
     {
+        // Most items have at least one piece.
         let mut into = Pieces {
-            list: Vec::new(alloc),
+            list: Vec::with_capacity(alloc, items.len())?,
         };
         Self::add_items(items, &mut into)?;
         Ok(into)
