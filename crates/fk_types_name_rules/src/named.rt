@@ -54,6 +54,7 @@ fn is_again<'m, 'p, 't>(
     declaration: &'m Declaration<'p, 't>,
 ) -> bool
     requires sound { AreSound scoped.now }
+    requires within { at < length (all_marks scoped.now) }
     requires declared { slice_get (all_marks scoped.now) at
         ≡ Some (Declares (declaration_of declaration.now)) }
     ensures { IsTrue result

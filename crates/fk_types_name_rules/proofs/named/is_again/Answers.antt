@@ -1,6 +1,5 @@
 use Rattle.std.proofs.Common.{refl, sym, ◌∙◌, arith}
 use Rattle.std.proofs.lemmas.Bool.{false≢true}
-use Rattle.std.proofs.lemmas.Option.{slice_get_within}
 use Rattle.fk_types_names.specs.Outline.{Declares, name_of}
 use Rattle.fk_types_names.specs.View.{declaration_of, mark_of}
 use Rattle.fk_types_names.specs.Scoped.{all_marks}
