@@ -1,5 +1,6 @@
 -- What declarations break.
-use Rattle.std.proofs.Common.{◌≡◌, ℕ, ◌<◌, List, Some, None, refl, sym, ap, subst, ◌∙◌, arith}
+use Rattle.std.proofs.Common.{◌≡◌, ℕ, zero, suc, ◌*◌, ◌<◌, ◌≤◌, List, Option, Some, None, refl, sym, ap, subst, ◌∙◌, arith}
+use Rattle.std.specs.Option.{option_map}
 use Rattle.std.proofs.lemmas.Option.{same_Some, none-some}
 use Rattle.fk_syntax.specs.declared.place.Place.{Place}
 use Rattle.fk_syntax.specs.Tree.{Named, BaseType, TypeTree}
@@ -10,11 +11,13 @@ use Rattle.fk_check_rules.specs.declared.rule.Rule.TheVariants as rules
 use Rattle.fk_check_rules.specs.Least.{IsLeast, only}
 use Rattle.fk_check_rules.proofs.LeastLemmas.{IsLeast-at, IsLeast-nowhere}
 use Rattle.fk_types_structs.specs.declared.types.DataType.{DataType}
-use Rattle.fk_types_structs.specs.Types.{StructTree, struct_named, type_declared, all_types}
-use Rattle.fk_types_structs.specs.Words.{capped}
+use Rattle.fk_types_structs.specs.declared.types.Root.{Root}
+use Rattle.fk_types_structs.specs.declared.types.Root.TheVariants as r
+use Rattle.fk_types_structs.specs.Types.{StructTree, struct_named, root_of, type_declared, all_types}
+use Rattle.fk_types_structs.specs.Words.{capped, type_words, words_within}
 use Rattle.fk_types_structs.specs.Sizes.{HasTypeWords}
 use Rattle.fk_types_structs.proofs.WordLemmas.{one-type}
-use Rattle.fk_types_struct_rules.specs.Declarations.{NamesNoStruct, IsTooLarge, HasLargeType, At}
+use Rattle.fk_types_struct_rules.specs.Declarations.{NamesNoStruct, IsStruct, IsTooLarge, HasLargeType, At}
 
 -- a fact that is told at a place, and one that isn't so
 pub At-so : (rule : Rule) (here : Place) (P : Type 0) → P → IsLeast (only rule (At here P)) (Some (record { place = here; rule = rule }))
@@ -50,3 +53,31 @@ HasLargeType-type structs declared type is h = subst (IsTooLarge structs) (same_
 
 pub HasLargeType-typeless : (structs : List StructTree) (declared : DeclaredTree) → type_declared structs declared ≡ None → ¬ HasLargeType structs declared
 HasLargeType-typeless structs declared none h = none-some h.0 (sym none ∙ h.1)
+
+-- a declaration without a length whose type is no struct has at most one word
+module _ (sizes : ℕ → Option ℕ) (structs : List StructTree) (type : DataType) (words : ℕ) where
+  words_few : (base : BaseType) (stars : ℕ) → ((name : Named) → base ≡ t.Struct name → stars ≡ 0 → ⊥)
+      → option_map (λ (root : Root). record { root = root; stars = stars; length = None }) (root_of structs base) ≡ Some type → type_words sizes type ≡ Some words → words ≤ 1
+  words_few base (suc stars) plain is has = by (root_of structs base) is
+    where
+      by : (o : Option Root) → option_map (λ (root : Root). record { root = root; stars = suc stars; length = None }) o ≡ Some type → words ≤ 1
+      by None e = absurd (none-some type e)
+      by (Some root) e =
+          let one = same_Some (1 * 1) words (ap (type_words sizes) (same_Some (record { root = root; stars = suc stars; length = None }) type e) ∙ has) in
+          omega (arith, one)
+  words_few t.Int zero plain is has =
+      let one = same_Some (1 * 1) words (ap (type_words sizes) (same_Some (record { root = r.Int; stars = 0; length = None }) type is) ∙ has) in
+      omega (arith, one)
+  words_few t.Unsigned zero plain is has =
+      let one = same_Some (1 * 1) words (ap (type_words sizes) (same_Some (record { root = r.Unsigned; stars = 0; length = None }) type is) ∙ has) in
+      omega (arith, one)
+  words_few t.Void zero plain is has =
+      let none = same_Some (0 * 1) words (ap (type_words sizes) (same_Some (record { root = r.Void; stars = 0; length = None }) type is) ∙ has) in
+      omega (arith, none)
+  words_few (t.Struct name) zero plain is has = absurd (plain name refl refl)
+
+pub HasLargeType-small : (structs : List StructTree) (declared : DeclaredTree) → declared.length ≡ None → ¬ IsStruct declared.kind → ¬ HasLargeType structs declared
+HasLargeType-small structs declared none plain h =
+    let is = subst (λ (l : Option ℕ). option_map (λ (root : Root). record { root = root; stars = declared.kind.stars; length = l }) (root_of structs declared.kind.base) ≡ Some h.0) none h.1 in
+    let few = words_few (words_within h.2.1.0 (all_types structs)) structs h.0 h.2.0 declared.kind.base declared.kind.stars (λ name b s. plain (name, b, s)) is h.2.1.1 in
+    omega (arith, few, h.2.2)

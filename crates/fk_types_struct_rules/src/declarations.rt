@@ -1,11 +1,12 @@
 //! The rules about written types: those of a variable, a member, a parameter, a result or a
 //! `sizeof`.
 
-ghost use Rattle.std.specs.Prelude.{◌≡◌, ◌↔◌, ◌⊎◌, IsTrue};
+ghost use Rattle.std.specs.Prelude.{◌≡◌, ◌↔◌, ◌⊎◌, List, IsTrue};
 ghost use Rattle.fk_syntax.specs.View.{type_of};
 ghost use Rattle.fk_syntax.specs.ProgramView.{declared_of};
 ghost use Rattle.fk_check_rules.specs.declared.rule.Rule.TheVariants as rules;
 ghost use Rattle.fk_check_rules.specs.Least.{IsLeast, only};
+ghost use Rattle.fk_types_structs.specs.Types.{StructTree};
 ghost use Rattle.fk_types_structs.specs.Whole.{structs_in, IsSound};
 ghost use Rattle.fk_types_struct_rules.specs.Declarations.{NamesNoStruct, IsVoid, HasWrongLength};
 ghost use Rattle.fk_types_struct_rules.specs.Declarations.{IsTooLarge, HasLargeType, IsStruct, At};
@@ -78,11 +79,25 @@ pub(crate) fn is_too_large(structs: &Structs, kind: &DataType) -> bool
     }
 }
 
+// Whether a declaration has no length and its type isn't a struct. It has at most one word.
+fn is_small(declared: &Declared) -> bool
+    ensures { IsTrue result
+        → (structs : List StructTree) → ¬ HasLargeType structs (declared_of declared.now) }
+{
+    match declared.length {
+        Some(_) => false,
+        None => !is_struct(&declared.kind),
+    }
+}
+
 // Whether the type of a declaration has too many words.
 fn has_large_type(structs: &Structs, declared: &Declared) -> bool
     requires { IsSound structs.now }
     ensures { IsTrue result ↔ HasLargeType (structs_in structs.now) (declared_of declared.now) }
 {
+    if is_small(declared) {
+        return false;
+    }
     match structs.type_of(&declared.kind, declared.length) {
         Some(kind) => is_too_large(structs, &kind),
         None => false,
