@@ -117,9 +117,9 @@ fn settle(ops: &[CoreOp], live: &mut [Set])
 
 /// The private words of the running call that may be read before they are written, at each index of
 /// a list: the fewest that include what each operation reads, and what is kept where it goes on and
-/// it doesn't write. A pass takes time linear in the list and no memory, where each jump is the first
-/// after one call at most. The number of passes is
-/// one more than the depth of nested loops. Fails only if there isn't enough memory.
+/// it doesn't write. A pass takes time linear in the list and no memory, where each jump is the
+/// first after one call at most. The number of passes is one more than the depth of nested loops.
+/// Fails only if there isn't enough memory.
 pub fn live_words(alloc: Global, ops: &[CoreOp]) -> Result<Vec<Set>, AllocError>
     ensures live { IfOk result (λ sets. v.IsLive ops.now (v.words_in sets.items)) }
     ensures least { IfOk result (λ sets. v.IsLeast ops.now (v.words_in sets.items)) }

@@ -3,8 +3,9 @@ use Rattle.std.specs.Prelude.{◌≡◌, ℕ, suc, ◌+◌, ◌-◌, ◌^◌, na
 use Rattle.std.specs.Prelude.{slice_get, Option, Some, None, if◌then◌else◌}
 use Rattle.fk_meaning_operation.specs.declared.operation.SplitKind.TheVariants.{IfElse}
 use Rattle.fk_meaning_operation.specs.declared.operation.Operation.{Operation}
-use Rattle.fk_meaning_operation.specs.declared.operation.Operation.TheVariants.{Begin, Split, Shrink}
-use Rattle.fk_meaning_operation.specs.declared.operation.Operation.TheVariants.{End, Frame, Enter}
+use Rattle.fk_meaning_operation.specs.declared.operation.Operation.TheVariants.{Begin, Split}
+use Rattle.fk_meaning_operation.specs.declared.operation.Operation.TheVariants.{Shrink, End}
+use Rattle.fk_meaning_operation.specs.declared.operation.Operation.TheVariants.{Frame, Enter}
 use Rattle.fk_meaning_operation.specs.declared.operation.Operation.TheVariants.{Leave, Halt}
 use Rattle.fk_core.specs.declared.op.CoreOp.{CoreOp}
 use Rattle.fk_core.specs.Numbers.{operation_of}
@@ -68,7 +69,8 @@ module _ (nest : (index : ℕ) → Nesting) where
         Holds (follows core operation i target [] true).at (after operation i true)
         × Holds (follows core operation i target [] false).at (after operation i false)
 
-    -- What holds of the target of a jump, and of each index to which the operation at an index leads.
+    -- What holds of the target of a jump, and of each index to which the operation at an index
+    -- leads.
     abbrev pub AfterOp : (jump : Bool) → CoreOp → (i : ℕ) → Type 0
     AfterOp true op i = Holds op.target (nest i)
     AfterOp false op i = AfterOperation (operation_of op.kind op.number) i op.target

@@ -1,6 +1,7 @@
 //! The pass over a list.
 
-ghost use Rattle.std.specs.Prelude.{◌≡◌, ◌≢◌, ◌<◌, ◌≤◌, ℕ, true, false, IsTrue, IfOk, Some, None, is_some};
+ghost use Rattle.std.specs.Prelude.{◌≡◌, ◌≢◌, ◌<◌, ◌≤◌, ℕ, true, false, IsTrue, IfOk, Some, None};
+ghost use Rattle.std.specs.Prelude.{is_some};
 ghost use Rattle.std.specs.Prelude.{length, slice_get};
 ghost use Rattle.fk_core_nestings.specs.declared.nesting.Nesting.{Nesting};
 ghost use Rattle.fk_core_nestings.specs.Nestings as n;

@@ -34,8 +34,8 @@ abbrev pub own_copies : (arguments : ℕ) → List MarkedLine
 own_copies zero = []
 own_copies (suc k) = copy_lines k ++ own_copies k
 
--- The most arguments that are copied in the block of the call: one, or none if the call clears words.
--- More are copied by the code that all calls share. So a block has at most 14 words.
+-- The most arguments that are copied in the block of the call: one, or none if the call clears
+-- words. More are copied by the code that all calls share. So a block has at most 14 words.
 abbrev pub most_own : (clears : Bool) → ℕ
 most_own clears = if clears then 0 else 1
 

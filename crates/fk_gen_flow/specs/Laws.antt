@@ -28,8 +28,8 @@ JumpsGo =
     → HasBlock image bound places i (jump_block op.target)
     → Flows core places.frames nothing i op.target → BlockJumps core image places i op
 
--- A call at an index returns into its own block, and its caller goes on after the first jump from the
--- next index on.
+-- A call at an index returns into its own block, and its caller goes on after the first jump from
+-- the next index on.
 abbrev pub return_in : List CoreOp → (block : (index : ℕ) → ℕ) → (i : ℕ) → ReturnPoint
 return_in core block i = record {
   word = block (suc i) - past_return;

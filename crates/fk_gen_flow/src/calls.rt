@@ -157,8 +157,8 @@ fn emit_own_copies(into: &mut Assembler, arguments: u32) -> Result<(), AllocErro
     }
 }
 
-// Makes the new frame that of the running call. The call returns to the second of these lines, which
-// leads to where its caller goes on.
+// Makes the new frame that of the running call. The call returns to the second of these lines,
+// which leads to where its caller goes on.
 fn emit_frame(into: &mut Assembler, back: u32) -> Result<(), AllocError>
     requires near { back < 2 ^ 31 }
     requires labels { All (GoesToMade into.old.bound) (frame_lines back) }

@@ -121,7 +121,8 @@ pub record HasWholeCode (core : List CoreOp) (kept : List Set) (image : Image) (
     (places : Places) (firsts : List ℕ) (main : ℕ) : Type 0 where
   pub opening : HasOpening image bound places firsts main
   pub blocks : (i : ℕ) (op : CoreOp) → slice_get core i ≡ Some op
-      → HasBlock image bound places i (block_of (placed core (length image.globals.items) kept i op))
+      → HasBlock image bound places i
+      (block_of (placed core (length image.globals.items) kept i op))
   pub returns : (i : ℕ) → places.returns i ≡ return_at core places.block i (slice_get core i)
   pub shared : HasShared image bound
   pub start : HasStart image bound

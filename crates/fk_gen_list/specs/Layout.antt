@@ -26,8 +26,8 @@ abbrev pub back_by : Option Operation → List CoreOp → (index : ℕ) → ℕ
 back_by (Some (Enter arguments)) core index = behind_jump core (suc index)
 back_by operation core index = 0
 
--- The operation at an index of a list. The words that are kept as a call begins are those at the next
--- index.
+-- The operation at an index of a list. The words that are kept as a call begins are those at the
+-- next index.
 abbrev pub placed : List CoreOp → (globals : ℕ) → List Set → (index : ℕ) → CoreOp → Placed
 placed core globals kept index op =
     record {

@@ -29,7 +29,8 @@ module _ {W : Type 0} where
 
   -- at each node nobody changes the tree, or all who stand there do one step. Their
   -- numbers begin with one
-  abbrev pub StepsBy : Tree → (does : ℕ → Option Operation) → (number : ℕ) → List (Acting W) → Type 0
+  abbrev pub StepsBy : Tree → (does : ℕ → Option Operation) → (number : ℕ) → List (Acting W)
+      → Type 0
   StepsBy old does number [] = Unit {0}
   StepsBy old does number (a ∷ actings) =
       (a.runner.has.number ≡ number) × KeepsOrDoes (does (old.places number)) a.due

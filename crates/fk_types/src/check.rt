@@ -19,8 +19,8 @@ use fk_types_obligations::Pieces;
 use fk_types_structs::Structs;
 use std::alloc::{AllocError, Global};
 
-// The facts of a program, by its marks, structs and names, or the first rule that it breaks. A lack of
-// memory is a result of its own.
+// The facts of a program, by its marks, structs and names, or the first rule that it breaks. A lack
+// of memory is a result of its own.
 fn checked<'c, 'p, 'a>(
     alloc: Global,
     program: &'p Program<'a>,

@@ -44,9 +44,9 @@ fn declared_fault(
 }
 
 /// The first rule about names and types that a program breaks, by its place and then by its number,
-/// given its marks, its pieces and the scope of its names. The types of its tokens are noted in a table: those of expressions
-/// at their signs, names and numbers, that of a variable or parameter at its name, and that of the
-/// calls of a function at its name. It takes linear time.
+/// given its marks, its pieces and the scope of its names. The types of its tokens are noted in a
+/// table: those of expressions at their signs, names and numbers, that of a variable or parameter
+/// at its name, and that of the calls of a function at its name. It takes linear time.
 ///
 /// # Errors
 ///

@@ -65,8 +65,8 @@ fn functions_fault(alloc: Global, items: &[Item], end: Place) -> Result<Option<F
 /// by its place and then by its number. The rules forbid: a name in an expression that denotes
 /// nothing; a name that is declared twice in one scope, or that is predeclared and declared at file
 /// scope; headers of one function that differ, or a function without a body or with two; no `main`,
-/// or one with parameters, `sync` or `straight`. It takes linear time, and fails only if there isn't
-/// enough memory.
+/// or one with parameters, `sync` or `straight`. It takes linear time, and fails only if there
+/// isn't enough memory.
 pub fn name_fault(
     alloc: Global,
     program: &Program,
