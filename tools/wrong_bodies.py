@@ -10,9 +10,9 @@ that a proof misses or for a limit of the prover. The last line counts those tha
 
 What is to be proved of a function rests on its own body and on the contracts of what it calls. Edits of a crate that
 change different functions are therefore tried together: a copy of the crate has them all, and `rt ci CRATE` tells of each
-function whether it is proved. All other edits are tried alone, as the gate does it: those of definitions, further ones of
-a function, and those of which the first way doesn't tell. With --alone all edits are. With --apply nothing is proved:
-each edit is only applied.
+function whether it is proved. Further edits of a function are tried in further rounds. All other edits are tried alone, as
+the gate does it: those of definitions, and those of which the first way doesn't tell. With --alone all edits are. With
+--apply nothing is proved: each edit is only applied.
 """
 import argparse
 import os
@@ -95,15 +95,30 @@ def functions_of(edit, crate):
     return found
 
 
-def together_of(edits):
-    """The edits of a crate that can be tried together, each with the functions whose bodies it changes."""
-    together, taken = {}, set()
-    for key, edit in edits.items():
-        functions = functions_of(edit, key[0])
-        if functions and not functions & taken:
-            together[key] = functions
+def one_round(left):
+    """Of edits with the functions whose bodies they change, those that change different functions, the first ones first."""
+    found, taken = {}, set()
+    for key, functions in left.items():
+        if not functions & taken:
+            found[key] = functions
             taken |= functions
-    return together
+    return found
+
+
+def rounds_of(edits):
+    """The edits of a crate that change bodies, in rounds of edits that can be tried together.
+
+    A round of one edit costs more than that edit alone if other edits are tried alone anyway.
+    """
+    of_bodies = {key: functions_of(edit, key[0]) for key, edit in edits.items()}
+    left = {key: functions for key, functions in of_bodies.items() if functions}
+    least = 1 if len(left) == len(edits) else 2
+    rounds = []
+    while left:
+        found = one_round(left)
+        rounds += [found] if len(found) >= least else []
+        left = {key: functions for key, functions in left.items() if key not in found}
+    return rounds
 
 
 def is_refused(lines, crate, path, name):
@@ -159,8 +174,9 @@ def try_crate(crate, edits, alone):
     with tempfile.TemporaryDirectory(prefix="wrong-bodies-") as name:
         room = Path(name)
         copy_checkout(room)
-        together = {} if alone else together_of(edits)
-        seen = try_together(room, crate, together, edits) if together else set()
+        seen = set()
+        for together in [] if alone else rounds_of(edits):
+            seen |= try_together(room, crate, together, edits)
         rest = {key: edit for key, edit in edits.items() if key not in seen}
         failed = try_alone(room, rest) if rest else {}
     print(f"{crate}: {len(seen)} refused together, {len(rest) - len(failed)} alone, {len(failed)} not", flush=True)
