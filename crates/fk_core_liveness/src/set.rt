@@ -24,7 +24,8 @@ impl Set {
     }
 
     pub fn is_empty(&self) -> bool
-        ensures { IsTrue result → (n : ℕ) → is_in self.now.mask n ≡ false }
+        ensures empty { IsTrue result → (n : ℕ) → is_in self.now.mask n ≡ false }
+        ensures exact { result ≡ (self.now.mask == 0) }
     {
         self.mask == 0
     }
