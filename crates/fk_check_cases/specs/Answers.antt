@@ -1,5 +1,6 @@
 -- The answers about a text.
 use Rattle.std.specs.Prelude.{◌≡◌, ◌≢◌, ◌⊎◌, ◌<◌, ℕ, List, length, map}
+use Rattle.fk_num.specs.Limits.{most_text_bytes}
 use Rattle.fk_syntax.specs.declared.facts.Facts.{Facts}
 use Rattle.fk_syntax.specs.Program.{ProgramTree}
 use Rattle.fk_lex.specs.declared.token.LexFault.{LexFault}
@@ -58,7 +59,7 @@ IsAnswerOf asked tokens tree (answer.TooLarge why) = AsksLayout asked × HasNoLa
 
 -- a text is too long, or has no tokens, or its tokens aren't a program
 pub data HasNoProgram (source : List ℕ) : Type 0 where
-  too_long : 1048576 < length source → HasNoProgram source
+  too_long : most_text_bytes < length source → HasNoProgram source
   no_tokens : (found : LexFault) → Faults source found → HasNoProgram source
   no_tree : (tokens : List Spelled) (found : SyntaxFault) → Tokens source tokens
       → RefusesTokens tokens found → ¬ IsMemory found → HasNoProgram source

@@ -17,11 +17,10 @@ use fk_check::checked;
 use fk_layout::{Layout, LayoutFault, lay_out};
 use fk_lex::lex::lex;
 use fk_lex::token::{LexFault, Token};
+use fk_num::MOST_TEXT_BYTES;
 use fk_parse::{SyntaxFault, parse};
 use fk_syntax::{CheckFault, Facts, Place, Program};
 use std::alloc::{AllocError, Global};
-
-const MOST_BYTES: usize = 1_048_576;
 
 /// The tokens and facts of a text that keeps all rules.
 #[derive(Drop)]
@@ -149,7 +148,7 @@ pub fn answer_for<'a>(
 ) -> Result<Answer<'a>, AllocError>
     ensures { IfOk result (IsAnswer asked source.now) }
 {
-    if source.len() > MOST_BYTES {
+    if source.len() > MOST_TEXT_BYTES {
         return Ok(Answer::NoProgram);
     }
     let tokens = match lex(alloc, source) {

@@ -33,7 +33,7 @@ use Rattle.fk_sharing.specs.Broken as sb
 use Rattle.fk_meaning_forms.specs.declared.tables.Home.{Home}
 use Rattle.fk_meaning_forms.specs.declared.tables.Home.TheVariants as h
 use Rattle.fk_meaning_forms.specs.Tables.{no_binding, note, slot}
-use Rattle.fk_meaning_forms.specs.Expressions.{Coded, Standing, InWord, Signature, variable, placed}
+use Rattle.fk_meaning_forms.specs.Expressions.{Coded, ResultLocation, InWord, Signature, variable, placed}
 use Rattle.fk_meaning_forms.specs.Expressions as x
 use Rattle.fk_lockstep.specs.Told.{Told, LinksTold}
 use Rattle.fk_parse_laws.specs.Every.{TreeHas, LinksHave}
@@ -94,7 +94,7 @@ module _ (program : ProgramTree) (facts : Facts) (valid : IsCorrect program fact
   no_type true m e some = some refl
   no_type false m e some = some e
 
-  module _ (name : Named) (used : IsUsed name) (some : There (name_type ((env program facts valid).meant name))) (k : Standing → Coded)
+  module _ (name : Named) (used : IsUsed name) (some : There (name_type ((env program facts valid).meant name))) (k : ResultLocation → Coded)
       (first : (word : _) → thing_at name.at ≡ Some PrivateVariable → First (k (InWord word))) where
     abbrev bound : ℕ
     bound = (note (tables program facts valid) name.at).binding
@@ -158,7 +158,7 @@ module _ (program : ProgramTree) (facts : Facts) (valid : IsCorrect program fact
   -- ---- the addresses that are taken in an expression
 
   abbrev pub Theirs : Type 0
-  Theirs = s.Standing (List Holder)
+  Theirs = s.TokenIn (List Holder)
 
   -- a token breaks no rule of sharing
   abbrev pub Kept : Theirs → Type 0
@@ -176,7 +176,7 @@ module _ (program : ProgramTree) (facts : Facts) (valid : IsCorrect program fact
 
   module _ (around : List Holder) where
     operand_told : (spot : _) (shared : Bool) (operand : Tree) → TreeHas nonempty_lists operand → Told' operand
-        → Kept (s.stands around spot shared (w.Prefix g.Ampersand (s.named_thing thing_at operand))) → v.OperandTold E (tables program facts valid) functions operand
+        → Kept (s.token_in around spot shared (w.Prefix g.Ampersand (s.named_thing thing_at operand))) → v.OperandTold E (tables program facts valid) functions operand
     operand_told spot shared (t.Variable name) trim' used kept =
         address_fact name used (λ is. kept rules.PrivateAddress (subst (λ o. sb.BreaksRule around (w.Prefix g.Ampersand o) rules.PrivateAddress) (sym is) sb.private_address))
     operand_told spot shared (t.Chain first t.no_links) trim' used kept = absurd trim'.0
@@ -197,7 +197,7 @@ module _ (program : ProgramTree) (facts : Facts) (valid : IsCorrect program fact
       addresses (t.GroupRank spot) trim' used kept = tt
       addresses (t.Prefix spot sign operand) trim' used kept = (
         by_ampersand sign _ (λ is. operand_told spot true operand trim' used
-            (subst (λ sign'. Kept (s.stands around spot true (w.Prefix sign' (s.named_thing thing_at operand)))) is (rest_of Kept (s.tree_tokens thing_at around operand) _ kept).0)),
+            (subst (λ sign'. Kept (s.token_in around spot true (w.Prefix sign' (s.named_thing thing_at operand)))) is (rest_of Kept (s.tree_tokens thing_at around operand) _ kept).0)),
         addresses operand trim' used (front_of Kept (s.tree_tokens thing_at around operand) _ kept),
       )
       addresses (t.Cast spot type operand) trim' used kept = addresses operand trim' used (front_of Kept (s.tree_tokens thing_at around operand) _ kept)

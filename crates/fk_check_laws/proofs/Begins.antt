@@ -24,8 +24,8 @@ use Rattle.fk_meaning_forms.specs.Tables.{Tables, no_binding, note, frame_at, ki
 use Rattle.fk_meaning_forms.specs.Signs.{operator_of, move_of}
 use Rattle.fk_meaning_forms.specs.Texts.{text_of}
 use Rattle.fk_meaning_forms.specs.Expressions as x
-use Rattle.fk_meaning_forms.specs.Expressions.{Coded, Standing, OnList, AtAddress, InWord, ToCall, Stands, Signature, token, is_name, put_bytes, moved}
-use Rattle.fk_core.specs.Stands.{is_first}
+use Rattle.fk_meaning_forms.specs.Expressions.{Coded, ResultLocation, OnList, AtAddress, InWord, ToCall, Evaluation, Signature, token, is_name, put_bytes, moved}
+use Rattle.fk_core.specs.CodeAt.{is_first}
 use Rattle.fk_meaning.specs.Calls as c
 use Rattle.fk_meaning.specs.Calls.{takes_two, TakesEnough}
 
@@ -33,14 +33,14 @@ abbrev pub First : Coded → Type 0
 First code = (n : ℕ) → is_first (numbered n code) ≡ true
 
 -- it begins with an operation where what follows does; where what stands in a word is read; and whatever follows
-abbrev pub Passes : Stands → Type 0
-Passes e = (k : Standing → Coded) → ((standing : Standing) → First (k standing)) → First (e k)
+abbrev pub Passes : Evaluation → Type 0
+Passes e = (k : ResultLocation → Coded) → ((location : ResultLocation) → First (k location)) → First (e k)
 
-abbrev pub Begins : Stands → Type 0
-Begins e = (k : Standing → Coded) → ((variable : Variable) → First (k (InWord variable))) → First (e k)
+abbrev pub Begins : Evaluation → Type 0
+Begins e = (k : ResultLocation → Coded) → ((variable : Variable) → First (k (InWord variable))) → First (e k)
 
-abbrev pub Performs : Stands → Type 0
-Performs e = (k : Standing → Coded) → First (e k)
+abbrev pub Performs : Evaluation → Type 0
+Performs e = (k : ResultLocation → Coded) → First (e k)
 
 either_first : (b : Bool) (c d : Coded) → First c → First d → First (if b then c else d)
 either_first true c d h k = h
@@ -94,64 +94,64 @@ module _ (tables : Tables) (functions : (binding : ℕ) → Signature) where
   checked_first true spot rest h = λ n. refl
   checked_first false spot rest h = h
 
-  valued_first : (standing : Standing) (rest : Coded) → First rest → First (x.valued tables functions standing rest)
+  valued_first : (location : ResultLocation) (rest : Coded) → First rest → First (x.valued tables functions location rest)
   valued_first OnList rest h = h
   valued_first (AtAddress deep spot) rest h =
       either_first (is_array tables spot.at) rest (x.checked tables functions deep spot (x.plain o.Read rest)) h (checked_first deep spot (x.plain o.Read rest) (λ n. refl))
   valued_first (InWord variable) rest h = λ n. refl
   valued_first (ToCall name) rest h = h
 
-  addressed_first : (standing : Standing) (rest : Coded) → First rest → First (x.addressed tables functions standing rest)
+  addressed_first : (location : ResultLocation) (rest : Coded) → First rest → First (x.addressed tables functions location rest)
   addressed_first OnList rest h = h
   addressed_first (AtAddress deep spot) rest h = checked_first deep spot rest h
   addressed_first (InWord variable) rest h = h
   addressed_first (ToCall name) rest h = h
 
-  fetched_first : (standing : Standing) (rest : Coded) → First rest → First (x.fetched tables functions standing rest)
+  fetched_first : (location : ResultLocation) (rest : Coded) → First rest → First (x.fetched tables functions location rest)
   fetched_first OnList rest h = h
   fetched_first (AtAddress deep spot) rest h = checked_first deep spot (x.plain o.CopyLast (x.plain o.Read rest)) (λ n. refl)
   fetched_first (InWord variable) rest h = λ n. refl
   fetched_first (ToCall name) rest h = h
 
-  assigned_first : (standing : Standing) (rest : Coded) → First rest → First (x.assigned tables functions standing rest)
+  assigned_first : (location : ResultLocation) (rest : Coded) → First rest → First (x.assigned tables functions location rest)
   assigned_first OnList rest h = h
   assigned_first (AtAddress deep spot) rest h = λ n. refl
   assigned_first (InWord variable) rest h = λ n. refl
   assigned_first (ToCall name) rest h = h
 
-  value_passes : (e : Stands) → Passes e → (rest : Coded) → First rest → First (x.value_of tables functions e rest)
-  value_passes e h rest k = h (λ standing. x.valued tables functions standing rest) (λ standing. valued_first standing rest k)
+  value_passes : (e : Evaluation) → Passes e → (rest : Coded) → First rest → First (x.value_of tables functions e rest)
+  value_passes e h rest k = h (λ location. x.valued tables functions location rest) (λ location. valued_first location rest k)
 
-  pub value_begins : (e : Stands) → Begins e → (rest : Coded) → First (x.value_of tables functions e rest)
-  value_begins e h rest = h (λ standing. x.valued tables functions standing rest) (λ variable n. refl)
+  pub value_begins : (e : Evaluation) → Begins e → (rest : Coded) → First (x.value_of tables functions e rest)
+  value_begins e h rest = h (λ location. x.valued tables functions location rest) (λ variable n. refl)
 
   operate_first : (sign : Sign) (left right : ℕ) (rest : Coded) → First (x.operate tables functions sign left right rest)
   operate_first sign left right rest =
       either_first ((kind_at tables left).step == 0) _ _ (λ n. refl) (moved_first (move_of sign) (kind_at tables left).step _ rest)
 
-  updated_first : (sign : Sign) (target : Stands) (left right : ℕ) (e : Coded → Coded) (k : Standing → Coded) → Passes target → ((rest : Coded) → First rest → First (e rest))
+  updated_first : (sign : Sign) (target : Evaluation) (left right : ℕ) (e : Coded → Coded) (k : ResultLocation → Coded) → Passes target → ((rest : Coded) → First rest → First (e rest))
       → First (x.updated tables functions sign target left right e k)
-  updated_first sign target left right e k h go = h _ (λ standing. fetched_first standing _ (go _ (operate_first sign left right _)))
+  updated_first sign target left right e k h go = h _ (λ location. fetched_first location _ (go _ (operate_first sign left right _)))
 
-  prefixed_passes : (spot : Spot) (sign : Sign) (e : Stands) (at : ℕ) → Passes e → Passes (x.prefixed tables functions spot sign e at)
+  prefixed_passes : (spot : Spot) (sign : Sign) (e : Evaluation) (at : ℕ) → Passes e → Passes (x.prefixed tables functions spot sign e at)
   prefixed_passes spot g.Minus e at h k f = value_passes e h _ (λ n. refl)
   prefixed_passes spot g.Tilde e at h k f = value_passes e h _ (λ n. refl)
   prefixed_passes spot g.Exclamation e at h k f = value_passes e h _ (λ n. refl)
   prefixed_passes spot g.Star e at h k f = value_passes e h _ (f (AtAddress true spot))
-  prefixed_passes spot g.Ampersand e at h k f = h _ (λ standing. addressed_first standing (k OnList) (f OnList))
+  prefixed_passes spot g.Ampersand e at h k f = h _ (λ location. addressed_first location (k OnList) (f OnList))
   prefixed_passes spot g.Increment e at h k f = updated_first g.Plus e at spot.at (x.plain (o.Push 1)) k h (λ rest r n. refl)
   prefixed_passes spot g.Decrement e at h k f = updated_first g.Minus e at spot.at (x.plain (o.Push 1)) k h (λ rest r n. refl)
   prefixed_passes spot sign e at h k f = value_passes e h _ (f OnList)
 
-  logical_first : (spot : Spot) (split : SplitKind) (onward : Bool) (other : ℕ) (a b : Stands) (k : Standing → Coded) → Passes a → First (x.logical tables functions spot split onward other a b k)
+  logical_first : (spot : Spot) (split : SplitKind) (onward : Bool) (other : ℕ) (a b : Evaluation) (k : ResultLocation → Coded) → Passes a → First (x.logical tables functions spot split onward other a b k)
   logical_first spot split onward other a b k h =
       value_passes a h _ (either_first (note tables spot.at).splits _ _ (λ n. refl) (agreed_first (note tables spot.at).sync _ (λ n. refl)))
 
-  chosen_first : (spot : Spot) (condition a b : Stands) (k : Standing → Coded) → Passes condition → First (x.chosen tables functions spot condition a b k)
+  chosen_first : (spot : Spot) (condition a b : Evaluation) (k : ResultLocation → Coded) → Passes condition → First (x.chosen tables functions spot condition a b k)
   chosen_first spot condition a b k h =
       value_passes condition h _ (either_first (note tables spot.at).splits _ _ (λ n. refl) (agreed_first (note tables spot.at).sync _ (λ n. refl)))
 
-  joined_first : (spot : Spot) (sign : Sign) (a : Stands) (left : ℕ) (b : Stands) (right : ℕ) (k : Standing → Coded) → Passes a → Passes b
+  joined_first : (spot : Spot) (sign : Sign) (a : Evaluation) (left : ℕ) (b : Evaluation) (right : ℕ) (k : ResultLocation → Coded) → Passes a → Passes b
       → (sign ≡ g.Comma → First (x.value_of tables functions b (k OnList))) → First (x.joined tables functions spot sign a left b right k)
   joined_first spot g.Comma a left b right k h j last =
       value_passes a h _ (either_first (is_void tables left) _ _ (last refl) (λ n. refl))
@@ -159,26 +159,26 @@ module _ (tables : Tables) (functions : (binding : ℕ) → Signature) where
   joined_first spot g.OrOr a left b right k h j last = logical_first spot OrElse false 1 a b k h
   joined_first spot sign a left b right k h j last = value_passes a h _ (value_passes b j _ (operate_first sign left right (k OnList)))
 
-  joined_passes : (spot : Spot) (sign : Sign) (a : Stands) (left : ℕ) (b : Stands) (right : ℕ) → Passes a → Passes b → Passes (x.joined tables functions spot sign a left b right)
+  joined_passes : (spot : Spot) (sign : Sign) (a : Evaluation) (left : ℕ) (b : Evaluation) (right : ℕ) → Passes a → Passes b → Passes (x.joined tables functions spot sign a left b right)
   joined_passes spot sign a left b right h j k f = joined_first spot sign a left b right k h j (λ e. value_passes b j (k OnList) (f OnList))
 
-  assignment_first : (sign : Sign) (target : Stands) (left : ℕ) (value : Stands) (right : ℕ) (k : Standing → Coded) → Passes target → Passes value
-      → (sign ≡ g.Assign → (standing : Standing) → First (x.value_of tables functions value (x.assigned tables functions standing (k OnList))))
+  assignment_first : (sign : Sign) (target : Evaluation) (left : ℕ) (value : Evaluation) (right : ℕ) (k : ResultLocation → Coded) → Passes target → Passes value
+      → (sign ≡ g.Assign → (location : ResultLocation) → First (x.value_of tables functions value (x.assigned tables functions location (k OnList))))
       → First (x.assignment tables functions sign target left value right k)
-  assignment_first g.Assign target left value right k h j last = h _ (λ standing. addressed_first standing _ (last refl standing))
+  assignment_first g.Assign target left value right k h j last = h _ (λ location. addressed_first location _ (last refl location))
   assignment_first sign target left value right k h j last = updated_first sign target left right _ k h (λ rest r. value_passes value j rest r)
 
-  indexed_performs : (spot : Spot) (e by : Stands) → Passes e → Passes by → Performs (x.indexed tables functions spot e by)
+  indexed_performs : (spot : Spot) (e by : Evaluation) → Passes e → Passes by → Performs (x.indexed tables functions spot e by)
   indexed_performs spot e by h j k = value_passes e h _ (value_passes by j _ (λ n. refl))
 
-  dotted_performs : (spot : Spot) (at : ℕ) (e : Stands) → Passes e → Performs (x.dotted tables functions spot at e)
-  dotted_performs spot at e h k = h _ (λ standing n. refl)
+  dotted_performs : (spot : Spot) (at : ℕ) (e : Evaluation) → Passes e → Performs (x.dotted tables functions spot at e)
+  dotted_performs spot at e h k = h _ (λ location n. refl)
 
-  pointed_performs : (spot : Spot) (at : ℕ) (e : Stands) → Passes e → Performs (x.pointed tables functions spot at e)
+  pointed_performs : (spot : Spot) (at : ℕ) (e : Evaluation) → Passes e → Performs (x.pointed tables functions spot at e)
   pointed_performs spot at e h k = value_passes e h _ (λ n. refl)
 
-  raised_performs : (sign back : Sign) (e : Stands) (at : ℕ) → Passes e → Performs (x.raised tables functions sign back e at)
-  raised_performs sign back e at h k = updated_first sign e at 0 (x.plain (o.Push 1)) (λ standing. x.plain (o.Push (x.step_back tables functions at)) (x.plain (operator_of back false) (k OnList))) h (λ rest r n. refl)
+  raised_performs : (sign back : Sign) (e : Evaluation) (at : ℕ) → Passes e → Performs (x.raised tables functions sign back e at)
+  raised_performs sign back e at h k = updated_first sign e at 0 (x.plain (o.Push 1)) (λ location. x.plain (o.Push (x.step_back tables functions at)) (x.plain (operator_of back false) (k OnList))) h (λ rest r n. refl)
 
   -- ---- names and calls
 
@@ -195,26 +195,26 @@ module _ (tables : Tables) (functions : (binding : ℕ) → Signature) where
       at_home (h.Group r) index = λ n. refl
       at_home h.NoWord index = f (ToCall name)
 
-  abbrev AllPass : List Stands → Type 0
+  abbrev AllPass : List Evaluation → Type 0
   AllPass [] = Unit {0}
   AllPass (e ∷ es) = Passes e × AllPass es
 
-  arguments_first : (xs : List DeclaredTree) (es : List Stands) (rest : Coded) → AllPass es → First rest → First (x.arguments tables functions xs es rest)
+  arguments_first : (xs : List DeclaredTree) (es : List Evaluation) (rest : Coded) → AllPass es → First rest → First (x.arguments tables functions xs es rest)
   arguments_first [] es rest h r = r
   arguments_first (y ∷ xs) [] rest h r = r
   arguments_first (y ∷ xs) (e ∷ es) rest h r = value_passes e h.0 _ (agreed_first y.shared _ (arguments_first xs es rest h.1 r))
 
-  called_first : (name : Named) (es : List Stands) (k : Standing → Coded) → AllPass es → First (x.called tables functions name es k)
+  called_first : (name : Named) (es : List Evaluation) (k : ResultLocation → Coded) → AllPass es → First (x.called tables functions name es k)
   called_first name es k h =
       let b = (note tables name.at).binding in
       let function = functions b in
       arguments_first function.parameters es (call name.place (o.Enter (length function.parameters)) b
       (x.framed tables functions (frame_at tables function.at 0) name.place (x.parameters tables functions 0 function.parameters)) (k OnList)) h (λ n. refl)
 
-  one_first : (after : Coded → Coded) (e : Stands) (es : List Stands) (k : Standing → Coded) → ((rest : Coded) → First (after rest)) → Passes e → First (x.with_one tables functions after (e ∷ es) k)
+  one_first : (after : Coded → Coded) (e : Evaluation) (es : List Evaluation) (k : ResultLocation → Coded) → ((rest : Coded) → First (after rest)) → Passes e → First (x.with_one tables functions after (e ∷ es) k)
   one_first after e es k go h = value_passes e h _ (go (k OnList))
 
-  two_first : (name : Named) (by : Multiprefix) (a b : Stands) (es : List Stands) (k : Standing → Coded) → Passes a → First (x.multiprefix tables functions name by (a ∷ b ∷ es) k)
+  two_first : (name : Named) (by : Multiprefix) (a b : Evaluation) (es : List Evaluation) (k : ResultLocation → Coded) → Passes a → First (x.multiprefix tables functions name by (a ∷ b ∷ es) k)
   two_first name by a b es k h = value_passes a h _ (λ n. refl)
 
   -- by which of the predeclared names it is
@@ -231,7 +231,7 @@ module _ (tables : Tables) (functions : (binding : ℕ) → Signature) where
   sized false c others is h = absurd (false≢true is)
 
   -- what takes one argument, or none
-  single_first : (name : Named) (a : Stands) (es : List Stands) (k : Standing → Coded) → Passes a
+  single_first : (name : Named) (a : Evaluation) (es : List Evaluation) (k : ResultLocation → Coded) → Passes a
       → First (if is_name name (codes "groupsize") then x.plain (o.Get x'.GroupSize) (k OnList)
       else if is_name name (codes "putint") then x.with_one tables functions (x.plain o.PrintNumber) (a ∷ es) k
       else if is_name name (codes "putchar") then x.with_one tables functions (x.plain o.PrintByte) (a ∷ es) k
@@ -246,14 +246,14 @@ module _ (tables : Tables) (functions : (binding : ℕ) → Signature) where
       (either_first (is_name name (codes "shmalloc")) _ _ (one_first (x.plain o.Heap) a es k (λ rest n. refl) h)
       (one_first (λ rest. x.plain o.Agree (x.plain o.Block rest)) a es k (λ rest n. refl) h)))))
 
-  none_first : (name : Named) (k : Standing → Coded) → takes_two name ≡ false → is_name name (codes "groupsize") ≡ true → First (x.called_predeclared tables functions name [] k)
+  none_first : (name : Named) (k : ResultLocation → Coded) → takes_two name ≡ false → is_name name (codes "groupsize") ≡ true → First (x.called_predeclared tables functions name [] k)
   none_first name k none is = picked (is_name name (codes "mpadd")) (is_name name (codes "mpmax")) (is_name name (codes "mpand")) (is_name name (codes "mpor")) _ _ _ _ _ none
       (sized (is_name name (codes "groupsize")) (x.plain (o.Get x'.GroupSize) (k OnList)) _ is (λ n. refl))
 
-  lone_first : (name : Named) (a : Stands) (k : Standing → Coded) → takes_two name ≡ false → Passes a → First (x.called_predeclared tables functions name (a ∷ []) k)
+  lone_first : (name : Named) (a : Evaluation) (k : ResultLocation → Coded) → takes_two name ≡ false → Passes a → First (x.called_predeclared tables functions name (a ∷ []) k)
   lone_first name a k none h = picked (is_name name (codes "mpadd")) (is_name name (codes "mpmax")) (is_name name (codes "mpand")) (is_name name (codes "mpor")) _ _ _ _ _ none (single_first name a [] k h)
 
-  both_first : (name : Named) (a b : Stands) (es : List Stands) (k : Standing → Coded) → Passes a → First (x.called_predeclared tables functions name (a ∷ b ∷ es) k)
+  both_first : (name : Named) (a b : Evaluation) (es : List Evaluation) (k : ResultLocation → Coded) → Passes a → First (x.called_predeclared tables functions name (a ∷ b ∷ es) k)
   both_first name a b es k h =
       either_first (is_name name (codes "mpadd")) _ _ (two_first name _ a b es k h)
       (either_first (is_name name (codes "mpmax")) _ _ (two_first name _ a b es k h)
@@ -261,7 +261,7 @@ module _ (tables : Tables) (functions : (binding : ℕ) → Signature) where
       (either_first (is_name name (codes "mpor")) _ _ (two_first name _ a b es k h)
       (single_first name a (b ∷ es) k h))))
 
-  prefixed_begins : (spot : Spot) (sign : Sign) (e : Stands) (at : ℕ) (V A : Type 0) → Passes e → (V → Begins e) → (A → Performs e) → prefix_valued sign V A → Begins (x.prefixed tables functions spot sign e at)
+  prefixed_begins : (spot : Spot) (sign : Sign) (e : Evaluation) (at : ℕ) (V A : Type 0) → Passes e → (V → Begins e) → (A → Performs e) → prefix_valued sign V A → Begins (x.prefixed tables functions spot sign e at)
   prefixed_begins spot g.Minus e at V A p go run v k h = value_passes e p _ (λ n. refl)
   prefixed_begins spot g.Tilde e at V A p go run v k h = value_passes e p _ (λ n. refl)
   prefixed_begins spot g.Exclamation e at V A p go run v k h = value_passes e p _ (λ n. refl)
@@ -271,7 +271,7 @@ module _ (tables : Tables) (functions : (binding : ℕ) → Signature) where
   prefixed_begins spot g.Decrement e at V A p go run v k h = updated_first g.Minus e at spot.at (x.plain (o.Push 1)) k p (λ rest r n. refl)
   prefixed_begins spot sign e at V A p go run v k h = value_begins e (go v) _
 
-  star_performs : (spot : Spot) (sign : Sign) (e : Stands) (at : ℕ) (V : Type 0) → (V → Begins e) → star_valued sign V → Performs (x.prefixed tables functions spot sign e at)
+  star_performs : (spot : Spot) (sign : Sign) (e : Evaluation) (at : ℕ) (V : Type 0) → (V → Begins e) → star_valued sign V → Performs (x.prefixed tables functions spot sign e at)
   star_performs spot g.Star e at V go v k = value_begins e (go v) _
   star_performs spot sign e at V go v k = absurd v
 
@@ -309,27 +309,27 @@ module _ (tables : Tables) (functions : (binding : ℕ) → Signature) where
     abbrev Fits : Tree → Type 0
     Fits e = c.Fits tables functions T e
 
-    abbrev stands : Tree → Stands
-    stands e = x.stands tables functions e
+    abbrev evaluated : Tree → Evaluation
+    evaluated e = x.evaluated tables functions e
 
-    predeclared_first : (name : Named) (arguments : Trees) (k : Standing → Coded) → TakesEnough name arguments → AllPass (x.all_stand tables functions arguments)
-        → First (x.called_predeclared tables functions name (x.all_stand tables functions arguments) k)
+    predeclared_first : (name : Named) (arguments : Trees) (k : ResultLocation → Coded) → TakesEnough name arguments → AllPass (x.all_evaluated tables functions arguments)
+        → First (x.called_predeclared tables functions name (x.all_evaluated tables functions arguments) k)
     predeclared_first name t.no_trees k e h = none_first name k e.0 e.1
-    predeclared_first name (t.tree first t.no_trees) k e h = lone_first name (stands first) k e h.0
-    predeclared_first name (t.tree first (t.tree second others)) k e h = both_first name (stands first) (stands second) (x.all_stand tables functions others) k h.0
+    predeclared_first name (t.tree first t.no_trees) k e h = lone_first name (evaluated first) k e h.0
+    predeclared_first name (t.tree first (t.tree second others)) k e h = both_first name (evaluated first) (evaluated second) (x.all_evaluated tables functions others) k h.0
 
-    named_first : (name : Named) (arguments : Trees) (k : Standing → Coded) → T name arguments → AllPass (x.all_stand tables functions arguments)
-        → First (x.calling tables functions (x.all_stand tables functions arguments) k (ToCall name))
+    named_first : (name : Named) (arguments : Trees) (k : ResultLocation → Coded) → T name arguments → AllPass (x.all_evaluated tables functions arguments)
+        → First (x.calling tables functions (x.all_evaluated tables functions arguments) k (ToCall name))
     named_first name arguments k takes h = by ((note tables name.at).binding == no_binding) refl
       where
         by : (b : Bool) → ((note tables name.at).binding == no_binding) ≡ b
-            → First (if b then x.called_predeclared tables functions name (x.all_stand tables functions arguments) k else x.called tables functions name (x.all_stand tables functions arguments) k)
+            → First (if b then x.called_predeclared tables functions name (x.all_evaluated tables functions arguments) k else x.called tables functions name (x.all_evaluated tables functions arguments) k)
         by true is = predeclared_first name arguments k (enough name arguments takes is) h
-        by false is = called_first name (x.all_stand tables functions arguments) k h
+        by false is = called_first name (x.all_evaluated tables functions arguments) k h
 
-    call_first : (whole : Tree) (arguments : Trees) (k : Standing → Coded) → c.CallFits tables functions T whole arguments → AllPass (x.all_stand tables functions arguments)
-        → First (stands whole (λ standing. x.calling tables functions (x.all_stand tables functions arguments) k standing))
-    call_first (t.Variable name) arguments k f h = subst First (sym (f.0 (x.calling tables functions (x.all_stand tables functions arguments) k))) (named_first name arguments k f.1 h)
+    call_first : (whole : Tree) (arguments : Trees) (k : ResultLocation → Coded) → c.CallFits tables functions T whole arguments → AllPass (x.all_evaluated tables functions arguments)
+        → First (evaluated whole (λ location. x.calling tables functions (x.all_evaluated tables functions arguments) k location))
+    call_first (t.Variable name) arguments k f h = subst First (sym (f.0 (x.calling tables functions (x.all_evaluated tables functions arguments) k))) (named_first name arguments k f.1 h)
     call_first (t.Chain first t.no_links) arguments k f h = call_first first arguments k f h
     call_first (t.Postfix whole t.no_suffixes) arguments k f h = call_first whole arguments k f h
     call_first e arguments k f h = absurd f
@@ -337,57 +337,57 @@ module _ (tables : Tables) (functions : (binding : ℕ) → Signature) where
     -- ---- whatever fits passes
 
     mutual
-      pub passes : (e : Tree) → Fits e → Passes (stands e)
+      pub passes : (e : Tree) → Fits e → Passes (evaluated e)
       passes (t.Number spot value unsigned) f k h = λ n. refl
       passes (t.Puts spot text) f k h = put_first (text_of text) (k OnList) (h OnList)
       passes (t.Sizeof spot type) f k h = λ n. refl
       passes (t.Variable name) f k h = variable_passes name k h
       passes (t.GroupNumber spot) f k h = λ n. refl
       passes (t.GroupRank spot) f k h = λ n. refl
-      passes (t.Prefix spot sign operand) f k h = prefixed_passes spot sign (stands operand) (token operand) (passes operand f) k h
-      passes (t.Cast spot type operand) f k h = value_passes (stands operand) (passes operand f) (k OnList) (h OnList)
-      passes (t.Chain first links) f k h = links_pass (stands first) (token first) (passes first f.0) links f.1 k h
+      passes (t.Prefix spot sign operand) f k h = prefixed_passes spot sign (evaluated operand) (token operand) (passes operand f) k h
+      passes (t.Cast spot type operand) f k h = value_passes (evaluated operand) (passes operand f) (k OnList) (h OnList)
+      passes (t.Chain first links) f k h = links_pass (evaluated first) (token first) (passes first f.0) links f.1 k h
       passes (t.Postfix whole t.no_suffixes) f k h = passes whole f.0 k h
       passes (t.Postfix whole suffixes) f k h = first_performs whole (λ f'. passes whole f') suffixes refl f k
       passes (t.Assign spot sign target value) f k h =
-          assignment_first sign (stands target) (token target) (stands value) (token value) k (passes target f.0) (passes value f.1)
-          (λ e standing. value_passes (stands value) (passes value f.1) _ (assigned_first standing (k OnList) (h OnList)))
-      passes (t.Choose spot condition first second) f k h = chosen_first spot (stands condition) (stands first) (stands second) k (passes condition f.0)
+          assignment_first sign (evaluated target) (token target) (evaluated value) (token value) k (passes target f.0) (passes value f.1)
+          (λ e location. value_passes (evaluated value) (passes value f.1) _ (assigned_first location (k OnList) (h OnList)))
+      passes (t.Choose spot condition first second) f k h = chosen_first spot (evaluated condition) (evaluated first) (evaluated second) k (passes condition f.0)
 
-      links_pass : (e : Stands) (at : ℕ) → Passes e → (links : Links) → c.LinksFit tables functions T links → Passes (x.linked tables functions e at links)
+      links_pass : (e : Evaluation) (at : ℕ) → Passes e → (links : Links) → c.LinksFit tables functions T links → Passes (x.linked tables functions e at links)
       links_pass e at p t.no_links f k h = p k h
       links_pass e at p (t.link spot sign right others) f k h =
-          links_pass _ spot.at (joined_passes spot sign e at (stands right) (token right) p (passes right f.0)) others f.1 k h
+          links_pass _ spot.at (joined_passes spot sign e at (evaluated right) (token right) p (passes right f.0)) others f.1 k h
 
-      suffixes_perform : (e : Stands) (at : ℕ) → Performs e → (suffixes : Suffixes) → c.SuffixesFit tables functions T suffixes → Performs (x.suffixed tables functions e at suffixes)
+      suffixes_perform : (e : Evaluation) (at : ℕ) → Performs e → (suffixes : Suffixes) → c.SuffixesFit tables functions T suffixes → Performs (x.suffixed tables functions e at suffixes)
       suffixes_perform e at p t.no_suffixes f k = p k
-      suffixes_perform e at p (t.index spot by others) f k = suffixes_perform _ spot.at (indexed_performs spot e (stands by) (λ j i. p j) (passes by f.0)) others f.1 k
+      suffixes_perform e at p (t.index spot by others) f k = suffixes_perform _ spot.at (indexed_performs spot e (evaluated by) (λ j i. p j) (passes by f.0)) others f.1 k
       suffixes_perform e at p (t.call spot arguments others) f k = absurd f
       suffixes_perform e at p (t.dot spot name others) f k = suffixes_perform _ spot.at (dotted_performs spot name.at e (λ j i. p j)) others f k
       suffixes_perform e at p (t.arrow spot name others) f k = suffixes_perform _ spot.at (pointed_performs spot name.at e (λ j i. p j)) others f k
       suffixes_perform e at p (t.up spot others) f k = suffixes_perform _ spot.at (raised_performs g.Plus g.Minus e at (λ j i. p j)) others f k
       suffixes_perform e at p (t.down spot others) f k = suffixes_perform _ spot.at (raised_performs g.Minus g.Plus e at (λ j i. p j)) others f k
 
-      all_pass : (arguments : Trees) → c.AllFit tables functions T arguments → AllPass (x.all_stand tables functions arguments)
+      all_pass : (arguments : Trees) → c.AllFit tables functions T arguments → AllPass (x.all_evaluated tables functions arguments)
       all_pass t.no_trees f = tt
       all_pass (t.tree first others) f = (passes first f.0, all_pass others f.1)
 
       -- where there is a suffix, it performs
-      first_performs : (whole : Tree) → (Fits whole → Passes (stands whole)) → (suffixes : Suffixes) → is_some_suffix suffixes ≡ true → Fits whole × c.FirstFits tables functions T whole suffixes
-          → Performs (x.suffixed tables functions (stands whole) (token whole) suffixes)
+      first_performs : (whole : Tree) → (Fits whole → Passes (evaluated whole)) → (suffixes : Suffixes) → is_some_suffix suffixes ≡ true → Fits whole × c.FirstFits tables functions T whole suffixes
+          → Performs (x.suffixed tables functions (evaluated whole) (token whole) suffixes)
       first_performs whole go t.no_suffixes some f k = absurd (false≢true some)
-      first_performs whole go (t.index spot by others) some f k = suffixes_perform _ spot.at (indexed_performs spot (stands whole) (stands by) (go f.0) (passes by f.1.0)) others f.1.1 k
+      first_performs whole go (t.index spot by others) some f k = suffixes_perform _ spot.at (indexed_performs spot (evaluated whole) (evaluated by) (go f.0) (passes by f.1.0)) others f.1.1 k
       first_performs whole go (t.call spot arguments others) some f k =
           suffixes_perform _ spot.at (λ j. call_first whole arguments j f.1.0 (all_pass arguments f.1.1)) others f.1.2 k
-      first_performs whole go (t.dot spot name others) some f k = suffixes_perform _ spot.at (dotted_performs spot name.at (stands whole) (go f.0)) others f.1 k
-      first_performs whole go (t.arrow spot name others) some f k = suffixes_perform _ spot.at (pointed_performs spot name.at (stands whole) (go f.0)) others f.1 k
-      first_performs whole go (t.up spot others) some f k = suffixes_perform _ spot.at (raised_performs g.Plus g.Minus (stands whole) (token whole) (go f.0)) others f.1 k
-      first_performs whole go (t.down spot others) some f k = suffixes_perform _ spot.at (raised_performs g.Minus g.Plus (stands whole) (token whole) (go f.0)) others f.1 k
+      first_performs whole go (t.dot spot name others) some f k = suffixes_perform _ spot.at (dotted_performs spot name.at (evaluated whole) (go f.0)) others f.1 k
+      first_performs whole go (t.arrow spot name others) some f k = suffixes_perform _ spot.at (pointed_performs spot name.at (evaluated whole) (go f.0)) others f.1 k
+      first_performs whole go (t.up spot others) some f k = suffixes_perform _ spot.at (raised_performs g.Plus g.Minus (evaluated whole) (token whole) (go f.0)) others f.1 k
+      first_performs whole go (t.down spot others) some f k = suffixes_perform _ spot.at (raised_performs g.Minus g.Plus (evaluated whole) (token whole) (go f.0)) others f.1 k
 
     -- ---- and begins with an operation where it has a value
 
     mutual
-      pub begins : (e : Tree) → Fits e → Valued e → Begins (stands e)
+      pub begins : (e : Tree) → Fits e → Valued e → Begins (evaluated e)
       begins (t.Number spot value unsigned) f v k h = λ n. refl
       begins (t.Puts spot text) f v k h = absurd v
       begins (t.Sizeof spot type) f v k h = λ n. refl
@@ -395,27 +395,27 @@ module _ (tables : Tables) (functions : (binding : ℕ) → Signature) where
       begins (t.GroupNumber spot) f v k h = λ n. refl
       begins (t.GroupRank spot) f v k h = λ n. refl
       begins (t.Prefix spot sign operand) f v k h =
-          prefixed_begins spot sign (stands operand) (token operand) (Valued operand) (Addressed operand) (passes operand f) (λ w. begins operand f w) (λ w. performs operand f w) v k h
-      begins (t.Cast spot type operand) f v k h = value_begins (stands operand) (begins operand f v) (k OnList)
+          prefixed_begins spot sign (evaluated operand) (token operand) (Valued operand) (Addressed operand) (passes operand f) (λ w. begins operand f w) (λ w. performs operand f w) v k h
+      begins (t.Cast spot type operand) f v k h = value_begins (evaluated operand) (begins operand f v) (k OnList)
       begins (t.Chain first t.no_links) f v k h = begins first f.0 v k h
-      begins (t.Chain first links) f v k h = links_perform (stands first) (token first) (passes first f.0) links f.1 v k
+      begins (t.Chain first links) f v k h = links_perform (evaluated first) (token first) (passes first f.0) links f.1 v k
       begins (t.Postfix whole t.no_suffixes) f v k h = begins whole f.0 v k h
       begins (t.Postfix whole suffixes) f v k h = first_performs whole (λ f'. passes whole f') suffixes refl f k
       begins (t.Assign spot sign target value) f v k h =
-          assignment_first sign (stands target) (token target) (stands value) (token value) k (passes target f.0) (passes value f.1)
-          (λ is standing. value_begins (stands value) (begins value f.1 (subst (λ (s : Sign). assign_valued s (Valued value)) is v)) _)
-      begins (t.Choose spot condition first second) f v k h = chosen_first spot (stands condition) (stands first) (stands second) k (passes condition f.0)
+          assignment_first sign (evaluated target) (token target) (evaluated value) (token value) k (passes target f.0) (passes value f.1)
+          (λ is location. value_begins (evaluated value) (begins value f.1 (subst (λ (s : Sign). assign_valued s (Valued value)) is v)) _)
+      begins (t.Choose spot condition first second) f v k h = chosen_first spot (evaluated condition) (evaluated first) (evaluated second) k (passes condition f.0)
 
-      links_perform : (e : Stands) (at : ℕ) → Passes e → (links : Links) → c.LinksFit tables functions T links → LastValued links → Performs (x.linked tables functions e at links)
+      links_perform : (e : Evaluation) (at : ℕ) → Passes e → (links : Links) → c.LinksFit tables functions T links → LastValued links → Performs (x.linked tables functions e at links)
       links_perform e at p t.no_links f v k = absurd v
-      links_perform e at p (t.link spot sign right t.no_links) f v k = joined_first spot sign e at (stands right) (token right) k p (passes right f.0)
-          (λ is. value_begins (stands right) (begins right f.0 (subst (λ (s : Sign). comma_valued s (Valued right)) is v)) (k OnList))
+      links_perform e at p (t.link spot sign right t.no_links) f v k = joined_first spot sign e at (evaluated right) (token right) k p (passes right f.0)
+          (λ is. value_begins (evaluated right) (begins right f.0 (subst (λ (s : Sign). comma_valued s (Valued right)) is v)) (k OnList))
       links_perform e at p (t.link spot sign right others) f v k =
-          links_perform _ spot.at (joined_passes spot sign e at (stands right) (token right) p (passes right f.0)) others f.1 v k
+          links_perform _ spot.at (joined_passes spot sign e at (evaluated right) (token right) p (passes right f.0)) others f.1 v k
 
-      performs : (e : Tree) → Fits e → Addressed e → Performs (stands e)
+      performs : (e : Tree) → Fits e → Addressed e → Performs (evaluated e)
       performs (t.Variable name) f v k = v k
-      performs (t.Prefix spot sign operand) f v k = star_performs spot sign (stands operand) (token operand) (Valued operand) (λ w. begins operand f w) v k
+      performs (t.Prefix spot sign operand) f v k = star_performs spot sign (evaluated operand) (token operand) (Valued operand) (λ w. begins operand f w) v k
       performs (t.Chain first t.no_links) f v k = performs first f.0 v k
       performs (t.Postfix whole t.no_suffixes) f v k = performs whole f.0 v k
       performs (t.Postfix whole suffixes) f v k = first_performs whole (λ f'. passes whole f') suffixes refl f k

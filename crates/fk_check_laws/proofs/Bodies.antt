@@ -13,7 +13,7 @@ use Rattle.fk_types_names.specs.declared.names.Meaning.{Meaning}
 use Rattle.fk_types_names.specs.declared.names.Meaning.TheVariants as m
 use Rattle.fk_types_names.specs.Outline.{DeclarationTree, MarkTree, Variable, Header, Opens, Closes, Declares, Uses, declarations, outline}
 use Rattle.fk_types_names.specs.Visible.{DeclaresHere}
-use Rattle.fk_types_names.specs.Means.{Means, MeansAt, binding, DefinesHere, StandsFor}
+use Rattle.fk_types_names.specs.Means.{Means, MeansAt, binding, DefinesHere}
 use Rattle.fk_types_names.specs.Means as n
 use Rattle.fk_types_name_rules.specs.Headers.{HeaderHere, BodyHere, HasHeaderAt, HasBodyAt, HasLaterAt, IsFirst}
 use Rattle.fk_types_name_rules.proofs.ListLemmas.{here_at, at_some}

@@ -50,7 +50,7 @@ module _ (program : ProgramTree) (facts : Facts) (valid : IsCorrect program fact
   abbrev thing : ℕ → Option Thing
   thing = a.thing_at program facts valid trim functions
 
-  abbrev Kept : s.Standing (List Holder) → Type 0
+  abbrev Kept : s.TokenIn (List Holder) → Type 0
   Kept token = a.Kept program facts valid trim functions token
 
   abbrev S : MarkTree → Type 0
@@ -83,7 +83,7 @@ module _ (program : ProgramTree) (facts : Facts) (valid : IsCorrect program fact
     begins_so : (around : List Holder) → TreeHas nonempty_lists e → Each Kept (s.tree_tokens thing around e) → Begin e
     begins_so around is_trim kept rest =
         let has = y.value_there _ is_read.typed (so_not rules.NoCondition (first_place (term_of e)) _ (λ place rule broken. fine.0 place rule (inr broken))) in
-        value_begins (tables program facts valid) functions (x.stands (tables program facts valid) functions e)
+        value_begins (tables program facts valid) functions (x.evaluated (tables program facts valid) functions e)
         (begins (tables program facts valid) functions (Takes program facts valid functions) enough e is_read.fits
         (valued (env program facts valid) (tables program facts valid) functions e (told_of NameFact (a.name_fact program facts valid trim functions))
         (a.addresses program facts valid trim functions around e is_trim (told_of IsUsed (λ name used. used)) kept) has)) rest
@@ -96,7 +96,7 @@ module _ (program : ProgramTree) (facts : Facts) (valid : IsCorrect program fact
   abbrev Begun : Statement → Type 0
   Begun st = LoopsBegin (tables program facts valid) functions st
 
-  abbrev tokens_of : List Holder → Statement → List (s.Standing (List Holder))
+  abbrev tokens_of : List Holder → Statement → List (s.TokenIn (List Holder))
   tokens_of around st = s.statement_tokens thing ◌∷◌ around st
 
   mutual

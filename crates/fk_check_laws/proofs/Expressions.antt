@@ -11,7 +11,7 @@ use Rattle.fk_types_references.specs.References.{ReferenceTree, Name, main_token
 use Rattle.fk_regions.specs.declared.around.Holder.{Holder}
 use Rattle.fk_regions.specs.declared.token.Word.{Word}
 use Rattle.fk_regions.specs.declared.token.Word.TheVariants as w
-use Rattle.fk_regions.specs.Tokens.{Standing, stands, spot_of, spelling_of, word_of_sign, tree_tokens, links_tokens, trees_tokens, suffixes_tokens, optional_tokens}
+use Rattle.fk_regions.specs.Tokens.{TokenIn, token_in, spot_of, spelling_of, word_of_sign, tree_tokens, links_tokens, trees_tokens, suffixes_tokens, optional_tokens}
 use Rattle.fk_lockstep.specs.Told.{is_logical, Told, LinksTold, SuffixesTold, AllTold, OptionTold}
 use Rattle.fk_check_laws.proofs.Each.{Each, front_of, rest_of}
 
@@ -20,9 +20,9 @@ logical_word g.AndAnd e = refl
 logical_word g.OrOr e = refl
 logical_word sign e = absurd (false≢true e)
 
-module _ (T : Standing (List Holder) → Type 0) (M : MarkTree → Type 0) (R : ReferenceTree → Type 0) (around : List Holder) (Decides : (at : ℕ) → Type 0) (Means : Named → Type 0)
-    (decides : (spot : Spot) → T (stands around spot w.Branching) → Decides spot.at)
-    (means : (name : Named) → T (stands around (spot_of name) (w.Name (spelling_of name.bytes))) → M (Uses name) → R (Name name) → Means name) where
+module _ (T : TokenIn (List Holder) → Type 0) (M : MarkTree → Type 0) (R : ReferenceTree → Type 0) (around : List Holder) (Decides : (at : ℕ) → Type 0) (Means : Named → Type 0)
+    (decides : (spot : Spot) → T (token_in around spot w.Branching) → Decides spot.at)
+    (means : (name : Named) → T (token_in around (spot_of name) (w.Name (spelling_of name.bytes))) → M (Uses name) → R (Name name) → Means name) where
   mutual
     pub told : (x : Tree) → Each T (tree_tokens around x) → Each M (tree_marks x) → Each R (tree_references x) → Told Decides Means x
     told (t.Number spot value unsigned) a b c = tt
@@ -67,7 +67,7 @@ module _ (T : Standing (List Holder) → Type 0) (M : MarkTree → Type 0) (R : 
     told_links : (x : Links) → Each T (links_tokens around x) → Each M (links_marks x) → Each R (links_references x) → LinksTold Decides Means x
     told_links t.no_links a b c = tt
     told_links (t.link spot sign right others) a b c = (
-      (λ e. decides spot (subst (λ (word : Word). T (stands around spot word)) (logical_word sign e) a.0)),
+      (λ e. decides spot (subst (λ (word : Word). T (token_in around spot word)) (logical_word sign e) a.0)),
       told right (front_of T (tree_tokens around right) (links_tokens around others) a.1) (front_of M (tree_marks right) (links_marks others) b)
           (front_of R (tree_references right) (links_references others) c),
       told_links others (rest_of T (tree_tokens around right) (links_tokens around others) a.1) (rest_of M (tree_marks right) (links_marks others) b)

@@ -11,7 +11,7 @@ use Rattle.fk_syntax.specs.Program.{DeclaredTree, Statements, FunctionTree, Item
 use Rattle.fk_types_names.specs.declared.names.Meaning.TheVariants as m
 use Rattle.fk_types_names.specs.Outline.{DeclarationTree, MarkTree, Variable, Header, Opens, Closes, Declares, Uses, outline, variables_marks, body_marks, item_marks, items_marks, declared_in, declarations, optional_marks}
 use Rattle.fk_types_names.specs.Visible.{is_opening, is_closing, IsInnermost}
-use Rattle.fk_types_names.specs.Means.{Means, StandsFor, binding, DefinesHere}
+use Rattle.fk_types_names.specs.Means.{Means, Denotes, binding, DefinesHere}
 use Rattle.fk_types_name_rules.proofs.ListLemmas.{at_some}
 use Rattle.fk_types_obligations.specs.Pieces.{item_pieces}
 use Rattle.fk_types_rules.proofs.References.{declared_in-append}
@@ -228,7 +228,7 @@ module _ (program : ProgramTree) (facts : Facts) (valid : IsCorrect program fact
       → IsHomeFor x.shared (slot (tables program facts valid) number).home
   home_of token number x means is = by means.meant.0 means.meant.1 means.meant.2 means.meant.3 means.meant.4 means.meant.5 means.meant.6
     where
-      by : (at : ℕ) (d : DeclarationTree) (meant : ℕ) → IsInnermost (outline program) means.name.bytes means.from at → slice_get (outline program) at ≡ Some (Declares d) → StandsFor (outline program) means.name.bytes at d meant → number ≡ binding (outline program) meant
+      by : (at : ℕ) (d : DeclarationTree) (meant : ℕ) → IsInnermost (outline program) means.name.bytes means.from at → slice_get (outline program) at ≡ Some (Declares d) → Denotes (outline program) means.name.bytes at d meant → number ≡ binding (outline program) meant
           → IsHomeFor x.shared (slot (tables program facts valid) number).home
       by at (Variable v) meant inner here stands same =
           let number_is : number ≡ binding (outline program) at = same ∙ ap (binding (outline program)) stands in

@@ -36,7 +36,7 @@ use Rattle.fk_types_bindings.proofs.Below.{references_below}
 use Rattle.fk_meaning_forms.specs.declared.tables.Home.{Home}
 use Rattle.fk_meaning_forms.specs.declared.tables.Home.TheVariants as h
 use Rattle.fk_meaning_forms.specs.Tables.{no_binding, note, slot}
-use Rattle.fk_meaning_forms.specs.Expressions.{Coded, Standing, ToCall, Signature, is_name, variable, placed, predeclared}
+use Rattle.fk_meaning_forms.specs.Expressions.{Coded, ResultLocation, ToCall, Signature, is_name, variable, placed, predeclared}
 use Rattle.fk_meaning.specs.Calls.{takes_two}
 use Rattle.fk_meaning.specs.Shaped.{Takes as TakesIn}
 use Rattle.fk_check_laws.specs.Correct.{IsCorrect}
@@ -277,7 +277,7 @@ module _ (program : ProgramTree) (facts : Facts) (valid : IsCorrect program fact
 
     module _ (functions : (binding : ℕ) → Signature) where
       -- so it stands to be called
-      pub stands_called : (k : Standing → Coded) → variable (tables program facts valid) functions name k ≡ k (ToCall name)
+      pub stands_called : (k : ResultLocation → Coded) → variable (tables program facts valid) functions name k ≡ k (ToCall name)
       stands_called k = by (binding == no_binding) refl
         where
           picks : (p q r s : Bool) (a c d e f : Coded) → p ≡ false → q ≡ false → r ≡ false → s ≡ false → (if p then a else (if q then c else (if r then d else (if s then e else f)))) ≡ f

@@ -1,7 +1,7 @@
 -- Where no token of a program is a `fork`, all that its forks compute gives a value.
 use Rattle.std.proofs.Common.{◌≡◌, ◌≢◌, ℕ, List, [], ◌∷◌, ◌++◌, Option, Some, None, refl, sym, subst}
 use Rattle.fk_syntax.specs.Program as p
-use Rattle.fk_syntax.specs.Program.{Statement, Statements, FunctionTree, ItemTree, ProgramTree, StructItem, VariablesItem, FunctionItem}
+use Rattle.fk_syntax.specs.Program.{Statement, Statements, FunctionTree, ItemTree, StructItem, VariablesItem, FunctionItem}
 use Rattle.fk_meaning_forms.specs.Tables.{Tables}
 use Rattle.fk_meaning_forms.specs.Program.{functions_of, with_body, signature_in}
 use Rattle.fk_layout.specs.Layout.{tables_by}
@@ -15,7 +15,7 @@ use Rattle.fk_lockstep_structure.specs.Forks.{StatementValued, StatementsValued,
 use Rattle.fk_check_laws.specs.Valid.{ForkFreeProgramsAreValued}
 
 module _ (tables : Tables) (functions : (binding : ℕ) → Signature) where
-  abbrev Other : r.Standing (List gh.Holder) → Type 0
+  abbrev Other : r.TokenIn (List gh.Holder) → Type 0
   Other x = x.word ≢ Fork
 
   mutual

@@ -72,7 +72,7 @@ module _ (program : ProgramTree) (facts : Facts) (valid : IsCorrect program fact
   -- ---- the tokens by which regions are told
 
   abbrev pub Theirs : Type 0
-  Theirs = r.Standing (List Holder)
+  Theirs = r.TokenIn (List Holder)
 
   -- it breaks no rule
   abbrev pub Unmisplaced : Theirs → Type 0

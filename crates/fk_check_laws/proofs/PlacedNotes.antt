@@ -15,7 +15,7 @@ use Rattle.fk_regions.specs.Broken.{IsSynchronous}
 use Rattle.fk_sharing.specs.declared.around.Holder as h
 use Rattle.fk_sharing.specs.Tokens as s
 use Rattle.fk_sharing.specs.Broken as sb
-use Rattle.fk_sharing.specs.Broken.{is_splitting, SplitsAt}
+use Rattle.fk_sharing.specs.Broken.{SplitsAt}
 use Rattle.fk_sharing.proofs.Lockstep.{splits-synchronous}
 use Rattle.fk_meaning_forms.specs.Tables.{Tables, no_note, note}
 use Rattle.fk_layout.specs.Layout.{tables_by}
@@ -93,7 +93,7 @@ module _ (program : ProgramTree) (facts : Facts) (valid : IsValid program facts)
   -- ---- those by which sharing is told
 
   abbrev pub Ours : Type 0
-  Ours = s.Standing (List h.Holder)
+  Ours = s.TokenIn (List h.Holder)
 
   module _ (thing : ℕ → Option Thing) where
     sharing_same : (i j : ℕ) (x y : Ours) → slice_get (s.tokens thing program) i ≡ Some x → slice_get (s.tokens thing program) j ≡ Some y → x.spot.at ≡ y.spot.at → x ≡ y

@@ -45,7 +45,7 @@ use Rattle.fk_regions.specs.Around.{loops, beyond, is_straight, is_in_main, is_i
 use Rattle.fk_regions.specs.Called.{Calls}
 use Rattle.fk_regions.specs.Misplaced as mis
 use Rattle.fk_regions.specs.Tokens as r
-use Rattle.fk_regions.specs.Tokens.{stands, spot_of, spelling_of}
+use Rattle.fk_regions.specs.Tokens.{token_in, spot_of, spelling_of}
 use Rattle.fk_sharing.specs.declared.around.Holder as hh
 use Rattle.fk_sharing.specs.declared.around.Holder.TheVariants as h
 use Rattle.fk_sharing.specs.declared.token.Word.TheVariants as sw
@@ -153,18 +153,18 @@ module _ (program : ProgramTree) (facts : Facts) (valid : IsValid program facts)
   OptionGood in_group (Some x) = IsGood in_group x
 
   module _ (in_group : Bool) (outer : List gh.Holder) (runs : Runs in_group outer) where
-    pub splits_in_group : (spot : Spot) (word : Word) → Right (stands outer spot word) → Splits (tables program facts valid) (may_call program) in_group spot.at
+    pub splits_in_group : (spot : Spot) (word : Word) → Right (token_in outer spot word) → Splits (tables program facts valid) (may_call program) in_group spot.at
     splits_in_group spot word x =
         (λ e. true_from_ne_false in_group (λ no. runs.alone no (x.alone e)), λ e. true_from_ne_false in_group (λ no. runs.alone no (x.agrees e)))
 
-    pub decides : in_group ≡ true → (spot : Spot) (word : Word) → mis.Decides (Calls program spot.at) word → Right (stands outer spot word) → Decides (tables program facts valid) (may_call program true) spot.at
+    pub decides : in_group ≡ true → (spot : Spot) (word : Word) → mis.Decides (Calls program spot.at) word → Right (token_in outer spot word) → Decides (tables program facts valid) (may_call program true) spot.at
     decides within spot word deciding x = elim (runs.group within) [
       | inl sync ↦ x.sync sync
       | inr straight ↦ absurd (x.unbroken rules.NotStraight (inr (refl, straight, deciding)))
     ]
 
     -- a function that may not run here is not called here
-    wrong_mode : (spot : Spot) (spelling : Spelling) → Right (stands outer spot (w.Name spelling)) → (f : FunctionTree) → Calls program spot.at (callee.Function f.mode)
+    wrong_mode : (spot : Spot) (spelling : Spelling) → Right (token_in outer spot (w.Name spelling)) → (f : FunctionTree) → Calls program spot.at (callee.Function f.mode)
         → may_run in_group f.mode ≡ false → ⊥
     wrong_mode spot spelling x f calls wrong = by in_group runs f.mode calls wrong
       where
@@ -179,7 +179,7 @@ module _ (program : ProgramTree) (facts : Facts) (valid : IsValid program facts)
         by g runs' mode.Straight calls wrong = false≢true (sym wrong)
 
     -- nor does one that runs by itself call `shalloc`
-    allots : (name : Named) (from : ℕ) → Right (stands outer (spot_of name) (w.Name (spelling_of name.bytes)))
+    allots : (name : Named) (from : ℕ) → Right (token_in outer (spot_of name) (w.Name (spelling_of name.bytes)))
         → (meaning : Meaning) → MeansAt (outline program) name.bytes from meaning → IsKnown program facts proper name meaning
         → Allots (tables program facts valid) name → in_group ≡ true
     allots name from x (m.Declared number) means k a =
@@ -192,7 +192,7 @@ module _ (program : ProgramTree) (facts : Facts) (valid : IsValid program facts)
         (sym (spelled name means.1 a.no_value a.no_other)) (mis.shalloc_outside k.means (λ e. runs.alone no e)))))
     allots name from x m.Undeclared means k a = absurd k.binds
 
-    may : (name : Named) → Right (stands outer (spot_of name) (w.Name (spelling_of name.bytes))) → Known program facts proper name
+    may : (name : Named) → Right (token_in outer (spot_of name) (w.Name (spelling_of name.bytes))) → Known program facts proper name
         → NoMain program facts proper functions name → may_call program in_group (note (tables program facts valid) name.at).binding ≡ true
     may name x is_known no_main = true_from_ne_false _ (λ wrong. is_known (by wrong))
       where
@@ -222,7 +222,7 @@ module _ (program : ProgramTree) (facts : Facts) (valid : IsValid program facts)
         let named = told Right Stands Refers outer Any (IsNamed program facts proper functions) (λ spot y. tt)
         (λ name y used referred. known program facts proper name used.0 used.1 referred) x a b' c' in
         let is_read = read program facts proper functions (Takes (tables program facts valid)) (takes program facts proper) x un named in
-        let each_may : (name : Named) → Right (stands outer (spot_of name) (w.Name (spelling_of name.bytes))) → Stands (Uses name) → Refers (Name name)
+        let each_may : (name : Named) → Right (token_in outer (spot_of name) (w.Name (spelling_of name.bytes))) → Stands (Uses name) → Refers (Name name)
         → NoMain program facts proper functions name → ip.Calls (tables program facts valid) (may_call program) in_group name =
         λ name y used referred no_main.
         let m' = meant_at program facts proper name used.0 used.1 referred in

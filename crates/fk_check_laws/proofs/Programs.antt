@@ -34,7 +34,7 @@ module _ (program : ProgramTree) (facts : Facts) (valid : IsCorrect program fact
   abbrev functions : (binding : ℕ) → Signature
   functions = signature_in (tables program facts valid) fs
 
-  abbrev R : r.Standing (List gh.Holder) → Type 0
+  abbrev R : r.TokenIn (List gh.Holder) → Type 0
   R = Right program facts valid functions
 
   abbrev S : MarkTree → Type 0

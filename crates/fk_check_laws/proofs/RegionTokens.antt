@@ -6,11 +6,11 @@ use Rattle.fk_syntax.specs.declared.nodes.Index.TheVariants.{Node}
 use Rattle.fk_syntax.specs.Tree as t
 use Rattle.fk_syntax.specs.Tree.{Tree, Links, Trees, Suffixes}
 use Rattle.fk_syntax.specs.Program as p
-use Rattle.fk_syntax.specs.Program.{DeclaredTree, Statement, Statements, FunctionTree, ItemTree}
+use Rattle.fk_syntax.specs.Program.{DeclaredTree, Statement, Statements, ItemTree}
 use Rattle.fk_syntax.specs.Nodes.{type_indices, tree_indices, links_indices, trees_indices, suffixes_indices, optional_indices, declared_indices, declarations_indices, statement_indices, statements_indices, body_indices, item_indices, items_indices}
 use Rattle.fk_regions.specs.declared.around.Holder.{Holder}
 use Rattle.fk_regions.specs.declared.around.Holder.TheVariants as h
-use Rattle.fk_regions.specs.Tokens.{Standing, holder_of, tree_tokens, links_tokens, trees_tokens, suffixes_tokens, optional_tokens, variable_tokens, variables_tokens, statement_tokens, statements_tokens, body_tokens, item_tokens, items_tokens}
+use Rattle.fk_regions.specs.Tokens.{TokenIn, holder_of, tree_tokens, links_tokens, trees_tokens, suffixes_tokens, optional_tokens, variable_tokens, variables_tokens, statement_tokens, statements_tokens, body_tokens, item_tokens, items_tokens}
 use Rattle.fk_types_rules.proofs.Counting as c
 use Rattle.fk_types_rules.proofs.Counting.{by, by_node, AreCounted}
 
@@ -42,10 +42,10 @@ turned {weight} {xs} {ys} {i} {at} j left right = record {
 }
 
 module _ {R : Type 0} where
-  abbrev pub place : Standing R → ℕ
+  abbrev pub place : TokenIn R → ℕ
   place token = token.spot.at
 
-  abbrev AreAt : List (Standing R) → List Index → Type 0
+  abbrev AreAt : List (TokenIn R) → List Index → Type 0
   AreAt tokens indices = AreCounted (by place) tokens indices
 
   mutual

@@ -8,7 +8,7 @@ use Rattle.fk_syntax.specs.declared.program.Mode.{Mode}
 use Rattle.fk_syntax.specs.Tree as t
 use Rattle.fk_syntax.specs.Tree.{Tree, Links, Trees, Suffixes}
 use Rattle.fk_syntax.specs.Program as p
-use Rattle.fk_syntax.specs.Program.{DeclaredTree, Statement, Statements, FunctionTree, ItemTree}
+use Rattle.fk_syntax.specs.Program.{DeclaredTree, Statement, Statements, ItemTree}
 use Rattle.fk_syntax.specs.Nodes.{type_indices, tree_indices, links_indices, trees_indices, suffixes_indices, optional_indices, declared_indices, declarations_indices, statement_indices, statements_indices, body_indices, item_indices, items_indices}
 use Rattle.fk_sharing_class.specs.declared.thing.Thing.{Thing}
 use Rattle.fk_sharing_class.specs.Class.{is_shared, is_call_shared, is_joined_shared}
@@ -16,7 +16,7 @@ use Rattle.fk_regions.specs.declared.around.Region.TheVariants.{Synchronous, Asy
 use Rattle.fk_regions.specs.Around.{region_by}
 use Rattle.fk_sharing.specs.declared.around.Holder.{Holder}
 use Rattle.fk_sharing.specs.declared.around.Holder.TheVariants as h
-use Rattle.fk_sharing.specs.Tokens.{Standing, tree_tokens, links_tokens, trees_tokens, suffixes_tokens, optional_tokens, is_condition_shared, variable_tokens, variables_tokens, condition_tokens, head_tokens, statement_tokens, statements_tokens, parameters_tokens, body_tokens, item_tokens, items_tokens}
+use Rattle.fk_sharing.specs.Tokens.{TokenIn, tree_tokens, links_tokens, trees_tokens, suffixes_tokens, optional_tokens, is_condition_shared, variable_tokens, variables_tokens, condition_tokens, head_tokens, statement_tokens, statements_tokens, parameters_tokens, body_tokens, item_tokens, items_tokens}
 use Rattle.fk_types_rules.proofs.Counting as c
 use Rattle.fk_types_rules.proofs.Counting.{by, by_node, AreCounted}
 use Rattle.fk_check_laws.proofs.RegionTokens.{turned}
@@ -55,10 +55,10 @@ amidst token {xs} {ys} i j x a b = record {
 }
 
 module _ {R : Type 0} (thing : ℕ → Option Thing) where
-  abbrev pub place : Standing R → ℕ
+  abbrev pub place : TokenIn R → ℕ
   place token = token.spot.at
 
-  abbrev AreAt : List (Standing R) → List Index → Type 0
+  abbrev AreAt : List (TokenIn R) → List Index → Type 0
   AreAt tokens indices = AreCounted (by place) tokens indices
 
   mutual

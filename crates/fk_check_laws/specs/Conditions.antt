@@ -7,7 +7,7 @@ use Rattle.fk_meaning_forms.specs.Tables.{Tables}
 use Rattle.fk_meaning_forms.specs.Code.{numbered}
 use Rattle.fk_meaning_forms.specs.Expressions.{Coded, Signature, value}
 use Rattle.fk_meaning_forms.specs.Program.{functions_of, signature_in}
-use Rattle.fk_core.specs.Stands.{is_first}
+use Rattle.fk_core.specs.CodeAt.{is_first}
 
 module _ (tables : Tables) (functions : (binding : ℕ) → Signature) where
   abbrev pub Begins : Tree → Type 0

@@ -14,7 +14,7 @@ use Rattle.fk_meaning.specs.Program.{next_in, program_opening}
 use Rattle.fk_types_names.specs.Outline.{DeclarationTree, Variable, Header, declarations}
 use Rattle.fk_regions.specs.declared.around.Holder.{Holder}
 use Rattle.fk_regions.specs.declared.token.Word.TheVariants.{Fork}
-use Rattle.fk_regions.specs.Tokens.{Standing, tokens}
+use Rattle.fk_regions.specs.Tokens.{TokenIn, tokens}
 use Rattle.fk_check.specs.Known.{AreAllFacts}
 use Rattle.fk_layout.specs.Layout.{tables_by}
 use Rattle.fk_meaning_forms.specs.Tables.{frame_at}
@@ -42,7 +42,7 @@ may_call program in_group binding = callable in_group (slice_get (declarations p
 
 -- no token of a program is a `fork`, and so nothing is computed for one
 abbrev pub HasNoFork : ProgramTree → Type 0
-HasNoFork program = (i : ℕ) (token : Standing (List Holder))
+HasNoFork program = (i : ℕ) (token : TokenIn (List Holder))
     → slice_get (tokens program) i ≡ Some token → token.word ≢ Fork
 
 abbrev pub ForkFreeProgramsAreValued : Type 0

@@ -7,7 +7,7 @@ use Rattle.fk_meaning_forms.specs.Code.{Code, done, perform, choose, while, unti
 use Rattle.fk_core.specs.declared.op.CoreOp.{CoreOp}
 use Rattle.fk_core.specs.Numbers.{operation_of}
 use Rattle.fk_core.specs.Next.{is_jump}
-use Rattle.fk_core.specs.Stands.{Around}
+use Rattle.fk_core.specs.CodeAt.{Around}
 use Rattle.fk_core_flat.specs.Items.{Item, jump, act, IsItem, Has, Way, straight, either, into, way_of, goes_away, aim}
 use Rattle.fk_core_flat.specs.Flat.{begins_here, skip, gap, label, flat}
 use Rattle.fk_core_flat.specs.Shape.{is_closed, IsShaped, IsOpening}

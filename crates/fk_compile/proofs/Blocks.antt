@@ -11,7 +11,7 @@ use Rattle.fk_core.specs.declared.op.CoreOp.{CoreOp}
 use Rattle.fk_core.specs.Next.{behind_jump}
 use Rattle.fk_core_flat.specs.Items.{straight, way_of}
 use Rattle.fk_core_typing.specs.LocalDepths.{needs}
-use Rattle.fk_sim_block.specs.Next.{StandsOp}
+use Rattle.fk_sim_block.specs.Next.{OpAt}
 use Rattle.fk_sim_block.specs.Ready.{is_alone}
 use Rattle.fk_core_typing.specs.Laws.{LeadsWithin}
 use Rattle.fk_gen_list.specs.Generable.{HasOwnBlock, has_target}
@@ -49,7 +49,7 @@ own_block (Combine by) plain = inl (combine_alone by)
 own_block operation plain = inl refl
 
 -- a branch and what leads away goes on at its target, which is in the list; the other steps go straight on
-target_within : (core : List CoreOp) → LeadsWithin core → (i : ℕ) (op : CoreOp) (operation : Operation) → StandsOp core i op operation
+target_within : (core : List CoreOp) → LeadsWithin core → (i : ℕ) (op : CoreOp) (operation : Operation) → OpAt core i op operation
     → (way_of operation ≡ straight → op.target ≡ 0) → has_target operation ≡ true → op.target < length core
 target_within core leads i op (Branch onward) stands none target = (leads.within i op (Branch onward) stands.stands stands.is_read refl false).at
 target_within core leads i op Begin stands none target = (leads.within i op Begin stands.stands stands.is_read refl false).at

@@ -18,7 +18,7 @@ use Rattle.fk_lockstep_structure.specs.Valued.{Evaluates, LinksEvaluate, Suffixe
 use Rattle.fk_lower_laws.specs.Ways as w
 use Rattle.fk_lower_laws.specs.Asked as a
 use Rattle.fk_lower_laws.specs.Asked.{Asked, LinksAsked, SuffixesAsked, AllAsked}
-use Rattle.fk_lower_laws.specs.Typed.{IsNothing, StandsAs}
+use Rattle.fk_lower_laws.specs.Typed.{IsNothing, IsWayOf}
 use Rattle.fk_lower_laws.proofs.Typing.{typed_is_asked}
 use Rattle.fk_compile.specs.OneProgram.{GiveResults, AskedEvaluates, TypedEvaluates}
 
@@ -256,7 +256,7 @@ module _ (tables : Tables) (functions : (binding : ℕ) → Signature) (place_of
 pub asked_evaluates : AskedEvaluates
 asked_evaluates tables functions place_of results x h = evaluates_as tables functions place_of results x h
 
-stands_gives : (Room : (address : ℕ) → DataType → Type 0) (y : w.Way) (type : ExpressionType) → StandsAs Room y type → w.gives y ≡ not (IsNothing type)
+stands_gives : (Room : (address : ℕ) → DataType → Type 0) (y : w.Way) (type : ExpressionType) → IsWayOf Room y type → w.gives y ≡ not (IsNothing type)
 stands_gives Room w.Valued (Computed value) s = refl
 stands_gives Room w.Absent Nothing s = refl
 stands_gives Room w.Unchecked (Stored type) s = refl

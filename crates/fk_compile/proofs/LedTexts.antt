@@ -12,7 +12,7 @@ use Rattle.fk_meaning_operation.specs.declared.operation.SplitKind.TheVariants.{
 use Rattle.fk_meaning_forms.specs.Code as c
 use Rattle.fk_meaning_forms.specs.Code.{Code, done, perform, choose, while, until, turn, again, quit, break, continue, call, ends}
 use Rattle.fk_meaning_forms.specs.Tables.{Tables, note, frame_at}
-use Rattle.fk_meaning_forms.specs.Expressions.{Coded, Standing, nowhere, plain, agreed, token, Signature, addressed, assigned, dropped, framed, variable, value}
+use Rattle.fk_meaning_forms.specs.Expressions.{Coded, ResultLocation, nowhere, plain, agreed, token, Signature, addressed, assigned, dropped, framed, variable, value}
 use Rattle.fk_meaning_forms.specs.Statements.{Inside, is_scalar, used, used_or, value_or, declared, all_declared, part_frame, leaving, tested, looping, left_by, executed, all_executed, end_of, body_of}
 use Rattle.fk_meaning.specs.Behind.{is_shrink, shrinks}
 use Rattle.fk_meaning.specs.Shape.{Exits, none, of_test, of_turn, Either, Shape}
@@ -196,7 +196,7 @@ module _ (tables : Tables) (functions : (binding : ℕ) → Signature) (may_call
 
   declares_one : (x : Want) (d : DeclaredTree) → Calls tables may_call (in_group x.base) d.name → TellsIf x d.first → Keeps x (declared tables functions d)
   declares_one x d calls h rest q =
-      let k : Standing → Coded = λ s. addressed tables functions s (value_or tables functions (plain (o.Push 0)) d.first (assigned tables functions s (plain o.DropLast rest))) in
+      let k : ResultLocation → Coded = λ s. addressed tables functions s (value_or tables functions (plain (o.Push 0)) d.first (assigned tables functions s (plain o.DropLast rest))) in
       either x (is_scalar d) (variable tables functions d.name k) rest
       (wants.names tables functions may_call unshared x d.name calls k
       (λ s fits.

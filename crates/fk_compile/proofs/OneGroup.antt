@@ -5,7 +5,7 @@ use Rattle.fk_meaning_operation.specs.declared.operation.Operation.{Operation}
 use Rattle.fk_meaning_operation.specs.declared.operation.Operation.TheVariants as o
 use Rattle.fk_meaning_operation.specs.declared.operation.OwnValue.TheVariants.{FrameAddress}
 use Rattle.fk_layout.specs.Layout.{tables_by}
-use Rattle.fk_core_flat.proofs.FlatCode.{flat_code_stands}
+use Rattle.fk_core_flat.proofs.FlatCode.{flat_lists_have_code}
 use Rattle.fk_core_flat.proofs.Programs.{forms_are_shaped}
 use Rattle.fk_check_laws.proofs.Programs.{correct_programs_fit}
 use Rattle.fk_sim_block.specs.Ready.{is_no_step, is_alone}
@@ -26,7 +26,7 @@ pub plain_lists_are_of_one_group : PlainListsAreOfOneGroup
 plain_lists_are_of_one_group program facts known of_program laid plain core entry flat told sites nestings levels =
     let tables = tables_by program facts in
     let can = lowered_lists_can_have_groups program facts known of_program laid.correct laid.trim laid.proper laid.fits plain core entry flat told in
-    let stands = flat_code_stands tables program core entry (forms_are_shaped tables program (correct_programs_fit program facts laid.correct laid.trim)) flat in
+    let stands = flat_lists_have_code tables program core entry (forms_are_shaped tables program (correct_programs_fit program facts laid.correct laid.trim)) flat in
     record {
       begins = can.steady.within.begins;
       jumps = can.steady.within.leads.jumps;

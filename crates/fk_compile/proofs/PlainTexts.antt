@@ -1,7 +1,7 @@
 -- The runs of lists of plain programs.
 use Rattle.fk_meaning_forms.specs.Program.{bodies_of, main_of}
 use Rattle.fk_layout.specs.Layout.{tables_by}
-use Rattle.fk_core_flat.proofs.FlatCode.{flat_code_stands}
+use Rattle.fk_core_flat.proofs.FlatCode.{flat_lists_have_code}
 use Rattle.fk_core_flat.proofs.Programs.{forms_are_shaped}
 use Rattle.fk_check_laws.proofs.Programs.{correct_programs_fit}
 use Rattle.fk_lockstep_structure.proofs.Programs.{programs_follow}
@@ -25,6 +25,6 @@ plain_programs_have_one_group program facts laid plain core entry flat own =
       valued = forks_give_values program facts laid;
     }) in
     let shaped = forms_are_shaped tables program (correct_programs_fit program facts laid.correct laid.trim) in
-    let stands = flat_code_stands tables program core entry shaped flat in
+    let stands = flat_lists_have_code tables program core entry shaped flat in
     lists_have_one_group bodies core entry main stands.leads_on stands.stands own (programs_follow tables program (may_call program) placed)
     (code_goes (may_call program) bodies main (programs_are_led tables program (may_call program) placed plain shaped))

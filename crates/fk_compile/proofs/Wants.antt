@@ -17,7 +17,7 @@ use Rattle.fk_meaning_operation.specs.Kinds.{class_of}
 use Rattle.fk_meaning_forms.specs.declared.tables.Region.{Region}
 use Rattle.fk_meaning_forms.specs.Code.{done, perform, choose}
 use Rattle.fk_meaning_forms.specs.Tables.{Tables, note, slot, frame_at}
-use Rattle.fk_meaning_forms.specs.Expressions.{Coded, nowhere, plain, Standing, Signature, agreed, addressed, assigned, dropped, variable, framed, parameters, value}
+use Rattle.fk_meaning_forms.specs.Expressions.{Coded, nowhere, plain, ResultLocation, Signature, agreed, addressed, assigned, dropped, variable, framed, parameters, value}
 use Rattle.fk_meaning.specs.Shape.{Exits, of_arm, ends_part, Shape}
 use Rattle.fk_meaning.proofs.Spine.{untrue}
 use Rattle.fk_meaning.proofs.Kept.{entered}
@@ -294,10 +294,10 @@ module _ (tables : Tables) (functions : (binding : ℕ) → Signature) (may_call
   frames w None place rest p = p
   frames w (Some r) place rest p = λ all shape. untrue all.0
 
-  pub addresses : (w : Want) (s : Standing) (rest : Coded) → Fine w rest → Fine w (addressed tables functions s rest)
+  pub addresses : (w : Want) (s : ResultLocation) (rest : Coded) → Fine w rest → Fine w (addressed tables functions s rest)
   addresses w s rest p = k.addresses kept w s rest p
 
-  pub assigns : (w : Want) (s : Standing) (rest : Coded) → Fine w rest → Fine w (assigned tables functions s rest)
+  pub assigns : (w : Want) (s : ResultLocation) (rest : Coded) → Fine w rest → Fine w (assigned tables functions s rest)
   assigns w s rest p = k.assigns kept w s rest p
 
   pub drops : (w : Want) (at : ℕ) (rest : Coded) → Fine w rest → Fine w (dropped tables functions at rest)

@@ -1,5 +1,6 @@
 -- What it means that an image is faithful to a text.
 use Rattle.std.specs.Prelude.{◌≡◌, ℕ, ◌^◌, ◌<◌, ◌≤◌, List, length, map}
+use Rattle.fk_num.specs.Limits.{most_text_bytes}
 use Rattle.fk_syntax.specs.declared.facts.Facts.{Facts}
 use Rattle.fk_syntax.specs.declared.place.Place.{Place}
 use Rattle.fk_syntax.specs.Program.{ProgramTree}
@@ -44,7 +45,7 @@ pub record IsFaithfulTo (program : ProgramTree) (facts : Facts) (image : Image) 
 -- the text isn't too long and keeps all rules, its operations are few enough and all built, its
 -- frames and shared variables are small enough, and the image is faithful to it
 pub record IsFaithful (source : List ℕ) (image : Image) : Type 0 where
-  pub short : length source ≤ 1048576
+  pub short : length source ≤ most_text_bytes
   pub program : ProgramTree
   pub facts : Facts
   pub checked : IsChecked source program facts

@@ -9,7 +9,7 @@ use Rattle.fk_core.specs.WellFormed.{LeadsOn}
 use Rattle.fk_core_flat.specs.Items.{straight, way_of}
 use Rattle.fk_core_flat.specs.Laws.{AreShaped, IsFlat}
 use Rattle.fk_lower_text.specs.Lowered.{HasSites}
-use Rattle.fk_sim_block.specs.Next.{StandsOp}
+use Rattle.fk_sim_block.specs.Next.{OpAt}
 use Rattle.fk_core_liveness.specs.declared.set.Set.{Set}
 use Rattle.fk_core_liveness.specs.Live.{IsLive, IsLeast, words_in}
 use Rattle.fk_core_typing.specs.Laws.{LeadsWithin}
@@ -24,7 +24,7 @@ abbrev pub StraightHasNoTarget : Type 0
 StraightHasNoTarget =
     (bodies : (binding : ℕ) → Code ℕ) (core : List CoreOp) (entry : (binding : ℕ) → ℕ)
     → AreShaped bodies → IsFlat bodies core entry
-    → (i : ℕ) (op : CoreOp) (operation : Operation) → StandsOp core i op operation
+    → (i : ℕ) (op : CoreOp) (operation : Operation) → OpAt core i op operation
     → way_of operation ≡ straight → op.target ≡ 0
 
 abbrev pub PlainListsHaveBlocks : Type 0

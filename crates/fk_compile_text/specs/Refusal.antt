@@ -1,6 +1,7 @@
 -- When a text is refused.
 use Rattle.std.specs.Prelude.{◌≡◌, ℕ, ◌<◌, ◌≤◌, List, length}
 use Rattle.std.specs.declared.alloc.AllocError.{AllocError}
+use Rattle.fk_num.specs.Limits.{most_text_bytes}
 use Rattle.fk_syntax.specs.declared.place.Place.{Place}
 use Rattle.fk_syntax.specs.Program.{ItemTree}
 use Rattle.fk_lex.specs.declared.token.LexFault.TheVariants as fault
@@ -25,30 +26,30 @@ use Rattle.fk_compile_text.specs.declared.refusal.Refusal.TheVariants.{Memory}
 -- at the end. If they have one, it breaks this rule first. If it keeps all rules, there is too much
 -- of something for a layout. If it has a layout, it has an operation that isn't built.
 abbrev pub IsRefusedText : List ℕ → Refusal → Type 0
-IsRefusedText source (SourceTooLong bytes) = (bytes ≡ length source) × (1048576 < bytes)
-IsRefusedText source (BadByte place) = (length source ≤ 1048576)
+IsRefusedText source (SourceTooLong bytes) = (bytes ≡ length source) × (most_text_bytes < bytes)
+IsRefusedText source (BadByte place) = (length source ≤ most_text_bytes)
     × Faults source (fault.BadByte place)
-IsRefusedText source (OpenComment place) = (length source ≤ 1048576)
+IsRefusedText source (OpenComment place) = (length source ≤ most_text_bytes)
     × Faults source (fault.OpenComment place)
-IsRefusedText source (OpenString place) = (length source ≤ 1048576)
+IsRefusedText source (OpenString place) = (length source ≤ most_text_bytes)
     × Faults source (fault.OpenString place)
-IsRefusedText source (WideNumber place) = (length source ≤ 1048576)
+IsRefusedText source (WideNumber place) = (length source ≤ most_text_bytes)
     × Faults source (fault.WideNumber place)
-IsRefusedText source (Unexpected place) = (length source ≤ 1048576)
+IsRefusedText source (Unexpected place) = (length source ≤ most_text_bytes)
     × HasSyntaxFault source (syntax_fault.Unexpected place)
-IsRefusedText source EndOfText = (length source ≤ 1048576)
+IsRefusedText source EndOfText = (length source ≤ most_text_bytes)
     × HasSyntaxFault source syntax_fault.EndOfText
-IsRefusedText source (Nesting place) = (length source ≤ 1048576)
+IsRefusedText source (Nesting place) = (length source ≤ most_text_bytes)
     × HasSyntaxFault source (syntax_fault.Nesting place)
-IsRefusedText source (Rule place number) = (length source ≤ 1048576)
+IsRefusedText source (Rule place number) = (length source ≤ most_text_bytes)
     × HasBrokenRule source place number
-IsRefusedText source (TooManySites count) = (length source ≤ 1048576)
+IsRefusedText source (TooManySites count) = (length source ≤ most_text_bytes)
     × HasTooMuch source (layout.TooManySites count)
-IsRefusedText source (FrameTooLarge name words) = (length source ≤ 1048576)
+IsRefusedText source (FrameTooLarge name words) = (length source ≤ most_text_bytes)
     × HasLargeFrame source name.items words
-IsRefusedText source (GlobalsTooLarge words) = (length source ≤ 1048576)
+IsRefusedText source (GlobalsTooLarge words) = (length source ≤ most_text_bytes)
     × HasTooMuch source (layout.GlobalsTooLarge words)
-IsRefusedText source NotBuilt = (length source ≤ 1048576) × IsNotBuilt source
+IsRefusedText source NotBuilt = (length source ≤ most_text_bytes) × IsNotBuilt source
 IsRefusedText source (Memory e) = Unit {0}
 
 -- ---- a fault of the layout, as a refusal

@@ -2,6 +2,7 @@
 
 ghost use Rattle.std.specs.Prelude.{◌≡◌, ◌≤◌, ◌^◌, ℕ, List, IfErr, IfOk, OnOk, false, length, true};
 ghost use Rattle.std.specs.Prelude.{vec_len};
+ghost use Rattle.fk_num.specs.Limits.{most_data_words, most_text_bytes};
 ghost use Rattle.fk_syntax.specs.ProgramView.{program_of};
 ghost use Rattle.fk_syntax.specs.WellFormed.{IsWellFormed};
 ghost use Rattle.fk_layout_walk.specs.Known.{IsSound, items_in, tables_of};
@@ -77,7 +78,7 @@ fn test_built(text: &Built) -> Result<(), Refusal>
     requires finds { Finds (program_of text.now.tree) text.now.facts text.now.lookup }
     ensures built { OnOk result (ArePlain (tables_by (program_of text.now.tree) text.now.facts)
         (program_of text.now.tree)) }
-    ensures refused { IfErr result (λ refusal. (source : List ℕ) → length source ≤ 1048576
+    ensures refused { IfErr result (λ refusal. (source : List ℕ) → length source ≤ most_text_bytes
         → IsChecked source (program_of text.now.tree) text.now.facts
         → Fits (tables_by (program_of text.now.tree) text.now.facts)
         (program_of text.now.tree).items
@@ -114,8 +115,8 @@ pub fn built_text<'a>(alloc: Global, source: &'a [u8]) -> Result<Built<'a>, Refu
     // A token has at least one byte.
     ensures small { IfOk result (λ text. text.tree.tokens ≤ 2 ^ 20) }
     // An item has at least two tokens.
-    ensures few { IfOk result (λ text. vec_len text.tree.items ≤ 524288) }
-    ensures short { OnOk result (length source.now ≤ 1048576) }
+    ensures few { IfOk result (λ text. vec_len text.tree.items ≤ most_data_words) }
+    ensures short { OnOk result (length source.now ≤ most_text_bytes) }
     ensures refused { IfErr result (IsRefusedText source.now) }
 {
     let checked = checked_text(alloc, source)?;

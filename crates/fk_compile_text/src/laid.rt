@@ -1,6 +1,7 @@
 //! The layout of a text, and the reasons why it has none.
 
 ghost use Rattle.std.specs.Prelude.{◌≤◌, ℕ, List, IfErr, IfOk, IfSome, IsNone, OnOk, length, map};
+ghost use Rattle.fk_num.specs.Limits.{most_text_bytes};
 ghost use Rattle.fk_syntax.specs.ProgramView.{item_of, program_of};
 ghost use Rattle.fk_layout.specs.Layout.{IsLayout, tables_by};
 ghost use Rattle.fk_layout.specs.Refusal.{Fits};
@@ -19,7 +20,7 @@ pub(crate) fn layout_of<'a>(alloc: Global, text: &Checked<'a>) -> Result<Layout<
     ensures laid { IfOk result (IsLayout (program_of text.now.tree) text.now.facts) }
     ensures fits { OnOk result (Fits (tables_by (program_of text.now.tree) text.now.facts)
         (program_of text.now.tree).items) }
-    ensures refused { IfErr result (λ refusal. (source : List ℕ) → length source ≤ 1048576
+    ensures refused { IfErr result (λ refusal. (source : List ℕ) → length source ≤ most_text_bytes
         → IsChecked source (program_of text.now.tree) text.now.facts
         → IsRefusedText source refusal) }
 {

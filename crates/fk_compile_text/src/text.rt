@@ -2,6 +2,7 @@
 
 ghost use Rattle.std.specs.Prelude.{◌≡◌, ◌↔◌, ◌≤◌, ◌<◌, ◌^◌, ℕ, List, IfOk, IfErr, OnOk, length};
 ghost use Rattle.std.specs.Prelude.{vec_len};
+ghost use Rattle.fk_num.specs.Limits.{most_data_words, most_text_bytes};
 ghost use Rattle.fk_lex.specs.View.{IsFault};
 ghost use Rattle.fk_syntax.specs.declared.place.Place.{Place};
 ghost use Rattle.fk_syntax.specs.ProgramView.{program_of};
@@ -13,20 +14,18 @@ use crate::refusal::Refusal;
 use fk_check::checked;
 use fk_lex::lex::lex;
 use fk_lex::token::LexFault;
+use fk_num::MOST_TEXT_BYTES;
 use fk_parse::{SyntaxFault, parse};
 use fk_syntax::{CheckFault, Facts, Program as Tree};
 use std::alloc::{AllocError, Global};
 
-/// The most bytes of a text.
-const MOST_BYTES: usize = 1_048_576;
-
 // Tests that a text isn't too long.
 fn test_length(source: &[u8]) -> Result<(), Refusal>
-    ensures short { OnOk result (length source.now ≤ 1048576) }
-    ensures long { IfErr result (λ refusal. (1048576 < length source.now)
+    ensures short { OnOk result (length source.now ≤ most_text_bytes) }
+    ensures long { IfErr result (λ refusal. (most_text_bytes < length source.now)
         × (refusal ≡ Refusal.SourceTooLong (length source.now))) }
 {
-    if source.len() > MOST_BYTES {
+    if source.len() > MOST_TEXT_BYTES {
         Err(Refusal::SourceTooLong(source.len() as u64))
     } else {
         Ok(())
@@ -39,8 +38,8 @@ pub(crate) fn tree_of<'a>(alloc: Global, source: &'a [u8]) -> Result<Tree<'a>, R
     ensures well_formed { IfOk result (λ tree. IsWellFormed (program_of tree)) }
     // A token has at least one byte, and an item at least two tokens.
     ensures small { IfOk result (λ tree. tree.tokens ≤ 2 ^ 20) }
-    ensures few { IfOk result (λ tree. vec_len tree.items ≤ 524288) }
-    ensures short { OnOk result (length source.now ≤ 1048576) }
+    ensures few { IfOk result (λ tree. vec_len tree.items ≤ most_data_words) }
+    ensures short { OnOk result (length source.now ≤ most_text_bytes) }
     ensures refused { IfErr result (IsRefusedText source.now) }
 {
     test_length(source)?;
@@ -63,8 +62,8 @@ pub(crate) fn checked_text<'a>(alloc: Global, source: &'a [u8]) -> Result<Checke
     ensures well_formed { IfOk result (λ text. IsWellFormed (program_of text.tree)) }
     ensures small { IfOk result (λ text. text.tree.tokens ≤ 2 ^ 20) }
     // An item has at least two tokens.
-    ensures few { IfOk result (λ text. vec_len text.tree.items ≤ 524288) }
-    ensures short { OnOk result (length source.now ≤ 1048576) }
+    ensures few { IfOk result (λ text. vec_len text.tree.items ≤ most_data_words) }
+    ensures short { OnOk result (length source.now ≤ most_text_bytes) }
     ensures refused { IfErr result (IsRefusedText source.now) }
 {
     let tree = tree_of(alloc, source)?;
@@ -75,7 +74,7 @@ pub(crate) fn checked_text<'a>(alloc: Global, source: &'a [u8]) -> Result<Checke
 // The refusal for a lexical fault.
 fn lexical(fault: LexFault) -> Refusal
     ensures memory { (e : AllocError) → (result ≡ Refusal.Memory e) ↔ (fault ≡ LexFault.Memory e) }
-    ensures refused { (source : List ℕ) → length source ≤ 1048576 → IsFault source fault
+    ensures refused { (source : List ℕ) → length source ≤ most_text_bytes → IsFault source fault
         → IsRefusedText source result }
 {
     match fault {
@@ -91,7 +90,8 @@ fn lexical(fault: LexFault) -> Refusal
 fn syntactic(fault: SyntaxFault) -> Refusal
     ensures memory { (e : AllocError)
         → (result ≡ Refusal.Memory e) ↔ (fault ≡ SyntaxFault.Memory e) }
-    ensures refused { (source : List ℕ) → length source ≤ 1048576 → HasSyntaxFault source fault
+    ensures refused { (source : List ℕ) → length source ≤ most_text_bytes
+        → HasSyntaxFault source fault
         → IsRefusedText source result }
 {
     match fault {
@@ -105,7 +105,7 @@ fn syntactic(fault: SyntaxFault) -> Refusal
 // The refusal for a broken rule.
 fn broken(fault: CheckFault) -> Refusal
     ensures memory { (e : AllocError) → (result ≡ Refusal.Memory e) ↔ (fault ≡ CheckFault.Memory) }
-    ensures refused { (source : List ℕ) → length source ≤ 1048576
+    ensures refused { (source : List ℕ) → length source ≤ most_text_bytes
         → ((place : Place) (number : ℕ) → fault ≡ CheckFault.Rule place number
         → HasBrokenRule source place number) → IsRefusedText source result }
 {

@@ -16,8 +16,7 @@ use Rattle.fk_meaning_forms.specs.Program.{bodies_of}
 use Rattle.fk_meaning_forms.proofs.Short.{place, sp, nm, ty, dc, nn, nt, kd, sl, function}
 use Rattle.fk_core.specs.declared.op.CoreOp.{CoreOp}
 use Rattle.fk_core.specs.Numbers.{operation_of}
-use Rattle.fk_core.specs.Next.{landing}
-use Rattle.fk_core.specs.Stands.{Stay, OpFrom, Stands}
+use Rattle.fk_core.specs.CodeAt.{Stay, OpFrom, CodeAt}
 use Rattle.fk_core.specs.WellFormed.{IsOperation, LeadsOn}
 use Rattle.fk_core.specs.KeepsRuns.{HasCodeOf}
 use Rattle.fk_core.proofs.Examples.{op}
@@ -53,7 +52,7 @@ abbrev here : (i : ℕ) (op : CoreOp) (operation : Operation) → slice_get core
     → OpFrom core entry i op.site operation
 here i op operation e r = record { at = i; op = op; leads = Stay; stands = e; is_read = r; has_site = refl }
 
-main_stands : Stands core entry (bodies_of tables program 1) None 0 9
+main_stands : CodeAt core entry (bodies_of tables program 1) None 0 9
 main_stands = (
   here 0 (op 2 0 5 0 0) (o.Get Processors) refl refl,
   1,
@@ -105,7 +104,7 @@ main_stands = (
 abbrev nothing : Code ℕ
 nothing = done
 
-all_stand : (is_main : Bool) → Stands core entry (if is_main then bodies_of tables program 1 else nothing) None (if is_main then 0 else 9) 9
+all_stand : (is_main : Bool) → CodeAt core entry (if is_main then bodies_of tables program 1 else nothing) None (if is_main then 0 else 9) 9
 all_stand true = main_stands
 all_stand false = Stay
 

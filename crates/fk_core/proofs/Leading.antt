@@ -7,8 +7,8 @@ use Rattle.fk_meaning.specs.Round.{Step}
 use Rattle.fk_core.specs.declared.op.CoreOp.{CoreOp}
 use Rattle.fk_core.specs.Numbers.{operation_of}
 use Rattle.fk_core.specs.Next.{Position, position, is_jump, through, led_by, landing_by, landing, follows, step_by, step_of, next}
-use Rattle.fk_core.specs.Stands.{Leads, Stay, Go, OpFrom}
-use Rattle.fk_core.specs.WellFormed.{IsOperation, LeadsOn}
+use Rattle.fk_core.specs.CodeAt.{Leads, Stay, Go, OpFrom}
+use Rattle.fk_core.specs.WellFormed.{LeadsOn}
 
 some_same : (op other : CoreOp) (o : Option CoreOp) → o ≡ Some op → o ≡ Some other → op ≡ other
 some_same op other o e f = cc

@@ -2,5 +2,5 @@ pub mod Leading
 pub mod Running
 pub mod KeepsRuns
 pub mod Examples
-mod StandsExample
+mod LoopExample
 mod CodeExample

@@ -9,7 +9,7 @@ use Rattle.fk_meaning.specs.Next as source
 use Rattle.fk_meaning.specs.Next.{Work, going}
 use Rattle.fk_core.specs.declared.op.CoreOp.{CoreOp}
 use Rattle.fk_core.specs.Next.{Position, position, follows, returned, next}
-use Rattle.fk_core.specs.Stands.{Loop, Around, is_first, is_start, Leads, Stay, OpFrom, GoesOn, Enters, Returns, Stands}
+use Rattle.fk_core.specs.CodeAt.{Loop, Around, is_first, is_start, Leads, Stay, OpFrom, GoesOn, Enters, Returns, CodeAt}
 use Rattle.fk_core.specs.WellFormed.{LeadsOn}
 use Rattle.fk_core.proofs.Leading.{onto, next_at, none_at}
 
@@ -59,24 +59,24 @@ module _ (core : List CoreOp) (entry : ℕ → ℕ) where
       (o : OpFrom core entry i n op) × (a : ℕ) × GoesOn core entry o true a × GoesOn core entry o false a × Runs rest c a
   Runs (choose n op x y rest) c i =
       (o : OpFrom core entry i n op) × (a b m : ℕ) × GoesOn core entry o true a × GoesOn core entry o false b
-      × Stands core entry x c a m × Stands core entry y c b m × Runs rest c m
+      × CodeAt core entry x c a m × CodeAt core entry y c b m × Runs rest c m
   Runs (while test body step rest) c i =
       (s e : ℕ) × (loop : Loop) × Leads core entry i s × (is_first test ≡ true) × (is_start step ≡ true)
-      × Stands core entry test (Some loop) s e × Stands core entry body (Some loop) e loop.onward
-      × Stands core entry step (Some loop) loop.onward s × Runs rest c loop.behind
+      × CodeAt core entry test (Some loop) s e × CodeAt core entry body (Some loop) e loop.onward
+      × CodeAt core entry step (Some loop) loop.onward s × Runs rest c loop.behind
   Runs (until body test rest) c i =
       (s e : ℕ) × (loop : Loop) × Leads core entry i e × (is_first test ≡ true)
-      × Stands core entry test (Some loop) s e × Stands core entry body (Some loop) e loop.onward × Leads core entry loop.onward s
+      × CodeAt core entry test (Some loop) s e × CodeAt core entry body (Some loop) e loop.onward × Leads core entry loop.onward s
       × Runs rest c loop.behind
   Runs (turn test body step rest) c i =
       (s e : ℕ) × (loop : Loop) × Leads core entry i loop.onward × (is_first test ≡ true) × (is_start step ≡ true)
-      × Stands core entry test (Some loop) s e × Stands core entry body (Some loop) e loop.onward
-      × Stands core entry step (Some loop) loop.onward s
+      × CodeAt core entry test (Some loop) s e × CodeAt core entry body (Some loop) e loop.onward
+      × CodeAt core entry step (Some loop) loop.onward s
       × (c ≡ Some loop) × (is_open rest ≡ true) × (d : Around) × Runs rest d loop.behind
   Runs (again test body step rest) c i =
       (s e : ℕ) × (loop : Loop) × Leads core entry i s × (is_first test ≡ true) × (is_start step ≡ true)
-      × Stands core entry test (Some loop) s e × Stands core entry body (Some loop) e loop.onward
-      × Stands core entry step (Some loop) loop.onward s
+      × CodeAt core entry test (Some loop) s e × CodeAt core entry body (Some loop) e loop.onward
+      × CodeAt core entry step (Some loop) loop.onward s
       × (c ≡ Some loop) × (is_open rest ≡ true) × (d : Around) × Runs rest d loop.behind
   Runs (quit n op rest) c i =
       (o : OpFrom core entry i n op) × (a : ℕ) × (loop : Loop) × (c ≡ Some loop) × GoesOn core entry o true a
@@ -84,7 +84,7 @@ module _ (core : List CoreOp) (entry : ℕ → ℕ) where
   Runs (break rest) c i = (a : ℕ) × (loop : Loop) × (c ≡ Some loop) × Leads core entry i loop.behind × Runs rest c a
   Runs (continue rest) c i = (a : ℕ) × (loop : Loop) × (c ≡ Some loop) × Leads core entry i loop.onward × Runs rest c a
   Runs (call n op f opening rest) c i =
-      (o : OpFrom core entry i n op) × (a e back : ℕ) × Enters core entry o a back × Stands core entry opening None a e
+      (o : OpFrom core entry i n op) × (a e back : ℕ) × Enters core entry o a back × CodeAt core entry opening None a e
       × Leads core entry e (entry f) × Runs rest c back
   Runs (ends n op rest) c i = (o : OpFrom core entry i n op) × (a : ℕ) × Returns core entry o × Runs rest c a
 
@@ -107,7 +107,7 @@ module _ (core : List CoreOp) (entry : ℕ → ℕ) where
   led (ends n op rest) c i j l h = (earlier l h.0, h.1, h.2, h.3)
 
   -- one after the other
-  joined : (code more : Code ℕ) (c : Around) (i k : ℕ) → Stands core entry code c i k → Runs more c k → Runs (append code more) c i
+  joined : (code more : Code ℕ) (c : Around) (i k : ℕ) → CodeAt core entry code c i k → Runs more c k → Runs (append code more) c i
   joined done more c i k h m = led more c i k h m
   joined (perform n op rest) more c i k h m = (h.0, h.1, h.2, h.3, joined rest more c h.1 k h.4 m)
   joined (choose n op x y rest) more c i k h m = (h.0, h.1, h.2, h.3, h.4, h.5, h.6, h.7, joined rest more c h.3 k h.8 m)
@@ -122,7 +122,7 @@ module _ (core : List CoreOp) (entry : ℕ → ℕ) where
   joined (ends n op rest) more c i k h m = (h.0, h.1, h.2, joined rest more c h.1 k h.3 m)
 
   -- code that stands up to the end, outside of loops, is all that is left
-  whole : (code : Code ℕ) (i : ℕ) → Stands core entry code None i (length core) → Runs code None i
+  whole : (code : Code ℕ) (i : ℕ) → CodeAt core entry code None i (length core) → Runs code None i
   whole done i h = (refl, h)
   whole (perform n op rest) i h = (h.0, h.1, h.2, h.3, whole rest h.1 h.4)
   whole (choose n op x y rest) i h = (h.0, h.1, h.2, h.3, h.4, h.5, h.6, h.7, whole rest h.3 h.8)
@@ -203,7 +203,7 @@ module _ (core : List CoreOp) (entry : ℕ → ℕ) where
       ready_led (append s (again t b s rest)) i h.2.onward h.3 (steps t b s rest c h.0 h.2 (begun t b s rest c i h) h.9)
 
   -- code before a turn that is at its end
-  opens : (code t b s rest : Code ℕ) (c : Around) (i k : ℕ) → Stands core entry code c i k → Runs (turn t b s rest) c k → Ready (opened code (turn t b s rest)) i
+  opens : (code t b s rest : Code ℕ) (c : Around) (i k : ℕ) → CodeAt core entry code c i k → Runs (turn t b s rest) c k → Ready (opened code (turn t b s rest)) i
   opens done t b s rest c i k h m = turn_ready t b s rest c i (led (turn t b s rest) c i k h m)
   opens (perform n op more) t b s rest c i k h m = record { is_ready = refl; around = c; runs = joined (perform n op more) (turn t b s rest) c i k h m }
   opens (choose n op x y more) t b s rest c i k h m = record { is_ready = refl; around = c; runs = joined (choose n op x y more) (turn t b s rest) c i k h m }
@@ -254,7 +254,7 @@ module _ (core : List CoreOp) (entry : ℕ → ℕ) where
   Waiting codes is = ⊥
 
   -- a list whose indices lead on, with the bodies of functions in it
-  module _ (leads_on : LeadsOn core) (bodies : ℕ → Code ℕ) (bodies_stand : (f : ℕ) → Stands core entry (bodies f) None (entry f) (length core)) where
+  module _ (leads_on : LeadsOn core) (bodies : ℕ → Code ℕ) (bodies_at : (f : ℕ) → CodeAt core entry (bodies f) None (entry f) (length core)) where
     -- what is left of a run, and a position in the list
     pub record IsAt (w : Work) (at : Position) : Type 0 where
       ready : Ready w.left at.at
@@ -309,7 +309,7 @@ module _ (core : List CoreOp) (entry : ℕ → ℕ) where
     first_same (break rest) c i codes is e h a = absurd (cc)
     first_same (continue rest) c i codes is e h a = absurd (cc)
     first_same (call n op f opening rest) c i codes is e h a =
-        let body = led (bodies f) None h.2 (entry f) h.6 (whole (bodies f) (entry f) (bodies_stand f)) in
+        let body = led (bodies f) None h.2 (entry f) h.6 (whole (bodies f) (entry f) (bodies_at f)) in
         let w = going (append opening (bodies f)) (rest ∷ codes) in
         does_same n op (λ onward. w) i is h.0
         (λ onward. subst (IsAt w) (sym (h.4 is onward))
@@ -353,4 +353,4 @@ module _ (core : List CoreOp) (entry : ℕ → ℕ) where
         by (code ∷ codes) [] a = absurd a
 
     pub body_at : (f : ℕ) → IsAt (going (bodies f) []) (position (entry f) [])
-    body_at f = goes (bodies f) None (entry f) [] [] (whole (bodies f) (entry f) (bodies_stand f)) tt
+    body_at f = goes (bodies f) None (entry f) [] [] (whole (bodies f) (entry f) (bodies_at f)) tt

@@ -9,7 +9,7 @@ use Rattle.fk_meaning_forms.specs.Program.{bodies_of, main_of}
 use Rattle.fk_meaning.specs.Program as source
 use Rattle.fk_core.specs.declared.op.CoreOp.{CoreOp}
 use Rattle.fk_core.specs.Next.{next, list_opening}
-use Rattle.fk_core.specs.Stands.{Stands}
+use Rattle.fk_core.specs.CodeAt.{CodeAt}
 use Rattle.fk_core.specs.WellFormed.{LeadsOn}
 
 -- The list has the code of each function, from the function's entry on. A function without a body
@@ -18,7 +18,7 @@ pub record HasCodeOf (tables : Tables) (program : ProgramTree) (core : List Core
     (entry : ℕ → ℕ) : Type 0 where
   pub leads_on : LeadsOn core
   pub stands : (binding : ℕ)
-      → Stands core entry (bodies_of tables program binding) None (entry binding) (length core)
+      → CodeAt core entry (bodies_of tables program binding) None (entry binding) (length core)
 
 -- A schedule is lawful for both or for neither, and under it both have equal stores and equal
 -- statuses.

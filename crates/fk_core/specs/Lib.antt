@@ -1,5 +1,5 @@
 pub mod Numbers
 pub mod Next
-pub mod Stands
+pub mod CodeAt
 pub mod WellFormed
 pub mod KeepsRuns

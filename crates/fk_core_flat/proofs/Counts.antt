@@ -5,12 +5,12 @@ use Rattle.fk_meaning_operation.specs.Kinds.{kind_of}
 use Rattle.fk_meaning_operation.specs.declared.operation.Operation.{Operation}
 use Rattle.fk_meaning_forms.specs.Code.{Code, done, perform, choose, while, until, turn, again, quit, break, continue, call, ends, sites, numbered}
 use Rattle.fk_meaning_forms.proofs.Ranks.{sites_are_ranks}
-use Rattle.fk_core.specs.Stands.{Around}
+use Rattle.fk_core.specs.CodeAt.{Around}
 use Rattle.fk_core_flat.specs.Items.{Item, jump, act, way_of, goes_away, aim, into, one_call, acts, jumps, calls}
 use Rattle.fk_core_flat.specs.Flat.{begins_here, skip, gap, behind, label, flat}
 use Rattle.fk_core_flat.specs.Shape.{IsOpening, IsShaped}
 use Rattle.fk_core_flat.proofs.Parts.{choice_at, turns_at, rounds_at, entering_at}
-use Rattle.fk_core_flat.proofs.Standing.{opening_is_shaped}
+use Rattle.fk_core_flat.proofs.CodeAt.{opening_is_shaped}
 use Rattle.fk_core_flat.specs.Laws.{SitesGoUp, JumpsAreFew}
 
 pub acts_both : (xs ys : List Item) → acts (xs ++ ys) ≡ acts xs ++ acts ys

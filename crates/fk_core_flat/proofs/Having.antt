@@ -1,7 +1,7 @@
 -- What stands in a list behind what.
 use Rattle.std.proofs.Common.{◌≡◌, ℕ, suc, ◌+◌, Bool, true, false, List, [], ◌∷◌, ◌++◌, length, sym, refl, subst, arith}
 use Rattle.fk_core.specs.declared.op.CoreOp.{CoreOp}
-use Rattle.fk_core.specs.Stands.{Leads, Stay, Go}
+use Rattle.fk_core.specs.CodeAt.{Leads, Stay, Go}
 use Rattle.fk_core_flat.specs.Items.{Item, Has}
 use Rattle.fk_core_flat.specs.Flat.{skip}
 

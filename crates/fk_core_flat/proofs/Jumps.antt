@@ -5,7 +5,7 @@ use Rattle.fk_meaning_operation.specs.declared.operation.Operation.{Operation}
 use Rattle.fk_meaning_forms.specs.Code.{Code, done, perform, choose, while, until, turn, again, quit, break, continue, call, ends}
 use Rattle.fk_core.specs.declared.op.CoreOp.{CoreOp}
 use Rattle.fk_core.specs.Next.{is_jump, through, led_by, landing_by, landing}
-use Rattle.fk_core.specs.Stands.{Around, is_first, is_start}
+use Rattle.fk_core.specs.CodeAt.{Around, is_first, is_start}
 use Rattle.fk_core.specs.WellFormed.{IsOperation, LeadsOn}
 use Rattle.fk_core.proofs.Leading.{op_stops}
 use Rattle.fk_core_flat.specs.Items.{Item, jump, act, Has, way_of, goes_away}
@@ -14,7 +14,7 @@ use Rattle.fk_core_flat.specs.Shape.{is_done, is_closed, IsOpening, IsShaped}
 use Rattle.fk_core_flat.specs.Laws.{AreShaped, IsFlat, JumpsLeadToOperations}
 use Rattle.fk_core_flat.proofs.Lengths.{flat_length}
 use Rattle.fk_core_flat.proofs.Parts.{choice_at, turns_at, rounds_at, entering_at, has_choice, has_turns, has_rounds, has_entering}
-use Rattle.fk_core_flat.proofs.Standing.{past, Stood, opening_begins}
+use Rattle.fk_core_flat.proofs.CodeAt.{past, Stood, opening_begins}
 
 module _ (core : List CoreOp) (entry : ℕ → ℕ) where
   is_operation : (i n : ℕ) (op : Operation) (t : ℕ) → Stood core entry i (act n op t) → IsOperation core i

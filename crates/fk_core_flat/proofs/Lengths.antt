@@ -2,7 +2,7 @@
 use Rattle.std.proofs.Common.{◌≡◌, ℕ, suc, ◌+◌, Bool, true, false, List, ◌∷◌, ◌++◌, length, Some, None, ap, refl, arith, length-append}
 use Rattle.std.specs.Prelude.{◌==◌, ◌&&◌, ◌||◌, if◌then◌else◌}
 use Rattle.fk_meaning_forms.specs.Code.{Code, done, perform, choose, while, until, turn, again, quit, break, continue, call, ends}
-use Rattle.fk_core.specs.Stands.{Loop, Around, is_first, is_start}
+use Rattle.fk_core.specs.CodeAt.{Loop, Around, is_first, is_start}
 use Rattle.fk_core_flat.specs.Items.{Item, jump, way_of, goes_away}
 use Rattle.fk_core_flat.specs.Flat.{begins_here, skip, gap, extent, label, flat}
 

@@ -6,7 +6,7 @@ pub mod Ways
 pub mod Having
 pub mod Lengths
 pub mod Parts
-pub mod Standing
+pub mod CodeAt
 pub mod Counts
 mod Ok
 mod Forms

@@ -6,7 +6,7 @@ use Rattle.fk_meaning_operation.specs.declared.operation.Operation.{Operation}
 use Rattle.fk_meaning_operation.specs.declared.operation.Operation.TheVariants as o
 use Rattle.fk_meaning_forms.specs.Code.{done, perform, choose, while, until, quit, break, continue, call, ends, size, numbered}
 use Rattle.fk_meaning_forms.specs.Expressions.{Coded, plain}
-use Rattle.fk_core.specs.Stands.{is_first, is_start}
+use Rattle.fk_core.specs.CodeAt.{is_first, is_start}
 use Rattle.fk_core_flat.specs.Items.{straight, either, into, out, way_of}
 use Rattle.fk_core_flat.specs.Shape.{is_done, is_closed, IsOpening, IsShaped}
 

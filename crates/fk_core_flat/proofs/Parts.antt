@@ -1,9 +1,9 @@
 -- The parts of a choice, of a loop and of a call, each with its place in the list.
-use Rattle.std.proofs.Common.{◌≡◌, ℕ, suc, ◌+◌, Bool, true, false, List, [], ◌∷◌, ◌++◌, length, Some, None, arith, length-append}
+use Rattle.std.proofs.Common.{◌≡◌, ℕ, suc, ◌+◌, Bool, true, false, List, [], ◌∷◌, ◌++◌, Some, None, arith, length-append}
 use Rattle.std.specs.Prelude.{◌==◌, ◌&&◌, if◌then◌else◌}
 use Rattle.fk_meaning_forms.specs.Code.{Code}
 use Rattle.fk_core.specs.declared.op.CoreOp.{CoreOp}
-use Rattle.fk_core.specs.Stands.{Loop, Around}
+use Rattle.fk_core.specs.CodeAt.{Loop, Around}
 use Rattle.fk_core_flat.specs.Items.{Item, jump, Has}
 use Rattle.fk_core_flat.specs.Flat.{begins_here, skip, gap, extent, label, flat}
 use Rattle.fk_core_flat.proofs.Having.{has_front, has_back}

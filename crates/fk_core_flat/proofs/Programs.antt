@@ -5,7 +5,7 @@ use Rattle.fk_syntax.specs.declared.place.Spot.{Spot}
 use Rattle.fk_syntax.specs.declared.program.Mode.{Mode}
 use Rattle.fk_syntax.specs.Tree.{Named, TypeTree, Tree}
 use Rattle.fk_syntax.specs.Program as p
-use Rattle.fk_syntax.specs.Program.{DeclaredTree, Statement, Statements, FunctionTree, ProgramTree}
+use Rattle.fk_syntax.specs.Program.{DeclaredTree, Statement, Statements, FunctionTree}
 use Rattle.fk_meaning_operation.specs.declared.operation.Operation.TheVariants as o
 use Rattle.fk_meaning_operation.specs.declared.operation.OwnValue.TheVariants as n
 use Rattle.fk_meaning_operation.specs.declared.operation.SplitKind.TheVariants.{IfAlone, IfElse, Loop, Fork}
@@ -16,7 +16,7 @@ use Rattle.fk_meaning_forms.specs.Expressions.{Coded, nowhere, plain, agreed, Si
 use Rattle.fk_meaning_forms.specs.Statements.{Inside, is_nothing, used_or, value_or, part_frame, leaving, tested, looping, left_by, executed, all_executed, end_of, body_of}
 use Rattle.fk_meaning_forms.specs.Program.{functions_of, binding_of, signature_in, is_main, code_of, body_in, bodies_of}
 use Rattle.fk_meaning.proofs.Kept.{IsKept, Keeps, either, agrees, values_kept, uses, uses_or, gives_or, declares, part_frames}
-use Rattle.fk_core.specs.Stands.{is_first}
+use Rattle.fk_core.specs.CodeAt.{is_first}
 use Rattle.fk_core_flat.specs.Shape.{is_done, is_closed, IsShaped}
 use Rattle.fk_core_flat.specs.Fitting.{is_defined, Takes, OptionFits, OptionConditionFits, StatementFits, StatementsFit, BodyFits, FunctionsFit, FormsAreShaped, FunctionsAreClosed}
 use Rattle.fk_core_flat.proofs.Ok.{Want, at, inner, Ok, on, branch, ended, end, left, left_last, broken, continued, quits, looped, looped_first}

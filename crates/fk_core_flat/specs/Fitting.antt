@@ -11,7 +11,7 @@ use Rattle.fk_meaning_forms.specs.Expressions.{Coded, Signature, value}
 use Rattle.fk_meaning_forms.specs.Program.{functions_of, binding_of, signature_in, bodies_of}
 use Rattle.fk_meaning.specs.Calls as c
 use Rattle.fk_meaning.specs.Calls.{TakesEnough}
-use Rattle.fk_core.specs.Stands.{is_first}
+use Rattle.fk_core.specs.CodeAt.{is_first}
 use Rattle.fk_core_flat.specs.Shape.{is_closed}
 use Rattle.fk_core_flat.specs.Laws.{AreShaped}
 

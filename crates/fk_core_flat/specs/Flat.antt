@@ -5,7 +5,7 @@ use Rattle.std.specs.Prelude.{ℕ, suc, ◌+◌, ◌==◌, ◌&&◌, ◌||◌, B
 use Rattle.std.specs.Prelude.{Some, None, if◌then◌else◌}
 use Rattle.fk_meaning_forms.specs.Code.{Code, done, perform, choose, while, until, quit, break}
 use Rattle.fk_meaning_forms.specs.Code.{continue, call, ends}
-use Rattle.fk_core.specs.Stands.{Loop, Around}
+use Rattle.fk_core.specs.CodeAt.{Loop, Around}
 use Rattle.fk_core_flat.specs.Items.{Item, jump, act, way_of, goes_away, aim}
 
 -- Code is written at an index, and goes on at another one. It is `near` if that is the index after

@@ -8,7 +8,7 @@ use Rattle.fk_meaning_forms.specs.Tables.{Tables}
 use Rattle.fk_meaning_forms.specs.Program.{bodies_of}
 use Rattle.fk_core.specs.declared.op.CoreOp.{CoreOp}
 use Rattle.fk_core.specs.Next.{is_jump}
-use Rattle.fk_core.specs.Stands.{Around}
+use Rattle.fk_core.specs.CodeAt.{Around}
 use Rattle.fk_core.specs.WellFormed.{IsOperation}
 use Rattle.fk_core.specs.KeepsRuns.{HasCodeOf}
 use Rattle.fk_core_flat.specs.Items.{Has, acts, jumps, calls}
@@ -38,8 +38,8 @@ pub record IsFlat (bodies : (binding : ℕ) → Code ℕ) (core : List CoreOp)
       → (binding : ℕ) × (place binding ≤ i) × (i < place binding + extent false (bodies binding))
 
 -- A flat list of a program's functions has the code of the program.
-abbrev pub FlatCodeStands : Type 0
-FlatCodeStands =
+abbrev pub FlatListsHaveCode : Type 0
+FlatListsHaveCode =
     (tables : Tables) (program : ProgramTree) (core : List CoreOp) (entry : ℕ → ℕ)
     → AreShaped (bodies_of tables program)
     → IsFlat (bodies_of tables program) core entry

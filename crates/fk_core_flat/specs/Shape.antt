@@ -2,7 +2,7 @@
 use Rattle.std.specs.Prelude.{◌≡◌, ℕ, ◌||◌, ◌⊎◌, Bool, true, false}
 use Rattle.fk_meaning_forms.specs.Code.{Code, done, perform, choose, while, until, turn, again}
 use Rattle.fk_meaning_forms.specs.Code.{quit, break, continue, call, ends}
-use Rattle.fk_core.specs.Stands.{is_first, is_start}
+use Rattle.fk_core.specs.CodeAt.{is_first, is_start}
 use Rattle.fk_core_flat.specs.Items.{straight, either, onto, into, out, way_of}
 
 abbrev pub is_done : Code ℕ → Bool

@@ -1,14 +1,14 @@
 //! Laws of flat lists of code, and of the code of programs.
 
-ghost use Rattle.fk_core_flat.specs.Laws.{FlatCodeStands, JumpsLeadToOperations, JumpsAreFew};
+ghost use Rattle.fk_core_flat.specs.Laws.{FlatListsHaveCode, JumpsLeadToOperations, JumpsAreFew};
 ghost use Rattle.fk_core_flat.specs.Laws.{SitesGoUp};
 ghost use Rattle.fk_core_flat.specs.Fitting.{FormsAreShaped, FunctionsAreClosed};
 ghost use Rattle.fk_core_flat.specs.Runs.{FlatProgramsKeepRuns};
 
 /// A list that has the flat code of each function of a program, and nothing else, has the code of
 /// the program, and so the same runs.
-pub fn flat_code_stands()
-    ensures { FlatCodeStands }
+pub fn flat_lists_have_code()
+    ensures { FlatListsHaveCode }
 {}
 
 /// The target of a jump in a flat list of functions is an operation.

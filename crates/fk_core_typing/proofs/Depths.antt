@@ -15,7 +15,7 @@ use Rattle.fk_core.specs.WellFormed.{IsOperation}
 use Rattle.fk_core.proofs.Leading.{op_stops}
 use Rattle.fk_core_flat.specs.Items.{Item, jump, act, way_of}
 use Rattle.fk_core_flat.specs.Shape.{is_done, is_closed}
-use Rattle.fk_core_flat.proofs.Standing.{Stood}
+use Rattle.fk_core_flat.proofs.CodeAt.{Stood}
 use Rattle.fk_core_flat.proofs.Jumps.{jumps_lead_to_operations}
 use Rattle.fk_core_typing.specs.declared.places.Within.{Within}
 use Rattle.fk_core_typing.specs.declared.places.Within.TheVariants.{Main, Called}

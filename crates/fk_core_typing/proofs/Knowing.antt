@@ -12,7 +12,7 @@ use Rattle.fk_core_liveness.specs.declared.places.FunctionKind.{FunctionKind}
 use Rattle.fk_core_liveness.specs.declared.places.FunctionKind.TheVariants.{Main, Called}
 use Rattle.fk_core.specs.declared.op.CoreOp.{CoreOp}
 use Rattle.fk_core.specs.Next.{follows, behind_jump}
-use Rattle.fk_core.specs.Stands.{Around}
+use Rattle.fk_core.specs.CodeAt.{Around}
 use Rattle.fk_core_flat.specs.Flat.{label}
 use Rattle.fk_core_flat.specs.Items.{way_of}
 use Rattle.fk_core_flat.specs.Shape.{is_done, is_closed}

@@ -16,7 +16,7 @@ use Rattle.fk_core_flat.specs.Flat.{extent, flat}
 use Rattle.fk_core_flat.specs.Shape.{is_done, is_closed}
 use Rattle.fk_core_flat.proofs.Lengths.{flat_length}
 use Rattle.fk_core_flat.proofs.Ways.{goes_by}
-use Rattle.fk_core_flat.proofs.Standing.{Stood}
+use Rattle.fk_core_flat.proofs.CodeAt.{Stood}
 use Rattle.fk_core_typing.specs.LocalDepths.{is_ordinary}
 use Rattle.fk_core_typing.specs.Heights.{HasHeights}
 use Rattle.fk_core_typing.specs.Laws.{LiesIn, IsTypedList}

@@ -7,7 +7,7 @@ use Rattle.fk_meaning_forms.specs.Code.{Code, done, perform, choose, while, unti
 use Rattle.fk_core_liveness.specs.declared.places.FunctionKind.{FunctionKind}
 use Rattle.fk_core.specs.declared.op.CoreOp.{CoreOp}
 use Rattle.fk_core.specs.Next.{behind_jump}
-use Rattle.fk_core.specs.Stands.{Loop, Around, is_first, is_start}
+use Rattle.fk_core.specs.CodeAt.{Loop, Around, is_first, is_start}
 use Rattle.fk_core_flat.specs.Items as w
 use Rattle.fk_core_flat.specs.Items.{Item, jump, act, Has, Way, way_of, goes_away, aim}
 use Rattle.fk_core_flat.specs.Flat.{begins_here, skip, gap, extent, label, flat}
@@ -16,7 +16,7 @@ use Rattle.fk_core_flat.specs.Shape.{is_done, is_closed, IsShaped}
 use Rattle.fk_core_flat.proofs.Having.{has_front, has_back}
 use Rattle.fk_core_flat.proofs.Lengths.{skips, flat_length, begins_at}
 use Rattle.fk_core_flat.proofs.Parts.{choice_at, turns_at, rounds_at, entering_at, has_choice, has_turns, has_rounds, has_entering}
-use Rattle.fk_core_flat.proofs.Standing.{no_extent, both_true, at_gap, opening_is_shaped, opening_begins, behind_opening, behind_jump_at}
+use Rattle.fk_core_flat.proofs.CodeAt.{no_extent, both_true, at_gap, opening_is_shaped, opening_begins, behind_opening, behind_jump_at}
 use Rattle.fk_core_typing.specs.Heights.{raised, height, HasHeights}
 use Rattle.fk_core_typing.proofs.Done.{by_done}
 use Rattle.fk_core_typing.proofs.System.{System, GrantsLoop, Judged, IsLawful}

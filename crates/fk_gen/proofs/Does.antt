@@ -25,7 +25,7 @@ use Rattle.fk_sim_nodes.specs.Alone.{Holds, IsAt, RunsPrivately, later, in_cycle
 use Rattle.fk_sim_nodes.proofs.InPlace.{step_at}
 use Rattle.fk_sim_block.specs.Owner.{Commons, Owner, Doing, number_of, owner_of, commons_of, found, as_part, part, core_source}
 use Rattle.fk_sim_block.specs.Stands.{Places, StandsFor, StandsAt}
-use Rattle.fk_sim_block.specs.Next.{StandsOp, step_at as step_of}
+use Rattle.fk_sim_block.specs.Next.{OpAt, step_at as step_of}
 use Rattle.fk_sim_block.specs.Block.{Enters, Does, most_before, most_behind}
 use Rattle.fk_sim_block.proofs.Standing.{operations_are_next}
 use Rattle.fk_asm.specs.Block.{MarkedLine}
@@ -55,7 +55,7 @@ module _ (core : List CoreOp) (image : Image) (places : Places) where
     heap = p.heap;
   }
 
-  pub local_part : (setting : Setting) (i : ℕ) (op : CoreOp) (operation : Operation) (s : Commons) (p : Owner) → StandsOp core i op operation
+  pub local_part : (setting : Setting) (i : ℕ) (op : CoreOp) (operation : Operation) (s : Commons) (p : Owner) → OpAt core i op operation
       → class_of operation ≡ Local → p.runner.left.at ≡ i → part core setting 1 s p ≡ Passes s (local_doing setting i op operation p)
   local_part setting i op operation s p stands kind e =
       let step = step_of core i op operation p.runner.left.callers in
@@ -64,7 +64,7 @@ module _ (core : List CoreOp) (image : Image) (places : Places) where
 
   -- one that commits with its first instruction, and then runs privately to where its processor goes on
   pub local_does_by : (setting : Setting) (t : MachineSetting) (i : ℕ) (op : CoreOp) (operation : Operation) (p : Owner) (h : Hart)
-      → StandsOp core i op operation → class_of operation ≡ Local → Enters core image places setting t i op operation p h
+      → OpAt core i op operation → class_of operation ≡ Local → Enters core image places setting t i op operation p h
       → (first : Instruction) (r : Reached) → IsAt image (places.block i) first 1 → CanRun first r h
       → (behind : ℕ) → behind ≤ most_behind → (h' : Hart)
       → RunsPrivately image (later t) (number_of p) behind (after (told_of t (number_of p)) first r h) h'
@@ -113,7 +113,7 @@ module _ (core : List CoreOp) (image : Image) (places : Places) where
 
   -- one whose lines run straight on to the next block
   pub local_does : (bound : ℕ → ℕ) (setting : Setting) (t : MachineSetting) (i : ℕ) (op : CoreOp) (operation : Operation) (p : Owner) (h : Hart)
-      → StandsOp core i op operation → class_of operation ≡ Local → Enters core image places setting t i op operation p h
+      → OpAt core i op operation → class_of operation ≡ Local → Enters core image places setting t i op operation p h
       → (first : Instruction) (r : Reached) (rest : Quiets) → HasBlock image bound places i (commits first ∷ quiet_lines rest)
       → length rest ≤ most_behind → CanWalk (told_of t (number_of p)) ((first, r) ∷ rest) h
       → (follows core operation i op.target p.runner.left.callers (is_onward operation p.runner.has)).at ≡ suc i
@@ -143,7 +143,7 @@ module _ (core : List CoreOp) (image : Image) (places : Places) where
     heap = store.heaps (number_of p);
   }
 
-  pub asks : (setting : Setting) (i : ℕ) (op : CoreOp) (operation : Operation) (s : Commons) (p : Owner) → StandsOp core i op operation
+  pub asks : (setting : Setting) (i : ℕ) (op : CoreOp) (operation : Operation) (s : Commons) (p : Owner) → OpAt core i op operation
       → class_of operation ≡ Request → p.runner.left.at ≡ i
       → part core setting 1 s p
       ≡ as_part (number_of p) (answered (step_of core i op operation p.runner.left.callers) p.runner.has (serve (request operation p.runner.has) (found s p.heap) (number_of p)))
@@ -154,7 +154,7 @@ module _ (core : List CoreOp) (image : Image) (places : Places) where
       ∙ ap (λ c. as_part (number_of p) (let b = do_local (next core) setting a c step in request_phase (found s p.heap) b b.due)) kind
       ∙ ap (λ c. as_part (number_of p) (do_request (found s p.heap) a c step)) kind
 
-  pub served_part : (setting : Setting) (i : ℕ) (op : CoreOp) (operation : Operation) (s : Commons) (p : Owner) → StandsOp core i op operation
+  pub served_part : (setting : Setting) (i : ℕ) (op : CoreOp) (operation : Operation) (s : Commons) (p : Owner) → OpAt core i op operation
       → class_of operation ≡ Request → p.runner.left.at ≡ i → (store : Store) (answer : ℕ)
       → serve (request operation p.runner.has) (found s p.heap) (number_of p) ≡ Served store answer
       → part core setting 1 s p ≡ Passes (commons_of store) (request_doing i op operation p store answer)
@@ -162,7 +162,7 @@ module _ (core : List CoreOp) (image : Image) (places : Places) where
       asks setting i op operation s p stands kind e
       ∙ ap (λ a. as_part (number_of p) (answered (step_of core i op operation p.runner.left.callers) p.runner.has a)) f
 
-  pub refused_part : (setting : Setting) (i : ℕ) (op : CoreOp) (operation : Operation) (s : Commons) (p : Owner) → StandsOp core i op operation
+  pub refused_part : (setting : Setting) (i : ℕ) (op : CoreOp) (operation : Operation) (s : Commons) (p : Owner) → OpAt core i op operation
       → class_of operation ≡ Request → p.runner.left.at ≡ i → (kind : FaultKind)
       → serve (request operation p.runner.has) (found s p.heap) (number_of p) ≡ Refused kind
       → part core setting 1 s p ≡ Breaks op.site
@@ -198,7 +198,7 @@ module _ (core : List CoreOp) (image : Image) (places : Places) where
 
   -- a request that commits after private instructions
   pub request_does_by : (setting : Setting) (t : MachineSetting) (i : ℕ) (op : CoreOp) (operation : Operation) (p : Owner) (h : Hart)
-      → StandsOp core i op operation → class_of operation ≡ Request → Enters core image places setting t i op operation p h
+      → OpAt core i op operation → class_of operation ≡ Request → Enters core image places setting t i op operation p h
       → (before behind : ℕ) → before ≤ most_before → behind ≤ most_behind → (h1 : Hart) → RunsPrivately image t (number_of p) before h h1
       → (k : ℕ) (c : Instruction) → IsAt image k c 1 → h1.pc ≡ 4 * k → h1.ended ≡ false
       → (Also : Hart → Type 0) → ((s : Commons) → Answers setting (in_cycles before t) i op operation p c behind h1 Also s)

@@ -1,6 +1,7 @@
 -- Lines in an image, each label bound to a word.
 use Rattle.std.specs.Prelude.{◌≡◌, ℕ, suc, ◌+◌, ◌≤◌, List, [], ◌∷◌, length, Option, Some, None}
 use Rattle.std.specs.Option.{option_map_or}
+use Rattle.fk_num.specs.Limits.{most_code_words}
 use Rattle.fk_image.specs.declared.Image.{Image}
 use Rattle.fk_image.specs.Limits.{count_of_word}
 use Rattle.fk_isa.specs.declared.instruction.Instruction.{Instruction}
@@ -32,7 +33,7 @@ LinesAt image bound k (m ∷ ms) =
 -- The labels of the list are those of its places, and all are in the code or right after it.
 pub record HasLabels (bound : ℕ → ℕ) (places : Places) : Type 0 where
   pub blocks : (i : ℕ) → bound (label_of i) ≡ places.block i
-  pub within : (label : ℕ) → bound label ≤ 262144
+  pub within : (label : ℕ) → bound label ≤ most_code_words
 
 -- The block is at an index, and the block of the next index comes right after it.
 pub record HasBlock (image : Image) (bound : ℕ → ℕ) (places : Places) (i : ℕ)

@@ -18,7 +18,7 @@ use Rattle.fk_machine.proofs.Performs.{writes, moves, sw-shared, sw-local}
 use Rattle.fk_sim_nodes.specs.Source.{Part, Passes}
 use Rattle.fk_sim_block.specs.Owner.{Commons, Owner, Doing, number_of, idle, found, as_part}
 use Rattle.fk_sim_block.specs.Stands.{Places, HasRoom, StandsFor, frame_end, top_register}
-use Rattle.fk_sim_block.specs.Next.{StandsOp, step_at as step_of}
+use Rattle.fk_sim_block.specs.Next.{OpAt, step_at as step_of}
 use Rattle.fk_sim_block.specs.Suits.{Fits, Flows, nothing}
 use Rattle.fk_sim_block.specs.Block.{Enters}
 use Rattle.fk_gen.specs.Lines.{at_value}
@@ -36,7 +36,7 @@ use Rattle.fk_gen_access.proofs.Operands.{IsFound, last_found, earlier_found}
 use Rattle.fk_gen_access.proofs.Memory.{load, amo, after_amo, read_shared, write_shared, write_private, heap_put}
 
 module _ (core : List CoreOp) (image : Image) (places : Places) (i : ℕ) (op : CoreOp) (setting : Setting) (t : MachineSetting) (p : Owner) (h : Hart) where
-  pub read_does : (bound : ℕ → ℕ) → StandsOp core i op Read → Enters core image places setting t i op Read p h → Fits core places.frames i op Read
+  pub read_does : (bound : ℕ → ℕ) → OpAt core i op Read → Enters core image places setting t i op Read p h → Fits core places.frames i op Read
       → HasBlock image bound places i (lines (read_block op.depth)) → DoesAnd core image places setting t p h 1 1 (Keeps places (length p.runner.has.callers) op.depth nothing h)
   read_does bound op_at en fits has =
       let b = read_block op.depth in
@@ -181,7 +181,7 @@ module _ (core : List CoreOp) (image : Image) (places : Places) (i : ℕ) (op : 
             first.calls second.value _ first.index;
       }
 
-  pub write_does : (bound : ℕ → ℕ) → StandsOp core i op Write → Enters core image places setting t i op Write p h → Fits core places.frames i op Write
+  pub write_does : (bound : ℕ → ℕ) → OpAt core i op Write → Enters core image places setting t i op Write p h → Fits core places.frames i op Write
       → HasBlock image bound places i (lines (write_block op.depth)) → DoesAnd core image places setting t p h 2 1 (Keeps places (length p.runner.has.callers) op.depth nothing h)
   write_does bound op_at en fits has =
       let first = earlier_found core image places i op Write setting t p h en fits (let l = fits.values in omega arith) in
@@ -255,7 +255,7 @@ module _ (core : List CoreOp) (image : Image) (places : Places) (i : ℕ) (op : 
   of_shared_alone a (inl at) = at
   of_shared_alone a (inr (e, at)) = absurd (cc)
 
-  pub combine_does : (by : Multiprefix) (bound : ℕ → ℕ) → StandsOp core i op (Combine by) → Enters core image places setting t i op (Combine by) p h
+  pub combine_does : (by : Multiprefix) (bound : ℕ → ℕ) → OpAt core i op (Combine by) → Enters core image places setting t i op (Combine by) p h
       → Fits core places.frames i op (Combine by)
       → HasBlock image bound places i (lines (combine_block by op.depth)) → DoesAnd core image places setting t p h 2 1 (Keeps places (length p.runner.has.callers) op.depth nothing h)
   combine_does by bound op_at en fits has =

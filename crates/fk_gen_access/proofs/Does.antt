@@ -16,7 +16,7 @@ use Rattle.fk_sim_nodes.specs.Source.{Part, Passes, Breaks, Shows}
 use Rattle.fk_sim_nodes.proofs.InPlace.{step_at}
 use Rattle.fk_sim_block.specs.Owner.{Commons, Owner, Doing, number_of, idle, as_part, phases, core_source}
 use Rattle.fk_sim_block.specs.Stands.{Places, StandsFor}
-use Rattle.fk_sim_block.specs.Next.{StandsOp, step_at as step_of}
+use Rattle.fk_sim_block.specs.Next.{OpAt, step_at as step_of}
 use Rattle.fk_sim_block.specs.Suits.{nothing}
 use Rattle.fk_sim_block.specs.Block.{Enters, most_before, most_behind}
 use Rattle.fk_sim_block.proofs.Standing.{operations_are_next}
@@ -68,7 +68,7 @@ module _ (core : List CoreOp) (image : Image) (places : Places) (i : ℕ) (op : 
   abbrev pub committing_of : Straight → MachineSetting → Hart → Hart
   committing_of b t h = walk_straight (told_of t (number_of p)) b.before h
 
-  pub does : (b : Straight) (bound : ℕ → ℕ) (t : MachineSetting) (h : Hart) → StandsOp core i op operation → Enters core image places setting t i op operation p h
+  pub does : (b : Straight) (bound : ℕ → ℕ) (t : MachineSetting) (h : Hart) → OpAt core i op operation → Enters core image places setting t i op operation p h
       → HasBlock image bound places i (lines b) → length b.before ≤ most_before → length b.behind ≤ most_behind
       → CanWalkStraight (told_of t (number_of p)) b.before h
       → ((s : Commons) → Commits b h (committing_of b t h) s ⊎ Refuses b (committing_of b t h) s)

@@ -12,7 +12,7 @@ use Rattle.fk_machine.specs.Hart.{Hart, Setting as MachineSetting}
 use Rattle.fk_sim_nodes.specs.Source.{Part, Passes}
 use Rattle.fk_sim_block.specs.Owner.{Commons, Owner, Doing, number_of, idle}
 use Rattle.fk_sim_block.specs.Stands.{Places, frame_end}
-use Rattle.fk_sim_block.specs.Next.{StandsOp}
+use Rattle.fk_sim_block.specs.Next.{OpAt}
 use Rattle.fk_sim_block.specs.Suits.{Fits, nothing}
 use Rattle.fk_sim_block.specs.Block.{Enters}
 use Rattle.fk_gen.specs.Lines.{at_value}
@@ -43,7 +43,7 @@ module _ (core : List CoreOp) (image : Image) (places : Places) (i : ℕ) (op : 
   abbrev took : Commons → Processor → Part Commons Doing
   took s q = Passes s (idle (record { runner = record { left = position (suc i) p.runner.left.callers; has = q }; heap = p.heap }))
 
-  pub take_does : (bound : ℕ → ℕ) → StandsOp core i op Take → Enters core image places setting t i op Take p h → Fits core places.frames i op Take
+  pub take_does : (bound : ℕ → ℕ) → OpAt core i op Take → Enters core image places setting t i op Take p h → Fits core places.frames i op Take
       → HasBlock image bound places i (lines (take_block op.depth)) → DoesAnd core image places setting t p h 0 14 (Keeps places (length p.runner.has.callers) op.depth nothing h)
   take_does bound op_at en fits has =
       let b = take_block op.depth in

@@ -17,7 +17,7 @@ use Rattle.fk_machine.proofs.Places.{place_of-out_int}
 use Rattle.fk_sim_nodes.specs.Source.{Passes}
 use Rattle.fk_sim_block.specs.Owner.{Commons, Owner, number_of, idle}
 use Rattle.fk_sim_block.specs.Stands.{Places, frame_end}
-use Rattle.fk_sim_block.specs.Next.{StandsOp}
+use Rattle.fk_sim_block.specs.Next.{OpAt}
 use Rattle.fk_sim_block.specs.Suits.{Fits, Flows, nothing}
 use Rattle.fk_sim_block.specs.Block.{Enters}
 use Rattle.fk_gen_access.specs.Blocks.{lines, print_block, number_device, byte_device}
@@ -41,7 +41,7 @@ sw-out_char t number rs rv imm h s e f = let aligned = eq-eqb _ 0 e in rw (align
 
 -- a device that takes a value, and the bytes that it prints of it
 print_does : (core : List CoreOp) (image : Image) (places : Places) (i : ℕ) (op : CoreOp) (operation : Operation) (setting : Setting) (t : MachineSetting) (p : Owner) (h : Hart)
-    (device : ℕ) (bytes : ℕ → List ℕ) (bound : ℕ → ℕ) → StandsOp core i op operation → Enters core image places setting t i op operation p h
+    (device : ℕ) (bytes : ℕ → List ℕ) (bound : ℕ → ℕ) → OpAt core i op operation → Enters core image places setting t i op operation p h
     → Fits core places.frames i op operation → 0 < op.depth → Flows core places.frames nothing i (suc i)
     → HasBlock image bound places i (lines (print_block device op.depth))
     → ((s : Commons) → part_of core image places i op operation setting p s
@@ -83,14 +83,14 @@ print_does core image places i op operation setting t p h device bytes bound op_
     }))
 
 pub print_number_does : (core : List CoreOp) (image : Image) (places : Places) (i : ℕ) (op : CoreOp) (setting : Setting) (t : MachineSetting) (p : Owner) (h : Hart) (bound : ℕ → ℕ)
-    → StandsOp core i op PrintNumber → Enters core image places setting t i op PrintNumber p h → Fits core places.frames i op PrintNumber
+    → OpAt core i op PrintNumber → Enters core image places setting t i op PrintNumber p h → Fits core places.frames i op PrintNumber
     → HasBlock image bound places i (lines (print_block number_device op.depth)) → DoesAnd core image places setting t p h 1 0 (Keeps places (length p.runner.has.callers) op.depth nothing h)
 print_number_does core image places i op setting t p h bound op_at en fits has =
     print_does core image places i op PrintNumber setting t p h number_device signed_line bound op_at en fits (let l = fits.values in omega arith) (fits.goes_on true) has
     (λ s. refl) (λ t' g sh e. sw-out_int t' (number_of p) 26 5 0 g sh (omega arith) (ap (λ a. place_of (word_sum a 0)) e ∙ place_of-out_int))
 
 pub print_byte_does : (core : List CoreOp) (image : Image) (places : Places) (i : ℕ) (op : CoreOp) (setting : Setting) (t : MachineSetting) (p : Owner) (h : Hart) (bound : ℕ → ℕ)
-    → StandsOp core i op PrintByte → Enters core image places setting t i op PrintByte p h → Fits core places.frames i op PrintByte
+    → OpAt core i op PrintByte → Enters core image places setting t i op PrintByte p h → Fits core places.frames i op PrintByte
     → HasBlock image bound places i (lines (print_block byte_device op.depth)) → DoesAnd core image places setting t p h 1 0 (Keeps places (length p.runner.has.callers) op.depth nothing h)
 print_byte_does core image places i op setting t p h bound op_at en fits has =
     print_does core image places i op PrintByte setting t p h byte_device (λ v. v % 256 ∷ []) bound op_at en fits (let l = fits.values in omega arith) (fits.goes_on true) has

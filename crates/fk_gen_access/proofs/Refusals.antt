@@ -21,7 +21,7 @@ use Rattle.fk_sim_nodes.specs.Alone.{Holds, IsAt, IsPrivateIn, RunsPrivately, in
 use Rattle.fk_asm.specs.Block.{MarkedLine}
 use Rattle.fk_sim_block.specs.Owner.{Commons, Owner, number_of, found}
 use Rattle.fk_sim_block.specs.Stands.{Places, frame_end, local_address}
-use Rattle.fk_sim_block.specs.Next.{StandsOp}
+use Rattle.fk_sim_block.specs.Next.{OpAt}
 use Rattle.fk_sim_block.specs.Suits.{Fits, nothing}
 use Rattle.fk_sim_block.specs.Block.{Enters}
 use Rattle.fk_gen.specs.InPlace.{HasBlock, LinesAt}
@@ -169,7 +169,7 @@ module _ (core : List CoreOp) (image : Image) (places : Places) (i : ℕ) (op : 
   KeepsMost h' = Keeps places (length p.runner.has.callers) op.depth nothing h h'
 
   pub record IsHere (alone : Bool) : Type 0 where
-    pub at : StandsOp core i op (Check alone)
+    pub at : OpAt core i op (Check alone)
     pub enters : Enters core image places setting t i op (Check alone) p h
     pub fits : Fits core places.frames i op (Check alone)
 
@@ -395,7 +395,7 @@ module _ (core : List CoreOp) (image : Image) (places : Places) (i : ℕ) (op : 
       split.1 (omega arith) tested.shared tested.heap
       (checks alone a (last_is_word (values p.runner.has) en.ready.in_range.values)))
 
-  pub check_does : (alone : Bool) (bound : ℕ → ℕ) → StandsOp core i op (Check alone) → Enters core image places setting t i op (Check alone) p h
+  pub check_does : (alone : Bool) (bound : ℕ → ℕ) → OpAt core i op (Check alone) → Enters core image places setting t i op (Check alone) p h
       → Fits core places.frames i op (Check alone) → op.site < 2 ^ 32
       → HasBlock image bound places i (check_block alone op.depth op.site) → DoesAnd core image places setting t p h (before_commit (Check alone) op.site) 0 KeepsMost
   check_does alone bound op_at en fits few has =

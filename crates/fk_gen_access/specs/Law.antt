@@ -4,7 +4,7 @@ use Rattle.fk_meaning_operation.specs.declared.operation.Operation.{Operation}
 use Rattle.fk_core.specs.declared.op.CoreOp.{CoreOp}
 use Rattle.fk_image.specs.declared.Image.{Image}
 use Rattle.fk_sim_block.specs.Stands.{Places}
-use Rattle.fk_sim_block.specs.Next.{StandsOp}
+use Rattle.fk_sim_block.specs.Next.{OpAt}
 use Rattle.fk_sim_block.specs.Suits.{Fits}
 use Rattle.fk_sim_block.specs.Block.{BlockDoes}
 use Rattle.fk_gen.specs.InPlace.{HasBlock}
@@ -16,7 +16,7 @@ abbrev pub AccessBlocksDo : Type 0
 AccessBlocksDo =
     (core : List CoreOp) (image : Image) (bound : ℕ → ℕ) (places : Places) (i : ℕ) (op : CoreOp)
     (operation : Operation)
-    → StandsOp core i op operation → is_access (Some operation) ≡ true → op.site < 2 ^ 32
+    → OpAt core i op operation → is_access (Some operation) ≡ true → op.site < 2 ^ 32
     → HasBlock image bound places i (block_of (Some operation) op.depth op.site)
     → Fits core places.frames i op operation
     → BlockDoes core image places i op operation
@@ -26,7 +26,7 @@ abbrev pub AccessBlocksKeep : Type 0
 AccessBlocksKeep =
     (core : List CoreOp) (image : Image) (bound : ℕ → ℕ) (places : Places) (i : ℕ) (op : CoreOp)
     (operation : Operation)
-    → StandsOp core i op operation → is_access (Some operation) ≡ true → op.site < 2 ^ 32
+    → OpAt core i op operation → is_access (Some operation) ≡ true → op.site < 2 ^ 32
     → HasBlock image bound places i (block_of (Some operation) op.depth op.site)
     → Fits core places.frames i op operation
     → BlockDoesBy core image places (before_commit operation op.site)

@@ -24,7 +24,7 @@ use Rattle.fk_isa.specs.declared.instruction.Instruction.TheVariants.{Lui, Addi,
 use Rattle.fk_machine.specs.Hart.{Hart, Setting as MachineSetting}
 use Rattle.fk_sim_block.specs.Owner.{Owner, number_of, owner_of}
 use Rattle.fk_sim_block.specs.Stands.{Places, HasRoom, frame_end, frame_start, local_address, StandsFor}
-use Rattle.fk_sim_block.specs.Next.{StandsOp}
+use Rattle.fk_sim_block.specs.Next.{OpAt}
 use Rattle.fk_sim_block.specs.Suits.{Fits, Flows, writes}
 use Rattle.fk_sim_block.specs.Block.{Enters}
 use Rattle.fk_gen.specs.InPlace.{HasBlock}
@@ -65,7 +65,7 @@ module _ (core : List CoreOp) (image : Image) (places : Places) (bound : ℕ →
 
   -- the operation at the index, its block, and a hart that stands there
   pub record Here (operation : Operation) : Type 0 where
-    pub at : StandsOp core i op operation
+    pub at : OpAt core i op operation
     pub is : IsExpression globals d operation
     pub block : HasBlock image bound places i (expression_block globals d operation)
     pub few : places.frames.of_file ≤ 56

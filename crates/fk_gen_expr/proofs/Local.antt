@@ -12,7 +12,7 @@ use Rattle.fk_isa.specs.declared.instruction.Instruction.{Instruction}
 use Rattle.fk_machine.specs.Hart.{Hart, Setting as MachineSetting}
 use Rattle.fk_sim_block.specs.Owner.{Owner, number_of, owner_of}
 use Rattle.fk_sim_block.specs.Stands.{Places, StandsFor}
-use Rattle.fk_sim_block.specs.Next.{StandsOp}
+use Rattle.fk_sim_block.specs.Next.{OpAt}
 use Rattle.fk_sim_block.specs.Block.{Enters}
 use Rattle.fk_gen.specs.Lines.{quiet, commits}
 use Rattle.fk_gen.specs.InPlace.{HasBlock}
@@ -62,7 +62,7 @@ lines_behind l ls = sym (ap length (quiet_lines-instructions ls) ∙ quiet_lengt
 -- its operation, and something more holds
 pub code_does : (core : List CoreOp) (image : Image) (places : Places) (bound : ℕ → ℕ) (i : ℕ) (op : CoreOp) (operation : Operation)
     (setting : Setting) (t : MachineSetting) (p : Owner) (h : Hart) (code : Quiets) (Also : Hart → Type 0)
-    → StandsOp core i op operation → Enters core image places setting t i op operation p h
+    → OpAt core i op operation → Enters core image places setting t i op operation p h
     → HasBlock image bound places i (first_commits (instructions_of code))
     → 0 < length code → length code ≤ 100
     → IsLocal core i op operation p

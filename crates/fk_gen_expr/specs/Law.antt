@@ -4,7 +4,7 @@ use Rattle.fk_meaning_operation.specs.declared.operation.Operation.{Operation}
 use Rattle.fk_core.specs.declared.op.CoreOp.{CoreOp}
 use Rattle.fk_image.specs.declared.Image.{Image}
 use Rattle.fk_sim_block.specs.Stands.{Places}
-use Rattle.fk_sim_block.specs.Next.{StandsOp}
+use Rattle.fk_sim_block.specs.Next.{OpAt}
 use Rattle.fk_sim_block.specs.Suits.{Fits}
 use Rattle.fk_sim_block.specs.Block.{BlockDoes}
 use Rattle.fk_gen.specs.InPlace.{HasBlock}
@@ -17,7 +17,7 @@ abbrev pub ExpressionsDo : Type 0
 ExpressionsDo =
     (core : List CoreOp) (image : Image) (places : Places) (bound : ℕ → ℕ) (i : ℕ) (op : CoreOp)
     (operation : Operation)
-    → StandsOp core i op operation
+    → OpAt core i op operation
     → IsExpression (length image.globals.items) op.depth operation
     → HasBlock image bound places i
     (expression_block (length image.globals.items) op.depth operation)
@@ -31,7 +31,7 @@ abbrev pub ExpressionsKeep : Type 0
 ExpressionsKeep =
     (core : List CoreOp) (image : Image) (places : Places) (bound : ℕ → ℕ) (i : ℕ) (op : CoreOp)
     (operation : Operation)
-    → StandsOp core i op operation
+    → OpAt core i op operation
     → IsExpression (length image.globals.items) op.depth operation
     → HasBlock image bound places i
     (expression_block (length image.globals.items) op.depth operation)

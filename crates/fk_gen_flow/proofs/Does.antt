@@ -20,7 +20,7 @@ use Rattle.fk_sim_nodes.specs.Source.{Passes}
 use Rattle.fk_sim_nodes.proofs.InPlace.{step_at}
 use Rattle.fk_sim_block.specs.Owner.{Commons, Owner, Doing, owner_of, number_of, part}
 use Rattle.fk_sim_block.specs.Stands.{Places, StandsAt, StandsFor, HasFrame, frame_end}
-use Rattle.fk_sim_block.specs.Next.{StandsOp, step_at as step_of}
+use Rattle.fk_sim_block.specs.Next.{OpAt, step_at as step_of}
 use Rattle.fk_sim_block.specs.Suits.{Fits, Flows, nothing, writes as changes}
 use Rattle.fk_sim_block.specs.Block.{HasDone, BlockJumps, BlockHalts, most_behind}
 use Rattle.fk_sim_block.proofs.Standing.{operations_are_next}
@@ -148,11 +148,11 @@ module _ (core : List CoreOp) (image : Image) (bound : ℕ → ℕ) (places : Pl
   kept : (p : Owner) (h : Hart) (v pc : ℕ) → Keeps places (length p.runner.has.callers) op.depth (changes (Branch onward)) h (record (writes h 5 v) { pc = pc })
   kept p h v pc = record { node = refl; body = refl; frames = refl; blocks = refl; header = λ j lt. refl; words = λ j from lt apart. refl }
 
-  branch_way : HasBlock image bound places i (branch_block onward op.depth op.target) → StandsOp core i op (Branch onward) → Fits core places.frames i op (Branch onward)
+  branch_way : HasBlock image bound places i (branch_block onward op.depth op.target) → OpAt core i op (Branch onward) → Fits core places.frames i op (Branch onward)
       → (setting : Setting) (t : MachineSetting) (p : Owner) (h : Hart) → Holds image t → p.runner.left.at ≡ i → length (values p.runner.has) ≡ op.depth → length p.runner.has.callers < 256
       → StandsAt places p h → (way : Bool) → is_onward (Branch onward) p.runner.has ≡ way
       → DoesAnd core image places setting t p h 0 (if way then 1 else 2) (Keeps places (length p.runner.has.callers) op.depth (changes (Branch onward)) h)
-  branch_way block stands_op fits setting t p h holds e depth waiting at true on =
+  branch_way block op_at fits setting t p h holds e depth waiting at true on =
       let number = number_of p in
       let n = length p.runner.has.callers in
       let k = places.block i in
@@ -168,7 +168,7 @@ module _ (core : List CoreOp) (image : Image) (bound : ℕ → ℕ) (places : Pl
       let goes : goes_on onward (h.local (frame_end n - op.depth)) ≡ true = ap (goes_on onward) value ∙ sym (is_goes_on onward p) ∙ on in
       let here : word_sum h1.pc 8 ≡ 4 * places.block (suc i) = let a = about1.at in let b = l1.within in omega (arith, block.next) in
       lw_does core image places setting t p h (branched p true) (Keeps places n op.depth (changes (Branch onward)) h) k 5 9 _ _ 1 about l0 is (omega arith)
-      (λ s. operations_are_next core i op (Branch onward) setting s p stands_op e ∙ ap (λ w. Passes s (branched p w)) on)
+      (λ s. operations_are_next core i op (Branch onward) setting s p op_at e ∙ ap (λ w. Passes s (branched p w)) on)
       (first image (later t) number 0 (suc k) _ h1 (record h1 { pc = word_sum h1.pc 8 }) (HasBranched p true h) about1 l1
       (λ s. (s.reserved, passed onward (later t) number h1 s at.stands.nought goes (omega (arith, here))))
       (there image _ number _ (HasBranched p true h) (
@@ -182,7 +182,7 @@ module _ (core : List CoreOp) (image : Image) (bound : ℕ → ℕ) (places : Pl
         },
         kept p h (h.local (frame_end n - op.depth)) (word_sum h1.pc 8),
       )))
-  branch_way block stands_op fits setting t p h holds e depth waiting at false on =
+  branch_way block op_at fits setting t p h holds e depth waiting at false on =
       let number = number_of p in
       let n = length p.runner.has.callers in
       let k = places.block i in
@@ -200,7 +200,7 @@ module _ (core : List CoreOp) (image : Image) (bound : ℕ → ℕ) (places : Pl
       let about2 : IsAbout image (later (later t)) (suc (suc k)) (moves h1) = record { code = holds; live = at.live; at = next_word h1.pc (suc k) about1.at l1.within } in
       let target = bound (label_of op.target) in
       lw_does core image places setting t p h (branched p false) (Keeps places n op.depth (changes (Branch onward)) h) k 5 9 _ _ 2 about l0 is (omega arith)
-      (λ s. operations_are_next core i op (Branch onward) setting s p stands_op e ∙ ap (λ w. Passes s (branched p w)) on)
+      (λ s. operations_are_next core i op (Branch onward) setting s p op_at e ∙ ap (λ w. Passes s (branched p w)) on)
       (first image (later t) number 1 (suc k) _ h1 (moves h1) (HasBranched p false h) about1 l1
       (λ s. (s.reserved, not_passed onward (later t) number h1 s at.stands.nought goes))
       (first image (later (later t)) number 0 (suc (suc k)) _ (moves h1) (jumps (moves h1) 0 (4 * target)) (HasBranched p false h) about2 l2
@@ -217,16 +217,16 @@ module _ (core : List CoreOp) (image : Image) (bound : ℕ → ℕ) (places : Pl
         kept p h (h.local (frame_end n - op.depth)) (4 * target),
       ))))
 
-  pub branch_keeps : HasBlock image bound places i (branch_block onward op.depth op.target) → StandsOp core i op (Branch onward) → Fits core places.frames i op (Branch onward)
+  pub branch_keeps : HasBlock image bound places i (branch_block onward op.depth op.target) → OpAt core i op (Branch onward) → Fits core places.frames i op (Branch onward)
       → BlockKeeps core image places 0 (λ way. if way then 1 else 2) i op (Branch onward)
-  branch_keeps block stands_op fits setting t p h enters =
-      branch_way block stands_op fits setting t p h enters.running.code enters.index enters.ready.depth enters.ready.in_range.waiting enters.at _ refl
+  branch_keeps block op_at fits setting t p h enters =
+      branch_way block op_at fits setting t p h enters.running.code enters.index enters.ready.depth enters.ready.in_range.waiting enters.at _ refl
 
 -- ---- halts
 
-pub halt_does : (core : List CoreOp) (image : Image) (bound : ℕ → ℕ) (places : Places) (i : ℕ) (op : CoreOp) → HasBlock image bound places i halt_block → StandsOp core i op Halt
+pub halt_does : (core : List CoreOp) (image : Image) (bound : ℕ → ℕ) (places : Places) (i : ℕ) (op : CoreOp) → HasBlock image bound places i halt_block → OpAt core i op Halt
     → BlockHalts core image places i op
-halt_does core image bound places i op block stands_op setting t p h enters =
+halt_does core image bound places i op block op_at setting t p h enters =
     let number = number_of p in
     let about = about_block image bound places t p h i enters.running.code enters.index enters.at in
     let l0 = block.lines.0 in
@@ -244,7 +244,7 @@ halt_does core image bound places i op block stands_op setting t p h enters =
             hart = record (moves h) { ended = true };
             store = s;
             done = record { acting = taking p.runner (Some (step_of core i op Halt p.runner.left.callers)); heap = p.heap };
-            part = operations_are_next core i op Halt setting s p stands_op enters.index;
+            part = operations_are_next core i op Halt setting s p op_at enters.index;
             goes = λ earlier sh shows. (
               sh,
               step_at image (places.block i) 1 _ l0 t enters.running.code number h sh about.at

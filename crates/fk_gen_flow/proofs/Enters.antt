@@ -25,7 +25,7 @@ use Rattle.fk_sim_nodes.specs.Source as nodes
 use Rattle.fk_sim_nodes.proofs.InPlace.{step_at}
 use Rattle.fk_sim_block.specs.Owner.{Commons, Owner, Doing, number_of, part, as_part, found}
 use Rattle.fk_sim_block.specs.Stands.{Places, StandsAt, HasFrame, HasRoom, frame_end, frame_start, local_address}
-use Rattle.fk_sim_block.specs.Next.{StandsOp, step_at as step_of}
+use Rattle.fk_sim_block.specs.Next.{OpAt, step_at as step_of}
 use Rattle.fk_sim_block.specs.Suits.{Fits, nothing}
 use Rattle.fk_sim_block.specs.Block.{Enters, HasDone}
 use Rattle.fk_sim_block.proofs.Standing.{operations_are_next}
@@ -191,14 +191,14 @@ all_take clears n =
 module _ (core : List CoreOp) (image : Image) (bound : ℕ → ℕ) (places : Places) (i : ℕ) (op : CoreOp) (n : ℕ) (clears : Bool) (back : ℕ)
     (few : places.frames.of_file ≤ 56) (small : op.site < 2 ^ 32) (shared : HasShared image bound)
     (block : HasBlock image bound places i (enter_block clears n op.depth op.site back)) (point : places.returns i ≡ Some (return_in core places.block i))
-    (stands_op : StandsOp core i op (Enter n)) (fits : Fits core places.frames i op (Enter n)) (enough : ClearsEnough places.frames i clears (Enter n)) where
+    (op_at : OpAt core i op (Enter n)) (fits : Fits core places.frames i op (Enter n)) (enough : ClearsEnough places.frames i clears (Enter n)) where
   -- what becomes of the depth
   answer_of : (p : Owner) → Commons → Bool → nodes.Part Commons Doing
   answer_of p s b = as_part (number_of p) (answered (step_of core i op (Enter n) p.runner.left.callers) p.runner.has (if b then Served (found s p.heap) 0 else Refused CallDepth))
 
   asked : (setting : Setting) (s : Commons) (p : Owner) (b : Bool) → p.runner.left.at ≡ i → nat_lt (suc (length p.runner.has.callers)) 256 ≡ b → part core setting 1 s p ≡ answer_of p s b
   unfolding answer_of
-  asked setting s p b e is = operations_are_next core i op (Enter n) setting s p stands_op e ∙ ap (answer_of p s) is
+  asked setting s p b e is = operations_are_next core i op (Enter n) setting s p op_at e ∙ ap (answer_of p s) is
 
   served : (setting : Setting) (s : Commons) (p : Owner) → p.runner.left.at ≡ i → length p.runner.has.callers < 255 → part core setting 1 s p ≡ nodes.Passes s (entering core image bound places i op n clears p)
   unfolding answer_of

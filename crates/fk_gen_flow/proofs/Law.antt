@@ -1,5 +1,5 @@
 -- The laws of the blocks, from what each block does.
-use Rattle.std.proofs.Common.{◌≡◌, ℕ, ◌^◌, ◌<◌, ◌≤◌, List, Bool, true, false, Some, ap, subst, ◌∙◌, arith}
+use Rattle.std.proofs.Common.{◌≡◌, ℕ, ◌^◌, ◌<◌, ◌≤◌, List, Bool, true, false, Some, ap, subst, ◌∙◌}
 use Rattle.std.specs.Prelude.{if◌then◌else◌}
 use Rattle.fk_meaning_operation.specs.declared.operation.Operation.{Operation}
 use Rattle.fk_meaning_operation.specs.declared.operation.Operation.TheVariants.{Branch, Leave, Enter, Halt}
@@ -8,7 +8,7 @@ use Rattle.fk_core.specs.Next.{is_jump}
 use Rattle.fk_core.specs.Numbers.{operation_of}
 use Rattle.fk_image.specs.declared.Image.{Image}
 use Rattle.fk_sim_block.specs.Stands.{Places}
-use Rattle.fk_sim_block.specs.Next.{StandsOp}
+use Rattle.fk_sim_block.specs.Next.{OpAt}
 use Rattle.fk_sim_block.specs.Ready.{is_alone}
 use Rattle.fk_sim_block.specs.Suits.{Fits}
 use Rattle.fk_gen.specs.InPlace.{HasBlock}
@@ -29,7 +29,7 @@ never e = absurd (cc)
 pub block_of_jump : (clears : Bool) (back : ℕ) (op : CoreOp) → is_jump op ≡ true → flow_block clears back op ≡ jump_block op.target
 block_of_jump clears back op e = ap (λ b. if b then jump_block op.target else block_by clears back op (operation_of op.kind op.number)) e
 
-pub block_of_operation : (core : List CoreOp) (i : ℕ) (op : CoreOp) (operation : Operation) (clears : Bool) (back : ℕ) → StandsOp core i op operation
+pub block_of_operation : (core : List CoreOp) (i : ℕ) (op : CoreOp) (operation : Operation) (clears : Bool) (back : ℕ) → OpAt core i op operation
     → flow_block clears back op ≡ block_by clears back op (Some operation)
 block_of_operation core i op operation clears back at =
     ap (λ b. if b then jump_block op.target else block_by clears back op (operation_of op.kind op.number)) at.no_jump ∙ ap (block_by clears back op) at.is_read
@@ -46,7 +46,7 @@ harts_begin core image places bound firsts main opening are is_main setting t nu
     (begins_in_root core image bound places firsts main opening are is_main setting t number running).begins
 
 keeps : (core : List CoreOp) (image : Image) (places : Places) (bound : ℕ → ℕ) (i : ℕ) (op : CoreOp) (operation : Operation) (clears : Bool) (back : ℕ)
-    → StandsOp core i op operation → is_alone operation ≡ true → is_flow operation ≡ true → op.site < 2 ^ 32
+    → OpAt core i op operation → is_alone operation ≡ true → is_flow operation ≡ true → op.site < 2 ^ 32
     → HasBlock image bound places i (block_by clears back op (Some operation)) → HasShared image bound → CallsReturn core image bound places
     → places.frames.of_file ≤ 56 → Fits core places.frames i op operation → ClearsEnough places.frames i clears operation
     → BlockKeeps core image places (before_commit operation) (behind_commit clears operation) i op operation

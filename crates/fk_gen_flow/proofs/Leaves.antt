@@ -14,7 +14,7 @@ use Rattle.fk_sim_nodes.specs.Alone.{later}
 use Rattle.fk_sim_nodes.specs.Source.{Passes}
 use Rattle.fk_sim_block.specs.Owner.{Commons, Owner, Doing, number_of, part}
 use Rattle.fk_sim_block.specs.Stands.{Places, StandsAt, HasRoom, HasValues, frame_end, frame_start, local_address}
-use Rattle.fk_sim_block.specs.Next.{StandsOp}
+use Rattle.fk_sim_block.specs.Next.{OpAt}
 use Rattle.fk_sim_block.specs.Suits.{Fits}
 use Rattle.fk_sim_block.specs.Block.{HasDone}
 use Rattle.fk_sim_block.proofs.Standing.{operations_are_next}
@@ -100,10 +100,10 @@ module _ (core : List CoreOp) (image : Image) (bound : ℕ → ℕ) (places : Pl
   ended p m l =
       left_by p (position l.back l.backs') (record (p.runner.has) { call = handed gives (last (values p.runner.has)) l.call; callers = l.calls' })
 
-  ended_part : (setting : Setting) (p : Owner) (m : Memory) (l : Last places m p.runner.left.callers p.runner.has.callers) → StandsOp core i op (Leave gives false) → p.runner.left.at ≡ i
+  ended_part : (setting : Setting) (p : Owner) (m : Memory) (l : Last places m p.runner.left.callers p.runner.has.callers) → OpAt core i op (Leave gives false) → p.runner.left.at ≡ i
       → (s : Commons) → part core setting 1 s p ≡ Passes s (ended p m l)
-  ended_part setting p m l stands_op e s =
-      operations_are_next core i op (Leave gives false) setting s p stands_op e
+  ended_part setting p m l op_at e s =
+      operations_are_next core i op (Leave gives false) setting s p op_at e
       ∙ ap (λ backs. Passes s (left_by p (returned core backs) (to_caller gives (last (values p.runner.has)) p.runner.has p.runner.has.callers))) l.are_backs
       ∙ ap (λ calls. Passes s (left_by p (position l.back l.backs') (to_caller gives (last (values p.runner.has)) p.runner.has calls))) l.are_calls
 
@@ -157,9 +157,9 @@ module _ (core : List CoreOp) (image : Image) (bound : ℕ → ℕ) (places : Pl
 
 module _ (core : List CoreOp) (image : Image) (bound : ℕ → ℕ) (places : Places) (i : ℕ) (op : CoreOp) (few : places.frames.of_file ≤ 56) (calls : CallsReturn core image bound places) where
   -- without a value
-  leave_without : HasBlock image bound places i (leave_block false op.depth) → StandsOp core i op (Leave false false)
+  leave_without : HasBlock image bound places i (leave_block false op.depth) → OpAt core i op (Leave false false)
       → BlockKeeps core image places 0 (λ way. 4) i op (Leave false false)
-  leave_without block stands_op setting t p h enters =
+  leave_without block op_at setting t p h enters =
       let number = number_of p in
       let at = enters.at in
       let stands = at.stands in
@@ -178,7 +178,7 @@ module _ (core : List CoreOp) (image : Image) (bound : ℕ → ℕ) (places : Pl
       let target = bound (label_of l.back) in
       let Goal : Hart → Type 0 = λ h'. HasDone core image places (ended core image bound places i op false p h.local l) h' × KeepsBelow (result_word p.runner.has.callers) h h' in
       lw_does core image places setting t p h (ended core image bound places i op false p h.local l) (KeepsBelow (result_word p.runner.has.callers) h) k 6 8 0 w 4 about block.lines.0 (near_word (64 * suc m) 0 w (h.registers 8) 0 start refl (omega arith) (omega arith)) (omega arith)
-      (ended_part core image bound places i op false setting p h.local l stands_op enters.index)
+      (ended_part core image bound places i op false setting p h.local l op_at enters.index)
       (returning_comes image bound (later t) number (suc k) (w + 1) l.returns.word l.back h1 Goal about1 block.lines.1 jump (near_word (64 * suc m) 1 (w + 1) (h.registers 8) 4 start refl (omega arith) (omega arith)) l.returns.code
       (block.labels.within (label_of l.back)) (
         ended_stands core image bound places i op false p h (back_to h1 (w + 1) l.returns.word target) l r at
@@ -188,9 +188,9 @@ module _ (core : List CoreOp) (image : Image) (bound : ℕ → ℕ) (places : Pl
       ))
 
   -- with one
-  leave_with : HasBlock image bound places i (leave_block true op.depth) → StandsOp core i op (Leave true false) → Fits core places.frames i op (Leave true false)
+  leave_with : HasBlock image bound places i (leave_block true op.depth) → OpAt core i op (Leave true false) → Fits core places.frames i op (Leave true false)
       → BlockKeeps core image places 0 (λ way. 7) i op (Leave true false)
-  leave_with block stands_op fits setting t p h enters =
+  leave_with block op_at fits setting t p h enters =
       let number = number_of p in
       let at = enters.at in
       let stands = at.stands in
@@ -231,7 +231,7 @@ module _ (core : List CoreOp) (image : Image) (bound : ℕ → ℕ) (places : Pl
       let stored : m' r ≡ last (values p.runner.has) = same_word h.local r v ∙ value in
       let others : (j : ℕ) → (j ≡ r → ⊥) → m' j ≡ h.local j = λ j ne. other_word h.local r v j ne in
       lw_does core image places setting t p h (ended core image bound places i op true p h.local l) (KeepsBelow (result_word p.runner.has.callers) h) k 5 9 _ taken 7 about block.lines.0 (value_word (frame_end n) op.depth (h.registers 9) stands.behind (omega arith) (omega arith) (omega arith)) (omega arith)
-      (ended_part core image bound places i op true setting p h.local l stands_op enters.index)
+      (ended_part core image bound places i op true setting p h.local l op_at enters.index)
       (first image (later t) number 6 (suc k) _ h1 h2 Goal about1 l1 (lw_goes (later t) number 6 8 0 w h1 (near_word (64 * suc m) 0 w (h.registers 8) 0 start refl (omega arith) (omega arith)))
       (first image (later (later t)) number 5 (suc (suc k)) _ h2 h3 Goal about2 l2 (lw_goes (later (later t)) number 7 8 8 (w + 2) h2 (near_word (64 * suc m) 2 (w + 2) (h.registers 8) 8 start refl (omega arith) (omega arith)))
       (first image (later (later (later t))) number 4 (suc (suc (suc k))) _ h3 h4 Goal about3 l3 (sw_goes (later (later (later t))) number 7 5 0 r h3 (near_word r 0 r (h3.registers 7) 0 l.returns.result refl (omega arith) (omega arith)))
@@ -246,7 +246,7 @@ module _ (core : List CoreOp) (image : Image) (bound : ℕ → ℕ) (places : Pl
       )))))
 
 pub leave_keeps : (core : List CoreOp) (image : Image) (bound : ℕ → ℕ) (places : Places) (i : ℕ) (op : CoreOp) (gives : Bool) → places.frames.of_file ≤ 56
-    → CallsReturn core image bound places → HasBlock image bound places i (leave_block gives op.depth) → StandsOp core i op (Leave gives false) → Fits core places.frames i op (Leave gives false)
+    → CallsReturn core image bound places → HasBlock image bound places i (leave_block gives op.depth) → OpAt core i op (Leave gives false) → Fits core places.frames i op (Leave gives false)
     → BlockKeeps core image places 0 (λ way. if gives then 7 else 4) i op (Leave gives false)
-leave_keeps core image bound places i op true few calls block stands_op fits = leave_with core image bound places i op few calls block stands_op fits
-leave_keeps core image bound places i op false few calls block stands_op fits = leave_without core image bound places i op few calls block stands_op
+leave_keeps core image bound places i op true few calls block op_at fits = leave_with core image bound places i op few calls block op_at fits
+leave_keeps core image bound places i op false few calls block op_at fits = leave_without core image bound places i op few calls block op_at

@@ -9,7 +9,7 @@ use Rattle.fk_core.specs.Next.{is_jump, behind_jump}
 use Rattle.fk_image.specs.declared.Image.{Image}
 use Rattle.fk_machine.specs.Hart.{Setting as MachineSetting}
 use Rattle.fk_sim_block.specs.Stands.{Places, Frames, ReturnPoint}
-use Rattle.fk_sim_block.specs.Next.{StandsOp}
+use Rattle.fk_sim_block.specs.Next.{OpAt}
 use Rattle.fk_sim_block.specs.Ready.{is_alone}
 use Rattle.fk_sim_block.specs.Suits.{Flows, Fits, nothing}
 use Rattle.fk_sim_block.specs.Block.{IsRunning, BlockDoes, BlockJumps, BlockHalts, Begins, beginner}
@@ -40,14 +40,14 @@ return_in core block i = record {
 -- where its caller goes on.
 pub record CallsReturn (core : List CoreOp) (image : Image) (bound : ℕ → ℕ)
     (places : Places) : Type 0 where
-  pub points : (i : ℕ) (op : CoreOp) (arguments : ℕ) → StandsOp core i op (Enter arguments)
+  pub points : (i : ℕ) (op : CoreOp) (arguments : ℕ) → OpAt core i op (Enter arguments)
       → places.returns i ≡ Some (return_in core places.block i)
   pub jumps : (i : ℕ) (point : ReturnPoint) → places.returns i ≡ Some point
       → LinesAt image bound point.word (jump_block point.index)
 
 -- The jumps of a list have their blocks.
-abbrev pub JumpsStand : List CoreOp → Image → (bound : ℕ → ℕ) → Places → Type 0
-JumpsStand core image bound places =
+abbrev pub HasJumps : List CoreOp → Image → (bound : ℕ → ℕ) → Places → Type 0
+HasJumps core image bound places =
     (i : ℕ) (op : CoreOp) → slice_get core i ≡ Some op → is_jump op ≡ true
     → HasBlock image bound places i (jump_block op.target)
 
@@ -63,7 +63,7 @@ abbrev pub FlowBlocksDo : Type 0
 FlowBlocksDo =
     (core : List CoreOp) (image : Image) (places : Places) (bound : ℕ → ℕ) (i : ℕ) (op : CoreOp)
     (operation : Operation) (clears : Bool) (back : ℕ)
-    → StandsOp core i op operation → is_alone operation ≡ true → is_flow operation ≡ true
+    → OpAt core i op operation → is_alone operation ≡ true → is_flow operation ≡ true
     → op.site < 2 ^ 32
     → HasBlock image bound places i (flow_block clears back op) → HasShared image bound
     → CallsReturn core image bound places
@@ -77,7 +77,7 @@ abbrev pub FlowBlocksKeep : Type 0
 FlowBlocksKeep =
     (core : List CoreOp) (image : Image) (places : Places) (bound : ℕ → ℕ) (i : ℕ) (op : CoreOp)
     (operation : Operation) (clears : Bool) (back : ℕ)
-    → StandsOp core i op operation → is_alone operation ≡ true → is_flow operation ≡ true
+    → OpAt core i op operation → is_alone operation ≡ true → is_flow operation ≡ true
     → op.site < 2 ^ 32
     → HasBlock image bound places i (flow_block clears back op) → HasShared image bound
     → CallsReturn core image bound places
@@ -90,7 +90,7 @@ FlowBlocksKeep =
 abbrev pub HaltsEnd : Type 0
 HaltsEnd =
     (core : List CoreOp) (image : Image) (places : Places) (bound : ℕ → ℕ) (i : ℕ) (op : CoreOp)
-    (clears : Bool) (back : ℕ) → StandsOp core i op Halt
+    (clears : Bool) (back : ℕ) → OpAt core i op Halt
     → HasBlock image bound places i (flow_block clears back op) → BlockHalts core image places i op
 
 -- From its start each hart comes to the block where `main` begins, with the first values of private

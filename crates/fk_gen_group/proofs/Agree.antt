@@ -14,7 +14,7 @@ use Rattle.fk_machine.proofs.Performs.{writes, moves}
 use Rattle.fk_sim_nodes.specs.Node.{Member, Words}
 use Rattle.fk_sim_nodes.specs.Alone.{Holds, GoesAlone, NodeCycle, NodeRun, later, in_cycles}
 use Rattle.fk_sim_nodes.specs.Together.{Commits, Together}
-use Rattle.fk_sim_nodes.specs.OnePlace.{AllStandAt, on_each, onward, onward_with, IsOwnWord, values_for, last_or}
+use Rattle.fk_sim_nodes.specs.OnePlace.{AllAreAt, on_each, onward, onward_with, IsOwnWord, values_for, last_or}
 use Rattle.fk_sim_nodes.proofs.Runs.{cycle_map}
 use Rattle.fk_sim_nodes.proofs.Members.{cycle_commits}
 use Rattle.fk_sim_nodes.proofs.OnePlace.{private_of_all, loads_of_all, stores_of_all}
@@ -79,13 +79,13 @@ module _ (core : List CoreOp) (image : Image) (bound : ℕ → ℕ) (places : Pl
         value = is_last core image bound places nestings i op Agree place setting t0 p m.hart some came.0;
       }
 
-  load_cycle : (t : MachineSetting) (ms : List Member) (ps : List Owner) (own : Memory) → Holds image t → AllStandAt (places.block i) ms → Both Came ms ps
-      → NodeCycle image mine t 0 ms own (λ ms' own'. AllStandAt (suc (places.block i)) ms' × Both Loaded ms' ps × (own' ≡ own))
+  load_cycle : (t : MachineSetting) (ms : List Member) (ps : List Owner) (own : Memory) → Holds image t → AllAreAt (places.block i) ms → Both Came ms ps
+      → NodeCycle image mine t 0 ms own (λ ms' own'. AllAreAt (suc (places.block i)) ms' × Both Loaded ms' ps × (own' ≡ own))
   load_cycle t ms ps own holds stand all =
       let at = place.block.lines.0 in
-      cycle_map image mine t 0 ms own (λ ms' own'. (ms' ≡ on_each load_hart ms) × (own' ≡ own)) (λ ms' own'. AllStandAt (suc (places.block i)) ms' × Both Loaded ms' ps × (own' ≡ own))
+      cycle_map image mine t 0 ms own (λ ms' own'. (ms' ≡ on_each load_hart ms) × (own' ≡ own)) (λ ms' own'. AllAreAt (suc (places.block i)) ms' × Both Loaded ms' ps × (own' ≡ own))
       (λ ms' own' x. (
-        subst (AllStandAt (suc (places.block i))) (sym x.0) (stand_on (places.block i) load_hart ms at.within (λ m. (refl, refl)) stand),
+        subst (AllAreAt (suc (places.block i))) (sym x.0) (stand_on (places.block i) load_hart ms at.within (λ m. (refl, refl)) stand),
         subst (λ l. Both Loaded l ps) (sym x.0) (each_on Came Loaded load_hart ms ps loads all),
         x.1,
       ))
@@ -115,17 +115,17 @@ module _ (core : List CoreOp) (image : Image) (bound : ℕ → ℕ) (places : Pl
   stores : (m : Member) (p : Owner) → Loaded m p → Loaded (record m { hart = onward m.hart }) p
   stores m p l = record { near = moved_near m p (onward m.hart) refl refl (λ r ne. refl) l.near; value = l.value }
 
-  store_cycle : (t : MachineSetting) (ms : List Member) (ps : List Owner) (own : Memory) → Holds image t → AllStandAt (suc (places.block i)) ms → Both Loaded ms ps
+  store_cycle : (t : MachineSetting) (ms : List Member) (ps : List Owner) (own : Memory) → Holds image t → AllAreAt (suc (places.block i)) ms → Both Loaded ms ps
       → NodeCycle image mine t 0 ms own
-      (λ ms' own'. AllStandAt (suc (suc (places.block i))) ms' × Both Loaded ms' ps
+      (λ ms' own'. AllAreAt (suc (suc (places.block i))) ms' × Both Loaded ms' ps
       × (own' (first + agreed_word) ≡ stored_value (own (first + agreed_word)) ps) × ((j : ℕ) → j ≢ first + agreed_word → own' j ≡ own j))
   store_cycle t ms ps own holds stand all =
       let at = place.block.lines.1.0 in
       let k = suc (places.block i) in
       let w = first + agreed_word in
       cycle_map image mine t 0 ms own
-      (λ ms' own'. (ms' ≡ on_each (λ m. onward m.hart) ms) × ((j : ℕ) → own' j ≡ last_or (own j) (values_for (λ m. w) 5 j ms)) × AllStandAt (suc k) ms')
-      (λ ms' own'. AllStandAt (suc k) ms' × Both Loaded ms' ps × (own' w ≡ stored_value (own w) ps) × ((j : ℕ) → j ≢ w → own' j ≡ own j))
+      (λ ms' own'. (ms' ≡ on_each (λ m. onward m.hart) ms) × ((j : ℕ) → own' j ≡ last_or (own j) (values_for (λ m. w) 5 j ms)) × AllAreAt (suc k) ms')
+      (λ ms' own'. AllAreAt (suc k) ms' × Both Loaded ms' ps × (own' w ≡ stored_value (own w) ps) × ((j : ℕ) → j ≢ w → own' j ≡ own j))
       (λ ms' own' x. (
         x.2,
         subst (λ l. Both Loaded l ps) (sym x.0) (each_on Loaded Loaded (λ m. onward m.hart) ms ps stores all),
@@ -139,14 +139,14 @@ module _ (core : List CoreOp) (image : Image) (bound : ℕ → ℕ) (places : Pl
   tells : (v x : ℕ) → x ≡ v → (m : Member) (p : Owner) → Loaded m p → Has v (record m { hart = onward_with 5 x m.hart }) p
   tells v x e m p l = record { near = moved_near m p (onward_with 5 x m.hart) refl refl (λ r ne. rw (ne_eqb r 5 ne)) l.near; value = e }
 
-  commit_cycle : (t : MachineSetting) (v : ℕ) (ms : List Member) (ps : List Owner) (own : Memory) → Holds image t → own (first + agreed_word) ≡ v → AllStandAt (suc (suc (places.block i))) ms → Both Loaded ms ps
-      → NodeCycle image mine t 1 ms own (λ ms' own'. AllStandAt (suc (suc (suc (places.block i)))) ms' × Both (Has v) ms' ps × (own' ≡ own))
+  commit_cycle : (t : MachineSetting) (v : ℕ) (ms : List Member) (ps : List Owner) (own : Memory) → Holds image t → own (first + agreed_word) ≡ v → AllAreAt (suc (suc (places.block i))) ms → Both Loaded ms ps
+      → NodeCycle image mine t 1 ms own (λ ms' own'. AllAreAt (suc (suc (suc (places.block i)))) ms' × Both (Has v) ms' ps × (own' ≡ own))
   commit_cycle t v ms ps own holds e stand all =
       let at = place.block.lines.1.1.0 in
       let k = suc (suc (places.block i)) in
       let w = first + agreed_word in
       let h : Member → Hart = λ m. onward_with 5 (own w) m.hart in
-      cycle_map image mine t 1 ms own (λ ms' own'. (ms' ≡ on_each h ms) × (own' ≡ own) × AllStandAt (suc k) ms') (λ ms' own'. AllStandAt (suc k) ms' × Both (Has v) ms' ps × (own' ≡ own))
+      cycle_map image mine t 1 ms own (λ ms' own'. (ms' ≡ on_each h ms) × (own' ≡ own) × AllAreAt (suc k) ms') (λ ms' own'. AllAreAt (suc k) ms' × Both (Has v) ms' ps × (own' ≡ own))
       (λ ms' own' x. (x.2, subst (λ l. Both (Has v) l ps) (sym x.0) (each_on Loaded (Has v) h ms ps (tells v (own w) e) all), x.1))
       (loads_of_all image mine t k 1 5 10 8 (λ m. w) ms own holds at stand (all_at_own Loaded mine (λ h. word_sum (h.registers 10) 8) w ms ps (λ m p l. at_agreed m p l.near) all))
 
@@ -230,7 +230,7 @@ module _ (core : List CoreOp) (image : Image) (bound : ℕ → ℕ) (places : Pl
         };
       }
 
-  last_cycle : (t : MachineSetting) (v : ℕ) (ms : List Member) (ps : List Owner) (own : Memory) → Holds image t → AllStandAt (suc (suc (suc (places.block i)))) ms → Both (Has v) ms ps
+  last_cycle : (t : MachineSetting) (v : ℕ) (ms : List Member) (ps : List Owner) (own : Memory) → Holds image t → AllAreAt (suc (suc (suc (places.block i)))) ms → Both (Has v) ms ps
       → NodeCycle image mine t 0 ms own (λ ms' own'. Both (IsNext v) ms' ps × (own' ≡ own))
   last_cycle t v ms ps own holds stand all =
       let at = place.block.lines.1.1.1.0 in
@@ -270,17 +270,17 @@ module _ (core : List CoreOp) (image : Image) (bound : ℕ → ℕ) (places : Pl
       let t3 = later t2 in
       let source = core_source core setting in
       let k = places.block i in
-      cycle_map image mine t0 0 ms own (λ ms1 own1. AllStandAt (suc k) ms1 × Both Loaded ms1 ps × (own1 ≡ own))
+      cycle_map image mine t0 0 ms own (λ ms1 own1. AllAreAt (suc k) ms1 × Both Loaded ms1 ps × (own1 ≡ own))
       (λ ms1 own1. NodeCycle image mine t1 0 ms1 own1 (λ ms2 own2. Commits source image mine t2 1 ms2 ps own2 (Goal t0 ps own)))
       (λ ms1 own1 x.
       cycle_map image mine t1 0 ms1 own1
-      (λ ms2 own2. AllStandAt (suc (suc k)) ms2 × Both Loaded ms2 ps × (own2 w ≡ stored_value (own1 w) ps) × ((j : ℕ) → j ≢ w → own2 j ≡ own1 j))
+      (λ ms2 own2. AllAreAt (suc (suc k)) ms2 × Both Loaded ms2 ps × (own2 w ≡ stored_value (own1 w) ps) × ((j : ℕ) → j ≢ w → own2 j ≡ own1 j))
       (λ ms2 own2. Commits source image mine t2 1 ms2 ps own2 (Goal t0 ps own))
       (λ ms2 own2 y.
       cycle_commits source image mine t2 1 ms2 ps (map (is_due core i op Agree) ps) own2 (λ ms3 own3. NodeRun image mine t3 1 ms3 own3 (λ ms4 own4. Ready ps own ms4 own4))
       (apart core setting i op Agree mine)
       (all_due core setting i op Agree Loaded ms2 ps place.stands refl (due_here 0) y.1)
-      (cycle_map image mine t2 1 ms2 own2 (λ ms3 own3. AllStandAt (suc (suc (suc k))) ms3 × Both (Has (stored_value (own1 w) ps)) ms3 ps × (own3 ≡ own2))
+      (cycle_map image mine t2 1 ms2 own2 (λ ms3 own3. AllAreAt (suc (suc (suc k))) ms3 × Both (Has (stored_value (own1 w) ps)) ms3 ps × (own3 ≡ own2))
       (λ ms3 own3. NodeRun image mine t3 1 ms3 own3 (λ ms4 own4. Ready ps own ms4 own4))
       (λ ms3 own3 z.
       cycle_map image mine t3 0 ms3 own3 (λ ms4 own4. Both (IsNext (stored_value (own1 w) ps)) ms4 ps × (own4 ≡ own3)) (λ ms4 own4. Ready ps own ms4 own4)

@@ -5,7 +5,7 @@ use Rattle.fk_meaning_operation.specs.declared.operation.Operation.TheVariants.{
 use Rattle.fk_core.specs.declared.op.CoreOp.{CoreOp}
 use Rattle.fk_image.specs.declared.Image.{Image}
 use Rattle.fk_sim_block.specs.Stands.{Places, frame_end}
-use Rattle.fk_sim_block.specs.Next.{StandsOp}
+use Rattle.fk_sim_block.specs.Next.{OpAt}
 use Rattle.fk_sim_block.specs.Ready.{is_alone}
 use Rattle.fk_gen_flow.specs.Keeps.{KeepsBelow, BlockKeeps, result_word}
 use Rattle.fk_sim_block.specs.Node.{Nestings}
@@ -15,7 +15,7 @@ use Rattle.fk_gen_group.proofs.InNode.{does_in_node, in_cycles_of, same_call_in_
 use Rattle.fk_gen_group.proofs.Calls.{has_entered, enters_in_node, has_left, leaves_in_node}
 
 stays : (core : List CoreOp) (image : Image) (places : Places) (nestings : Nestings) (cycles : Cycles) (i : ℕ) (op : CoreOp) (operation : Operation)
-    → StandsOp core i op operation → is_alone operation ≡ true → LevelsFit core places nestings i op operation
+    → OpAt core i op operation → is_alone operation ≡ true → LevelsFit core places nestings i op operation
     → BlockKeeps core image places (cycles.before i) (cycles.behind i) i op operation → BlockDoesInNode core image places nestings cycles i op operation
 stays core image places nestings cycles i op (Enter n) stands alone levels keeps setting t runs first m p en member =
     in_cycles_of core image places nestings cycles setting t i (Enter n) runs first m p alone member

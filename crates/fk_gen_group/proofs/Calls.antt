@@ -15,7 +15,7 @@ use Rattle.fk_sim_nodes.specs.Node.{Member}
 use Rattle.fk_sim_nodes.specs.Source.{Passes}
 use Rattle.fk_sim_block.specs.Owner.{Commons, Owner, Doing, number_of, owner_of, found, as_part, part}
 use Rattle.fk_sim_block.specs.Stands.{Places, HasWaiting, frame_end}
-use Rattle.fk_sim_block.specs.Next.{StandsOp, step_at}
+use Rattle.fk_sim_block.specs.Next.{OpAt, step_at}
 use Rattle.fk_sim_block.specs.Block.{Enters, HasDone}
 use Rattle.fk_gen.proofs.Does.{local_part, asks}
 use Rattle.fk_gen.proofs.Values.{length_before}
@@ -29,7 +29,7 @@ use Rattle.fk_gen_group.proofs.InNode.{SameGroup, stands_in_node, done_of}
 
 -- ---- a call
 
-module _ (core : List CoreOp) (image : Image) (places : Places) (nestings : Nestings) (i : ℕ) (op : CoreOp) (n : ℕ) (stands : StandsOp core i op (Enter n))
+module _ (core : List CoreOp) (image : Image) (places : Places) (nestings : Nestings) (i : ℕ) (op : CoreOp) (n : ℕ) (stands : OpAt core i op (Enter n))
     (levels : GivesLevels core places nestings i op.depth n) (setting : Setting) (p : Owner) where
   -- where it returns
   abbrev back : ℕ
@@ -91,7 +91,7 @@ is_caller : (gives : Bool) (v : ℕ) (p : Processor) (calls : List Call) → p.c
 is_caller gives v p [] e = record { group = record { number = refl; level = refl; outer = refl }; callers = e }
 is_caller gives v p (c ∷ calls) e = record { group = record { number = refl; level = refl; outer = refl }; callers = refl }
 
-module _ (core : List CoreOp) (image : Image) (places : Places) (nestings : Nestings) (i : ℕ) (op : CoreOp) (gives : Bool) (stands : StandsOp core i op (Leave gives false))
+module _ (core : List CoreOp) (image : Image) (places : Places) (nestings : Nestings) (i : ℕ) (op : CoreOp) (gives : Bool) (stands : OpAt core i op (Leave gives false))
     (levels : HasNoLevels places nestings i) (setting : Setting) (p : Owner) where
   pub record HasLeft (d : Doing) : Type 0 where
     pub group : SameGroup p.runner.has (owner_of d).runner.has

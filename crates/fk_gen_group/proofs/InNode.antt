@@ -22,7 +22,7 @@ use Rattle.fk_sim_nodes.specs.Source.{Part, Passes, Breaks}
 use Rattle.fk_sim_nodes.specs.OneHart.{OneDoes}
 use Rattle.fk_sim_block.specs.Owner.{Commons, Owner, Doing, number_of, owner_of, found, as_part, part, core_source}
 use Rattle.fk_sim_block.specs.Stands.{Places, HasFrame, frame_start}
-use Rattle.fk_sim_block.specs.Next.{StandsOp, step_at}
+use Rattle.fk_sim_block.specs.Next.{OpAt, step_at}
 use Rattle.fk_sim_block.specs.Ready.{is_alone}
 use Rattle.fk_sim_block.specs.Suits.{writes}
 use Rattle.fk_sim_block.specs.Block.{Enters, HasDone, member_of}
@@ -163,7 +163,7 @@ done_of (Breaks site) e = e
 
 -- ---- a block
 
-module _ (core : List CoreOp) (image : Image) (places : Places) (nestings : Nestings) (i : ℕ) (op : CoreOp) (operation : Operation) (stands : StandsOp core i op operation)
+module _ (core : List CoreOp) (image : Image) (places : Places) (nestings : Nestings) (i : ℕ) (op : CoreOp) (operation : Operation) (stands : OpAt core i op operation)
     (alone : is_alone operation ≡ true) (stays : stays_in_call operation ≡ true) (levels : HasLevels core places nestings i op operation) (setting : Setting) (p : Owner) where
   -- what has become of a processor is in the same group and call
   record IsSame (d : Doing) : Type 0 where
@@ -239,7 +239,7 @@ in_cycles_of core image places nestings cycles setting t i operation runs first 
     (subst (λ w. OneDoes (core_source core setting) image t 1 (cycles.before i) (cycles.behind i w) (member_of p m.hart) p (λ h d. HasDoneInNode core image places nestings setting runs d h)) way one)
 
 pub same_call_in_node : (core : List CoreOp) (image : Image) (places : Places) (nestings : Nestings) (cycles : Cycles) (i : ℕ) (op : CoreOp) (operation : Operation)
-    → StandsOp core i op operation → is_alone operation ≡ true → stays_in_call operation ≡ true → HasLevels core places nestings i op operation
+    → OpAt core i op operation → is_alone operation ≡ true → stays_in_call operation ≡ true → HasLevels core places nestings i op operation
     → BlockDoesBy core image places (cycles.before i) (cycles.behind i) i op operation → BlockDoesInNode core image places nestings cycles i op operation
 same_call_in_node core image places nestings cycles i op operation stands alone stays levels does setting t runs first m p en member =
     in_cycles_of core image places nestings cycles setting t i operation runs first m p alone member

@@ -19,10 +19,10 @@ use Rattle.fk_sim_nodes.specs.Node.{Member, Words, add, AreApart}
 use Rattle.fk_sim_nodes.specs.Source.{Passes}
 use Rattle.fk_sim_nodes.specs.Alone.{GoesAlone}
 use Rattle.fk_sim_nodes.specs.Together.{AllTake}
-use Rattle.fk_sim_nodes.specs.OnePlace.{AllStandAt, on_each, AllGoAlone, IsOwnWord, AllAtOwn, values_for, last_or}
+use Rattle.fk_sim_nodes.specs.OnePlace.{AllAreAt, on_each, AllGoAlone, IsOwnWord, AllAtOwn, values_for, last_or}
 use Rattle.fk_sim_block.specs.Owner.{Commons, Owner, number_of, as_part, found, part, core_source}
 use Rattle.fk_sim_block.specs.Stands.{Places}
-use Rattle.fk_sim_block.specs.Next.{StandsOp, step_at}
+use Rattle.fk_sim_block.specs.Next.{OpAt, step_at}
 use Rattle.fk_sim_block.specs.Block.{Enters}
 use Rattle.fk_sim_block.proofs.Standing.{operations_are_next}
 use Rattle.fk_sim_block.specs.Node.{Nestings, OwnsHeader, control_address}
@@ -47,19 +47,19 @@ each_so P Q ms ps g all = absurd (assumption all)
 
 -- members that all stand at a word of the code
 pub each_standing : (k : ℕ) (P Q : Member → Owner → Type 0) (f : Member → Hart) (ms : List Member) (ps : List Owner)
-    → ((m : Member) (p : Owner) → m.hart.pc ≡ 4 * k → P m p → Q (record m { hart = f m }) p) → AllStandAt k ms → Both P ms ps → Both Q (on_each f ms) ps
+    → ((m : Member) (p : Owner) → m.hart.pc ≡ 4 * k → P m p → Q (record m { hart = f m }) p) → AllAreAt k ms → Both P ms ps → Both Q (on_each f ms) ps
 each_standing k P Q f [] [] g stand all = tt
 each_standing k P Q f (m ∷ ms) (p ∷ ps) g stand all = (g m p stand.0 all.0, each_standing k P Q f ms ps g stand.2 all.1)
 each_standing k P Q f ms ps g stand all = absurd (assumption all)
 
 pub stand_on : (k : ℕ) (f : Member → Hart) (ms : List Member) → k < 262144 → ((m : Member) → ((f m).pc ≡ word_sum m.hart.pc 4) × ((f m).ended ≡ m.hart.ended))
-    → AllStandAt k ms → AllStandAt (suc k) (on_each f ms)
+    → AllAreAt k ms → AllAreAt (suc k) (on_each f ms)
 stand_on k f [] lt next stand = tt
 stand_on k f (m ∷ ms) lt next stand = let n = next m in (omega (arith, n.0, stand.0, lt), n.1 ∙ stand.1, stand_on k f ms lt next stand.2)
 
 -- all stand where each does
 pub all_stand : (k : ℕ) (P : Member → Owner → Type 0) (ms : List Member) (ps : List Owner) → ((m : Member) (p : Owner) → P m p → (m.hart.pc ≡ 4 * k) × (m.hart.ended ≡ false))
-    → Both P ms ps → AllStandAt k ms
+    → Both P ms ps → AllAreAt k ms
 all_stand k P [] [] g all = tt
 all_stand k P (m ∷ ms) (p ∷ ps) g all = let q = g m p all.0 in (q.0, q.1, all_stand k P ms ps g all.1)
 all_stand k P ms ps g all = absurd (assumption all)
@@ -125,7 +125,7 @@ module _ (core : List CoreOp) (image : Image) (places : Places) (nestings : Nest
 -- ---- what is due
 
 module _ (core : List CoreOp) (setting : Setting) (i : ℕ) (op : CoreOp) (operation : Operation) where
-  pub due_part : (s : Commons) (p : Owner) → StandsOp core i op operation → class_of operation ≡ Tree → has_room operation p.runner.has ≡ true → p.runner.left.at ≡ i
+  pub due_part : (s : Commons) (p : Owner) → OpAt core i op operation → class_of operation ≡ Tree → has_room operation p.runner.has ≡ true → p.runner.left.at ≡ i
       → part core setting 1 s p ≡ Passes s (is_due core i op operation p)
   due_part s p stands kind room e =
       let step = step_at core i op operation p.runner.left.callers in
@@ -135,7 +135,7 @@ module _ (core : List CoreOp) (setting : Setting) (i : ℕ) (op : CoreOp) (opera
       ∙ ap (λ c. as_part (number_of p) (do_request (found s p.heap) a c step)) kind
       ∙ ap (λ b. as_part (number_of p) (if b then Going (found s p.heap) a else Broken op.site)) room
 
-  pub all_due : (P : Member → Owner → Type 0) (ms : List Member) (ps : List Owner) → StandsOp core i op operation → class_of operation ≡ Tree
+  pub all_due : (P : Member → Owner → Type 0) (ms : List Member) (ps : List Owner) → OpAt core i op operation → class_of operation ≡ Tree
       → ((m : Member) (p : Owner) → P m p → (has_room operation p.runner.has ≡ true) × (p.runner.left.at ≡ i)) → Both P ms ps
       → AllTake (core_source core setting) 1 ms ps (map (is_due core i op operation) ps)
   all_due P [] [] stands kind f all = tt

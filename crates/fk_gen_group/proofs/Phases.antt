@@ -8,7 +8,7 @@ use Rattle.fk_sim_nodes.specs.Node.{Member}
 use Rattle.fk_sim_nodes.specs.Alone.{Holds, later, in_cycles}
 use Rattle.fk_sim_nodes.specs.Phase.{Phase, Coming, Waiting, Leaving, polled}
 use Rattle.fk_sim_block.specs.Node.{Polling}
-use Rattle.fk_sim_block.specs.Joint.{Polls, IsArriving, IsLeaving, GoesToLeave, GoesToPoll, KeepsPolling, StandsByPhase}
+use Rattle.fk_sim_block.specs.Joint.{Polls, IsArriving, IsLeaving, GoesToLeave, GoesToPoll, KeepsPolling, IsInPhaseBy}
 use Rattle.fk_gen.proofs.Does.{holds_in_cycles}
 use Rattle.fk_gen_group.specs.Meeting as lines
 use Rattle.fk_gen_group.specs.Meeting.{Meeting, HasMeeting, IsReadyToMeet, Keeps, HasLeft, count_of_leaving, lead}
@@ -42,7 +42,7 @@ module _ (g : Meeting) (image : Image) (bound : ℕ → ℕ) (k w n number : ℕ
   polling = record { at = k + 7; changes = λ r. (r == 5) || (r == 6) }
 
   abbrev InLines : Setting → Phase → Hart → Type 0
-  InLines t f h = lines.StandsInPhase g image k n first t number f h
+  InLines t f h = lines.IsInPhase g image k n first t number f h
 
   abbrev member : Hart → Member
   member h = record { number = number; hart = h }
@@ -134,7 +134,7 @@ module _ (g : Meeting) (image : Image) (bound : ℕ → ℕ) (k w n number : ℕ
         );
       }
 
-  pub on_its_way : (t : Setting) (d : ℕ) (h : Hart) → Holds image t → InLines t (Coming d) h → StandsByPhase image w number polling first n Left count t (Coming d) h
+  pub on_its_way : (t : Setting) (d : ℕ) (h : Hart) → Holds image t → InLines t (Coming d) h → IsInPhaseBy image w number polling first n Left count t (Coming d) h
   on_its_way t d h holds stand =
       let even = stand.0 in
       let e = finished_in d t in (
@@ -156,6 +156,6 @@ blocks_meet core image bound places nestings i op operation is place setting t m
         polls = keeps_polling (meeting_of (counted_by operation)) image bound c.lines _ n m.number c.first at.meeting at.ready _ comes.leaves;
         stands =
             on_its_way (meeting_of (counted_by operation)) image bound c.lines _ n m.number c.first at.meeting at.ready _ comes.leaves t comes.steps m.hart en.running.code
-            (subst (λ f. lines.StandsInPhase (meeting_of (counted_by operation)) image c.lines n c.first t m.number f m.hart) comes.comes at.stands);
+            (subst (λ f. lines.IsInPhase (meeting_of (counted_by operation)) image c.lines n c.first t m.number f m.hart) comes.comes at.stands);
       },
     )

@@ -17,7 +17,7 @@ use Rattle.fk_machine.proofs.Places.{place_of-control}
 use Rattle.fk_sim_nodes.specs.Node.{Member, Words, add}
 use Rattle.fk_sim_nodes.specs.Alone.{Holds, IsAt, RunsPrivately, NodeCycle, later, in_cycles}
 use Rattle.fk_sim_nodes.specs.Together.{Commits, Together}
-use Rattle.fk_sim_nodes.specs.OnePlace.{AllStandAt, on_each, onward, onward_with, IsOwnWord, values_for, last_or, sum_from, each_finds}
+use Rattle.fk_sim_nodes.specs.OnePlace.{AllAreAt, on_each, onward, onward_with, IsOwnWord, values_for, last_or, sum_from, each_finds}
 use Rattle.fk_sim_nodes.proofs.Runs.{cycle_map}
 use Rattle.fk_sim_nodes.proofs.Members.{cycle_commits}
 use Rattle.fk_sim_nodes.proofs.OnePlace.{private_of_all, stores_of_all, adds_of_all}
@@ -182,27 +182,27 @@ module _ (core : List CoreOp) (image : Image) (bound : ℕ → ℕ) (places : Pl
   -- ---- the cycles
 
   alone_cycle : (t : MachineSetting) (k rd rs imm : ℕ) (P Q : Member → Owner → Type 0) (ms : List Member) (ps : List Owner) (own : Memory) → Holds image t → IsAt image k (Addi rd rs imm) 0
-      → ((m : Member) (p : Owner) → P m p → Q (record m { hart = writes m.hart rd (word_sum (m.hart.registers rs) imm) }) p) → AllStandAt k ms → Both P ms ps
-      → NodeCycle image mine t 0 ms own (λ ms' own'. AllStandAt (suc k) ms' × Both Q ms' ps × (own' ≡ own))
+      → ((m : Member) (p : Owner) → P m p → Q (record m { hart = writes m.hart rd (word_sum (m.hart.registers rs) imm) }) p) → AllAreAt k ms → Both P ms ps
+      → NodeCycle image mine t 0 ms own (λ ms' own'. AllAreAt (suc k) ms' × Both Q ms' ps × (own' ≡ own))
   alone_cycle t k rd rs imm P Q ms ps own holds at f stand all =
       let g : Member → Hart = λ m. writes m.hart rd (word_sum (m.hart.registers rs) imm) in
-      cycle_map image mine t 0 ms own (λ ms' own'. (ms' ≡ on_each g ms) × (own' ≡ own)) (λ ms' own'. AllStandAt (suc k) ms' × Both Q ms' ps × (own' ≡ own))
+      cycle_map image mine t 0 ms own (λ ms' own'. (ms' ≡ on_each g ms) × (own' ≡ own)) (λ ms' own'. AllAreAt (suc k) ms' × Both Q ms' ps × (own' ≡ own))
       (λ ms' own' x. (
-        subst (AllStandAt (suc k)) (sym x.0) (stand_on k g ms at.within (λ m. (refl, refl)) stand),
+        subst (AllAreAt (suc k)) (sym x.0) (stand_on k g ms at.within (λ m. (refl, refl)) stand),
         subst (λ l. Both Q l ps) (sym x.0) (each_on P Q g ms ps f all),
         x.1,
       ))
       (private_of_all image mine t k 0 (Addi rd rs imm) g ms own holds at stand (all_alone P t (Addi rd rs imm) g ms ps (λ m p x s. (s.reserved, addi t m.number rd rs imm m.hart s)) all))
 
-  store_cycle : (t : MachineSetting) (ms : List Member) (ps : List Owner) (own : Memory) → Holds image t → AllStandAt (suc (suc (places.block i))) ms → Both Ready ms ps
+  store_cycle : (t : MachineSetting) (ms : List Member) (ps : List Owner) (own : Memory) → Holds image t → AllAreAt (suc (suc (places.block i))) ms → Both Ready ms ps
       → NodeCycle image mine t 0 ms own
-      (λ ms' own'. AllStandAt (suc (suc (suc (places.block i)))) ms' × Both Ready ms' ps × (((own word ≡ 0) ⊎ (ms ≡ [] → ⊥)) → own' word ≡ 0) × ((j : ℕ) → j ≢ word → own' j ≡ own j))
+      (λ ms' own'. AllAreAt (suc (suc (suc (places.block i)))) ms' × Both Ready ms' ps × (((own word ≡ 0) ⊎ (ms ≡ [] → ⊥)) → own' word ≡ 0) × ((j : ℕ) → j ≢ word → own' j ≡ own j))
   store_cycle t ms ps own holds stand all =
       let at = place.block.lines.1.1.0 in
       let k = suc (suc (places.block i)) in
       cycle_map image mine t 0 ms own
-      (λ ms' own'. (ms' ≡ on_each (λ m. onward m.hart) ms) × ((j : ℕ) → own' j ≡ last_or (own j) (values_for (λ m. word) 0 j ms)) × AllStandAt (suc k) ms')
-      (λ ms' own'. AllStandAt (suc k) ms' × Both Ready ms' ps × (((own word ≡ 0) ⊎ (ms ≡ [] → ⊥)) → own' word ≡ 0) × ((j : ℕ) → j ≢ word → own' j ≡ own j))
+      (λ ms' own'. (ms' ≡ on_each (λ m. onward m.hart) ms) × ((j : ℕ) → own' j ≡ last_or (own j) (values_for (λ m. word) 0 j ms)) × AllAreAt (suc k) ms')
+      (λ ms' own'. AllAreAt (suc k) ms' × Both Ready ms' ps × (((own word ≡ 0) ⊎ (ms ≡ [] → ⊥)) → own' word ≡ 0) × ((j : ℕ) → j ≢ word → own' j ≡ own j))
       (λ ms' own' x. (
         x.2,
         subst (λ l. Both Ready l ps) (sym x.0) (each_on Ready Ready (λ m. onward m.hart) ms ps stored all),
@@ -216,14 +216,14 @@ module _ (core : List CoreOp) (image : Image) (bound : ℕ → ℕ) (places : Pl
       noughts_of v (m ∷ ms) (p ∷ ps) all some = ap (last_or v) (same_word 0 m ms) ∙ noughts (m.hart.registers 0) ms ps all.1 (nought m p all.0.near)
       noughts_of v ms ps all some = absurd (assumption all)
 
-  add_cycle : (t : MachineSetting) (ms : List Member) (ps : List Owner) (own : Memory) → Holds image t → own word ≡ 0 → length ms ≤ 1024 → AllStandAt (suc (suc (suc (places.block i)))) ms → Both Ready ms ps
-      → NodeCycle image mine t 1 ms own (λ ms' own'. AllStandAt (suc (suc (suc (suc (places.block i))))) ms' × FoundAll ms' ps × ((j : ℕ) → j ≢ word → own' j ≡ own j))
+  add_cycle : (t : MachineSetting) (ms : List Member) (ps : List Owner) (own : Memory) → Holds image t → own word ≡ 0 → length ms ≤ 1024 → AllAreAt (suc (suc (suc (places.block i)))) ms → Both Ready ms ps
+      → NodeCycle image mine t 1 ms own (λ ms' own'. AllAreAt (suc (suc (suc (suc (places.block i))))) ms' × FoundAll ms' ps × ((j : ℕ) → j ≢ word → own' j ≡ own j))
   add_cycle t ms ps own holds e few stand all =
       let at = place.block.lines.1.1.1.0 in
       let k = suc (suc (suc (places.block i))) in
       cycle_map image mine t 1 ms own
-      (λ ms' own'. (ms' ≡ each_finds (λ m. word) 5 6 own [] ms) × ((j : ℕ) → own' j ≡ sum_from (own j) (values_for (λ m. word) 6 j ms)) × AllStandAt (suc k) ms')
-      (λ ms' own'. AllStandAt (suc k) ms' × FoundAll ms' ps × ((j : ℕ) → j ≢ word → own' j ≡ own j))
+      (λ ms' own'. (ms' ≡ each_finds (λ m. word) 5 6 own [] ms) × ((j : ℕ) → own' j ≡ sum_from (own j) (values_for (λ m. word) 6 j ms)) × AllAreAt (suc k) ms')
+      (λ ms' own'. AllAreAt (suc k) ms' × FoundAll ms' ps × ((j : ℕ) → j ≢ word → own' j ≡ own j))
       (λ ms' own' x. (
         x.2,
         subst (λ l. FoundAll l ps) (sym x.0) (found_all own ms ps e few all),
@@ -327,7 +327,7 @@ module _ (core : List CoreOp) (image : Image) (bound : ℕ → ℕ) (places : Pl
   abbrev Gone : MachineSetting → List Member → List Owner → Type 0
   Gone t ms ps = AllComeAlone places nestings setting image t 2 (one_runs lowest) first ms (map (λ p. went (number_of p == lowest) p) ps)
 
-  others_gone : (t : MachineSetting) (ms : List Member) (ps : List Owner) → Holds image t → AllStandAt (suc (suc (suc (suc (places.block i))))) ms → Both (Found false) ms ps → NoneIs lowest ps → Gone t ms ps
+  others_gone : (t : MachineSetting) (ms : List Member) (ps : List Owner) → Holds image t → AllAreAt (suc (suc (suc (suc (places.block i))))) ms → Both (Found false) ms ps → NoneIs lowest ps → Gone t ms ps
   others_gone t [] [] holds stand all none = tt
   others_gone t (m ∷ ms) (p ∷ ps) holds stand all none =
       let one = other_goes t m p holds stand.0 all.0 in (
@@ -336,7 +336,7 @@ module _ (core : List CoreOp) (image : Image) (bound : ℕ → ℕ) (places : Pl
       )
   others_gone t ms ps holds stand all none = absurd (assumption all)
 
-  all_gone : (t : MachineSetting) (ms : List Member) (ps : List Owner) → Holds image t → AllStandAt (suc (suc (suc (suc (places.block i))))) ms → FoundAll ms ps → IsLowest lowest ps → Gone t ms ps
+  all_gone : (t : MachineSetting) (ms : List Member) (ps : List Owner) → Holds image t → AllAreAt (suc (suc (suc (suc (places.block i))))) ms → FoundAll ms ps → IsLowest lowest ps → Gone t ms ps
   all_gone t [] [] holds stand all is = tt
   all_gone t (m ∷ ms) (p ∷ ps) holds stand all is =
       let one = lowest_goes t m p holds stand.0 all.0 in (
@@ -376,21 +376,21 @@ module _ (core : List CoreOp) (image : Image) (bound : ℕ → ℕ) (places : Pl
       let source = core_source core setting in
       let k = places.block i in
       let lines = place.block.lines in
-      cycle_map image mine t0 0 ms own (λ ms1 own1. AllStandAt (suc k) ms1 × Both Addressed ms1 ps × (own1 ≡ own))
+      cycle_map image mine t0 0 ms own (λ ms1 own1. AllAreAt (suc k) ms1 × Both Addressed ms1 ps × (own1 ≡ own))
       (λ ms1 own1. NodeCycle image mine t1 0 ms1 own1 (λ ms2 own2. NodeCycle image mine t2 0 ms2 own2 (λ ms3 own3. Commits source image mine t3 1 ms3 ps own3 (Goal ps own))))
       (λ ms1 own1 x.
-      cycle_map image mine t1 0 ms1 own1 (λ ms2 own2. AllStandAt (suc (suc k)) ms2 × Both Ready ms2 ps × (own2 ≡ own1))
+      cycle_map image mine t1 0 ms1 own1 (λ ms2 own2. AllAreAt (suc (suc k)) ms2 × Both Ready ms2 ps × (own2 ≡ own1))
       (λ ms2 own2. NodeCycle image mine t2 0 ms2 own2 (λ ms3 own3. Commits source image mine t3 1 ms3 ps own3 (Goal ps own)))
       (λ ms2 own2 y.
       cycle_map image mine t2 0 ms2 own2
-      (λ ms3 own3. AllStandAt (suc (suc (suc k))) ms3 × Both Ready ms3 ps × (((own2 word ≡ 0) ⊎ (ms2 ≡ [] → ⊥)) → own3 word ≡ 0) × ((j : ℕ) → j ≢ word → own3 j ≡ own2 j))
+      (λ ms3 own3. AllAreAt (suc (suc (suc k))) ms3 × Both Ready ms3 ps × (((own2 word ≡ 0) ⊎ (ms2 ≡ [] → ⊥)) → own3 word ≡ 0) × ((j : ℕ) → j ≢ word → own3 j ≡ own2 j))
       (λ ms3 own3. Commits source image mine t3 1 ms3 ps own3 (Goal ps own))
       (λ ms3 own3 z.
       cycle_commits source image mine t3 1 ms3 ps (map (is_due core i op Seq) ps) own3 (λ ms4 own4. Parted ps own ms4 own4)
       (apart core setting i op Seq mine)
       (all_due core setting i op Seq Ready ms3 ps place.stands refl due_here z.1)
       (let many = as_many Ready ms3 ps z.1 in
-      cycle_map image mine t3 1 ms3 own3 (λ ms4 own4. AllStandAt (suc (suc (suc (suc k)))) ms4 × FoundAll ms4 ps × ((j : ℕ) → j ≢ word → own4 j ≡ own3 j))
+      cycle_map image mine t3 1 ms3 own3 (λ ms4 own4. AllAreAt (suc (suc (suc (suc k)))) ms4 × FoundAll ms4 ps × ((j : ℕ) → j ≢ word → own4 j ≡ own3 j))
       (λ ms4 own4. Parted ps own ms4 own4)
       (λ ms4 own4 u.
       record { come = all_gone t4 ms4 ps holds u.0 u.1 is; others = λ j ne. u.2 j ne ∙ z.3 j ne ∙ ap (λ o. o j) y.2 ∙ ap (λ o. o j) x.2 })

@@ -16,7 +16,7 @@ use Rattle.fk_machine.proofs.Performs.{writes, moves, addi}
 use Rattle.fk_sim_nodes.specs.Node.{Member, Words}
 use Rattle.fk_sim_nodes.specs.Alone.{RunsPrivately, NodeCycle, later, in_cycles}
 use Rattle.fk_sim_nodes.specs.Together.{Commits, Together}
-use Rattle.fk_sim_nodes.specs.OnePlace.{AllStandAt, on_each, onward, onward_with, IsOwnWord, values_for, last_or}
+use Rattle.fk_sim_nodes.specs.OnePlace.{AllAreAt, on_each, onward, onward_with, IsOwnWord, values_for, last_or}
 use Rattle.fk_sim_nodes.proofs.Runs.{cycle_map}
 use Rattle.fk_sim_nodes.proofs.Members.{cycle_commits}
 use Rattle.fk_sim_nodes.proofs.OnePlace.{loads_of_all, stores_of_all}
@@ -541,7 +541,7 @@ module _ (core : List CoreOp) (image : Image) (bound : ℕ → ℕ) (places : Pl
     tops ps = map (λ p. last (values p.runner.has)) ps
 
     record HaveStored (ps : List Owner) (before : Memory) (ms : List Member) (own : Memory) : Type 0 where
-      pub stand : AllStandAt (suc (base + 11)) ms
+      pub stand : AllAreAt (suc (base + 11)) ms
       pub stored : Both Stored ms ps
       pub agreed : own (root_words + agreed_word) ≡ last_or (before (root_words + agreed_word)) (tops ps)
       pub others : (j : ℕ) → (j ≡ root_words + agreed_word → ⊥) → own j ≡ before j
@@ -551,7 +551,7 @@ module _ (core : List CoreOp) (image : Image) (bound : ℕ → ℕ) (places : Pl
         let k = base + 11 in
         let w = root_words + agreed_word in
         cycle_map image mine t0 0 ms own
-        (λ ms' own'. (ms' ≡ on_each (λ m. onward m.hart) ms) × ((j : ℕ) → own' j ≡ last_or (own j) (values_for (λ m. w) 28 j ms)) × AllStandAt (suc k) ms')
+        (λ ms' own'. (ms' ≡ on_each (λ m. onward m.hart) ms) × ((j : ℕ) → own' j ≡ last_or (own j) (values_for (λ m. w) 28 j ms)) × AllAreAt (suc k) ms')
         (λ ms' own'. HaveStored ps own ms' own')
         (λ ms' own' x. record {
           stand = x.2;
@@ -570,7 +570,7 @@ module _ (core : List CoreOp) (image : Image) (bound : ℕ → ℕ) (places : Pl
         let w = root_words + agreed_word in
         let v = last_or (before w) (tops ps) in
         let h : Member → Hart = λ m. onward_with 28 (own w) m.hart in
-        cycle_map image mine (later t0) 1 ms own (λ ms' own'. (ms' ≡ on_each h ms) × (own' ≡ own) × AllStandAt (suc (suc (base + 11))) ms') (λ ms' own'. Behind ps before ms' own')
+        cycle_map image mine (later t0) 1 ms own (λ ms' own'. (ms' ≡ on_each h ms) × (own' ≡ own) × AllAreAt (suc (suc (base + 11))) ms') (λ ms' own'. Behind ps before ms' own')
         (λ ms' own' x. record {
           parts =
               all_come (highest_value ps) ms' ps

@@ -20,7 +20,7 @@ use Rattle.fk_sim_nodes.specs.Phase.{Outside, Away, Coming, Waiting, Leaving}
 use Rattle.fk_gen.specs.InPlace.{LinesAt, resolved, count_of_commit}
 use Rattle.fk_gen.proofs.Walk.{private}
 use Rattle.fk_gen.proofs.Values.{same_word, other_word}
-use Rattle.fk_gen_group.specs.Meeting.{Meeting, HasMeeting, IsReadyToMeet, Keeps, IsArriving, StandsInPhase, Turn, leaving_line, count_of_leaving, meeting_lines, HartsArrive, HartsMove}
+use Rattle.fk_gen_group.specs.Meeting.{Meeting, HasMeeting, IsReadyToMeet, Keeps, IsArriving, IsInPhase, Turn, leaving_line, count_of_leaving, meeting_lines, HartsArrive, HartsMove}
 use Rattle.fk_gen_group.proofs.Performs.{place_of-cycle, lw-cycle, andi, goes_to, beq-taken, beq-passed, bne-taken, bne-passed}
 
 -- ---- what stays
@@ -97,7 +97,7 @@ taken_arrives g image k n t h lt pc zero_is = record {
 }
 
 abbrev Arrives : Meeting → Image → (k n : ℕ) → Hart → Setting → (number : ℕ) → Type 0
-Arrives g image k n h t number = (d : ℕ) × (5 ≤ d) × (d ≤ 6) × StandsInPhase g image k n h t number (Coming d) h
+Arrives g image k n h t number = (d : ℕ) × (5 ≤ d) × (d ≤ 6) × IsInPhase g image k n h t number (Coming d) h
 
 arrives_even : (g : Meeting) (image : Image) (bound : ℕ → ℕ) (k w n number : ℕ) (t : Setting) (h : Hart) → LinesAt image bound k (meeting_lines g) → Holds image t
     → IsReadyToMeet g w n h → h.pc ≡ 4 * k → (t.finished + 1) % 2 ≡ 0 → Arrives g image k n h t number
@@ -229,7 +229,7 @@ still g first h r v k a b e = k.others r a b ∙ e
 -- ---- the turns
 
 coming_turn : (g : Meeting) (image : Image) (mine : Words) (k w n d : ℕ) (t : Setting) (first : Hart) (m : Member) (own : Memory)
-    → StandsInPhase g image k n first t m.number (Coming (suc d)) m.hart → Turn g image mine k w n first t (Coming (suc d)) m own
+    → IsInPhase g image k n first t m.number (Coming (suc d)) m.hart → Turn g image mine k w n first t (Coming (suc d)) m own
 coming_turn g image mine k w n d t first m own s =
     let run = s.1.1 in
     let one = run.1 in

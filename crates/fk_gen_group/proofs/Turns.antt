@@ -11,8 +11,8 @@ use Rattle.fk_sim_nodes.proofs.Runs.{cycle_map, run_map}
 use Rattle.fk_sim_nodes.specs.Phase.{Phase, Outside, Away, Coming, Waiting, Leaving, Moves, AllMove, Each, Leaves, AreTogether, Settled, HasTime, IsNear, IsDue, word_after, Stays as IsStaying}
 use Rattle.fk_sim_nodes.specs.Meeting.{IsKept}
 use Rattle.fk_sim_nodes.proofs.Leaving.{cycles_keep_arrivals}
-use Rattle.fk_gen_group.specs.Meeting.{Meeting, StandsInPhase, Continues, HasLeft, count_for, count_of_leaving, lead}
-use Rattle.fk_gen_group.specs.Together.{Comer, phases, IsInside, Stands, TakesTurn, AllTakeTurns, GoesOn, AllGoOn, AllStand, AllHaveLeft, HaveMet, LeaveAfter, TurnsAreMoves, MembersLeaveTogether, HasCome, MembersLeaveInTen}
+use Rattle.fk_gen_group.specs.Meeting.{Meeting, IsInPhase, Continues, HasLeft, count_for, count_of_leaving, lead}
+use Rattle.fk_gen_group.specs.Together.{Comer, phases, IsInside, IsInLines, TakesTurn, AllTakeTurns, GoesOn, AllGoOn, AllAreInLines, AllHaveLeft, HaveMet, LeaveAfter, TurnsAreMoves, MembersLeaveTogether, HasCome, MembersLeaveInTen}
 use Rattle.fk_gen_group.proofs.Steps.{harts_move}
 
 -- ---- whatever the others do
@@ -33,7 +33,7 @@ module _ (g : Meeting) (image : Image) (bound : ℕ → ℕ) (w n : ℕ) where
     pub moves : Moves t.finished n lead (sh.control w) f phase
     pub on : Continues g image c.lines n c.first t m.number (sh.control w) f phase h
 
-  moved : (t : Setting) (c : Comer) (m : Member) (sh : Shared) (h : Hart) (sh' : Shared) → Holds image t → Stands g image bound w n t c m
+  moved : (t : Setting) (c : Comer) (m : Member) (sh : Shared) (h : Hart) (sh' : Shared) → Holds image t → IsInLines g image bound w n t c m
       → step t m.number m.hart sh ≡ Goes h sh' → Moved t c.phase c m sh h sh'
   moved t c m sh h sh' holds s goes =
       let own : ℕ → Bool = λ j. j == w in
@@ -126,7 +126,7 @@ module _ (g : Meeting) (image : Image) (bound : ℕ → ℕ) (mine : Words) (w n
   remains_uncounted (Leaving (suc d)) r = refl
 
   remains_standing : (c : Comer) (t : Setting) (number v : ℕ) (f f' : Phase) (h : Hart) → Remains f → Continues g image c.lines n c.first t number v f f' h
-      → StandsInPhase g image c.lines n c.first (later t) number f' h
+      → IsInPhase g image c.lines n c.first (later t) number f' h
   remains_standing c t number v Outside f' h r s = s
   remains_standing c t number v Away f' h r s = s
   remains_standing c t number v (Coming d) f' h r s = s
@@ -134,7 +134,7 @@ module _ (g : Meeting) (image : Image) (bound : ℕ → ℕ) (mine : Words) (w n
   remains_standing c t number v (Leaving zero) f' h r s = absurd r
   remains_standing c t number v (Leaving (suc d)) f' h r s = s
 
-  inside : (c : Comer) (t : Setting) (number : ℕ) (f : Phase) (h : Hart) → StandsInPhase g image c.lines n c.first t number f h → IsInside f
+  inside : (c : Comer) (t : Setting) (number : ℕ) (f : Phase) (h : Hart) → IsInPhase g image c.lines n c.first t number f h → IsInside f
   inside c t number Outside h s = absurd s
   inside c t number Away h s = absurd s
   inside c t number (Coming d) h s = tt
@@ -149,11 +149,11 @@ module _ (g : Meeting) (image : Image) (bound : ℕ → ℕ) (mine : Words) (w n
     pub fits : phases (with_phases cs phases') ≡ phases'
     pub many : length phases' ≡ length (phases cs)
     pub moves : AllMove t.finished n lead (phases cs) (own w) phases' (words w)
-    pub stand : AllStand g image bound w n (later t) (with_phases cs phases') members
+    pub stand : AllAreInLines g image bound w n (later t) (with_phases cs phases') members
     pub others : (j : ℕ) → j ≢ w → words j ≡ own j
     pub cycle : (Then : List Member → Memory → Type 0) → Then members words → NodeCycle image mine t 0 ms own Then
 
-  remained : (t : Setting) (cs : List Comer) (ms : List Member) (own : Memory) → Holds image t → mine w ≡ true → AllStand g image bound w n t cs ms → AllRemain cs → Remained t cs ms own
+  remained : (t : Setting) (cs : List Comer) (ms : List Member) (own : Memory) → Holds image t → mine w ≡ true → AllAreInLines g image bound w n t cs ms → AllRemain cs → Remained t cs ms own
   remained t [] [] own holds is stand remain = record {
     members = [];
     words = own;
@@ -209,14 +209,14 @@ module _ (g : Meeting) (image : Image) (bound : ℕ → ℕ) (mine : Words) (w n
     pub others : (j : ℕ) → j ≢ w → words j ≡ own j
     pub stays : Stays image mine t (count_of_leaving g.commits) m own hart words
 
-  left_one : (t : Setting) (f : Phase) (c : Comer) (m : Member) (own : Memory) → Holds image t → mine w ≡ true → Stands g image bound w n t c m → c.phase ≡ f → IsInside f → Leaves 0 f → LeftOne t c m own
+  left_one : (t : Setting) (f : Phase) (c : Comer) (m : Member) (own : Memory) → Holds image t → mine w ≡ true → IsInLines g image bound w n t c m → c.phase ≡ f → IsInside f → Leaves 0 f → LeftOne t c m own
   left_one t (Leaving zero) c m own holds is s e inside leaves =
-      let turn = harts_move g image bound mine c.lines w n t c.first (Leaving zero) m own s.meeting is holds s.ready (subst (λ f. StandsInPhase g image c.lines n c.first t m.number f m.hart) e s.stands) in
+      let turn = harts_move g image bound mine c.lines w n t c.first (Leaving zero) m own s.meeting is holds s.ready (subst (λ f. IsInPhase g image c.lines n c.first t m.number f m.hart) e s.stands) in
       record { hart = turn.hart; words = turn.words; left = turn.continues.1; nobody = turn.arrivals; others = turn.others; stays = turn.stays }
   left_one t (Leaving (suc d)) c m own holds is s e inside leaves = absurd (omega (arith, leaves))
   left_one t f c m own holds is s e inside leaves = absurd (assumption (inside, leaves))
 
-  left : (t : Setting) (cs : List Comer) (ms : List Member) (own : Memory) → Holds image t → mine w ≡ true → AllStand g image bound w n t cs ms → Each (Leaves 0) (phases cs) → Left t cs ms own
+  left : (t : Setting) (cs : List Comer) (ms : List Member) (own : Memory) → Holds image t → mine w ≡ true → AllAreInLines g image bound w n t cs ms → Each (Leaves 0) (phases cs) → Left t cs ms own
   left t [] [] own holds is stand leaves = record {
     members = [];
     words = own;
@@ -240,7 +240,7 @@ module _ (g : Meeting) (image : Image) (bound : ℕ → ℕ) (mine : Words) (w n
 
   -- ---- which of the two it is
 
-  staying : (t : Setting) (cs : List Comer) (ms : List Member) → AllStand g image bound w n t cs ms → Each IsStaying (phases cs) → AllRemain cs
+  staying : (t : Setting) (cs : List Comer) (ms : List Member) → AllAreInLines g image bound w n t cs ms → Each IsStaying (phases cs) → AllRemain cs
   staying t [] [] stand each = tt
   staying t (c ∷ cs) (m ∷ ms) stand each = (remains_by c.phase stand.0 each.0, staying t cs ms stand.2 each.1)
     where
@@ -251,7 +251,7 @@ module _ (g : Meeting) (image : Image) (bound : ℕ → ℕ) (mine : Words) (w n
       remains_by f i k = absurd (assumption i)
   staying t cs ms stand each = absurd (assumption stand)
 
-  leaving_later : (d : ℕ) (t : Setting) (cs : List Comer) (ms : List Member) → AllStand g image bound w n t cs ms → Each (Leaves (suc d)) (phases cs) → AllRemain cs
+  leaving_later : (d : ℕ) (t : Setting) (cs : List Comer) (ms : List Member) → AllAreInLines g image bound w n t cs ms → Each (Leaves (suc d)) (phases cs) → AllRemain cs
   leaving_later d t [] [] stand each = tt
   leaving_later d t (c ∷ cs) (m ∷ ms) stand each = (remains_by c.phase stand.0 each.0, leaving_later d t cs ms stand.2 each.1)
     where
@@ -269,7 +269,7 @@ module _ (g : Meeting) (image : Image) (bound : ℕ → ℕ) (mine : Words) (w n
   word_of_none t v [] s = inl (sym s.count)
   word_of_none t v (c ∷ cs) s = inr (λ e. absurd (cc))
 
-  due_now : (k : ℕ) (t : Setting) (cs : List Comer) (ms : List Member) (own : Memory) → Holds image t → mine w ≡ true → AllStand g image bound w n t cs ms
+  due_now : (k : ℕ) (t : Setting) (cs : List Comer) (ms : List Member) (own : Memory) → Holds image t → mine w ≡ true → AllAreInLines g image bound w n t cs ms
       → Settled t.finished n (own w) (phases cs) → Each (Leaves 0) (phases cs) → Due k t cs ms own
   due_now k t cs ms own holds is stand settled leaves =
       let l = left t cs ms own holds is stand leaves in (
@@ -318,14 +318,14 @@ module _ (g : Meeting) (image : Image) (bound : ℕ → ℕ) (mine : Words) (w n
       )
 
   -- in the cycle after one in which nobody has left
-  due_after : (k : ℕ) (t : Setting) (cs : List Comer) (ms : List Member) (own : Memory) → Holds image t → mine w ≡ true → length (phases cs) < 2 ^ 31 → AllStand g image bound w n t cs ms
+  due_after : (k : ℕ) (t : Setting) (cs : List Comer) (ms : List Member) (own : Memory) → Holds image t → mine w ≡ true → length (phases cs) < 2 ^ 31 → AllAreInLines g image bound w n t cs ms
       → Settled t.finished n (own w) (phases cs) → IsDue lead (suc k) t.finished (phases cs) → (r : Remained t cs ms own)
       → IsKept t.finished n lead (own w) (r.words w) (phases cs) r.phases'
       → (IsDue lead k (t.finished + 1) r.phases' → Due k (later t) (with_phases cs r.phases') r.members r.words) → Due (suc k) t cs ms own
   due_after k t cs ms own holds is few stand settled due r kept again =
       ⊎_elim (λ leaves. due_now (suc k) t cs ms own holds is stand settled leaves) (λ due'. due_later k t cs ms own r (again due')) (kept.nearer k due)
 
-  due_zero : (t : Setting) (cs : List Comer) (ms : List Member) (own : Memory) → Holds image t → mine w ≡ true → AllStand g image bound w n t cs ms
+  due_zero : (t : Setting) (cs : List Comer) (ms : List Member) (own : Memory) → Holds image t → mine w ≡ true → AllAreInLines g image bound w n t cs ms
       → Settled t.finished n (own w) (phases cs) → IsNear lead 0 t.finished (phases cs) → Due 0 t cs ms own
   due_zero t cs ms own holds is stand settled (inl near) = absurd (omega arith)
   due_zero t cs ms own holds is stand settled (inr near) =
@@ -333,7 +333,7 @@ module _ (g : Meeting) (image : Image) (bound : ℕ → ℕ) (mine : Words) (w n
       let e : near.0 ≡ 0 = omega arith in
       due_now 0 t cs ms own holds is stand settled (subst (λ d. Each (Leaves d) (phases cs)) e near.2)
 
-  due_by : (k : ℕ) (t : Setting) (cs : List Comer) (ms : List Member) (own : Memory) → Holds image t → mine w ≡ true → length (phases cs) < 2 ^ 31 → AllStand g image bound w n t cs ms
+  due_by : (k : ℕ) (t : Setting) (cs : List Comer) (ms : List Member) (own : Memory) → Holds image t → mine w ≡ true → length (phases cs) < 2 ^ 31 → AllAreInLines g image bound w n t cs ms
       → Settled t.finished n (own w) (phases cs) → IsDue lead (suc k) t.finished (phases cs)
       → ((r : Remained t cs ms own) → IsDue lead k (t.finished + 1) r.phases' → IsKept t.finished n lead (own w) (r.words w) (phases cs) r.phases' → Due k (later t) (with_phases cs r.phases') r.members r.words)
       → AreTogether (phases cs) → Due (suc k) t cs ms own
@@ -347,7 +347,7 @@ module _ (g : Meeting) (image : Image) (bound : ℕ → ℕ) (mine : Words) (w n
       let q = cycles_keep_arrivals t.finished n lead (own w) (r.words w) (phases cs) r.phases' few settled r.moves in
       due_after k t cs ms own holds is few stand settled due r q (λ due'. again r due' q)
 
-  due_within : (k : ℕ) (t : Setting) (cs : List Comer) (ms : List Member) (own : Memory) → Holds image t → mine w ≡ true → length (phases cs) < 2 ^ 31 → AllStand g image bound w n t cs ms
+  due_within : (k : ℕ) (t : Setting) (cs : List Comer) (ms : List Member) (own : Memory) → Holds image t → mine w ≡ true → length (phases cs) < 2 ^ 31 → AllAreInLines g image bound w n t cs ms
       → Settled t.finished n (own w) (phases cs) → IsDue lead k t.finished (phases cs) → Due k t cs ms own
   due_within zero t cs ms own holds is few stand settled due = due_zero t cs ms own holds is stand settled due.near
   due_within (suc k) t cs ms own holds is few stand settled due =
@@ -367,7 +367,7 @@ members_leave_together g image bound mine w n k t cs ms own holds is few stand s
 
 -- ---- who has just come
 
-has_time : (g : Meeting) (image : Image) (k n number : ℕ) (first : Hart) (t : Setting) (f : Phase) (h : Hart) → IsInside f → StandsInPhase g image k n first t number f h → HasCome f → HasTime lead 10 f
+has_time : (g : Meeting) (image : Image) (k n number : ℕ) (first : Hart) (t : Setting) (f : Phase) (h : Hart) → IsInside f → IsInPhase g image k n first t number f h → HasCome f → HasTime lead 10 f
 has_time g image k n number first t Outside h i s c = absurd i
 has_time g image k n number first t Away h i s c = absurd i
 has_time g image k n number first t (Coming d) h i s c = omega arith
@@ -376,7 +376,7 @@ has_time g image k n number first t (Leaving zero) h i s c = omega arith
 has_time g image k n number first t (Leaving (suc zero)) h i s c = omega arith
 has_time g image k n number first t (Leaving (suc (suc d))) h i s c = absurd s
 
-all_have_time : (g : Meeting) (image : Image) (bound : ℕ → ℕ) (w n : ℕ) (t : Setting) (cs : List Comer) (ms : List Member) → AllStand g image bound w n t cs ms → Each HasCome (phases cs)
+all_have_time : (g : Meeting) (image : Image) (bound : ℕ → ℕ) (w n : ℕ) (t : Setting) (cs : List Comer) (ms : List Member) → AllAreInLines g image bound w n t cs ms → Each HasCome (phases cs)
     → Each (HasTime lead 10) (phases cs)
 all_have_time g image bound w n t [] [] stand come = tt
 all_have_time g image bound w n t (c ∷ cs) (m ∷ ms) stand come = (

@@ -9,7 +9,7 @@ use Rattle.fk_sim_nodes.specs.Chain.{Passing, Faulting, Chain}
 use Rattle.fk_sim_nodes.specs.Alone.{Holds}
 use Rattle.fk_sim_nodes.specs.Phase.{Phase, Outside, Away, AllMove}
 use Rattle.fk_gen_group.specs.Meeting.{Meeting, count_for, lead}
-use Rattle.fk_gen_group.specs.Together.{Comer, Stands, GoesOn, phases}
+use Rattle.fk_gen_group.specs.Together.{Comer, IsInLines, GoesOn, phases}
 
 module _ {S P D : Type 0} (source : Source S P D) (g : Meeting) (image : Image) (bound : ℕ → ℕ)
     (mine : Words) (w n : ℕ) (test : Member → P → Hart → D → Bool) where
@@ -24,7 +24,7 @@ module _ {S P D : Type 0} (source : Source S P D) (g : Meeting) (image : Image) 
 
   -- A member in these lines takes part with the count of its phase, and makes no request.
   pub record TurnsInside (t : Setting) (c : Comer) (m : Member) (p : P) (d : D) : Type 0 where
-    pub stands : Stands g image bound w n t c m
+    pub stands : IsInLines g image bound w n t c m
     pub takes : (s : S) → source.part (count_for g c.phase) s p ≡ Passes s d
 
   abbrev pub Turns : Setting → Phase → Comer → Member → P → D → Type 0

@@ -6,7 +6,7 @@ use Rattle.fk_core.specs.declared.op.CoreOp.{CoreOp}
 use Rattle.fk_core.specs.Next.{follows, behind_jump}
 use Rattle.fk_image.specs.declared.Image.{Image}
 use Rattle.fk_sim_block.specs.Stands.{Places}
-use Rattle.fk_sim_block.specs.Next.{StandsOp}
+use Rattle.fk_sim_block.specs.Next.{OpAt}
 use Rattle.fk_sim_block.specs.Ready.{is_alone}
 use Rattle.fk_sim_block.specs.Suits.{Flows, nothing, writes}
 use Rattle.fk_isa.specs.declared.instruction.Instruction.TheVariants.{Jal}
@@ -60,7 +60,7 @@ abbrev pub LoneBlocksStayInNode : Type 0
 LoneBlocksStayInNode =
     (core : List CoreOp) (image : Image) (places : Places) (nestings : Nestings) (cycles : Cycles)
     (i : ℕ) (op : CoreOp) (operation : Operation)
-    → StandsOp core i op operation → is_alone operation ≡ true
+    → OpAt core i op operation → is_alone operation ≡ true
     → LevelsFit core places nestings i op operation
     → BlockKeeps core image places (cycles.before i) (cycles.behind i) i op operation
     → BlockDoesInNode core image places nestings cycles i op operation

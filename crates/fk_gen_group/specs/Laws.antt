@@ -6,7 +6,7 @@ use Rattle.fk_meaning_operation.specs.declared.operation.Operation.TheVariants.{
 use Rattle.fk_core.specs.declared.op.CoreOp.{CoreOp}
 use Rattle.fk_image.specs.declared.Image.{Image}
 use Rattle.fk_sim_block.specs.Stands.{Places}
-use Rattle.fk_sim_block.specs.Next.{StandsOp}
+use Rattle.fk_sim_block.specs.Next.{OpAt}
 use Rattle.fk_sim_block.specs.Suits.{Fits}
 use Rattle.fk_gen.specs.InPlace.{HasBlock}
 use Rattle.fk_sim_block.specs.Node.{Nestings, HasLevelRoom}
@@ -20,7 +20,7 @@ use Rattle.fk_sim_block.specs.Start.{BlockStarts}
 -- The block of a step is at its index, in a list whose values and levels have room.
 pub record IsInPlace (core : List CoreOp) (image : Image) (bound : ℕ → ℕ) (places : Places)
     (nestings : Nestings) (i : ℕ) (op : CoreOp) (operation : Operation) : Type 0 where
-  pub stands : StandsOp core i op operation
+  pub stands : OpAt core i op operation
   pub block : HasBlock image bound places i (block_of (Some operation) op.depth op.target)
   pub fits : Fits core places.frames i op operation
   pub few : places.frames.of_file ≤ 56

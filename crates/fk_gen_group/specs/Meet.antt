@@ -13,7 +13,7 @@ use Rattle.fk_sim_block.specs.Stands.{Places, StandsAt, size_register}
 use Rattle.fk_sim_block.specs.Block.{Enters, gone_to}
 use Rattle.fk_sim_block.specs.Node.{Nestings, StandsInNode, OwnsHeader, body_register}
 use Rattle.fk_gen_group.specs.Meeting.{Meeting, HasLeft}
-use Rattle.fk_gen_group.specs.Together.{Comer, Stands}
+use Rattle.fk_gen_group.specs.Together.{Comer, IsInLines}
 use Rattle.fk_sim_block.specs.Lockstep.{IsMember}
 use Rattle.fk_sim_block.specs.Joint.{word_of, AreSoMany}
 use Rattle.fk_gen_group.specs.Blocks.{meeting_of}
@@ -34,7 +34,7 @@ module _ (core : List CoreOp) (image : Image) (bound : ℕ → ℕ) (places : Pl
     pub steps : ℕ
     pub few : steps ≤ 7
     pub comes : comer.phase ≡ Coming steps
-    pub stands : Stands g image bound word n t comer m
+    pub stands : IsInLines g image bound word n t comer m
     pub leaves : (h : Hart) → HasLeft g image comer.lines n comer.first h
         → StandsAt places (gone_to (suc i) p) h
         × StandsInNode places nestings setting runs (gone_to (suc i) p) h

@@ -82,26 +82,26 @@ module _ (g : Meeting) where
       pub keeps : Keeps first h
 
     -- Where a hart that came to the lines at word k is at the beginning of a cycle, by its phase.
-    abbrev pub StandsInPhase : Setting → (number : ℕ) → Phase → Hart → Type 0
-    StandsInPhase t number Outside h = ⊥
-    StandsInPhase t number Away h = ⊥
-    StandsInPhase t number (Coming d) h =
+    abbrev pub IsInPhase : Setting → (number : ℕ) → Phase → Hart → Type 0
+    IsInPhase t number Outside h = ⊥
+    IsInPhase t number Away h = ⊥
+    IsInPhase t number (Coming d) h =
         ((t.finished + d) % 2 ≡ 0)
         × ((arriving : Hart) × RunsPrivately image t number d h arriving × IsArriving arriving)
-    StandsInPhase t number Waiting h =
+    IsInPhase t number Waiting h =
         Keeps first h
         × (((t.finished % 2 ≡ 1) × (h.pc ≡ 4 * (k + 7)))
         ⊎ ((t.finished % 2 ≡ 0) × (h.pc ≡ 4 * (k + 8)) × (h.registers t0 ≢ n)))
-    StandsInPhase t number (Leaving zero) h = Keeps first h × (t.finished % 2 ≡ 1)
+    IsInPhase t number (Leaving zero) h = Keeps first h × (t.finished % 2 ≡ 1)
         × (h.pc ≡ 4 * (k + 9))
-    StandsInPhase t number (Leaving (suc zero)) h =
+    IsInPhase t number (Leaving (suc zero)) h =
         Keeps first h × (t.finished % 2 ≡ 0) × (h.pc ≡ 4 * (k + 8)) × (h.registers t0 ≡ n)
-    StandsInPhase t number (Leaving (suc (suc d))) h = ⊥
+    IsInPhase t number (Leaving (suc (suc d))) h = ⊥
 
     -- After its turn a hart is in its next phase, or has left.
     abbrev pub Continues : Setting → (number found : ℕ) → Phase → Phase → Hart → Type 0
     Continues t number v (Leaving zero) f' h = (f' ≡ Away) × HasLeft h
-    Continues t number v f f' h = StandsInPhase (later t) number f' h
+    Continues t number v f f' h = IsInPhase (later t) number f' h
 
   abbrev pub count_for : Phase → ℕ
   count_for (Leaving zero) = count_of_leaving g.commits
@@ -130,7 +130,7 @@ HartsArrive =
     (g : Meeting) (image : Image) (bound : ℕ → ℕ) (k w n number : ℕ) (t : Setting) (h : Hart)
     → HasMeeting g image bound k
     → Holds image t → IsReadyToMeet g w n h → h.pc ≡ 4 * k
-    → (d : ℕ) × (5 ≤ d) × (d ≤ 6) × StandsInPhase g image k n h t number (Coming d) h
+    → (d : ℕ) × (5 ≤ d) × (d ≤ 6) × IsInPhase g image k n h t number (Coming d) h
 
 -- A hart in the lines goes through its phases.
 abbrev pub HartsMove : Type 0
@@ -138,4 +138,4 @@ HartsMove =
     (g : Meeting) (image : Image) (bound : ℕ → ℕ) (mine : Words) (k w n : ℕ) (t : Setting)
     (first : Hart) (f : Phase) (m : Member) (own : Memory)
     → HasMeeting g image bound k → mine w ≡ true → Holds image t → IsReadyToMeet g w n first
-    → StandsInPhase g image k n first t m.number f m.hart → Turn g image mine k w n first t f m own
+    → IsInPhase g image k n first t m.number f m.hart → Turn g image mine k w n first t f m own

@@ -7,7 +7,7 @@ use Rattle.fk_machine.specs.Step.{step}
 use Rattle.fk_sim_nodes.specs.Node.{Member, Words}
 use Rattle.fk_sim_nodes.specs.Alone.{Holds, NodeCycle, NodeRun, in_cycles}
 use Rattle.fk_sim_nodes.specs.Phase.{Phase, Outside, Away, Coming, AllMove, Each, Settled, IsDue}
-use Rattle.fk_gen_group.specs.Meeting.{Meeting, HasMeeting, IsReadyToMeet, StandsInPhase, Continues}
+use Rattle.fk_gen_group.specs.Meeting.{Meeting, HasMeeting, IsReadyToMeet, IsInPhase, Continues}
 use Rattle.fk_gen_group.specs.Meeting.{HasLeft, count_of_leaving, lead}
 
 -- A hart at an arrival word: its phase there, the word of the code where the lines to which it came
@@ -29,10 +29,10 @@ IsInside f = Unit {0}
 
 module _ (g : Meeting) (image : Image) (bound : ℕ → ℕ) (w n : ℕ) where
   -- A hart in the lines is where its phase says.
-  pub record Stands (t : Setting) (c : Comer) (m : Member) : Type 0 where
+  pub record IsInLines (t : Setting) (c : Comer) (m : Member) : Type 0 where
     pub meeting : HasMeeting g image bound c.lines
     pub ready : IsReadyToMeet g w n c.first
-    pub stands : StandsInPhase g image c.lines n c.first t m.number c.phase m.hart
+    pub stands : IsInPhase g image c.lines n c.first t m.number c.phase m.hart
 
   -- ---- whatever the other harts do
 
@@ -41,7 +41,7 @@ module _ (g : Meeting) (image : Image) (bound : ℕ → ℕ) (w n : ℕ) where
   abbrev pub TakesTurn : Setting → Phase → Comer → Member → Shared → Hart → Shared → Type 0
   TakesTurn t Outside c m sh h sh' = sh'.control w ≡ sh.control w
   TakesTurn t Away c m sh h sh' = sh'.control w ≡ sh.control w
-  TakesTurn t f c m sh h sh' = Stands t c m × (step t m.number m.hart sh ≡ Goes h sh')
+  TakesTurn t f c m sh h sh' = IsInLines t c m × (step t m.number m.hart sh ≡ Goes h sh')
 
   -- The turns of all harts in a cycle, in ascending number.
   abbrev pub AllTakeTurns : Setting → List Comer → List Member → Shared → List Hart
@@ -65,10 +65,10 @@ module _ (g : Meeting) (image : Image) (bound : ℕ → ℕ) (w n : ℕ) where
 
   -- ---- a node whose members are all in the lines
 
-  abbrev pub AllStand : Setting → List Comer → List Member → Type 0
-  AllStand t [] [] = Unit {0}
-  AllStand t (c ∷ cs) (m ∷ ms) = IsInside c.phase × Stands t c m × AllStand t cs ms
-  AllStand t cs ms = ⊥
+  abbrev pub AllAreInLines : Setting → List Comer → List Member → Type 0
+  AllAreInLines t [] [] = Unit {0}
+  AllAreInLines t (c ∷ cs) (m ∷ ms) = IsInside c.phase × IsInLines t c m × AllAreInLines t cs ms
+  AllAreInLines t cs ms = ⊥
 
   abbrev pub AllHaveLeft : List Comer → List Member → Type 0
   AllHaveLeft [] [] = Unit {0}
@@ -107,7 +107,7 @@ abbrev pub MembersLeaveTogether : Type 0
 MembersLeaveTogether =
     (g : Meeting) (image : Image) (bound : ℕ → ℕ) (mine : Words) (w n k : ℕ) (t : Setting)
     (cs : List Comer) (ms : List Member) (own : Memory)
-    → Holds image t → mine w ≡ true → length cs < 2 ^ 31 → AllStand g image bound w n t cs ms
+    → Holds image t → mine w ≡ true → length cs < 2 ^ 31 → AllAreInLines g image bound w n t cs ms
     → Settled t.finished n (own w) (phases cs) → IsDue lead k t.finished (phases cs)
     → (d : ℕ) × (d ≤ k) × LeaveAfter g image bound w n mine d t cs ms own
 
@@ -122,6 +122,6 @@ abbrev pub MembersLeaveInTen : Type 0
 MembersLeaveInTen =
     (g : Meeting) (image : Image) (bound : ℕ → ℕ) (mine : Words) (w n : ℕ) (t : Setting)
     (cs : List Comer) (ms : List Member) (own : Memory)
-    → Holds image t → mine w ≡ true → length cs < 2 ^ 31 → AllStand g image bound w n t cs ms
+    → Holds image t → mine w ≡ true → length cs < 2 ^ 31 → AllAreInLines g image bound w n t cs ms
     → Settled t.finished n (own w) (phases cs) → Each HasCome (phases cs)
     → (d : ℕ) × (d ≤ 10) × LeaveAfter g image bound w n mine d t cs ms own

@@ -4,12 +4,12 @@ use Rattle.std.specs.Prelude.{slice_get}
 use Rattle.std.specs.Option.{option_map_or}
 use Rattle.fk_meaning_operation.specs.declared.operation.Operation.{Operation}
 use Rattle.fk_core.specs.declared.op.CoreOp.{CoreOp}
-use Rattle.fk_sim_block.specs.Next.{StandsOp}
+use Rattle.fk_sim_block.specs.Next.{OpAt}
 use Rattle.fk_core_liveness.specs.declared.set.Set.{Set}
 use Rattle.fk_gen_list.specs.Layout.{placed}
 use Rattle.fk_gen_list.specs.Cycles.{before_of, behind_of, before_at, behind_at}
 
-module _ (core : List CoreOp) (globals : ℕ) (kept : List Set) (i : ℕ) (op : CoreOp) (operation : Operation) (stands : StandsOp core i op operation) where
+module _ (core : List CoreOp) (globals : ℕ) (kept : List Set) (i : ℕ) (op : CoreOp) (operation : Operation) (stands : OpAt core i op operation) where
   pub before_is : before_at (slice_get core i) ≡ before_of op operation
   before_is = ap before_at stands.stands ∙ ap (λ o. option_map_or (before_of op) o 0) stands.is_read
 

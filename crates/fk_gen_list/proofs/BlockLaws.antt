@@ -10,7 +10,7 @@ use Rattle.fk_core.specs.Numbers.{operation_of}
 use Rattle.fk_image.specs.declared.Image.{Image}
 use Rattle.fk_asm.specs.Block.{MarkedLine}
 use Rattle.fk_sim_block.specs.Stands.{Places}
-use Rattle.fk_sim_block.specs.Next.{StandsOp}
+use Rattle.fk_sim_block.specs.Next.{OpAt}
 use Rattle.fk_sim_block.specs.Ready.{is_alone}
 use Rattle.fk_sim_block.specs.Suits.{Suits}
 use Rattle.fk_sim_block.specs.Block.{BlockDoes, BlockLaw}
@@ -24,7 +24,7 @@ use Rattle.fk_gen_access.proofs.Law.{access_blocks_do}
 use Rattle.fk_gen_flow.specs.Blocks.{is_flow, is_some_flow}
 use Rattle.fk_gen_flow.specs.Calls.{HasShared}
 use Rattle.fk_gen_flow.specs.Opening.{HasOpening}
-use Rattle.fk_gen_flow.specs.Laws.{JumpsStand}
+use Rattle.fk_gen_flow.specs.Laws.{HasJumps}
 use Rattle.fk_gen_group.specs.Blocks.{is_group_step}
 use Rattle.fk_gen_flow.proofs.Law.{block_of_jump, jumps_go, flow_blocks_do, halts_end, harts_begin}
 use Rattle.fk_gen_list.specs.Kinds.{kind_of, kind_by, block_in, block_of}
@@ -57,13 +57,13 @@ module _ (core : List CoreOp) (image : Image) (places : Places) (bound : ℕ →
   jump_kind op jump =
       ap (λ b. kind_by (b || is_some_flow (operation_of op.kind op.number)) (accesses.is_access (operation_of op.kind op.number)) (is_group_step (operation_of op.kind op.number))) jump
 
-  jumps_stand : AreInPlace → JumpsStand core image bound places
-  jumps_stand in_place i op at jump =
+  has_jumps : AreInPlace → HasJumps core image bound places
+  has_jumps in_place i op at jump =
       subst (HasBlock image bound places i) (block_of_jump (here i op).clears (here i op).back op jump)
       (subst (λ k. HasBlock image bound places i (block_in k (here i op))) (jump_kind op jump) (in_place.blocks i op at))
 
   -- the block of an operation that is no step of a group, by its kind
-  block_here : AreInPlace → (i : ℕ) (op : CoreOp) (operation : Operation) → StandsOp core i op operation → is_group_step (Some operation) ≡ false
+  block_here : AreInPlace → (i : ℕ) (op : CoreOp) (operation : Operation) → OpAt core i op operation → is_group_step (Some operation) ≡ false
       → HasBlock image bound places i (block_in (kind_by (is_flow operation) (accesses.is_access (Some operation)) false) (here i op))
   block_here in_place i op operation stands no_step =
       subst (λ k. HasBlock image bound places i (block_in k (here i op)))
@@ -72,7 +72,7 @@ module _ (core : List CoreOp) (image : Image) (places : Places) (bound : ℕ →
 
   does_by : (main : ℕ) → Suits core places.frames main → AreKept places.frames kept → AreInRange core (length image.globals.items) → AreInPlace
       → (i : ℕ) (op : CoreOp) (operation : Operation)
-      → StandsOp core i op operation → is_alone operation ≡ true → (flow access : Bool) → is_flow operation ≡ flow → accesses.is_access (Some operation) ≡ access
+      → OpAt core i op operation → is_alone operation ≡ true → (flow access : Bool) → is_flow operation ≡ flow → accesses.is_access (Some operation) ≡ access
       → HasBlock image bound places i (block_in (kind_by flow access false) (here i op))
       → BlockDoes core image places i op operation
   does_by main suits are ranges in_place i op operation stands alone true access f a has =
@@ -97,7 +97,7 @@ module _ (core : List CoreOp) (image : Image) (places : Places) (bound : ℕ →
         does_by main suits are ranges in_place i op operation stands alone (is_flow operation) (accesses.is_access (Some operation)) refl refl
         (block_here in_place i op operation stands (alone_is_no_step operation alone));
     halts = λ i op stands. halts_end core image places bound i op (here i op).clears (here i op).back stands (block_here in_place i op Halt stands refl);
-    jumps = λ i op at jump. jumps_go core image places bound i op jump (jumps_stand in_place i op at jump) (suits.jumps i op at jump);
+    jumps = λ i op at jump. jumps_go core image places bound i op jump (has_jumps in_place i op at jump) (suits.jumps i op at jump);
     begins = λ setting t number running lt.
         harts_begin core image places bound firsts main opening (record { few = suits.few; within = omega arith; words = words }) suits.begins setting t number running;
   }

@@ -13,13 +13,13 @@ use Rattle.fk_asm.specs.declared.code.Code.{Code}
 use Rattle.fk_asm.specs.Assembly.{Assembly, instructions}
 use Rattle.fk_asm.specs.Block.{MarkedLine}
 use Rattle.fk_sim_block.specs.Stands.{ReturnPoint}
-use Rattle.fk_sim_block.specs.Next.{StandsOp}
+use Rattle.fk_sim_block.specs.Next.{OpAt}
 use Rattle.fk_core_liveness.specs.declared.set.Set.{Set}
 use Rattle.fk_gen.specs.declared.placed.Placed.{Placed}
 use Rattle.fk_gen.specs.InPlace.{LinesAt, HasBlock}
 use Rattle.fk_gen_flow.specs.Opening.{opening_lines}
 use Rattle.fk_gen_group.specs.Blocks.{start_label, start_lines, is_group_step}
-use Rattle.fk_gen_list.specs.Generable.{IsGenerable, DoesTheList, CodeStands, places_in, return_at, has_target, most_words}
+use Rattle.fk_gen_list.specs.Generable.{IsGenerable, DoesTheList, GivesWholeCode, places_in, return_at, has_target, most_words}
 use Rattle.fk_gen_list.specs.Kinds.{HasBlockOf, block_of}
 use Rattle.fk_gen_list.specs.Layout.{placed, all_placed, front, place, all_lines, IsLaid}
 use Rattle.fk_gen_list.proofs.InImage.{IsAssembled, bound_in}
@@ -27,7 +27,7 @@ use Rattle.fk_gen_list.proofs.Laid.{places, has_labels, has_opening, has_shared,
 use Rattle.fk_gen_list.proofs.AllPlaced.{placed_get, all_from}
 use Rattle.fk_gen_list.proofs.Whole.{assembled}
 use Rattle.fk_gen_list.proofs.Suited.{back_within, has_block_of, has_operands, jump_has}
-use Rattle.fk_gen_list.proofs.BlockLaws.{AreInRange, AreInPlace, law_of_blocks}
+use Rattle.fk_gen_list.proofs.BlockLaws.{AreInRange, law_of_blocks}
 
 never : {A : Type 0} → false ≡ true → A
 never e = absurd (cc)
@@ -54,7 +54,7 @@ module _ (core : List CoreOp) (kept : List Set) (main : ℕ) (firsts : List ℕ)
       → operation_of op.kind op.number ≡ o → IsSome o → HasBlockOf (placed core globals kept i op)
   operation_has short i op at no_jump None e some = never some
   operation_has short i op at no_jump (Some operation) e some =
-      let stands : StandsOp core i op operation = record { stands = at; no_jump = no_jump; is_read = e } in
+      let stands : OpAt core i op operation = record { stands = at; no_jump = no_jump; is_read = e } in
       let fits = is.suits.fits i op operation stands in
       let here = placed core globals kept i op in
       let begins = is.begins in
@@ -89,7 +89,7 @@ module _ (core : List CoreOp) (kept : List Set) (main : ℕ) (firsts : List ℕ)
     abbrev bound : (label : ℕ) → ℕ
     bound = bound_in a.bound (length (all_lines block_of opening globals ops))
 
-    pub stands : CodeStands core kept main firsts globals code
+    pub stands : GivesWholeCode core kept main firsts globals code
     stands image frames has of_file =
         let built : IsAssembled image a.bound (all_lines block_of opening globals ops) =
         assembled core kept main firsts globals is small a laid image code.words.items code.commits.items has.words has.commits rows entries in

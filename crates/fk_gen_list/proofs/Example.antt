@@ -1,5 +1,5 @@
 -- The premises, met by a list: three processors make a group, which ends at once, and all halt.
-use Rattle.std.proofs.Common.{◌≡◌, ℕ, zero, suc, ◌^◌, ◌<◌, ◌≤◌, List, [], ◌∷◌, length, All, Some, true, false, IsSome, ap, subst, ◌∙◌, arith, refl, inl, inr}
+use Rattle.std.proofs.Common.{◌≡◌, ℕ, zero, suc, ◌^◌, ◌<◌, ◌≤◌, List, [], ◌∷◌, Some, true, false, IsSome, ap, subst, ◌∙◌, arith, refl, inl, inr}
 use Rattle.std.specs.Prelude.{slice_get}
 use Rattle.std.proofs.lemmas.List.Elements.{All-nil, All-from_recursion}
 use Rattle.fk_meaning_operation.specs.declared.operation.Operation.{Operation}
@@ -8,7 +8,6 @@ use Rattle.fk_core.specs.declared.op.CoreOp.{CoreOp}
 use Rattle.fk_core.specs.Next.{is_jump, behind_jump}
 use Rattle.fk_core.specs.Numbers.{operation_of}
 use Rattle.fk_sim_block.specs.Stands.{Frames, HasRoom}
-use Rattle.fk_sim_block.specs.Next.{StandsOp}
 use Rattle.fk_sim_block.specs.Suits.{Flows, Fits, Suits}
 use Rattle.fk_gen_group.specs.Blocks.{is_group_step}
 use Rattle.fk_sim_block.specs.Lockstep.{values_of_step}

@@ -11,7 +11,7 @@ use Rattle.fk_core.specs.declared.op.CoreOp.{CoreOp}
 use Rattle.fk_core.specs.Next.{is_jump}
 use Rattle.fk_core.specs.Numbers.{operation_of}
 use Rattle.fk_sim_block.specs.Stands.{Frames}
-use Rattle.fk_sim_block.specs.Next.{StandsOp}
+use Rattle.fk_sim_block.specs.Next.{OpAt}
 use Rattle.fk_sim_block.specs.Ready.{is_alone}
 use Rattle.fk_sim_block.specs.Suits.{Fits, Suits}
 use Rattle.fk_sim_block.specs.Block.{most_before, most_behind}
@@ -99,8 +99,8 @@ no_operation op operation jump read = nothing (subst (λ k. operation_of k op.nu
     nothing : operation_of 0 op.number ≡ Some operation → ⊥
     nothing e = cc
 
-pub stands_op : (core : List CoreOp) (i : ℕ) (op : CoreOp) (operation : Operation) → slice_get core i ≡ Some op → operation_of op.kind op.number ≡ Some operation → StandsOp core i op operation
-stands_op core i op operation at read = record { stands = at; no_jump = by (is_jump op) refl; is_read = read }
+pub is_op_at : (core : List CoreOp) (i : ℕ) (op : CoreOp) (operation : Operation) → slice_get core i ≡ Some op → operation_of op.kind op.number ≡ Some operation → OpAt core i op operation
+is_op_at core i op operation at read = record { stands = at; no_jump = by (is_jump op) refl; is_read = read }
   where
     by : (b : Bool) → is_jump op ≡ b → b ≡ false
     by true e = absurd (no_operation op operation e read)
@@ -114,7 +114,7 @@ module _ (core : List CoreOp) (frames : Frames) (main : ℕ) (suits : Suits core
   by_operation i op here onward (Some operation) same many at read =
       few_behind_of core frames i here suits.few (subst (λ x. x.number < 2 ^ 32) (sym same) (words i op at)) (subst (λ n. n ≤ 2 ^ 20) (sym many) some) operation onward
       (subst (λ (x : CoreOp). operation_of x.kind x.number ≡ Some operation) (sym same) read)
-      (subst (λ x. Fits core frames i x operation) (sym same) (suits.fits i op operation (stands_op core i op operation at read)))
+      (subst (λ x. Fits core frames i x operation) (sym same) (suits.fits i op operation (is_op_at core i op operation at read)))
 
   pub few_behind_at : (i : ℕ) (onward : Bool) (o : Option CoreOp) → slice_get core i ≡ o → behind_at core globals kept i o onward ≤ most_behind
   few_behind_at i onward None at = omega arith

@@ -8,7 +8,7 @@ use Rattle.fk_core.specs.Next.{is_jump}
 use Rattle.fk_core.specs.Numbers.{operation_of}
 use Rattle.fk_image.specs.declared.Image.{Image}
 use Rattle.fk_sim_block.specs.Stands.{Places}
-use Rattle.fk_sim_block.specs.Next.{StandsOp}
+use Rattle.fk_sim_block.specs.Next.{OpAt}
 use Rattle.fk_core_liveness.specs.declared.set.Set.{Set}
 use Rattle.fk_gen.specs.InPlace.{HasBlock}
 use Rattle.fk_gen_access.specs.Blocks.{is_access}
@@ -21,7 +21,7 @@ use Rattle.fk_gen_list.specs.Layout.{placed}
 use Rattle.fk_gen_list.proofs.Suited.{alone_is_no_step, step_kind, kind_here}
 use Rattle.fk_gen_list.proofs.Returns.{calls_return}
 use Rattle.fk_gen_list.specs.Laws.{is_lone}
-use Rattle.fk_gen_list.specs.Whole.{GeneratedCodeStands}
+use Rattle.fk_gen_list.specs.Whole.{GeneratedCodeIsWhole}
 
 jump_kind : (op : CoreOp) → is_jump op ≡ true → kind_of op ≡ kind_by true (is_access (operation_of op.kind op.number)) (is_group_step (operation_of op.kind op.number))
 jump_kind op jump =
@@ -36,13 +36,13 @@ module _ (core : List CoreOp) (kept : List Set) (image : Image) (bound : ℕ →
   abbrev globals : ℕ
   globals = length image.globals.items
 
-  lone : (i : ℕ) (op : CoreOp) (operation : Operation) → StandsOp core i op operation → is_lone operation ≡ true
+  lone : (i : ℕ) (op : CoreOp) (operation : Operation) → OpAt core i op operation → is_lone operation ≡ true
       → HasBlock image bound places i (block_in (kind_by (is_flow operation) (is_access (Some operation)) false) (placed core globals kept i op))
   lone i op operation stands is =
       subst (λ k. HasBlock image bound places i (block_in k (placed core globals kept i op)))
       (kind_here core i op operation stands ∙ ap (kind_by (is_flow operation) (is_access (Some operation))) (lone_is_no_step operation is)) (blocks i op stands.stands)
 
-  step : (i : ℕ) (op : CoreOp) (operation : Operation) → StandsOp core i op operation → is_group_step (Some operation) ≡ true
+  step : (i : ℕ) (op : CoreOp) (operation : Operation) → OpAt core i op operation → is_group_step (Some operation) ≡ true
       → HasBlock image bound places i (block_of_step (Some operation) op.depth op.target)
   step i op operation stands is =
       subst (λ o. HasBlock image bound places i (block_of_step o op.depth op.target)) stands.is_read
@@ -53,8 +53,8 @@ module _ (core : List CoreOp) (kept : List Set) (image : Image) (bound : ℕ →
       subst (HasBlock image bound places i) (block_of_jump (placed core globals kept i op).clears (placed core globals kept i op).back op is)
       (subst (λ k. HasBlock image bound places i (block_in k (placed core globals kept i op))) (jump_kind op is) (blocks i op at))
 
-pub generated_code_stands : GeneratedCodeStands
-generated_code_stands core kept image bound places firsts main whole = record {
+pub generated_code_is_whole : GeneratedCodeIsWhole
+generated_code_is_whole core kept image bound places firsts main whole = record {
   opening = whole.opening;
   alone = record {
     blocks = lone core kept image bound places whole.blocks;

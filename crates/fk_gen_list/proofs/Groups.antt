@@ -7,7 +7,7 @@ use Rattle.fk_meaning_operation.specs.declared.operation.Operation.TheVariants.{
 use Rattle.fk_core.specs.declared.op.CoreOp.{CoreOp}
 use Rattle.fk_image.specs.declared.Image.{Image}
 use Rattle.fk_sim_block.specs.Stands.{Places}
-use Rattle.fk_sim_block.specs.Next.{StandsOp}
+use Rattle.fk_sim_block.specs.Next.{OpAt}
 use Rattle.fk_sim_block.specs.Suits.{Suits}
 use Rattle.fk_core_liveness.specs.declared.set.Set.{Set}
 use Rattle.fk_sim_block.specs.Node.{Nestings}
@@ -36,7 +36,7 @@ meeting_is_step operation e = absurd (cc)
 
 module _ (core : List CoreOp) (image : Image) (bound : ℕ → ℕ) (places : Places) (nestings : Nestings) (kept : List Set) (main : ℕ) (suits : Suits core places.frames main)
     (code : HasGroupCode core image bound places) (looks : StepsHaveValues core) (levels : HaveStepLevels core places nestings) where
-  in_place : (i : ℕ) (op : CoreOp) (operation : Operation) → StandsOp core i op operation → is_group_step (Some operation) ≡ true → IsInPlace core image bound places nestings i op operation
+  in_place : (i : ℕ) (op : CoreOp) (operation : Operation) → OpAt core i op operation → is_group_step (Some operation) ≡ true → IsInPlace core image bound places nestings i op operation
   in_place i op operation stands step = record {
     stands = stands;
     block = code.blocks i op operation stands step;
@@ -56,7 +56,7 @@ module _ (core : List CoreOp) (image : Image) (bound : ℕ → ℕ) (places : Pl
   abbrev behind : (i : ℕ) → Bool → ℕ
   behind i onward = behind_at core globals kept i (slice_get core i) onward
 
-  agrees : (i : ℕ) (op : CoreOp) (lowest size : ℕ) → StandsOp core i op Agree
+  agrees : (i : ℕ) (op : CoreOp) (lowest size : ℕ) → OpAt core i op Agree
       → StepTogether core image places nestings i op Agree (λ ps. Unit {0}) (before i) (behind i true) None (λ p. None) lowest size
   agrees i op lowest size stands =
       subst (λ c. StepTogether core image places nestings i op Agree (λ ps. Unit {0}) c (behind i true) None (λ p. None) lowest size) (sym (before_is core globals kept i op Agree stands))
@@ -64,19 +64,19 @@ module _ (core : List CoreOp) (image : Image) (bound : ℕ → ℕ) (places : Pl
       (groups_agree core image bound places nestings i op lowest size (in_place i op Agree stands refl)))
 
   -- by what the law of its block tells
-  parts_in : (i : ℕ) (op : CoreOp) (operation : Operation) (c d lowest size : ℕ) → StandsOp core i op operation → c ≡ before i → d ≡ behind i true
+  parts_in : (i : ℕ) (op : CoreOp) (operation : Operation) (c d lowest size : ℕ) → OpAt core i op operation → c ≡ before i → d ≡ behind i true
       → PartTogether core image places nestings i op operation (IsAskedOf operation lowest size) c d None (runs_behind operation lowest size) lowest size
       → PartTogether core image places nestings i op operation (IsAskedOf operation lowest size) (before i) (behind i true) None (runs_behind operation lowest size) lowest size
   parts_in i op operation c d lowest size stands e f part =
       subst (λ x. PartTogether core image places nestings i op operation (IsAskedOf operation lowest size) x (behind i true) None (runs_behind operation lowest size) lowest size) e
       (subst (λ x. PartTogether core image places nestings i op operation (IsAskedOf operation lowest size) c x None (runs_behind operation lowest size) lowest size) f part)
 
-  at_once : (i : ℕ) (op : CoreOp) (lowest size : ℕ) → StandsOp core i op Farm
+  at_once : (i : ℕ) (op : CoreOp) (lowest size : ℕ) → OpAt core i op Farm
       → PartTogether core image places nestings i op Farm (IsAskedOf Farm lowest size) 0 0 None (runs_behind Farm lowest size) lowest size
   at_once i op lowest size stands setting t mine first ms ps own owns enter asked =
       groups_set_free core image bound places nestings i op lowest size asked.0 (in_place i op Farm stands refl) setting t mine first ms ps own owns enter asked.1
 
-  parts : (i : ℕ) (op : CoreOp) (operation : Operation) (lowest size : ℕ) → StandsOp core i op operation → sets_apart operation ≡ true
+  parts : (i : ℕ) (op : CoreOp) (operation : Operation) (lowest size : ℕ) → OpAt core i op operation → sets_apart operation ≡ true
       → PartTogether core image places nestings i op operation (IsAskedOf operation lowest size) (before i) (behind i true) None (runs_behind operation lowest size) lowest size
   parts i op Farm lowest size stands e =
       parts_in i op Farm 0 0 lowest size stands (sym (before_is core globals kept i op Farm stands))
@@ -87,20 +87,20 @@ module _ (core : List CoreOp) (image : Image) (bound : ℕ → ℕ) (places : Pl
       (groups_send_one core image bound places nestings i op lowest size (in_place i op Seq stands refl) (levels.leads i op Seq stands refl))
   parts i op operation lowest size stands e = absurd (cc)
 
-  ends : (i : ℕ) (op : CoreOp) (lowest size : ℕ) → StandsOp core i op End → EndTogether core image places nestings i op (behind i true) lowest size
+  ends : (i : ℕ) (op : CoreOp) (lowest size : ℕ) → OpAt core i op End → EndTogether core image places nestings i op (behind i true) lowest size
   ends i op lowest size stands =
       subst (λ (f : Bool → ℕ). EndTogether core image places nestings i op (f true) lowest size) (sym (behind_is core globals kept i op End stands))
       (groups_end core image bound places nestings i op lowest size (in_place i op End stands refl) (levels.leads i op End stands refl))
 
-  meets : (i : ℕ) (op : CoreOp) (operation : Operation) → StandsOp core i op operation → is_meeting operation ≡ true → BlockMeets core image places nestings i op operation most_to_meet
+  meets : (i : ℕ) (op : CoreOp) (operation : Operation) → OpAt core i op operation → is_meeting operation ≡ true → BlockMeets core image places nestings i op operation most_to_meet
   meets i op operation stands meeting setting t mine runs first n m p owns en member many =
       let met = blocks_meet core image bound places nestings i op operation meeting (in_place i op operation stands (meeting_is_step operation meeting)) setting t mine runs first n m p owns en member many in
       (met.0, omega (arith, met.1), met.2)
 
-  few_to_begin : (i : ℕ) (op : CoreOp) → StandsOp core i op Begin → before i < most_united
+  few_to_begin : (i : ℕ) (op : CoreOp) → OpAt core i op Begin → before i < most_united
   few_to_begin i op stands = let e : before i ≡ 1 = before_is core globals kept i op Begin stands in omega (arith, e)
 
-  starts : nestings.start ≡ gathering_of core bound → (i : ℕ) (op : CoreOp) → StandsOp core i op Begin
+  starts : nestings.start ≡ gathering_of core bound → (i : ℕ) (op : CoreOp) → OpAt core i op Begin
       → BlockStarts core image places nestings i op (nestings.start.there i) (nestings.start.coming i) most_to_start (before i) (behind i)
   starts gathers i op stands =
       let there = gathered_at bound in

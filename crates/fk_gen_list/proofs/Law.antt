@@ -9,7 +9,7 @@ use Rattle.fk_core.specs.Numbers.{operation_of}
 use Rattle.fk_image.specs.declared.Image.{Image}
 use Rattle.fk_asm.specs.Block.{MarkedLine}
 use Rattle.fk_sim_block.specs.Stands.{Places}
-use Rattle.fk_sim_block.specs.Next.{StandsOp}
+use Rattle.fk_sim_block.specs.Next.{OpAt}
 use Rattle.fk_sim_block.specs.Ready.{is_alone}
 use Rattle.fk_sim_block.specs.Suits.{Suits}
 use Rattle.fk_core_liveness.specs.declared.set.Set.{Set}
@@ -60,7 +60,7 @@ module _ (core : List CoreOp) (image : Image) (places : Places) (bound : ℕ →
   abbrev block_or : Option Operation → CoreOp → List MarkedLine
   block_or o op = option_map_or (expressions.expression_block globals op.depth) o []
 
-  keeps_by : (i : ℕ) (op : CoreOp) (operation : Operation) → StandsOp core i op operation → is_alone operation ≡ true → (flow access : Bool) → is_flow operation ≡ flow
+  keeps_by : (i : ℕ) (op : CoreOp) (operation : Operation) → OpAt core i op operation → is_alone operation ≡ true → (flow access : Bool) → is_flow operation ≡ flow
       → accesses.is_access (Some operation) ≡ access → HasBlock image bound places i (block_in (kind_by flow access false) (here i op))
       → BlockKeeps core image places (before_in (kind_by flow access false) op operation) (behind_in (kind_by flow access false) (here i op) operation) i op operation
   keeps_by i op operation stands alone true access f a has =
@@ -88,7 +88,7 @@ module _ (core : List CoreOp) (image : Image) (places : Places) (bound : ℕ →
   by_kind i op operation alone keeps = keeps
 
   -- and those at its index
-  keeps : (i : ℕ) (op : CoreOp) (operation : Operation) → StandsOp core i op operation → is_alone operation ≡ true
+  keeps : (i : ℕ) (op : CoreOp) (operation : Operation) → OpAt core i op operation → is_alone operation ≡ true
       → BlockKeeps core image places (before_at (slice_get core i)) (behind_at core globals kept i (slice_get core i)) i op operation
   keeps i op operation stands alone =
       subst (λ o. BlockKeeps core image places (before_at o) (behind_at core globals kept i o) i op operation) (sym stands.stands)

@@ -8,7 +8,7 @@ use Rattle.fk_core.specs.Next.{is_jump, behind_jump}
 use Rattle.fk_core.specs.Numbers.{operation_of}
 use Rattle.fk_image.specs.declared.Image.{Image}
 use Rattle.fk_sim_block.specs.Stands.{Places, ReturnPoint}
-use Rattle.fk_sim_block.specs.Next.{StandsOp}
+use Rattle.fk_sim_block.specs.Next.{OpAt}
 use Rattle.fk_core_liveness.specs.declared.set.Set.{Set}
 use Rattle.fk_gen.specs.declared.placed.Placed.{Placed}
 use Rattle.fk_gen.specs.InPlace.{HasBlock, LinesAt}
@@ -29,13 +29,13 @@ module _ (core : List CoreOp) (image : Image) (bound : ℕ → ℕ) (places : Pl
   here i op = placed core (length image.globals.items) kept i op
 
   -- the block of a call
-  entered : (i : ℕ) (op : CoreOp) (n : ℕ) → StandsOp core i op (Enter n) → HasBlock image bound places i (enter_block (here i op).clears n op.depth op.site (behind_jump core (suc i)))
+  entered : (i : ℕ) (op : CoreOp) (n : ℕ) → OpAt core i op (Enter n) → HasBlock image bound places i (enter_block (here i op).clears n op.depth op.site (behind_jump core (suc i)))
   entered i op n stands =
       subst (λ back. HasBlock image bound places i (enter_block (here i op).clears n op.depth op.site back)) (ap (λ o. back_by o core i) stands.is_read)
       (subst (HasBlock image bound places i) (block_of_operation core i op (Enter n) (here i op).clears (here i op).back stands)
       (subst (λ k. HasBlock image bound places i (block_in k (here i op))) (kind_here core i op (Enter n) stands) (blocks i op stands.stands)))
 
-  jump_back : (i : ℕ) (op : CoreOp) (n : ℕ) → StandsOp core i op (Enter n) → LinesAt image bound (places.block (suc i) - past_return) (jump_block (behind_jump core (suc i)))
+  jump_back : (i : ℕ) (op : CoreOp) (n : ℕ) → OpAt core i op (Enter n) → LinesAt image bound (places.block (suc i) - past_return) (jump_block (behind_jump core (suc i)))
   jump_back i op n stands =
       let back = behind_jump core (suc i) in
       let block = entered i op n stands in
@@ -48,7 +48,7 @@ module _ (core : List CoreOp) (image : Image) (bound : ℕ → ℕ) (places : Pl
       let same : suc (k7 + length words) ≡ places.block (suc i) - past_return = omega arith in
       subst (λ w. LinesAt image bound w (jump_block back)) same (lines.1.0, tt)
 
-  points : (i : ℕ) (op : CoreOp) (n : ℕ) → StandsOp core i op (Enter n) → places.returns i ≡ Some (return_in core places.block i)
+  points : (i : ℕ) (op : CoreOp) (n : ℕ) → OpAt core i op (Enter n) → places.returns i ≡ Some (return_in core places.block i)
   points i op n stands =
       returns i ∙ ap (return_at core places.block i) stands.stands
       ∙ ap (λ b. if b then None else return_by core places.block i (operation_of op.kind op.number)) stands.no_jump

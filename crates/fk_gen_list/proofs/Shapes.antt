@@ -26,7 +26,7 @@ use Rattle.fk_core_liveness.specs.declared.set.Set.{Set}
 use Rattle.fk_gen_access.specs.Blocks as accesses
 use Rattle.fk_gen_expr.specs.Expressions as expressions
 use Rattle.fk_gen_flow.specs.Blocks as flow
-use Rattle.fk_sim_block.specs.Next.{StandsOp}
+use Rattle.fk_sim_block.specs.Next.{OpAt}
 use Rattle.fk_gen_flow.specs.Calls as calls
 use Rattle.fk_gen_flow.specs.Calls.{most_privates}
 use Rattle.fk_gen_flow.specs.Flow as f
@@ -181,7 +181,7 @@ leads_by : (core : List CoreOp) (kept : List Set) (main : â„•) (firsts : List â„
 leads_by core kept main firsts i op (Some (o.Branch onward)) is e quiet' read =
     is.blocks.targets i op (o.Branch onward) (record { stands = e; no_jump = quiet'; is_read = read }) refl
 leads_by core kept main firsts i op (Some (o.Enter arguments)) is e quiet' read =
-    let stands : StandsOp core i op (o.Enter arguments) = record { stands = e; no_jump = quiet'; is_read = read } in
+    let stands : OpAt core i op (o.Enter arguments) = record { stands = e; no_jump = quiet'; is_read = read } in
     ((is.suits.fits i op (o.Enter arguments) stands).goes_on.few, is.blocks.returns i op arguments stands)
 leads_by core kept main firsts i op (Some o.Begin) is e quiet' read = is.blocks.targets i op o.Begin (record { stands = e; no_jump = quiet'; is_read = read }) refl
 leads_by core kept main firsts i op (Some o.Seq) is e quiet' read = is.blocks.targets i op o.Seq (record { stands = e; no_jump = quiet'; is_read = read }) refl

@@ -14,7 +14,7 @@ use Rattle.fk_core.specs.declared.op.CoreOp.{CoreOp}
 use Rattle.fk_core.specs.Next.{is_jump}
 use Rattle.fk_core.specs.Numbers.{operation_of, operation_by, local_of, request_of, tree_step_of}
 use Rattle.fk_sim_block.specs.Stands.{Frames, HasRoom}
-use Rattle.fk_sim_block.specs.Next.{StandsOp}
+use Rattle.fk_sim_block.specs.Next.{OpAt}
 use Rattle.fk_sim_block.specs.Ready.{is_alone}
 use Rattle.fk_sim_block.specs.Suits.{Fits}
 use Rattle.fk_gen_expr.specs.Expressions.{IsExpression}
@@ -115,7 +115,7 @@ back_within core blocks i op (Some (Enter n)) at no_jump read some = blocks.retu
 back_within core blocks i op o at no_jump read some = some
 
 -- what a branch and a call ask for
-pub has_operands : (core : List CoreOp) (frames : Frames) (i back : ℕ) (op : CoreOp) (operation : Operation) → StandsOp core i op operation
+pub has_operands : (core : List CoreOp) (frames : Frames) (i back : ℕ) (op : CoreOp) (operation : Operation) → OpAt core i op operation
     → Fits core frames i op operation → HasBlocks core → length core < 2 ^ 31 → back < 2 ^ 31 → HasOperands op.depth op.target back (Some operation)
 has_operands core frames i back op (Branch onward) stands fits blocks short near =
     let there : op.target < length core = blocks.targets i op (Branch onward) stands refl in omega arith
@@ -148,7 +148,7 @@ step_kind operation step = never step
 
 -- ---- all of them
 
-pub kind_here : (core : List CoreOp) (i : ℕ) (op : CoreOp) (operation : Operation) → StandsOp core i op operation
+pub kind_here : (core : List CoreOp) (i : ℕ) (op : CoreOp) (operation : Operation) → OpAt core i op operation
     → kind_of op ≡ kind_by (is_flow operation) (is_access (Some operation)) (is_group_step (Some operation))
 kind_here core i op operation stands =
     ap (λ b. kind_by (b || is_some_flow (operation_of op.kind op.number)) (is_access (operation_of op.kind op.number)) (is_group_step (operation_of op.kind op.number))) stands.no_jump
@@ -159,7 +159,7 @@ no_halt operation (inl alone) f = alone
 no_halt operation (inr e) f = never (sym f ∙ ap is_flow e)
 
 module _ (core : List CoreOp) (frames : Frames) (i globals : ℕ) (op : CoreOp) (operation : Operation) (clears : Bool) (back : ℕ) where
-  has_by : (flow access : Bool) → is_flow operation ≡ flow → is_access (Some operation) ≡ access → StandsOp core i op operation
+  has_by : (flow access : Bool) → is_flow operation ≡ flow → is_access (Some operation) ≡ access → OpAt core i op operation
       → Fits core frames i op operation → frames.of_file ≤ 56 → op.number < 2 ^ 32 → HasOperands op.depth op.target back (Some operation)
       → globals ≤ 2 ^ 20 → (is_alone operation ≡ true) ⊎ (operation ≡ Halt) → HasBlockIn (kind_by flow access false) (record { op = op; globals = globals; clears = clears; back = back })
   has_by true access f a stands fits few number operands some alone = record {
@@ -177,7 +177,7 @@ module _ (core : List CoreOp) (frames : Frames) (i globals : ℕ) (op : CoreOp) 
       (has_expression core frames i globals op operation stands.is_read fits few number some (no_halt operation alone f) f a)
 
   -- the kind of one that is no step of a group
-  lone_has : is_group_step (Some operation) ≡ false → StandsOp core i op operation → Fits core frames i op operation → frames.of_file ≤ 56 → op.number < 2 ^ 32
+  lone_has : is_group_step (Some operation) ≡ false → OpAt core i op operation → Fits core frames i op operation → frames.of_file ≤ 56 → op.number < 2 ^ 32
       → HasOperands op.depth op.target back (Some operation) → globals ≤ 2 ^ 20 → (is_alone operation ≡ true) ⊎ (operation ≡ Halt)
       → HasBlockOf (record { op = op; globals = globals; clears = clears; back = back })
   lone_has no_step stands fits few number operands some alone =
@@ -186,7 +186,7 @@ module _ (core : List CoreOp) (frames : Frames) (i globals : ℕ) (op : CoreOp) 
       (has_by (is_flow operation) (is_access (Some operation)) refl refl stands fits few number operands some alone)
 
   -- an operation that suits frames has a block
-  pub has_block_of : StandsOp core i op operation → Fits core frames i op operation → frames.of_file ≤ 56 → op.number < 2 ^ 32 → HasOperands op.depth op.target back (Some operation)
+  pub has_block_of : OpAt core i op operation → Fits core frames i op operation → frames.of_file ≤ 56 → op.number < 2 ^ 32 → HasOperands op.depth op.target back (Some operation)
       → globals ≤ 2 ^ 20 → (is_group_step (Some operation) ≡ true → op.target < 2 ^ 31) → HasOwnBlock operation
       → HasBlockOf (record { op = op; globals = globals; clears = clears; back = back })
   has_block_of stands fits few number operands some near (inl alone) =

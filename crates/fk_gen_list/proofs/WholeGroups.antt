@@ -1,10 +1,10 @@
 -- The whole law, where no level stands in a frame.
-use Rattle.std.proofs.Common.{◌≡◌, ℕ, ◌≤◌, ◌^◌, List, length, true, ap, subst, sym, arith, refl}
+use Rattle.std.proofs.Common.{◌≡◌, ℕ, ◌≤◌, ◌^◌, List, true, ap, subst, arith, refl}
 use Rattle.fk_core.specs.declared.op.CoreOp.{CoreOp}
 use Rattle.fk_asm.specs.declared.code.Code.{Code}
 use Rattle.fk_sim_block.specs.Stands.{Frames, ahead}
 use Rattle.fk_core_liveness.specs.declared.set.Set.{Set}
-use Rattle.fk_gen_list.specs.Generable.{IsGenerable, CodeStands, places_in}
+use Rattle.fk_gen_list.specs.Generable.{IsGenerable, GivesWholeCode, places_in}
 use Rattle.fk_gen_list.proofs.Done.{site_few, number_few}
 use Rattle.fk_sim_block.specs.Node.{Gathering, HasLevelRoom}
 use Rattle.fk_sim_block.specs.Law.{GroupLaw}
@@ -12,7 +12,7 @@ use Rattle.fk_gen_group.specs.Start.{gathering_of}
 use Rattle.fk_gen_list.specs.Cycles.{cycles_of}
 use Rattle.fk_gen_list.specs.Laws.{AreInRange, none_saved}
 use Rattle.fk_gen_list.specs.Whole.{CodeHasTheLaw, GivesGroupLaw}
-use Rattle.fk_gen_list.proofs.Generated.{generated_code_stands}
+use Rattle.fk_gen_list.proofs.Generated.{generated_code_is_whole}
 use Rattle.fk_gen_list.proofs.Levels.{levels_need_no_room}
 use Rattle.fk_gen_list.proofs.Opening.{groups_begin}
 use Rattle.fk_gen_list.proofs.Groups.{lists_have_the_law}
@@ -31,7 +31,7 @@ code_has_the_law core kept image bound places firsts main suits are ranges looks
 
 -- so has each image with the code that is made of a list
 pub gives_group_law : (core : List CoreOp) (kept : List Set) (main : ℕ) (firsts : List ℕ) (globals : ℕ) → IsGenerable core kept main firsts → globals ≤ 2 ^ 19 → (code : Code)
-    → CodeStands core kept main firsts globals code → GivesGroupLaw core kept main firsts globals code
+    → GivesWholeCode core kept main firsts globals code → GivesGroupLaw core kept main firsts globals code
 gives_group_law core kept main firsts globals is few code stands image frames has suits keeps of_file looks =
     let all = stands image frames has of_file in
     let places = places_in core all.0 frames in
@@ -41,5 +41,5 @@ gives_group_law core kept main firsts globals is few code stands image frames ha
       globals = let e = has.globals_of in omega arith;
     } in
     let law = code_has_the_law core kept image all.1.0 places firsts main suits keeps ranges looks
-    (record { few = suits.few; within = omega arith; words = is.first_words }) (generated_code_stands core kept image all.1.0 places firsts main all.1.1) in
+    (record { few = suits.few; within = omega arith; words = is.first_words }) (generated_code_is_whole core kept image all.1.0 places firsts main all.1.1) in
     (all.0, start, subst (λ n. GroupLaw core image places (none_saved start) (cycles_of core n kept) firsts main) has.globals_of law)

@@ -9,7 +9,7 @@ use Rattle.fk_core.specs.Numbers.{operation_of}
 use Rattle.fk_image.specs.declared.Image.{Image}
 use Rattle.fk_asm.specs.declared.code.Code.{Code}
 use Rattle.fk_sim_block.specs.Stands.{Frames, Places, ReturnPoint}
-use Rattle.fk_sim_block.specs.Next.{StandsOp}
+use Rattle.fk_sim_block.specs.Next.{OpAt}
 use Rattle.fk_sim_block.specs.Ready.{is_alone}
 use Rattle.fk_sim_block.specs.Suits.{Suits}
 use Rattle.fk_sim_block.specs.Block.{BlockLaw}
@@ -45,11 +45,11 @@ has_target operation = is_group_step (Some operation)
 pub record HasBlocks (core : List CoreOp) : Type 0 where
   pub jumps : (i : ℕ) (op : CoreOp) → slice_get core i ≡ Some op → is_jump op ≡ true
       → op.target < length core
-  pub operations : (i : ℕ) (op : CoreOp) (operation : Operation) → StandsOp core i op operation
+  pub operations : (i : ℕ) (op : CoreOp) (operation : Operation) → OpAt core i op operation
       → HasOwnBlock operation
-  pub targets : (i : ℕ) (op : CoreOp) (operation : Operation) → StandsOp core i op operation
+  pub targets : (i : ℕ) (op : CoreOp) (operation : Operation) → OpAt core i op operation
       → has_target operation ≡ true → op.target < length core
-  pub returns : (i : ℕ) (op : CoreOp) (arguments : ℕ) → StandsOp core i op (Enter arguments)
+  pub returns : (i : ℕ) (op : CoreOp) (arguments : ℕ) → OpAt core i op (Enter arguments)
       → behind_jump core (suc i) < length core
 
 -- A list of operations of processors in one group or in none. It suits some frames with as many
@@ -128,9 +128,9 @@ pub record HasWholeCode (core : List CoreOp) (kept : List Set) (image : Image) (
   pub start : HasStart image bound
 
 -- Each image with this code has all of it, with each label bound to a word.
-abbrev pub CodeStands : (core : List CoreOp) (kept : List Set) (main : ℕ) (firsts : List ℕ)
+abbrev pub GivesWholeCode : (core : List CoreOp) (kept : List Set) (main : ℕ) (firsts : List ℕ)
     (globals : ℕ) → Code → Type 0
-CodeStands core kept main firsts globals code =
+GivesWholeCode core kept main firsts globals code =
     (image : Image) (frames : Frames) → HasCode code globals image → frames.of_file ≡ length firsts
     → (block : (index : ℕ) → ℕ) × ((bound : (label : ℕ) → ℕ)
     × HasWholeCode core kept image bound (places_in core block frames) firsts main)

@@ -10,14 +10,14 @@ use Rattle.fk_core.specs.Next.{is_jump}
 use Rattle.fk_image.specs.declared.Image.{Image}
 use Rattle.fk_machine.specs.Hart.{Setting as MachineSetting}
 use Rattle.fk_sim_block.specs.Stands.{Places}
-use Rattle.fk_sim_block.specs.Next.{StandsOp}
+use Rattle.fk_sim_block.specs.Next.{OpAt}
 use Rattle.fk_sim_block.specs.Ready.{is_alone}
 use Rattle.fk_sim_block.specs.Suits.{Suits}
 use Rattle.fk_sim_block.specs.Block.{IsRunning, BlockHalts, beginner, most_before, most_behind}
 use Rattle.fk_core_liveness.specs.declared.set.Set.{Set}
 use Rattle.fk_gen.specs.InPlace.{HasBlock}
 use Rattle.fk_gen_flow.specs.Calls.{HasShared}
-use Rattle.fk_gen_flow.specs.Laws.{JumpsStand, CallsReturn}
+use Rattle.fk_gen_flow.specs.Laws.{HasJumps, CallsReturn}
 use Rattle.fk_gen_list.specs.Kinds.{block_in}
 use Rattle.fk_gen_list.specs.Layout.{placed}
 use Rattle.fk_gen_list.specs.Generable.{AreKept}
@@ -40,11 +40,11 @@ is_lone operation = is_alone operation
 -- the code that calls share.
 pub record HasLoneCode (core : List CoreOp) (kept : List Set) (image : Image) (bound : ℕ → ℕ)
     (places : Places) : Type 0 where
-  pub blocks : (i : ℕ) (op : CoreOp) (operation : Operation) → StandsOp core i op operation
+  pub blocks : (i : ℕ) (op : CoreOp) (operation : Operation) → OpAt core i op operation
       → is_lone operation ≡ true
       → HasBlock image bound places i
       (block_in (lone_kind operation) (placed core (length image.globals.items) kept i op))
-  pub jumps : JumpsStand core image bound places
+  pub jumps : HasJumps core image bound places
   pub calls : CallsReturn core image bound places
   pub shared : HasShared image bound
 
@@ -56,7 +56,7 @@ pub record AreInRange (core : List CoreOp) (image : Image) : Type 0 where
 
 -- The levels around a processor fit everything that it does alone, and stay at jumps.
 pub record HaveLevels (core : List CoreOp) (places : Places) (nestings : Nestings) : Type 0 where
-  pub operations : (i : ℕ) (op : CoreOp) (operation : Operation) → StandsOp core i op operation
+  pub operations : (i : ℕ) (op : CoreOp) (operation : Operation) → OpAt core i op operation
       → is_alone operation ≡ true
       → LevelsFit core places nestings i op operation
   pub jumps : (i : ℕ) (op : CoreOp) → slice_get core i ≡ Some op → is_jump op ≡ true
@@ -67,12 +67,12 @@ pub record DoesAlone (core : List CoreOp) (image : Image) (places : Places) (nes
     (cycles : Cycles) : Type 0 where
   pub few_before : (i : ℕ) → cycles.before i ≤ most_before
   pub few_behind : (i : ℕ) (onward : Bool) → cycles.behind i onward ≤ most_behind
-  pub alone : (i : ℕ) (op : CoreOp) (operation : Operation) → StandsOp core i op operation
+  pub alone : (i : ℕ) (op : CoreOp) (operation : Operation) → OpAt core i op operation
       → is_alone operation ≡ true
       → BlockDoesInNode core image places nestings cycles i op operation
   pub jumps : (i : ℕ) (op : CoreOp) → slice_get core i ≡ Some op → is_jump op ≡ true
       → BlockJumpsInNode core image places nestings i op
-  pub halts : (i : ℕ) (op : CoreOp) → StandsOp core i op Halt → BlockHalts core image places i op
+  pub halts : (i : ℕ) (op : CoreOp) → OpAt core i op Halt → BlockHalts core image places i op
 
 -- An image with the code of a list does what `DoesAlone` says, if the list suits frames in which
 -- calls keep no other words.
@@ -98,7 +98,7 @@ leads_away operation = false
 -- share.
 pub record HasGroupCode (core : List CoreOp) (image : Image) (bound : ℕ → ℕ)
     (places : Places) : Type 0 where
-  pub blocks : (i : ℕ) (op : CoreOp) (operation : Operation) → StandsOp core i op operation
+  pub blocks : (i : ℕ) (op : CoreOp) (operation : Operation) → OpAt core i op operation
       → is_group_step (Some operation) ≡ true
       → HasBlock image bound places i (block_of_step (Some operation) op.depth op.target)
   pub start : HasStart image bound
@@ -106,19 +106,19 @@ pub record HasGroupCode (core : List CoreOp) (image : Image) (bound : ℕ → �
 -- A step finds the value that it looks at.
 abbrev pub StepsHaveValues : List CoreOp → Type 0
 StepsHaveValues core =
-    (i : ℕ) (op : CoreOp) (operation : Operation) → StandsOp core i op operation
+    (i : ℕ) (op : CoreOp) (operation : Operation) → OpAt core i op operation
     → is_group_step (Some operation) ≡ true → values_of_step operation ≤ op.depth
 
 -- The levels around a processor have room where it comes to a step, and stay where it goes on.
 pub record HaveStepLevels (core : List CoreOp) (places : Places)
     (nestings : Nestings) : Type 0 where
-  pub room : (i : ℕ) (op : CoreOp) (operation : Operation) → StandsOp core i op operation
+  pub room : (i : ℕ) (op : CoreOp) (operation : Operation) → OpAt core i op operation
       → is_group_step (Some operation) ≡ true
       → HasLevelRoom places.frames nestings i op.depth
-  pub stay : (i : ℕ) (op : CoreOp) (operation : Operation) → StandsOp core i op operation
+  pub stay : (i : ℕ) (op : CoreOp) (operation : Operation) → OpAt core i op operation
       → is_group_step (Some operation) ≡ true
       → LevelsStay nestings i (suc i)
-  pub leads : (i : ℕ) (op : CoreOp) (operation : Operation) → StandsOp core i op operation
+  pub leads : (i : ℕ) (op : CoreOp) (operation : Operation) → OpAt core i op operation
       → leads_away operation ≡ true → LevelsStay nestings i op.target
 
 -- From its start each hart comes to the block where `main` begins, in the root.

@@ -23,8 +23,8 @@ pub record HasAllCode (core : List CoreOp) (kept : List Set) (image : Image) (bo
   pub steps : HasGroupCode core image bound places
 
 -- An image with the code that is generated for a list has all the code of that list.
-abbrev pub GeneratedCodeStands : Type 0
-GeneratedCodeStands =
+abbrev pub GeneratedCodeIsWhole : Type 0
+GeneratedCodeIsWhole =
     (core : List CoreOp) (kept : List Set) (image : Image) (bound : ℕ → ℕ) (places : Places)
     (firsts : List ℕ) (main : ℕ)
     → HasWholeCode core kept image bound places firsts main

@@ -1,10 +1,11 @@
 //! Code of a flat list.
 
 ghost use Rattle.std.specs.Prelude.{◌≤◌, ◌^◌, IfOk, length, sum_by, vec_len};
+ghost use Rattle.fk_num.specs.Limits.{most_code_words};
 ghost use Rattle.fk_asm.specs.Assembly.{AreFollowed};
 ghost use Rattle.fk_asm.specs.Commits.{IsCommitTable};
 ghost use Rattle.fk_gen_flow.specs.Opening.{opening_lines};
-ghost use Rattle.fk_gen_list.specs.Generable.{IsGenerable, DoesTheList, CodeStands, most_words};
+ghost use Rattle.fk_gen_list.specs.Generable.{IsGenerable, DoesTheList, GivesWholeCode, most_words};
 ghost use Rattle.fk_gen_list.specs.Kinds.{block_of};
 ghost use Rattle.fk_gen_list.specs.Layout.{IsLaid, all_placed};
 
@@ -37,10 +38,10 @@ pub(crate) fn assemble_list(
     requires small { sum_by most_words ops.now ≤ 256000 }
     requires globals { globals ≤ 2 ^ 19 }
     ensures law { IfOk result (DoesTheList ops.now kept.now main firsts.now globals) }
-    ensures stands { IfOk result (CodeStands ops.now kept.now main firsts.now globals) }
+    ensures stands { IfOk result (GivesWholeCode ops.now kept.now main firsts.now globals) }
     ensures table { IfOk result (λ code. IsCommitTable (vec_len code.words) code.commits.items) }
     ensures some { IfOk result (λ code. 1 ≤ vec_len code.words) }
-    ensures few { IfOk result (λ code. vec_len code.words ≤ 262144) }
+    ensures few { IfOk result (λ code. vec_len code.words ≤ most_code_words) }
 {
     let laid = lay(alloc, ops, kept, main, firsts, globals)?;
     finish(laid)

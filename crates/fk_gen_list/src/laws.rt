@@ -2,12 +2,12 @@
 
 ghost use Rattle.fk_gen_list.specs.Laws.{ListsDoAlone, LevelsNeedNoRoom, ListsHaveTheLaw};
 ghost use Rattle.fk_gen_list.specs.Opening.{GroupsBegin};
-ghost use Rattle.fk_gen_list.specs.Whole.{GeneratedCodeStands, CodeHasTheLaw};
+ghost use Rattle.fk_gen_list.specs.Whole.{GeneratedCodeIsWhole, CodeHasTheLaw};
 
 /// An image with the code that `fk_gen_list` makes of a list has, at its index, the block of each
 /// operation that a processor does alone, of each jump and of each step of a group.
-pub fn generated_code_stands()
-    ensures { GeneratedCodeStands }
+pub fn generated_code_is_whole()
+    ensures { GeneratedCodeIsWhole }
 {}
 
 /// Where the block of each operation that a processor does alone is at its index, and the list

@@ -1,6 +1,7 @@
 //! Code with the law of blocks of groups.
 
 ghost use Rattle.std.specs.Prelude.{◌≤◌, ◌^◌, IfOk, sum_by, vec_len};
+ghost use Rattle.fk_num.specs.Limits.{most_code_words};
 ghost use Rattle.fk_asm.specs.Commits.{IsCommitTable};
 ghost use Rattle.fk_gen_list.specs.Generable.{IsGenerable, DoesTheList, most_words};
 ghost use Rattle.fk_gen_list.specs.Whole.{GivesGroupLaw};
@@ -32,7 +33,7 @@ pub fn generate(
     ensures law { IfOk result (DoesTheList ops.now kept.now main firsts.now globals) }
     ensures table { IfOk result (λ code. IsCommitTable (vec_len code.words) code.commits.items) }
     ensures some { IfOk result (λ code. 1 ≤ vec_len code.words) }
-    ensures few { IfOk result (λ code. vec_len code.words ≤ 262144) }
+    ensures few { IfOk result (λ code. vec_len code.words ≤ most_code_words) }
 {
     assemble_list(alloc, ops, kept, main, firsts, globals)
 }

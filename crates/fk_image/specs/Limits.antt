@@ -1,5 +1,6 @@
 -- The limits of images.
 use Rattle.std.specs.Prelude.{◌≡◌, ℕ, ◌*◌, ◌/◌, ◌%◌, ◌<◌, ◌≤◌, List, [], ◌∷◌, All, vec_len}
+use Rattle.fk_num.specs.Limits.{most_code_words, most_data_words}
 use Rattle.fk_image.specs.declared.Image.{Image}
 
 -- The count and the event in a commit's second word.
@@ -29,8 +30,8 @@ Rise (c ∷ d ∷ rest) = (c.0 < d.0) × Rise (d ∷ rest)
 
 pub record IsWithinLimits (image : Image) : Type 0 where
   pub some_code : 1 ≤ vec_len image.code
-  pub code : vec_len image.code ≤ 262144
-  pub globals : vec_len image.globals ≤ 524288
+  pub code : vec_len image.code ≤ most_code_words
+  pub globals : vec_len image.globals ≤ most_data_words
   pub few_sites : vec_len image.sites ≤ 16000
   pub sites : All IsSite image.sites.items
   pub commits : All (IsCommit (vec_len image.code)) image.commits.items

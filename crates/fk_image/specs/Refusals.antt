@@ -2,6 +2,7 @@
 use Rattle.std.specs.Prelude.{◌≡◌, ◌≢◌, ℕ, ◌+◌, ◌*◌, ◌<◌, ◌≤◌, ◌==◌, ◌⊎◌, List, length, take, drop}
 use Rattle.std.specs.Prelude.{codes, if◌then◌else◌}
 use Rattle.std.specs.Int.{w32, from_le_bytes}
+use Rattle.fk_num.specs.Limits.{most_code_words, most_data_words}
 use Rattle.fk_image.specs.declared.fault.ImageFault.{ImageFault}
 use Rattle.fk_image.specs.declared.fault.ImageFault.TheVariants.{Magic, Version, Short, LongTail}
 use Rattle.fk_image.specs.declared.fault.ImageFault.TheVariants.{BadTable, BadWord, Memory}
@@ -47,8 +48,8 @@ least index = if index == 2 then 1 else 0
 -- The greatest value of a word of the header. For word 5 it is the number of words of code.
 abbrev pub greatest : List ℕ → ℕ → ℕ
 greatest bytes index =
-    if index == 2 then 262144
-    else (if index == 3 then 524288
+    if index == 2 then most_code_words
+    else (if index == 3 then most_data_words
     else (if index == 4 then 16000 else code_words bytes))
 
 -- A word of the header is within its limits.

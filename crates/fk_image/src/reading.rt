@@ -2,6 +2,7 @@
 
 ghost use Rattle.std.specs.Prelude.{◌≡◌, ℕ, ◌+◌, ◌*◌, ◌%◌, ◌<◌, ◌≤◌, ◌↔◌, All, flat_map, length};
 ghost use Rattle.std.specs.Prelude.{IfOk, IfErr, IsTrue, OnOk};
+ghost use Rattle.fk_num.specs.Limits.{most_code_words};
 ghost use Rattle.fk_image.specs.Limits.{IsCommit, IsSite, Rise};
 ghost use Rattle.fk_image.specs.Refusals.{HasLength, HasVersion, IsFault, IsHeaderWord};
 ghost use Rattle.fk_image.specs.Refusals.{IsRefusedImage, greatest, least, site_at, word_at};
@@ -12,6 +13,7 @@ ghost use Rattle.fk_image.specs.Tables.{code_table, commit_table, global_table, 
 use crate::Image;
 use crate::fault::ImageFault;
 use byteorder::{ByteOrder, LittleEndian};
+use fk_num::{MOST_CODE_WORDS, MOST_DATA_WORDS};
 use std::alloc::{AllocError, Global};
 
 /// The number of bytes of the header.
@@ -69,8 +71,8 @@ fn read_header(bytes: &[u8]) -> Result<Header, ImageFault>
     ensures fault { IfErr result (IsRefusedImage bytes.now) }
 {
     check_front(bytes)?;
-    let code = header_word(bytes, 2, 1, 262_144)?;
-    let globals = header_word(bytes, 3, 0, 524_288)?;
+    let code = header_word(bytes, 2, 1, MOST_CODE_WORDS)?;
+    let globals = header_word(bytes, 3, 0, MOST_DATA_WORDS)?;
     let sites = header_word(bytes, 4, 0, 16_000)?;
     let commits = header_word(bytes, 5, 0, code)?;
     Ok(Header {
@@ -198,7 +200,7 @@ fn read_sites(alloc: Global, table: &[u8]) -> Result<Vec<(u32, u32, u32)>, Image
 /// The commits of a table. They are counted on from the sites.
 fn read_commits(alloc: Global, header: Header, table: &[u8]) -> Result<Vec<(u32, u32)>, ImageFault>
     requires whole { length table.now % 8 ≡ 0 }
-    requires few { length table.now ≤ 8 * 262144 }
+    requires few { length table.now ≤ 8 * most_code_words }
     requires sites { header.sites ≤ 16000 }
     ensures spelling { IfOk result
         (λ commits. Spells (flat_map commit_words commits.items) table.now) }

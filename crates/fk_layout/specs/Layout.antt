@@ -1,5 +1,6 @@
 -- The layout of a program.
 use Rattle.std.specs.Prelude.{◌≡◌, ◌≤◌, List, map, None}
+use Rattle.fk_num.specs.Limits.{most_data_words}
 use Rattle.fk_syntax.specs.declared.facts.Facts.{Facts}
 use Rattle.fk_syntax.specs.Program.{ItemTree, ProgramTree}
 use Rattle.fk_meaning_forms.specs.Tables.{Tables}
@@ -57,7 +58,7 @@ module _ (program : ProgramTree) (facts : Facts) where
         ≡ g.words (told facts.notes.items facts.kinds.items) program.items
     pub firsts : globals.firsts.items
         ≡ g.firsts (told facts.notes.items facts.kinds.items) program.items
-    pub few : g.total (told facts.notes.items facts.kinds.items) program.items ≤ 524288
+    pub few : g.total (told facts.notes.items facts.kinds.items) program.items ≤ most_data_words
 
 -- the operations and frames of a text that has neither too many operations nor a frame that is too
 -- large

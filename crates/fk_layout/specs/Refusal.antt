@@ -1,5 +1,6 @@
 -- Why a text has no layout.
 use Rattle.std.specs.Prelude.{◌≡◌, ℕ, ◌<◌, ◌≤◌, ◌-◌, ◌^◌, min, length, List, Option, Some, None}
+use Rattle.fk_num.specs.Limits.{most_data_words}
 use Rattle.fk_syntax.specs.declared.place.Place.{Place}
 use Rattle.fk_syntax.specs.Program.{ItemTree}
 use Rattle.fk_meaning_forms.specs.Tables.{Tables}
@@ -36,14 +37,14 @@ module _ (tables : Tables) (items : List ItemTree) where
   IsRefusal (FrameTooLarge place words) = (count_of_sites ≤ 16000)
       × (first_large tables items ≡ Some (place, words))
   IsRefusal (GlobalsTooLarge n) = (count_of_sites ≤ 16000) × (first_large tables items ≡ None)
-      × (524288 < count_of_words) × (n ≡ min count_of_words (2 ^ 64 - 1))
+      × (most_data_words < count_of_words) × (n ≡ min count_of_words (2 ^ 64 - 1))
   IsRefusal Memory = Unit {0}
 
   -- a text has a layout: none of these is too much
   pub record Fits : Type 0 where
     pub sites : count_of_sites ≤ 16000
     pub frames : first_large tables items ≡ None
-    pub words : count_of_words ≤ 524288
+    pub words : count_of_words ≤ most_data_words
 
 -- the fault of a layout by why the variables of file scope are refused
 abbrev pub of_globals : GlobalsFault → LayoutFault

@@ -18,7 +18,7 @@ use Rattle.fk_syntax.specs.declared.facts.Note.{Note}
 use Rattle.fk_meaning_forms.specs.Code.{done, choose}
 use Rattle.fk_meaning_forms.specs.Tables.{Tables, note, kind_at, is_unsigned, is_void}
 use Rattle.fk_meaning_forms.specs.Signs.{operator_of, is_shift, move_of}
-use Rattle.fk_meaning_forms.specs.Expressions.{Coded, Stands, Standing, OnList, Signature, token, valued, value_of, plain, nowhere, prefixed, joined, operate, moved, agreed, logical, truth, chosen, stands, linked, dropped}
+use Rattle.fk_meaning_forms.specs.Expressions.{Coded, Evaluation, ResultLocation, OnList, Signature, token, valued, value_of, plain, nowhere, prefixed, joined, operate, moved, agreed, logical, truth, chosen, evaluated, linked, dropped}
 use Rattle.fk_meaning.specs.Processor.{Processor, Setting, push}
 use Rattle.fk_layout_globals.specs.Constants as c
 use Rattle.fk_layout_globals.specs.Constants.{worth, worth_of_links, behind_sign, operated, linked_by}
@@ -95,16 +95,16 @@ module _ (set : Setting) where
 
 module _ (tables : Tables) (functions : (binding : ℕ) → Signature) (set : Setting) where
   -- whatever comes behind an expression finds its value
-  abbrev Leaves : Stands → ℕ → Type 0
-  Leaves e v = (k : Standing → Coded) (p : Processor) → behind set (e k) p ≡ behind set (k OnList) (push v p)
+  abbrev Leaves : Evaluation → ℕ → Type 0
+  Leaves e v = (k : ResultLocation → Coded) (p : Processor) → behind set (e k) p ≡ behind set (k OnList) (push v p)
 
-  as-value : (e : Stands) (v : ℕ) → Leaves e v → (rest : Coded) (p : Processor) → behind set (value_of tables functions e rest) p ≡ behind set rest (push v p)
+  as-value : (e : Evaluation) (v : ℕ) → Leaves e v → (rest : Coded) (p : Processor) → behind set (value_of tables functions e rest) p ≡ behind set rest (push v p)
   as-value e v x rest p = x (λ s. valued tables functions s rest) p
 
   pushed : (n : ℕ) → n < 2 ^ 32 → Leaves (λ k. plain (o.Push n) (k OnList)) n
   pushed n h k p = ap (λ (m : ℕ). behind set (k OnList) (push m p)) (mod-eq_of_lt h)
 
-  operated-leaves : (sign : Sign) (e : Stands) (a left : ℕ) (f : Stands) (b right : ℕ) → Leaves e a → Leaves f b
+  operated-leaves : (sign : Sign) (e : Evaluation) (a left : ℕ) (f : Evaluation) (b right : ℕ) → Leaves e a → Leaves f b
       → Leaves (λ k. value_of tables functions e (value_of tables functions f (operate tables functions sign left right (k OnList)))) (operated tables sign left right a b)
   operated-leaves sign e a left f b right x y k p =
       let unsigned : Bool = if is_shift sign then is_unsigned tables left else is_unsigned tables left || is_unsigned tables right in
@@ -112,10 +112,10 @@ module _ (tables : Tables) (functions : (binding : ℕ) → Signature) (set : Se
       ∙ as-value f b y (operate tables functions sign left right (k OnList)) (push a p)
       ∙ by-step set ((kind_at tables left).step == 0) (move_of sign) (kind_at tables left).step sign unsigned a b p (k OnList)
 
-  truth-leaves : (f : Stands) (b : ℕ) → Leaves f b → (p : Processor) → behind set (truth tables functions f done) p ≡ push (from_bool (not (b == 0))) p
+  truth-leaves : (f : Evaluation) (b : ℕ) → Leaves f b → (p : Processor) → behind set (truth tables functions f done) p ≡ push (from_bool (not (b == 0))) p
   truth-leaves f b y p = as-value f b y (plain (o.Push 0) (plain (o.Binary n.Ne false) done)) p
 
-  and-leaves : (spot : Spot) (e : Stands) (a : ℕ) (f : Stands) (b : ℕ) → IsWhole tables spot.at → Leaves e a → Leaves f b
+  and-leaves : (spot : Spot) (e : Evaluation) (a : ℕ) (f : Evaluation) (b : ℕ) → IsWhole tables spot.at → Leaves e a → Leaves f b
       → Leaves (logical tables functions spot AndThen true 0 e f) (if a == 0 then 0 else from_bool (not (b == 0)))
   and-leaves spot e a f b whole x y k p =
       let here : Note = note tables spot.at in
@@ -125,7 +125,7 @@ module _ (tables : Tables) (functions : (binding : ℕ) → Signature) (set : Se
       ∙ goes-on set here.splits here.sync whole aside onward (push a p)
       ∙ ap (behind set (k OnList)) (one-of set (a == 0) (behind set (truth tables functions f done) p) (push 0 p) (from_bool (not (b == 0))) 0 p (truth-leaves f b y p) refl)
 
-  or-leaves : (spot : Spot) (e : Stands) (a : ℕ) (f : Stands) (b : ℕ) → IsWhole tables spot.at → Leaves e a → Leaves f b
+  or-leaves : (spot : Spot) (e : Evaluation) (a : ℕ) (f : Evaluation) (b : ℕ) → IsWhole tables spot.at → Leaves e a → Leaves f b
       → Leaves (logical tables functions spot OrElse false 1 e f) (if a == 0 then from_bool (not (b == 0)) else 1)
   or-leaves spot e a f b whole x y k p =
       let here : Note = note tables spot.at in
@@ -135,7 +135,7 @@ module _ (tables : Tables) (functions : (binding : ℕ) → Signature) (set : Se
       ∙ goes-on set here.splits here.sync whole aside onward (push a p)
       ∙ ap (behind set (k OnList)) (other-of set (a == 0) (behind set (truth tables functions f done) p) (push 1 p) (from_bool (not (b == 0))) 1 p (truth-leaves f b y p) refl)
 
-  chosen-leaves : (spot : Spot) (e : Stands) (a : ℕ) (f : Stands) (b : ℕ) (g : Stands) (d : ℕ) → IsWhole tables spot.at → Leaves e a → Leaves f b → Leaves g d
+  chosen-leaves : (spot : Spot) (e : Evaluation) (a : ℕ) (f : Evaluation) (b : ℕ) (g : Evaluation) (d : ℕ) → IsWhole tables spot.at → Leaves e a → Leaves f b → Leaves g d
       → Leaves (chosen tables functions spot e f g) (if a == 0 then d else b)
   chosen-leaves spot e a f b g d whole x y z k p =
       let here : Note = note tables spot.at in
@@ -145,14 +145,14 @@ module _ (tables : Tables) (functions : (binding : ℕ) → Signature) (set : Se
       ∙ goes-on set here.splits here.sync whole aside onward (push a p)
       ∙ ap (behind set (k OnList)) (one-of set (a == 0) (behind set (value_of tables functions f done) p) (behind set (value_of tables functions g done) p) b d p (as-value f b y done p) (as-value g d z done p))
 
-  comma-leaves : (e : Stands) (a left : ℕ) (f : Stands) (b : ℕ) → is_void tables left ≡ false → Leaves e a → Leaves f b
+  comma-leaves : (e : Evaluation) (a left : ℕ) (f : Evaluation) (b : ℕ) → is_void tables left ≡ false → Leaves e a → Leaves f b
       → Leaves (λ k. value_of tables functions e (dropped tables functions left (value_of tables functions f (k OnList)))) b
   comma-leaves e a left f b h x y k p =
       as-value e a x (dropped tables functions left (value_of tables functions f (k OnList))) p
       ∙ not-dropped set (is_void tables left) h a (value_of tables functions f (k OnList)) p
       ∙ as-value f b y (k OnList) p
 
-  joined-leaves : (spot : Spot) (sign : Sign) (e : Stands) (a left : ℕ) (f : Stands) (b right : ℕ) → IsLink tables sign left spot.at → Leaves e a → Leaves f b
+  joined-leaves : (spot : Spot) (sign : Sign) (e : Evaluation) (a left : ℕ) (f : Evaluation) (b right : ℕ) → IsLink tables sign left spot.at → Leaves e a → Leaves f b
       → Leaves (joined tables functions spot sign e left f right) (linked_by tables sign left right a b)
   joined-leaves spot g.Plus e a left f b right h x y = operated-leaves g.Plus e a left f b right x y
   joined-leaves spot g.Minus e a left f b right h x y = operated-leaves g.Minus e a left f b right x y
@@ -189,7 +189,7 @@ module _ (tables : Tables) (functions : (binding : ℕ) → Signature) (set : Se
   joined-leaves spot g.Decrement e a left f b right h x y = operated-leaves g.Decrement e a left f b right x y
   joined-leaves spot g.Comma e a left f b right h x y = comma-leaves e a left f b h x y
 
-  sign-leaves : (spot : Spot) (sign : Sign) (e : Stands) (a at : ℕ) → StandsInConstants sign → Leaves e a → Leaves (prefixed tables functions spot sign e at) (behind_sign sign a)
+  sign-leaves : (spot : Spot) (sign : Sign) (e : Evaluation) (a at : ℕ) → StandsInConstants sign → Leaves e a → Leaves (prefixed tables functions spot sign e at) (behind_sign sign a)
   sign-leaves spot g.Plus e a at h x = λ k p. as-value e a x (k OnList) p
   sign-leaves spot g.Minus e a at h x = λ k p. as-value e a x (plain (o.Apply u.Negate) (k OnList)) p
   sign-leaves spot g.Star e a at h x = absurd h
@@ -226,28 +226,28 @@ module _ (tables : Tables) (functions : (binding : ℕ) → Signature) (set : Se
   sign-leaves spot g.Comma e a at h x = absurd h
 
   mutual
-    pub leaves : (tree : Tree) → IsConstant tables tree → Leaves (stands tables functions tree) (worth tables tree)
+    pub leaves : (tree : Tree) → IsConstant tables tree → Leaves (evaluated tables functions tree) (worth tables tree)
     leaves (t.Number spot value unsigned) h = pushed value h
     leaves (t.Puts spot text) h = absurd h
     leaves (t.Sizeof spot type) h = pushed (note tables spot.at).binding h
     leaves (t.Variable name) h = absurd h
     leaves (t.GroupNumber spot) h = absurd h
     leaves (t.GroupRank spot) h = absurd h
-    leaves (t.Prefix spot sign operand) h = sign-leaves spot sign (stands tables functions operand) (worth tables operand) (token operand) h.0 (leaves operand h.1)
-    leaves (t.Cast spot type operand) h = λ k p. as-value (stands tables functions operand) (worth tables operand) (leaves operand h) (k OnList) p
-    leaves (t.Chain first links) h = links-leave (stands tables functions first) (worth tables first) (token first) links (leaves first h.0) h.1
+    leaves (t.Prefix spot sign operand) h = sign-leaves spot sign (evaluated tables functions operand) (worth tables operand) (token operand) h.0 (leaves operand h.1)
+    leaves (t.Cast spot type operand) h = λ k p. as-value (evaluated tables functions operand) (worth tables operand) (leaves operand h) (k OnList) p
+    leaves (t.Chain first links) h = links-leave (evaluated tables functions first) (worth tables first) (token first) links (leaves first h.0) h.1
     leaves (t.Postfix whole others) h = absurd h
     leaves (t.Assign spot sign target value) h = absurd h
     leaves (t.Choose spot condition first second) h =
-        chosen-leaves spot (stands tables functions condition) (worth tables condition) (stands tables functions first) (worth tables first)
-        (stands tables functions second) (worth tables second) h.0 (leaves condition h.1) (leaves first h.2) (leaves second h.3)
+        chosen-leaves spot (evaluated tables functions condition) (worth tables condition) (evaluated tables functions first) (worth tables first)
+        (evaluated tables functions second) (worth tables second) h.0 (leaves condition h.1) (leaves first h.2) (leaves second h.3)
 
-    links-leave : (e : Stands) (a left : ℕ) (links : Links) → Leaves e a → AreConstant tables left links → Leaves (linked tables functions e left links) (worth_of_links tables a left links)
+    links-leave : (e : Evaluation) (a left : ℕ) (links : Links) → Leaves e a → AreConstant tables left links → Leaves (linked tables functions e left links) (worth_of_links tables a left links)
     links-leave e a left t.no_links x h = x
     links-leave e a left (t.link spot sign right others) x h =
-        links-leave (joined tables functions spot sign e left (stands tables functions right) (token right)) (linked_by tables sign left (token right) a (worth tables right)) spot.at others
-        (joined-leaves spot sign e a left (stands tables functions right) (worth tables right) (token right) h.0 x (leaves right h.1)) h.2
+        links-leave (joined tables functions spot sign e left (evaluated tables functions right) (token right)) (linked_by tables sign left (token right) a (worth tables right)) spot.at others
+        (joined-leaves spot sign e a left (evaluated tables functions right) (worth tables right) (token right) h.0 x (leaves right h.1)) h.2
 
 pub leaves_its_worth : LeavesItsWorth
 leaves_its_worth tables functions set p constant rest h =
-    as-value tables functions set (stands tables functions constant) (worth tables constant) (leaves tables functions set constant h) rest p
+    as-value tables functions set (evaluated tables functions constant) (worth tables constant) (leaves tables functions set constant h) rest p

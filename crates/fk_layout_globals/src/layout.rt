@@ -2,6 +2,7 @@
 
 ghost use Rattle.std.specs.Prelude.{◌≡◌, ◌≤◌, ◌<◌, ◌^◌, ◌-◌, map, min, flat_map, length, IfOk};
 ghost use Rattle.std.specs.Prelude.{IfErr, OnErr, OnOk};
+ghost use Rattle.fk_num.specs.Limits.{most_data_words};
 ghost use Rattle.fk_syntax.specs.ProgramView.{item_of};
 ghost use Rattle.fk_layout_globals.specs.Constants.{told};
 ghost use Rattle.fk_layout_globals.specs.Variables.{declared_behind};
@@ -13,6 +14,7 @@ ghost use Rattle.fk_layout_globals.specs.Fault.{IsFault};
 use crate::rows::{GlobalRow, count_words, lay_firsts, lay_rows, lay_words};
 use crate::types::Types;
 use crate::variables::file_variables;
+use fk_num::MOST_DATA_WORDS;
 use fk_syntax::{Declared, Item, Kind, Note};
 use std::alloc::{AllocError, Global};
 use thiserror::Error;
@@ -40,9 +42,6 @@ pub enum GlobalsFault {
     Memory,
 }
 
-/// The greatest number of words of shared variables in an image.
-pub const MOST_WORDS: u64 = 524_288;
-
 // The fault that there isn't enough memory.
 fn out_of_memory(_refused: AllocError) -> GlobalsFault
     ensures { result ≡ GlobalsFault.Memory }
@@ -53,14 +52,14 @@ fn out_of_memory(_refused: AllocError) -> GlobalsFault
 // Tests that these variables have not more words than an image can have.
 fn check_words(types: &Types, shared: &Vec<&Declared>) -> Result<(), GlobalsFault>
     ensures few { OnOk result
-        (r.total_of (tables_of types.now) (declared_behind shared.now.items) ≤ 524288) }
+        (r.total_of (tables_of types.now) (declared_behind shared.now.items) ≤ most_data_words) }
     ensures many { OnErr result
-        (524288 < r.total_of (tables_of types.now) (declared_behind shared.now.items)) }
+        (most_data_words < r.total_of (tables_of types.now) (declared_behind shared.now.items)) }
     ensures told { IfErr result (λ fault. fault ≡ GlobalsFault.TooLarge
         (min (r.total_of (tables_of types.now) (declared_behind shared.now.items)) (2 ^ 64 - 1))) }
 {
     let count = count_words(types, shared);
-    if count > MOST_WORDS {
+    if count > u64::from(MOST_DATA_WORDS) {
         return Err(GlobalsFault::TooLarge(count));
     }
     Ok(())
@@ -74,7 +73,8 @@ fn laid_out<'a>(
     shared: &Vec<&Declared<'a>>,
     private: &Vec<&Declared<'a>>,
 ) -> Result<Globals<'a>, AllocError>
-    requires { r.total_of (tables_of types.now) (declared_behind shared.now.items) ≤ 524288 }
+    requires { r.total_of (tables_of types.now) (declared_behind shared.now.items)
+        ≤ most_data_words }
     ensures rows { IfOk result (λ globals. map row_of globals.rows.items
         ≡ r.rows_from (tables_of types.now) 0 (declared_behind shared.now.items)) }
     ensures words { IfOk result (λ globals. globals.words.items
@@ -114,7 +114,8 @@ pub fn lay_globals<'a>(
         ≡ firsts (told notes.now kinds.now) (map item_of items.now)) }
     ensures count { IfOk result (λ globals. length globals.words.items
         ≡ total (told notes.now kinds.now) (map item_of items.now)) }
-    ensures fits { OnOk result (total (told notes.now kinds.now) (map item_of items.now) ≤ 524288) }
+    ensures fits { OnOk result
+        (total (told notes.now kinds.now) (map item_of items.now) ≤ most_data_words) }
     ensures refused { IfErr result
         (IsFault (total (told notes.now kinds.now) (map item_of items.now))) }
 {

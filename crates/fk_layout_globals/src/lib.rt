@@ -10,6 +10,6 @@ mod types;
 mod variables;
 
 pub use constants::constant;
-pub use layout::{Globals, GlobalsFault, MOST_WORDS, lay_globals};
+pub use layout::{Globals, GlobalsFault, lay_globals};
 pub use rows::GlobalRow;
 pub use types::Types;

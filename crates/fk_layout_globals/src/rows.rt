@@ -2,6 +2,7 @@
 
 ghost use Rattle.std.specs.Prelude.{◌≡◌, ◌≤◌, ◌<◌, ◌^◌, ◌-◌, ◌++◌, List, map, flat_map, min, IfOk};
 ghost use Rattle.std.specs.Prelude.{IfErr, OnOk};
+ghost use Rattle.fk_num.specs.Limits.{most_data_words};
 ghost use Rattle.fk_syntax.specs.View.{type_of};
 ghost use Rattle.fk_syntax.specs.ProgramView.{declared_of};
 ghost use Rattle.fk_layout_globals.specs.Rows as r;
@@ -70,7 +71,8 @@ pub(crate) fn lay_rows<'a>(
     types: &Types,
     variables: &Vec<&Declared<'a>>,
 ) -> Result<Vec<GlobalRow<'a>>, AllocError>
-    requires { r.total_of (tables_of types.now) (declared_behind variables.now.items) ≤ 524288 }
+    requires { r.total_of (tables_of types.now) (declared_behind variables.now.items)
+        ≤ most_data_words }
     ensures { IfOk result (λ rows. map row_of rows.items
         ≡ r.rows_from (tables_of types.now) 0 (declared_behind variables.now.items)) }
 {

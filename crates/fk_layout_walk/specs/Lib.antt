@@ -1,5 +1,5 @@
 pub mod Known
-pub mod Standing
+pub mod Location
 pub mod Shown
 pub mod Event
 pub mod Through

@@ -1,4 +1,5 @@
--- The code that follows an expression whose standing is known: the links of a chain, and suffixes.
+-- The code that follows an expression of which the result's location is known: the links of a
+-- chain, and suffixes.
 use Rattle.std.specs.Prelude.{ℕ, Option, Some, None}
 use Rattle.fk_syntax.specs.declared.sign.Sign.TheVariants.{Plus, Minus}
 use Rattle.fk_syntax.specs.Tree as t
@@ -6,35 +7,38 @@ use Rattle.fk_syntax.specs.declared.place.Spot.{Spot}
 use Rattle.fk_syntax.specs.declared.sign.Sign.{Sign}
 use Rattle.fk_syntax.specs.Tree.{Tree, Links, Suffixes, SuffixTree}
 use Rattle.fk_meaning_forms.specs.Tables.{Tables}
-use Rattle.fk_meaning_forms.specs.Expressions.{Standing, Signature, Stands, stands, token, joined}
-use Rattle.fk_meaning_forms.specs.Expressions.{assignment, all_stand, indexed, calling, dotted}
+use Rattle.fk_meaning_forms.specs.Expressions.{ResultLocation, Signature, Evaluation, evaluated}
+use Rattle.fk_meaning_forms.specs.Expressions.{token, joined}
+use Rattle.fk_meaning_forms.specs.Expressions.{assignment, all_evaluated, indexed, calling, dotted}
 use Rattle.fk_meaning_forms.specs.Expressions.{pointed, raised}
 
 module _ (tables : Tables) (functions : (binding : ℕ) → Signature) where
-  abbrev pub one_suffix : Standing → (at : ℕ) → SuffixTree → Stands
+  abbrev pub one_suffix : ResultLocation → (at : ℕ) → SuffixTree → Evaluation
   one_suffix s at (t.Index spot by) =
-      indexed tables functions spot (λ j. j s) (stands tables functions by)
+      indexed tables functions spot (λ j. j s) (evaluated tables functions by)
   one_suffix s at (t.Call spot arguments) =
-      λ k. calling tables functions (all_stand tables functions arguments) k s
+      λ k. calling tables functions (all_evaluated tables functions arguments) k s
   one_suffix s at (t.Dot spot member) = dotted tables functions spot member.at (λ j. j s)
   one_suffix s at (t.Arrow spot member) = pointed tables functions spot member.at (λ j. j s)
   one_suffix s at (t.Up spot) = raised tables functions Plus Minus (λ j. j s) at
   one_suffix s at (t.Down spot) = raised tables functions Minus Plus (λ j. j s) at
 
-  abbrev pub one_link : Standing → (at : ℕ) → Spot → Sign → (right : Tree) → Stands
+  abbrev pub one_link : ResultLocation → (at : ℕ) → Spot → Sign → (right : Tree) → Evaluation
   one_link s at spot sign right =
-      joined tables functions spot sign (λ j. j s) at (stands tables functions right) (token right)
+      joined tables functions spot sign (λ j. j s) at (evaluated tables functions right)
+      (token right)
 
-  unfoldable pub assigned_to : Standing → (at : ℕ) → Sign → (right : Tree) → Stands
+  unfoldable pub assigned_to : ResultLocation → (at : ℕ) → Sign → (right : Tree) → Evaluation
   assigned_to s at sign right =
-      assignment tables functions sign (λ j. j s) at (stands tables functions right) (token right)
+      assignment tables functions sign (λ j. j s) at (evaluated tables functions right)
+      (token right)
 
-  abbrev pub chained : Standing → (at : ℕ) → Links → Stands
+  abbrev pub chained : ResultLocation → (at : ℕ) → Links → Evaluation
   chained s at t.no_links k = k s
   chained s at (t.link spot sign right others) k =
       one_link s at spot sign right (λ j. chained j spot.at others k)
 
-  abbrev pub followed : Standing → (at : ℕ) → Suffixes → Stands
+  abbrev pub followed : ResultLocation → (at : ℕ) → Suffixes → Evaluation
   followed s at t.no_suffixes k = k s
   followed s at (t.index spot by others) k =
       one_suffix s at (t.Index spot by) (λ j. followed j spot.at others k)

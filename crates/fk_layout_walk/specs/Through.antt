@@ -4,13 +4,13 @@ use Rattle.std.specs.Prelude.{◌≡◌, ℕ, Option}
 use Rattle.fk_meaning_forms.specs.Code.{done, perform, choose, while, until, turn, again, quit}
 use Rattle.fk_meaning_forms.specs.Code.{break, continue, call, ends}
 use Rattle.fk_meaning_forms.specs.Expressions as f
-use Rattle.fk_meaning_forms.specs.Expressions.{Coded, Signature, Stands}
+use Rattle.fk_meaning_forms.specs.Expressions.{Coded, Signature, Evaluation}
 use Rattle.fk_layout_walk.specs.declared.visitor.Event.{Event}
 use Rattle.fk_layout_walk.specs.declared.visitor.Event.TheVariants as v
 use Rattle.fk_layout_walk.specs.declared.visitor.Mark.{Mark}
-use Rattle.fk_layout_walk.specs.declared.standing.Standing.{Standing}
+use Rattle.fk_layout_walk.specs.declared.location.ResultLocation.{ResultLocation}
 use Rattle.fk_layout_walk.specs.Shown.{shown}
-use Rattle.fk_layout_walk.specs.Standing.{behind, behind_value}
+use Rattle.fk_layout_walk.specs.Location.{behind, behind_value}
 
 module _ {S : Type 0} (after : S → Event → S) (mark : S → Mark)
     (functions : (binding : ℕ) → Signature) where
@@ -46,9 +46,9 @@ module _ {S : Type 0} (after : S → Event → S) (mark : S → Mark)
   through s (ends t op rest) = through (after s (v.Ends (shown op) t)) rest
 
   -- an expression leads a visitor from one state to another: for each continuation `k` of the code,
-  -- what follows the expression is what `k` gives for its standing, or nothing
-  abbrev pub Leads : (from to : S) → Option Standing → Stands → Type 0
-  Leads from to result e = (k : f.Standing → Coded)
+  -- what follows the expression is what `k` gives for the location of its result, or nothing
+  abbrev pub Leads : (from to : S) → Option ResultLocation → Evaluation → Type 0
+  Leads from to result e = (k : f.ResultLocation → Coded)
       → through from (e k) ≡ through to (behind result k)
 
   abbrev pub LeadsOn : (from to : S) → Option Unit → (Coded → Coded) → Type 0

@@ -4,7 +4,7 @@ use Rattle.fk_syntax.specs.declared.place.Spot.{Spot}
 use Rattle.fk_meaning_operation.specs.declared.operation.Operation.TheVariants.{End, Resume}
 use Rattle.fk_meaning_forms.specs.Code.{done}
 use Rattle.fk_meaning_forms.specs.Tables.{Tables, note}
-use Rattle.fk_meaning_forms.specs.Expressions.{Coded, Signature, Stands, plain, value_of}
+use Rattle.fk_meaning_forms.specs.Expressions.{Coded, Signature, Evaluation, plain, value_of}
 use Rattle.fk_layout_walk.specs.declared.visitor.Event.{Event}
 use Rattle.fk_layout_walk.specs.declared.visitor.Event.TheVariants.{Aside, Joined}
 use Rattle.fk_layout_walk.specs.declared.visitor.Mark.{Mark}
@@ -26,7 +26,7 @@ abbrev pub rejoined : Tables → Spot → (rest : Coded) → Coded
 rejoined tables spot rest = if (note tables spot.at).splits then plain Resume rest else rest
 
 -- where a group splits, the second value of `?:` is a part, which ends
-abbrev pub other_arm : Tables → ((binding : ℕ) → Signature) → Spot → (second : Stands) → Coded
+abbrev pub other_arm : Tables → ((binding : ℕ) → Signature) → Spot → (second : Evaluation) → Coded
 other_arm tables functions spot second =
     if (note tables spot.at).splits then value_of tables functions second (plain End done)
     else value_of tables functions second done

@@ -9,7 +9,7 @@ ghost use Rattle.fk_meaning_forms.specs.Texts.{text_of};
 ghost use Rattle.fk_meaning_forms.specs.Expressions as e;
 ghost use Rattle.fk_meaning_forms.specs.Expressions.{Coded};
 ghost use Rattle.fk_layout_walk.specs.Known.{tables_of, functions_of, IsSound};
-ghost use Rattle.fk_layout_walk.specs.Standing.{standing_of, behind_value, ending};
+ghost use Rattle.fk_layout_walk.specs.Location.{location_of, behind_value, ending};
 ghost use Rattle.fk_layout_walk.specs.Suffix as s;
 ghost use Rattle.fk_layout_walk.specs.Suffix.{one_link, assigned_to, chained, followed};
 ghost use Rattle.fk_layout_walk.specs.Through.{through, Leads, LeadsOn};
@@ -19,8 +19,8 @@ ghost use Rattle.fk_meaning_operation.specs.declared.operation.Operation.TheVari
 use crate::builtin::{Builtin, builtin_of};
 use crate::calls::enter;
 use crate::known::{PREDECLARED, ProgramTables};
-use crate::standing::Standing;
-use crate::standings::{
+use crate::location::ResultLocation;
+use crate::locations::{
     agree, discard, end, enter_member, fetch, give_address, give_value, is_deep, name, operate,
     put, raise, raise_and_undo,
 };
@@ -41,10 +41,10 @@ pub fn expression<'t, V: Visitor>(
     known: &ProgramTables,
     visitor: &mut V,
     whole: &Expr<'t>,
-) -> Option<Standing<'t>>
+) -> Option<ResultLocation<'t>>
     requires { IsSound known.now }
     ensures { Leads V.after V.counts (functions_of known.now) visitor.old visitor.new result
-        (e.stands (tables_of known.now) (functions_of known.now) (tree_of whole.now)) }
+        (e.evaluated (tables_of known.now) (functions_of known.now) (tree_of whole.now)) }
 {
     match whole {
         Expr::Number(_, number, _) => single(known, visitor, Operation::Push(*number)),
@@ -56,22 +56,22 @@ pub fn expression<'t, V: Visitor>(
         Expr::Prefix(spot, sign, operand) => prefix(known, visitor, operand, *spot, *sign),
         Expr::Cast(_, _, operand) => on_list(known, visitor, operand),
         Expr::Chain(first, links) => {
-            let standing = expression(known, visitor, first)?;
-            chain(known, visitor, links, standing, token_of(first))
+            let location = expression(known, visitor, first)?;
+            chain(known, visitor, links, location, token_of(first))
         }
         Expr::Postfix(before, suffixes) => {
-            let standing = expression(known, visitor, before)?;
-            postfix(known, visitor, suffixes, standing, token_of(before))
+            let location = expression(known, visitor, before)?;
+            postfix(known, visitor, suffixes, location, token_of(before))
         }
         Expr::Assign(_, sign, target, right) => {
-            let standing = expression(known, visitor, target)?;
-            assign(known, visitor, right, standing, token_of(target), *sign)
+            let location = expression(known, visitor, target)?;
+            assign(known, visitor, right, location, token_of(target), *sign)
         }
         Expr::Choose(spot, condition, first, second) => {
             value(known, visitor, condition)?;
             let ways = first_arm(known, visitor, first, *spot);
             second_arm(known, visitor, second, *spot, ways);
-            Some(Standing::OnList)
+            Some(ResultLocation::OnList)
         }
     }
 }
@@ -84,8 +84,8 @@ pub fn value<V: Visitor>(known: &ProgramTables, visitor: &mut V, whole: &Expr) -
     ensures { LeadsOn V.after V.counts (functions_of known.now) visitor.old visitor.new result
         (e.value (tables_of known.now) (functions_of known.now) (tree_of whole.now)) }
 {
-    let standing = expression(known, visitor, whole)?;
-    give_value(known, visitor, standing);
+    let location = expression(known, visitor, whole)?;
+    give_value(known, visitor, location);
     Some(())
 }
 
@@ -97,11 +97,11 @@ fn prefix<'t, V: Visitor>(
     operand: &Expr<'t>,
     spot: Spot,
     sign: Sign,
-) -> Option<Standing<'t>>
+) -> Option<ResultLocation<'t>>
     requires { IsSound known.now }
     ensures { Leads V.after V.counts (functions_of known.now) visitor.old visitor.new result
         (e.prefixed (tables_of known.now) (functions_of known.now) spot sign
-        (e.stands (tables_of known.now) (functions_of known.now) (tree_of operand.now))
+        (e.evaluated (tables_of known.now) (functions_of known.now) (tree_of operand.now))
         (e.token (tree_of operand.now))) }
 {
     match sign {
@@ -122,14 +122,14 @@ fn on_list<'t, V: Visitor>(
     known: &ProgramTables,
     visitor: &mut V,
     operand: &Expr<'t>,
-) -> Option<Standing<'t>>
+) -> Option<ResultLocation<'t>>
     requires { IsSound known.now }
     ensures { Leads V.after V.counts (functions_of known.now) visitor.old visitor.new result
         (λ k. e.value (tables_of known.now) (functions_of known.now) (tree_of operand.now)
         (k e.OnList)) }
 {
     value(known, visitor, operand)?;
-    Some(Standing::OnList)
+    Some(ResultLocation::OnList)
 }
 
 // `*`: the value becomes an address.
@@ -139,14 +139,14 @@ fn dereference<'t, V: Visitor>(
     visitor: &mut V,
     operand: &Expr<'t>,
     spot: Spot,
-) -> Option<Standing<'t>>
+) -> Option<ResultLocation<'t>>
     requires { IsSound known.now }
     ensures { Leads V.after V.counts (functions_of known.now) visitor.old visitor.new result
         (λ k. e.value (tables_of known.now) (functions_of known.now) (tree_of operand.now)
         (k (e.AtAddress true spot))) }
 {
     value(known, visitor, operand)?;
-    Some(Standing::AtAddress(true, spot))
+    Some(ResultLocation::AtAddress(true, spot))
 }
 
 // `&`: the address becomes a value.
@@ -155,15 +155,15 @@ fn address_of<'t, V: Visitor>(
     known: &ProgramTables,
     visitor: &mut V,
     operand: &Expr<'t>,
-) -> Option<Standing<'t>>
+) -> Option<ResultLocation<'t>>
     requires { IsSound known.now }
     ensures { Leads V.after V.counts (functions_of known.now) visitor.old visitor.new result
-        (λ k. e.stands (tables_of known.now) (functions_of known.now) (tree_of operand.now)
+        (λ k. e.evaluated (tables_of known.now) (functions_of known.now) (tree_of operand.now)
         (λ s. e.addressed (tables_of known.now) (functions_of known.now) s (k e.OnList))) }
 {
-    let standing = expression(known, visitor, operand)?;
-    give_address(known, visitor, standing);
-    Some(Standing::OnList)
+    let location = expression(known, visitor, operand)?;
+    give_address(known, visitor, location);
+    Some(ResultLocation::OnList)
 }
 
 // One operation that leaves a value.
@@ -171,16 +171,20 @@ fn single<'t, V: Visitor>(
     known: &ProgramTables,
     visitor: &mut V,
     operation: Operation,
-) -> Option<Standing<'t>>
+) -> Option<ResultLocation<'t>>
     ensures { Leads V.after V.counts (functions_of known.now) visitor.old visitor.new result
         (λ k. e.plain operation (k e.OnList)) }
 {
     plain(visitor, operation);
-    Some(Standing::OnList)
+    Some(ResultLocation::OnList)
 }
 
 // `sizeof`: pushes the number in the note of its token.
-fn size_of<'t, V: Visitor>(known: &ProgramTables, visitor: &mut V, at: u32) -> Option<Standing<'t>>
+fn size_of<'t, V: Visitor>(
+    known: &ProgramTables,
+    visitor: &mut V,
+    at: u32,
+) -> Option<ResultLocation<'t>>
     ensures { Leads V.after V.counts (functions_of known.now) visitor.old visitor.new result
         (λ k. e.plain (o.Push (t.note (tables_of known.now) at).binding) (k e.OnList)) }
 {
@@ -188,12 +192,16 @@ fn size_of<'t, V: Visitor>(known: &ProgramTables, visitor: &mut V, at: u32) -> O
 }
 
 // `puts`: prints the bytes of a text.
-fn puts<'t, V: Visitor>(known: &ProgramTables, visitor: &mut V, text: &[u8]) -> Option<Standing<'t>>
+fn puts<'t, V: Visitor>(
+    known: &ProgramTables,
+    visitor: &mut V,
+    text: &[u8],
+) -> Option<ResultLocation<'t>>
     ensures { Leads V.after V.counts (functions_of known.now) visitor.old visitor.new result
         (λ k. e.put_bytes (text_of text.now) (k e.OnList)) }
 {
     put_bytes(known, visitor, text);
-    Some(Standing::OnList)
+    Some(ResultLocation::OnList)
 }
 
 // A sign in front that is one operation on a value.
@@ -203,7 +211,7 @@ fn unary<'t, V: Visitor>(
     visitor: &mut V,
     operand: &Expr<'t>,
     by: Unary,
-) -> Option<Standing<'t>>
+) -> Option<ResultLocation<'t>>
     requires { IsSound known.now }
     ensures { Leads V.after V.counts (functions_of known.now) visitor.old visitor.new result
         (λ k. e.value (tables_of known.now) (functions_of known.now) (tree_of operand.now)
@@ -221,17 +229,17 @@ fn increase<'t, V: Visitor>(
     operand: &Expr<'t>,
     sign: Sign,
     spot: Spot,
-) -> Option<Standing<'t>>
+) -> Option<ResultLocation<'t>>
     requires { IsSound known.now }
     ensures { Leads V.after V.counts (functions_of known.now) visitor.old visitor.new result
         (e.updated (tables_of known.now) (functions_of known.now) sign
-        (e.stands (tables_of known.now) (functions_of known.now) (tree_of operand.now))
+        (e.evaluated (tables_of known.now) (functions_of known.now) (tree_of operand.now))
         (e.token (tree_of operand.now)) spot.at
         (e.one (tables_of known.now) (functions_of known.now))) }
 {
-    let standing = expression(known, visitor, operand)?;
-    raise(known, visitor, sign, standing, token_of(operand), spot.at);
-    Some(Standing::OnList)
+    let location = expression(known, visitor, operand)?;
+    raise(known, visitor, sign, location, token_of(operand), spot.at);
+    Some(ResultLocation::OnList)
 }
 
 // The links of a chain, after the first expression. `at` is the token of that expression.
@@ -240,21 +248,21 @@ fn chain<'t, V: Visitor>(
     known: &ProgramTables,
     visitor: &mut V,
     links: &[Link<'t>],
-    first: Standing<'t>,
+    first: ResultLocation<'t>,
     at: u32,
-) -> Option<Standing<'t>>
+) -> Option<ResultLocation<'t>>
     requires { IsSound known.now }
     ensures { Leads V.after V.counts (functions_of known.now) visitor.old visitor.new result
-        (chained (tables_of known.now) (functions_of known.now) (standing_of first.entry) at
+        (chained (tables_of known.now) (functions_of known.now) (location_of first.entry) at
         (links_of (map link_of links.now))) }
 {
-    let mut standing = first;
+    let mut location = first;
     let mut left = at;
     for link in links {
-        standing = join(known, visitor, link, standing, left)?;
+        location = join(known, visitor, link, location, left)?;
         left = link.spot.at;
     }
-    Some(standing)
+    Some(location)
 }
 
 // One link of a chain, after the operations of its left side.
@@ -263,12 +271,12 @@ fn join<'t, V: Visitor>(
     known: &ProgramTables,
     visitor: &mut V,
     link: &Link<'t>,
-    left: Standing<'t>,
+    left: ResultLocation<'t>,
     at: u32,
-) -> Option<Standing<'t>>
+) -> Option<ResultLocation<'t>>
     requires { IsSound known.now }
     ensures { Leads V.after V.counts (functions_of known.now) visitor.old visitor.new result
-        (one_link (tables_of known.now) (functions_of known.now) (standing_of left.entry) at
+        (one_link (tables_of known.now) (functions_of known.now) (location_of left.entry) at
         (link_of link.now).spot (link_of link.now).sign (link_of link.now).right) }
 {
     match link.sign {
@@ -276,7 +284,7 @@ fn join<'t, V: Visitor>(
             give_value(known, visitor, left);
             discard(known, visitor, at);
             value(known, visitor, &link.right)?;
-            Some(Standing::OnList)
+            Some(ResultLocation::OnList)
         }
         Sign::AndAnd => {
             logical(
@@ -288,7 +296,7 @@ fn join<'t, V: Visitor>(
                 SplitKind::AndThen,
                 true,
             );
-            Some(Standing::OnList)
+            Some(ResultLocation::OnList)
         }
         Sign::OrOr => {
             logical(
@@ -300,13 +308,13 @@ fn join<'t, V: Visitor>(
                 SplitKind::OrElse,
                 false,
             );
-            Some(Standing::OnList)
+            Some(ResultLocation::OnList)
         }
         _ => {
             give_value(known, visitor, left);
             value(known, visitor, &link.right)?;
             operate(known, visitor, link.sign, at, token_of(&link.right));
-            Some(Standing::OnList)
+            Some(ResultLocation::OnList)
         }
     }
 }
@@ -318,18 +326,18 @@ fn logical<'t, V: Visitor>(
     known: &ProgramTables,
     visitor: &mut V,
     right: &Expr<'t>,
-    left: Standing<'t>,
+    left: ResultLocation<'t>,
     spot: Spot,
     split: SplitKind,
     onward: bool,
 )
     requires { IsSound known.now }
-    ensures { (k : e.Standing → Coded)
+    ensures { (k : e.ResultLocation → Coded)
         → through V.after V.counts (functions_of known.now) visitor.old
         (e.logical (tables_of known.now) (functions_of known.now) spot split onward
         (if onward then 0 else 1)
-        (λ j. j (standing_of left.entry))
-        (e.stands (tables_of known.now) (functions_of known.now) (tree_of right.now)) k)
+        (λ j. j (location_of left.entry))
+        (e.evaluated (tables_of known.now) (functions_of known.now) (tree_of right.now)) k)
         ≡ through V.after V.counts (functions_of known.now) visitor.new (k e.OnList) }
 {
     give_value(known, visitor, left);
@@ -369,7 +377,7 @@ fn truth<V: Visitor>(known: &ProgramTables, visitor: &mut V, right: &Expr, ends:
     requires { IsSound known.now }
     ensures { visitor.new ≡ through V.after V.counts (functions_of known.now) visitor.old
         (e.truth (tables_of known.now) (functions_of known.now)
-        (e.stands (tables_of known.now) (functions_of known.now) (tree_of right.now))
+        (e.evaluated (tables_of known.now) (functions_of known.now) (tree_of right.now))
         (ending ends)) }
 {
     if value(known, visitor, right).is_some() {
@@ -397,10 +405,10 @@ fn arm<V: Visitor>(known: &ProgramTables, visitor: &mut V, whole: &Expr, ends: b
 #[cycle(expression)]
 fn first_arm<V: Visitor>(known: &ProgramTables, visitor: &mut V, first: &Expr, spot: Spot) -> Ways
     requires { IsSound known.now }
-    ensures { (second : e.Stands) (k : e.Standing → Coded)
+    ensures { (second : e.Evaluation) (k : e.ResultLocation → Coded)
         → through V.after V.counts (functions_of known.now) visitor.old
         (e.chosen (tables_of known.now) (functions_of known.now) spot (λ j. j e.OnList)
-        (e.stands (tables_of known.now) (functions_of known.now) (tree_of first.now)) second k)
+        (e.evaluated (tables_of known.now) (functions_of known.now) (tree_of first.now)) second k)
         ≡ behind_first V.after V.counts (functions_of known.now) visitor.new result
         (other_arm (tables_of known.now) (functions_of known.now) spot second)
         (rejoined (tables_of known.now) spot (k e.OnList)) }
@@ -444,7 +452,7 @@ fn second_arm<V: Visitor>(
     requires { IsSound known.now }
     ensures { (rest : Coded) → behind_first V.after V.counts (functions_of known.now) visitor.old
         ways (other_arm (tables_of known.now) (functions_of known.now) spot
-        (e.stands (tables_of known.now) (functions_of known.now) (tree_of second.now)))
+        (e.evaluated (tables_of known.now) (functions_of known.now) (tree_of second.now)))
         (rejoined (tables_of known.now) spot rest)
         ≡ through V.after V.counts (functions_of known.now) visitor.new rest }
 {
@@ -466,13 +474,13 @@ fn assign<'t, V: Visitor>(
     known: &ProgramTables,
     visitor: &mut V,
     right: &Expr<'t>,
-    target: Standing<'t>,
+    target: ResultLocation<'t>,
     at: u32,
     sign: Sign,
-) -> Option<Standing<'t>>
+) -> Option<ResultLocation<'t>>
     requires { IsSound known.now }
     ensures { Leads V.after V.counts (functions_of known.now) visitor.old visitor.new result
-        (assigned_to (tables_of known.now) (functions_of known.now) (standing_of target.entry) at
+        (assigned_to (tables_of known.now) (functions_of known.now) (location_of target.entry) at
         sign (tree_of right.now)) }
 {
     match sign {
@@ -480,14 +488,14 @@ fn assign<'t, V: Visitor>(
             give_address(known, visitor, target);
             value(known, visitor, right)?;
             put(known, visitor, target);
-            Some(Standing::OnList)
+            Some(ResultLocation::OnList)
         }
         _ => {
             fetch(known, visitor, target);
             value(known, visitor, right)?;
             operate(known, visitor, sign, at, token_of(right));
             put(known, visitor, target);
-            Some(Standing::OnList)
+            Some(ResultLocation::OnList)
         }
     }
 }
@@ -499,21 +507,21 @@ fn postfix<'t, V: Visitor>(
     known: &ProgramTables,
     visitor: &mut V,
     suffixes: &[Suffix<'t>],
-    whole: Standing<'t>,
+    whole: ResultLocation<'t>,
     at: u32,
-) -> Option<Standing<'t>>
+) -> Option<ResultLocation<'t>>
     requires { IsSound known.now }
     ensures { Leads V.after V.counts (functions_of known.now) visitor.old visitor.new result
-        (followed (tables_of known.now) (functions_of known.now) (standing_of whole.entry) at
+        (followed (tables_of known.now) (functions_of known.now) (location_of whole.entry) at
         (suffixes_of (map suffix_of suffixes.now))) }
 {
-    let mut standing = whole;
+    let mut location = whole;
     let mut left = at;
     for suffix in suffixes {
-        standing = one_suffix(known, visitor, suffix, standing, left)?;
+        location = one_suffix(known, visitor, suffix, location, left)?;
         left = suffix_token(suffix);
     }
-    Some(standing)
+    Some(location)
 }
 
 // One suffix, after the operations of what it follows.
@@ -522,39 +530,39 @@ fn one_suffix<'t, V: Visitor>(
     known: &ProgramTables,
     visitor: &mut V,
     suffix: &Suffix<'t>,
-    standing: Standing<'t>,
+    location: ResultLocation<'t>,
     at: u32,
-) -> Option<Standing<'t>>
+) -> Option<ResultLocation<'t>>
     requires { IsSound known.now }
     ensures { Leads V.after V.counts (functions_of known.now) visitor.old visitor.new result
-        (s.one_suffix (tables_of known.now) (functions_of known.now) (standing_of standing.entry) at
+        (s.one_suffix (tables_of known.now) (functions_of known.now) (location_of location.entry) at
         (suffix_of suffix.now)) }
 {
     match suffix {
         Suffix::Index(spot, by) => {
-            give_value(known, visitor, standing);
+            give_value(known, visitor, location);
             value(known, visitor, by)?;
             let element = Operation::Index(known.bytes_at(spot.at));
             visitor.meet(Event::Perform(element, NOWHERE));
-            Some(Standing::AtAddress(true, *spot))
+            Some(ResultLocation::AtAddress(true, *spot))
         }
-        Suffix::Call(_, arguments) => call(known, visitor, arguments, standing),
+        Suffix::Call(_, arguments) => call(known, visitor, arguments, location),
         Suffix::Dot(spot, member) => {
             enter_member(known, visitor, member.at);
-            Some(Standing::AtAddress(is_deep(standing), *spot))
+            Some(ResultLocation::AtAddress(is_deep(location), *spot))
         }
         Suffix::Arrow(spot, member) => {
-            give_value(known, visitor, standing);
+            give_value(known, visitor, location);
             enter_member(known, visitor, member.at);
-            Some(Standing::AtAddress(true, *spot))
+            Some(ResultLocation::AtAddress(true, *spot))
         }
         Suffix::Up(_) => {
-            raise_and_undo(known, visitor, Sign::Plus, Sign::Minus, standing, at);
-            Some(Standing::OnList)
+            raise_and_undo(known, visitor, Sign::Plus, Sign::Minus, location, at);
+            Some(ResultLocation::OnList)
         }
         Suffix::Down(_) => {
-            raise_and_undo(known, visitor, Sign::Minus, Sign::Plus, standing, at);
-            Some(Standing::OnList)
+            raise_and_undo(known, visitor, Sign::Minus, Sign::Plus, location, at);
+            Some(ResultLocation::OnList)
         }
     }
 }
@@ -566,16 +574,16 @@ fn call<'t, V: Visitor>(
     known: &ProgramTables,
     visitor: &mut V,
     arguments: &[Expr<'t>],
-    standing: Standing<'t>,
-) -> Option<Standing<'t>>
+    location: ResultLocation<'t>,
+) -> Option<ResultLocation<'t>>
     requires { IsSound known.now }
     ensures { Leads V.after V.counts (functions_of known.now) visitor.old visitor.new result
         (λ k. e.calling (tables_of known.now) (functions_of known.now)
-        (e.all_stand (tables_of known.now) (functions_of known.now)
-        (trees_of (map tree_of arguments.now))) k (standing_of standing.entry)) }
+        (e.all_evaluated (tables_of known.now) (functions_of known.now)
+        (trees_of (map tree_of arguments.now))) k (location_of location.entry)) }
 {
-    match standing {
-        Standing::ToCall(name) => {
+    match location {
+        ResultLocation::ToCall(name) => {
             let binding = known.note(name.at).binding;
             if binding == PREDECLARED {
                 call_predeclared(known, visitor, arguments, name)
@@ -595,12 +603,12 @@ fn call_declared<'t, V: Visitor>(
     arguments: &[Expr<'t>],
     name: Name<'t>,
     binding: u32,
-) -> Option<Standing<'t>>
+) -> Option<ResultLocation<'t>>
     requires sound { IsSound known.now }
     requires binding { (t.note (tables_of known.now) name.at).binding ≡ binding }
     ensures { Leads V.after V.counts (functions_of known.now) visitor.old visitor.new result
         (e.called (tables_of known.now) (functions_of known.now) (named name.entry)
-        (e.all_stand (tables_of known.now) (functions_of known.now)
+        (e.all_evaluated (tables_of known.now) (functions_of known.now)
         (trees_of (map tree_of arguments.now)))) }
 {
     match known.callee(binding) {
@@ -616,11 +624,11 @@ fn call_declared<'t, V: Visitor>(
                 &function.params,
                 void,
             );
-            Some(Standing::OnList)
+            Some(ResultLocation::OnList)
         }
         None => {
             enter(known, visitor, name.place, binding, 0, &[], true);
-            Some(Standing::OnList)
+            Some(ResultLocation::OnList)
         }
     }
 }
@@ -638,7 +646,7 @@ fn argue<V: Visitor>(
     ensures { LeadsOn V.after V.counts (functions_of known.now) visitor.old visitor.new result
         (e.arguments (tables_of known.now) (functions_of known.now)
         (map declared_of parameters.now)
-        (e.all_stand (tables_of known.now) (functions_of known.now)
+        (e.all_evaluated (tables_of known.now) (functions_of known.now)
         (trees_of (map tree_of arguments.now)))) }
 {
     for (index, argument) in arguments.iter().enumerate() {
@@ -658,11 +666,11 @@ fn call_predeclared<'t, V: Visitor>(
     visitor: &mut V,
     arguments: &[Expr<'t>],
     name: Name<'t>,
-) -> Option<Standing<'t>>
+) -> Option<ResultLocation<'t>>
     requires { IsSound known.now }
     ensures { Leads V.after V.counts (functions_of known.now) visitor.old visitor.new result
         (e.called_predeclared (tables_of known.now) (functions_of known.now) (named name.entry)
-        (e.all_stand (tables_of known.now) (functions_of known.now)
+        (e.all_evaluated (tables_of known.now) (functions_of known.now)
         (trees_of (map tree_of arguments.now)))) }
 {
     match builtin_of(name.bytes) {
@@ -683,11 +691,11 @@ fn multiprefix<'t, V: Visitor>(
     arguments: &[Expr<'t>],
     name: Name<'t>,
     by: Multiprefix,
-) -> Option<Standing<'t>>
+) -> Option<ResultLocation<'t>>
     requires { IsSound known.now }
     ensures { Leads V.after V.counts (functions_of known.now) visitor.old visitor.new result
         (e.multiprefix (tables_of known.now) (functions_of known.now) (named name.entry) by
-        (e.all_stand (tables_of known.now) (functions_of known.now)
+        (e.all_evaluated (tables_of known.now) (functions_of known.now)
         (trees_of (map tree_of arguments.now)))) }
 {
     let [address, operand, ..] = arguments else {
@@ -697,7 +705,7 @@ fn multiprefix<'t, V: Visitor>(
     visitor.meet(Event::Perform(Operation::Check(true), name.place));
     value(known, visitor, operand)?;
     plain(visitor, Operation::Combine(by));
-    Some(Standing::OnList)
+    Some(ResultLocation::OnList)
 }
 
 // An operation on one argument, on which the group agrees first if `agreed`. Nothing follows if
@@ -709,12 +717,12 @@ fn with_one<'t, V: Visitor>(
     arguments: &[Expr<'t>],
     agreed: bool,
     operation: Operation,
-) -> Option<Standing<'t>>
+) -> Option<ResultLocation<'t>>
     requires { IsSound known.now }
     ensures { Leads V.after V.counts (functions_of known.now) visitor.old visitor.new result
         (e.with_one (tables_of known.now) (functions_of known.now)
         (λ rest. e.agreed agreed (e.plain operation rest))
-        (e.all_stand (tables_of known.now) (functions_of known.now)
+        (e.all_evaluated (tables_of known.now) (functions_of known.now)
         (trees_of (map tree_of arguments.now)))) }
 {
     let [argument, ..] = arguments else {
@@ -723,5 +731,5 @@ fn with_one<'t, V: Visitor>(
     value(known, visitor, argument)?;
     agree(visitor, agreed);
     plain(visitor, operation);
-    Some(Standing::OnList)
+    Some(ResultLocation::OnList)
 }

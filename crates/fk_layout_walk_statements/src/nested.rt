@@ -12,7 +12,7 @@ ghost use Rattle.fk_meaning_forms.specs.Expressions as e;
 ghost use Rattle.fk_meaning_forms.specs.Expressions.{Coded};
 ghost use Rattle.fk_meaning_forms.specs.Statements as s;
 ghost use Rattle.fk_layout_walk.specs.Known.{tables_of, functions_of, part_of, IsSound};
-ghost use Rattle.fk_layout_walk.specs.Standing.{behind_value, ending};
+ghost use Rattle.fk_layout_walk.specs.Location.{behind_value, ending};
 ghost use Rattle.fk_layout_walk.specs.Through.{through, LeadsOn, Passes};
 ghost use Rattle.fk_layout_walk.specs.Ways.{behind_first, rejoined};
 ghost use Rattle.fk_layout_walk_statements.specs.Inside.{inside_of};

@@ -95,10 +95,10 @@ fn declare<V: Visitor>(known: &ProgramTables, visitor: &mut V, declared: &Declar
     if !is_scalar(declared) {
         return Some(());
     }
-    let standing = name(known, visitor, declared.name)?;
-    give_address(known, visitor, standing);
+    let location = name(known, visitor, declared.name)?;
+    give_address(known, visitor, location);
     value_or(known, visitor, Operation::Push(0), &declared.first)?;
-    put(known, visitor, standing);
+    put(known, visitor, location);
     plain(visitor, Operation::DropLast);
     Some(())
 }

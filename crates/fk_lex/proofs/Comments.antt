@@ -9,7 +9,7 @@ use Rattle.fk_lex.specs.declared.step.FaultKind.TheVariants.{OpenComment}
 use Rattle.fk_lex.specs.declared.step.Step.TheVariants.{Gap, Fault}
 use Rattle.fk_lex.specs.Positions.{in_line, EndsLine}
 use Rattle.fk_lex.specs.Spellings.{HasCommentEnd, IsComment, AreInLine, IsLineComment}
-use Rattle.fk_lex.specs.Steps.{EndsAt, CommentTo, CommentStep, line_length, Stands}
+use Rattle.fk_lex.specs.Steps.{EndsAt, CommentTo, CommentStep, line_length, NextStep}
 use Rattle.fk_lex.proofs.Extents.{byte_within}
 use Rattle.fk_lex.proofs.Fronts.{all_longest, length_more, length_none}
 use Rattle.fk_lex.proofs.Tests.{both_true}
@@ -91,7 +91,7 @@ commented_by body n (inl a) =
     comment_parts body n two.0 (subst (CommentTo (47 ∷ 42 ∷ body)) two.1 a.1) (size ∙ ap (λ m. m + 2) two.1)
 commented_by body n (inr a) = absurd cc
 
-pub commented : (before body : List ℕ) (n : ℕ) → Stands before (codes "/*" ++ body) (Gap n) → IsComment (codes "/*" ++ body) n
+pub commented : (before body : List ℕ) (n : ℕ) → NextStep before (codes "/*" ++ body) (Gap n) → IsComment (codes "/*" ++ body) n
 commented before body n stands = commented_by body n stands
 
 -- an end in the bytes of a comment and its end is no earlier than its end
@@ -116,11 +116,11 @@ comment_to inside rest none = record {
       none (end_in_inside inside rest two.0 (omega arith) (end_behind (inside ++ (42 ∷ 47 ∷ rest)) two.0 (subst (EndsAt (47 ∷ 42 ∷ (inside ++ (42 ∷ 47 ∷ rest)))) same ends)));
 }
 
-pub comments : (before text : List ℕ) (n : ℕ) → IsComment text n → Stands before text (Gap n)
+pub comments : (before text : List ℕ) (n : ℕ) → IsComment text n → NextStep before text (Gap n)
 comments before text n is =
     let size : n ≡ suc (suc (length is.0)) + 2 = let counted = is.4 in omega arith in
     let step : CommentStep (47 ∷ 42 ∷ (is.0 ++ (42 ∷ 47 ∷ is.1))) (Gap n) = inl (suc (suc (length is.0)), comment_to is.0 is.1 is.2, ap Gap size) in
-    subst (λ text. Stands before text (Gap n)) (sym is.3) step
+    subst (λ text. NextStep before text (Gap n)) (sym is.3) step
 
 -- comments that aren't closed
 
@@ -129,14 +129,14 @@ unclosed_by body (inl a) has = absurd cc
 unclosed_by body (inr a) has =
     a.0 (suc (suc (length has.0))) (omega arith) (end_before_two body (length has.0) (end_index body has.0 has.1 has.2))
 
-pub unclosed : (before body : List ℕ) → Stands before (codes "/*" ++ body) (Fault 0 OpenComment) → HasCommentEnd body → ⊥
+pub unclosed : (before body : List ℕ) → NextStep before (codes "/*" ++ body) (Fault 0 OpenComment) → HasCommentEnd body → ⊥
 unclosed before body stands has = unclosed_by body stands has
 
 opened_by : (body : List ℕ) → (HasCommentEnd body → ⊥) → CommentStep (47 ∷ 42 ∷ body) (Fault 0 OpenComment)
 opened_by body none =
     inr (λ m behind ends. let two = two_more m behind in none (end_in body two.0 (end_behind body two.0 (subst (EndsAt (47 ∷ 42 ∷ body)) two.1 ends))), refl)
 
-pub opened : (before body : List ℕ) → (HasCommentEnd body → ⊥) → Stands before (codes "/*" ++ body) (Fault 0 OpenComment)
+pub opened : (before body : List ℕ) → (HasCommentEnd body → ⊥) → NextStep before (codes "/*" ++ body) (Fault 0 OpenComment)
 opened before body none = opened_by body none
 
 -- comments to the end of the line
@@ -158,7 +158,7 @@ line_ends (c ∷ cs) = line_ends_by c cs (in_line c) refl (line_ends cs)
 line_size : (body : List ℕ) → line_length (47 ∷ 47 ∷ body) ≡ prefix_len in_line body + 2
 line_size body = omega arith
 
-pub line_commented : (before body : List ℕ) (n : ℕ) → Stands before (codes "//" ++ body) (Gap n) → IsLineComment (codes "//" ++ body) n
+pub line_commented : (before body : List ℕ) (n : ℕ) → NextStep before (codes "//" ++ body) (Gap n) → IsLineComment (codes "//" ++ body) n
 line_commented before body n stands =
     let k = prefix_len in_line body in
     let counted = gap_size (line_length (47 ∷ 47 ∷ body)) n stands ∙ line_size body in
@@ -177,9 +177,9 @@ line_whole (c ∷ line) rest all ends =
     let whole = line_whole line rest both.1 ends in
     omega arith
 
-pub line_comments : (before text : List ℕ) (n : ℕ) → IsLineComment text n → Stands before text (Gap n)
+pub line_comments : (before text : List ℕ) (n : ℕ) → IsLineComment text n → NextStep before text (Gap n)
 line_comments before text n is =
     let whole = line_whole is.0 is.1 is.2 is.3 in
     let counted = is.5 in
     let size : n ≡ line_length (47 ∷ 47 ∷ (is.0 ++ is.1)) = omega (arith, line_size (is.0 ++ is.1)) in
-    subst (λ text. Stands before text (Gap n)) (sym is.4) (ap Gap size)
+    subst (λ text. NextStep before text (Gap n)) (sym is.4) (ap Gap size)

@@ -12,7 +12,7 @@ use Rattle.fk_lex.specs.Kinds.{kind_of, Longest}
 use Rattle.fk_lex.specs.Positions.{place_behind}
 use Rattle.fk_lex.specs.Reading.{Spelled, fault_at, IsPiece, Cuts, tokens_in, Tokens, Faults, OneReading}
 use Rattle.fk_lex.specs.Sizes.{size_of}
-use Rattle.fk_lex.specs.Steps.{CommentTo, CommentStep, TokenStep, token_or_fault, StandsBy, Stands, beginning}
+use Rattle.fk_lex.specs.Steps.{CommentTo, CommentStep, TokenStep, token_or_fault, StepBy, NextStep, beginning}
 use Rattle.fk_lex.proofs.Existence.{some_reading}
 use Rattle.fk_lex.proofs.Parts.{text_once}
 
@@ -52,7 +52,7 @@ token_once text s t (inl a) (inr b) = absurd (not_both a.1 _ a.2.spells (b.0 a.0
 token_once text s t (inr a) (inl b) = absurd (not_both b.1 _ b.2.spells (a.0 b.0 b.2.within))
 token_once text s t (inr a) (inr b) = a.1 ∙ sym b.1
 
-by_beginning : (b : Beginning) (before text : List ℕ) (s t : Step) → StandsBy b before text s → StandsBy b before text t → s ≡ t
+by_beginning : (b : Beginning) (before text : List ℕ) (s t : Step) → StepBy b before text s → StepBy b before text t → s ≡ t
 by_beginning begins.Blank before text s t a b = a ∙ sym b
 by_beginning begins.Comment before text s t a b = comment_once text s t a b
 by_beginning begins.LineComment before text s t a b = a ∙ sym b
@@ -62,8 +62,8 @@ by_beginning begins.Text before text s t a b = text_once text s t a b
 by_beginning begins.Other before text s t a b = token_once text s t a b
 
 -- one thing stands at a position
-pub stands_once : (before text : List ℕ) (s t : Step) → Stands before text s → Stands before text t → s ≡ t
-stands_once before text s t a b = by_beginning (beginning text) before text s t a b
+pub next_step_once : (before text : List ℕ) (s t : Step) → NextStep before text s → NextStep before text t → s ≡ t
+next_step_once before text s t a b = by_beginning (beginning text) before text s t a b
 
 not_empty : (text : List ℕ) → text ≡ [] → 0 < length text → ⊥
 not_empty text is some = let none = ap length is in omega arith
@@ -80,15 +80,15 @@ cut_once [] [] before text None None a b = (refl, refl)
 cut_once [] [] before text None (Some y) a b = absurd (not_empty text a b.2)
 cut_once [] [] before text (Some x) None a b = absurd (not_empty text b a.2)
 cut_once [] [] before text (Some x) (Some y) a b =
-    let same = fault_sizes a.0 b.0 a.1 b.1 (stands_once before text (Fault a.0 a.1) (Fault b.0 b.1) a.3 b.3) in
+    let same = fault_sizes a.0 b.0 a.1 b.1 (next_step_once before text (Fault a.0 a.1) (Fault b.0 b.1) a.3 b.3) in
     let found = a.4 ∙ ap (λ n. fault_at a.1 (place_behind (before ++ take n text))) same.0 ∙ ap (λ k. fault_at k (place_behind (before ++ take b.0 text))) same.1 ∙ sym b.4 in
     (refl, ap Some found)
 cut_once [] (q ∷ qs) before text None f a b = absurd (not_empty text a b.0)
 cut_once (p ∷ ps) [] before text e None a b = absurd (not_empty text b a.0)
-cut_once [] (q ∷ qs) before text (Some x) f a b = absurd (fault_no_piece a.0 a.1 q (stands_once before text (Fault a.0 a.1) q a.3 b.1) b.2)
-cut_once (p ∷ ps) [] before text e (Some y) a b = absurd (fault_no_piece b.0 b.1 p (stands_once before text (Fault b.0 b.1) p b.3 a.1) a.2)
+cut_once [] (q ∷ qs) before text (Some x) f a b = absurd (fault_no_piece a.0 a.1 q (next_step_once before text (Fault a.0 a.1) q a.3 b.1) b.2)
+cut_once (p ∷ ps) [] before text e (Some y) a b = absurd (fault_no_piece b.0 b.1 p (next_step_once before text (Fault b.0 b.1) p b.3 a.1) a.2)
 cut_once (p ∷ ps) (q ∷ qs) before text e f a b =
-    let same = stands_once before text q p b.1 a.1 in
+    let same = next_step_once before text q p b.1 a.1 in
     let others = subst (λ s. Cuts qs (before ++ take (size_of s) text) (drop (size_of s) text) f) same b.3 in
     let rest = cut_once ps qs (before ++ take (size_of p) text) (drop (size_of p) text) e f a.3 others in
     (ap (λ l. p ∷ l) rest.0 ∙ ap (λ s. s ∷ qs) (sym same), rest.1)

@@ -11,7 +11,7 @@ use Rattle.fk_lex.specs.declared.token.LexFault.{LexFault}
 use Rattle.fk_lex.specs.Kinds.{kind_of}
 use Rattle.fk_lex.specs.Positions.{place_behind, only_blanks}
 use Rattle.fk_lex.specs.Reading.{Spelled, fault_at, Cuts, tokens_in, Tokens, Faults}
-use Rattle.fk_lex.specs.Steps.{EndsAt, CommentTo, CommentStep, TokenStep, token_or_fault, line_length, directive_step, character_step, StandsBy, Stands, beginning}
+use Rattle.fk_lex.specs.Steps.{EndsAt, CommentTo, CommentStep, TokenStep, token_or_fault, line_length, directive_step, character_step, StepBy, NextStep, beginning}
 use Rattle.fk_lex.specs.Texts.{TextStep}
 use Rattle.fk_lex.proofs.Extents.{byte_within}
 use Rattle.fk_lex.proofs.Parts.{some_text, text_begins}
@@ -90,23 +90,23 @@ quoted (c ∷ cs) some quote = subst (λ c. (s : Step) × TextStep (c ∷ cs) s)
 
 -- whatever a text begins with
 
-stands_by : (b : Beginning) (before text : List ℕ) → 0 < length text → b ≡ beginning text → (s : Step) × StandsBy b before text s
-stands_by begins.Blank before text some is = (Gap 1, refl)
-stands_by begins.Comment before text some is = comment_by text (end_before text (length text))
-stands_by begins.LineComment before text some is = (Gap (line_length text), refl)
-stands_by begins.Directive before text some is = (directive_step (only_blanks before) text, refl)
-stands_by begins.Character before text some is = (character_step text, refl)
-stands_by begins.Text before text some is = quoted text some (text_begins text is)
-stands_by begins.Other before text some is = token_by text (longest_below text (suc (length text)))
+step_by : (b : Beginning) (before text : List ℕ) → 0 < length text → b ≡ beginning text → (s : Step) × StepBy b before text s
+step_by begins.Blank before text some is = (Gap 1, refl)
+step_by begins.Comment before text some is = comment_by text (end_before text (length text))
+step_by begins.LineComment before text some is = (Gap (line_length text), refl)
+step_by begins.Directive before text some is = (directive_step (only_blanks before) text, refl)
+step_by begins.Character before text some is = (character_step text, refl)
+step_by begins.Text before text some is = quoted text some (text_begins text is)
+step_by begins.Other before text some is = token_by text (longest_below text (suc (length text)))
 
-something_stands : (before text : List ℕ) → 0 < length text → (s : Step) × Stands before text s
-something_stands before text some = stands_by (beginning text) before text some refl
+some_next_step : (before text : List ℕ) → 0 < length text → (s : Step) × NextStep before text s
+some_next_step before text some = step_by (beginning text) before text some refl
 
 -- a text is cut up to its end or up to a fault
 abbrev IsCut : List ℕ → List ℕ → Type 0
 IsCut before text = (pieces : List Step) × (end : Option LexFault) × Cuts pieces before text end
 
-cut_on : (size : ℕ) (before text : List ℕ) → 0 < length text → length text ≤ suc size → (step : Step) → Stands before text step → ((before text : List ℕ) → length text ≤ size → IsCut before text) → IsCut before text
+cut_on : (size : ℕ) (before text : List ℕ) → 0 < length text → length text ≤ suc size → (step : Step) → NextStep before text step → ((before text : List ℕ) → length text ≤ size → IsCut before text) → IsCut before text
 cut_on size before text some small (Gap n) stands onward =
     let less = reached_less before text (Gap n) some stands tt in
     let rest = onward (before ++ take n text) (drop n text) (omega arith) in
@@ -121,7 +121,7 @@ cut_on size before text some small (Fault n kind) stands onward =
 cut_more : (size : ℕ) (before text : List ℕ) → length text ≤ suc size → ((before text : List ℕ) → length text ≤ size → IsCut before text) → IsCut before text
 cut_more size before [] small onward = ([], None, refl)
 cut_more size before (c ∷ cs) small onward =
-    let stands = something_stands before (c ∷ cs) (omega arith) in
+    let stands = some_next_step before (c ∷ cs) (omega arith) in
     cut_on size before (c ∷ cs) (omega arith) small stands.0 stands.1 onward
 
 cut : (size : ℕ) (before text : List ℕ) → length text ≤ size → IsCut before text

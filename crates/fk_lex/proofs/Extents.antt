@@ -160,15 +160,15 @@ token_within text s some (inl a) =
     within_by s _ text a.3 (token_or_fault_within text a.0 a.1 some (longest_some text a.0 a.1 a.2) a.2.within)
 token_within text s some (inr a) = within_by s (Fault 0 BadByte) text a.1 some
 
-stands_by_within : (b : Beginning) (before text : List ℕ) (s : Step) → b ≡ Steps.beginning text → 0 < length text → Steps.StandsBy b before text s → Within s text
-stands_by_within begins.Blank before text s is some a = within_by s (Gap 1) text a (omega arith, omega arith)
-stands_by_within begins.Comment before text s is some a = comment_within text s some a
-stands_by_within begins.LineComment before text s is some a =
+step_by_within : (b : Beginning) (before text : List ℕ) (s : Step) → b ≡ Steps.beginning text → 0 < length text → Steps.StepBy b before text s → Within s text
+step_by_within begins.Blank before text s is some a = within_by s (Gap 1) text a (omega arith, omega arith)
+step_by_within begins.Comment before text s is some a = comment_within text s some a
+step_by_within begins.LineComment before text s is some a =
     within_by s _ text a (line_some text some (comment_no_newline text is), line_within text)
-stands_by_within begins.Directive before text s is some a = within_by s _ text a (directive_within (only_blanks before) text some is)
-stands_by_within begins.Character before text s is some a = within_by s _ text a (character_within text some)
-stands_by_within begins.Text before text s is some a = text_within text s some a
-stands_by_within begins.Other before text s is some a = token_within text s some a
+step_by_within begins.Directive before text s is some a = within_by s _ text a (directive_within (only_blanks before) text some is)
+step_by_within begins.Character before text s is some a = within_by s _ text a (character_within text some)
+step_by_within begins.Text before text s is some a = text_within text s some a
+step_by_within begins.Other before text s is some a = token_within text s some a
 
-pub stands_within : (before text : List ℕ) (s : Step) → 0 < length text → Steps.Stands before text s → Within s text
-stands_within before text s some a = stands_by_within (Steps.beginning text) before text s refl some a
+pub step_within : (before text : List ℕ) (s : Step) → 0 < length text → Steps.NextStep before text s → Within s text
+step_within before text s some a = step_by_within (Steps.beginning text) before text s refl some a

@@ -19,7 +19,7 @@ use Rattle.fk_lex.specs.Bytes.{is_blank, is_letter, is_digit, is_word_byte, digi
 use Rattle.fk_lex.specs.Kinds.{kind_of, lookup, signs, keywords, or_word, is_numeral, is_hexadecimal, is_tail, is_empty, numeral_value, is_unsigned}
 use Rattle.fk_lex.specs.Moves.{position_of, next, after, place_of}
 use Rattle.fk_lex.specs.Positions.{in_line, newlines, last_line, place_behind, only_blanks}
-use Rattle.fk_lex.specs.Steps.{CommentStep, TokenStep, token_or_fault, beginning, is_include, line_length, directive_step, character_step, escaped, StandsBy, Stands}
+use Rattle.fk_lex.specs.Steps.{CommentStep, TokenStep, token_or_fault, beginning, is_include, line_length, directive_step, character_step, escaped, StepBy, NextStep}
 use Rattle.fk_lex.specs.Texts.{Part, Plain, Escape, Bad, bytes_of, is_some_byte, AreParts, AreGood, ClosedStep, TextStep}
 use Rattle.fk_lex.proofs.Extents.{short_line}
 use Rattle.fk_lex.proofs.Tests.{if_false, same_byte, both_true}
@@ -352,7 +352,7 @@ comment_no_token text n kind (inr a) = let same = a.1 in cc
 gap_no_token : (m n : ℕ) (kind : TokenKind) → Token n kind ≡ Gap m → ⊥
 gap_no_token m n kind is = cc
 
-in_line_by : (b : Beginning) (before : List ℕ) (c : ℕ) (cs : List ℕ) (n : ℕ) (kind : TokenKind) → b ≡ beginning (c ∷ cs) → StandsBy b before (c ∷ cs) (Token n kind) → list_all in_line (take n (c ∷ cs)) ≡ true
+in_line_by : (b : Beginning) (before : List ℕ) (c : ℕ) (cs : List ℕ) (n : ℕ) (kind : TokenKind) → b ≡ beginning (c ∷ cs) → StepBy b before (c ∷ cs) (Token n kind) → list_all in_line (take n (c ∷ cs)) ≡ true
 in_line_by begins.Blank before c cs n kind is stands = absurd (gap_no_token 1 n kind stands)
 in_line_by begins.Comment before c cs n kind is stands = absurd (comment_no_token (c ∷ cs) n kind stands)
 in_line_by begins.LineComment before c cs n kind is stands = absurd (gap_no_token (line_length (c ∷ cs)) n kind stands)
@@ -364,6 +364,6 @@ in_line_by begins.Text before c cs n kind is stands = text_in_line (c ∷ cs) n 
 in_line_by begins.Other before c cs n kind is stands = token_in_line_by (c ∷ cs) n kind stands
 
 -- the bytes of a token are of one line
-pub token_in_line : (before text : List ℕ) (n : ℕ) (kind : TokenKind) → 0 < length text → Stands before text (Token n kind) → list_all in_line (take n text) ≡ true
+pub token_in_line : (before text : List ℕ) (n : ℕ) (kind : TokenKind) → 0 < length text → NextStep before text (Token n kind) → list_all in_line (take n text) ≡ true
 token_in_line before [] n kind some stands = absurd (omega arith)
 token_in_line before (c ∷ cs) n kind some stands = in_line_by (beginning (c ∷ cs)) before c cs n kind refl stands

@@ -17,8 +17,8 @@ use Rattle.fk_lex.specs.Moves.{HasPlace, position_of, next, after, place_of}
 use Rattle.fk_lex.specs.Positions.{place_behind}
 use Rattle.fk_lex.specs.Reading.{Spelled, fault_at, token_of, IsPiece, Cuts, spelled_by, tokens_in, Tokens, Faults}
 use Rattle.fk_lex.specs.Sizes.{size_of}
-use Rattle.fk_lex.specs.Steps.{beginning_of, StandsBy, Stands}
-use Rattle.fk_lex.proofs.Extents.{Within, few_newlines, stands_within}
+use Rattle.fk_lex.specs.Steps.{beginning_of, StepBy, NextStep}
+use Rattle.fk_lex.proofs.Extents.{Within, few_newlines, step_within}
 use Rattle.fk_lex.proofs.Lines.{position_more, after_offset, place_is}
 use Rattle.fk_lex.proofs.Tests.{if_true}
 
@@ -54,11 +54,11 @@ piece_within (Token n kind) text piece within = within
 piece_within (Fault n kind) text piece within = absurd piece
 
 -- a piece is passed, with this token or none
-passed : (source : List ℕ) (tokens list : List Spelled) (at behind : Position) (rest : List ℕ) (step : Step) (reached : Reached source tokens at rest) → 0 < length rest → Stands reached.before rest step → IsPiece step → behind ≡ after at (take (size_of step) rest) → list ≡ tokens ++ spelled_by step reached.before rest → Reached source list behind (drop (size_of step) rest)
+passed : (source : List ℕ) (tokens list : List Spelled) (at behind : Position) (rest : List ℕ) (step : Step) (reached : Reached source tokens at rest) → 0 < length rest → NextStep reached.before rest step → IsPiece step → behind ≡ after at (take (size_of step) rest) → list ≡ tokens ++ spelled_by step reached.before rest → Reached source list behind (drop (size_of step) rest)
 passed source tokens list at behind rest step reached some stands piece behind_is list_is =
     let before = reached.before in
     let now = before ++ take (size_of step) rest in
-    let within = piece_within step rest piece (stands_within before rest step some stands) in
+    let within = piece_within step rest piece (step_within before rest step some stands) in
     let size : length (take (size_of step) rest) ≡ size_of step = length-take-le (size_of step) rest within.1 in
     let left : length (drop (size_of step) rest) + size_of step ≡ length rest = omega (arith, length-drop (size_of step) rest) in
     let were_few = reached.few in
@@ -82,9 +82,9 @@ passed source tokens list at behind rest step reached some stands piece behind_i
     }
 
 -- a piece leaves less
-pub reached_less : (before rest : List ℕ) (step : Step) → 0 < length rest → Stands before rest step → IsPiece step → length (drop (size_of step) rest) < length rest
+pub reached_less : (before rest : List ℕ) (step : Step) → 0 < length rest → NextStep before rest step → IsPiece step → length (drop (size_of step) rest) < length rest
 reached_less before rest step some stands piece =
-    let within = piece_within step rest piece (stands_within before rest step some stands) in
+    let within = piece_within step rest piece (step_within before rest step some stands) in
     omega (arith, length-drop (size_of step) rest)
 
 -- nothing is left
@@ -99,8 +99,8 @@ within_size (Token n kind) text within = within.1
 within_size (Fault n kind) text within = omega arith
 
 -- what stands there is not longer than what is left
-pub stands_size : (before rest : List ℕ) (step : Step) → 0 < length rest → Stands before rest step → size_of step ≤ length rest
-stands_size before rest step some stands = within_size step rest (stands_within before rest step some stands)
+pub step_size : (before rest : List ℕ) (step : Step) → 0 < length rest → NextStep before rest step → size_of step ≤ length rest
+step_size before rest step some stands = within_size step rest (step_within before rest step some stands)
 
 -- what a step is, by the token that it gives
 pub gives_none : (step : Step) (place : Place) → Ok None ≡ token_of step place → (n : ℕ) × (step ≡ Gap n)
@@ -119,7 +119,7 @@ gives_fault (Token n kind) place found e = cc
 gives_fault (Fault n kind) place found e = (n, kind, refl, cc)
 
 -- a gap
-pub reached_gap : (source : List ℕ) (tokens : List Spelled) (at behind : Position) (rest : List ℕ) (step : Step) (n : ℕ) (reached : Reached source tokens at rest) → step ≡ Gap n → behind ≡ after at (take (size_of step) rest) → 0 < length rest → Stands reached.before rest step → Reached source tokens behind (drop (size_of step) rest)
+pub reached_gap : (source : List ℕ) (tokens : List Spelled) (at behind : Position) (rest : List ℕ) (step : Step) (n : ℕ) (reached : Reached source tokens at rest) → step ≡ Gap n → behind ≡ after at (take (size_of step) rest) → 0 < length rest → NextStep reached.before rest step → Reached source tokens behind (drop (size_of step) rest)
 reached_gap source tokens at behind rest step n reached is behind_is some stands =
     passed source tokens tokens at behind rest step reached some stands (subst IsPiece (sym is) tt) behind_is
     (sym (ap (λ s. tokens ++ spelled_by s reached.before rest) is ∙ append-nil tokens))
@@ -135,10 +135,10 @@ blank_begins c d blank = if_true (is_blank c) begins.Blank _ blank
 pub reached_blank : (source : List ℕ) (tokens : List Spelled) (at behind : Position) (rest : List ℕ) → Reached source tokens at rest → 0 < length rest → is_blank (get_or rest 0 0) ≡ true → behind ≡ next at (get_or rest 0 0) → Reached source tokens behind (drop 1 rest)
 reached_blank source tokens at behind rest reached some blank behind_is =
     reached_gap source tokens at behind rest (Gap 1) 1 reached refl (behind_is ∙ ap (after at) (sym (one_byte rest some))) some
-    (subst (λ b. StandsBy b reached.before rest (Gap 1)) (sym (blank_begins (get_or rest 0 0) (get_or rest 1 0) blank)) refl)
+    (subst (λ b. StepBy b reached.before rest (Gap 1)) (sym (blank_begins (get_or rest 0 0) (get_or rest 1 0) blank)) refl)
 
 -- a token
-pub reached_token : (source : List ℕ) (tokens list : List Spelled) (at behind : Position) (rest : List ℕ) (step : Step) (n : ℕ) (kind : TokenKind) (reached : Reached source tokens at rest) → step ≡ Token n kind → behind ≡ after at (take (size_of step) rest) → list ≡ tokens ++ record { kind = kind; bytes = take (size_of step) rest; place = place_of at } ∷ [] → 0 < length rest → Stands reached.before rest step → Reached source list behind (drop (size_of step) rest)
+pub reached_token : (source : List ℕ) (tokens list : List Spelled) (at behind : Position) (rest : List ℕ) (step : Step) (n : ℕ) (kind : TokenKind) (reached : Reached source tokens at rest) → step ≡ Token n kind → behind ≡ after at (take (size_of step) rest) → list ≡ tokens ++ record { kind = kind; bytes = take (size_of step) rest; place = place_of at } ∷ [] → 0 < length rest → NextStep reached.before rest step → Reached source list behind (drop (size_of step) rest)
 reached_token source tokens list at behind rest step n kind reached is behind_is list_is some stands =
     let one : spelled_by step reached.before rest ≡ record { kind = kind; bytes = take (size_of step) rest; place = place_of at } ∷ [] =
     ap (λ s. spelled_by s reached.before rest) is
@@ -162,9 +162,9 @@ pub some_left : (source rest : List ℕ) (offset : ℕ) → offset < length sour
 some_left source rest offset inside is = omega (arith, ap length is, length-drop offset source)
 
 -- a piece moves on
-pub nearer : (source before rest : List ℕ) (at behind : Position) (step : Step) → 0 < length rest → Stands before rest step → IsPiece step → rest ≡ drop at.offset source → behind ≡ after at (take (size_of step) rest) → length source - behind.offset < length source - at.offset
+pub nearer : (source before rest : List ℕ) (at behind : Position) (step : Step) → 0 < length rest → NextStep before rest step → IsPiece step → rest ≡ drop at.offset source → behind ≡ after at (take (size_of step) rest) → length source - behind.offset < length source - at.offset
 nearer source before rest at behind step some stands piece is behind_is =
-    let within = piece_within step rest piece (stands_within before rest step some stands) in
+    let within = piece_within step rest piece (step_within before rest step some stands) in
     let size : length (take (size_of step) rest) ≡ size_of step = length-take-le (size_of step) rest within.1 in
     let more = within.0 in
     let offset = ap (λ at. at.offset) behind_is ∙ after_offset at (take (size_of step) rest) in
@@ -192,10 +192,10 @@ pub reached_bounded : (source : List ℕ) (tokens : List Spelled) (at : Position
 reached_bounded source tokens at rest reached = bounded source reached.before rest at reached.split reached.here
 
 -- the place of a fault is that of a byte
-pub fault_bounded : (source : List ℕ) (tokens : List Spelled) (at behind : Position) (rest : List ℕ) (step : Step) (n : ℕ) (kind : FaultKind) (reached : Reached source tokens at rest) → step ≡ Fault n kind → behind ≡ after at (take (size_of step) rest) → 0 < length rest → Stands reached.before rest step → (Bounded source behind (drop (size_of step) rest)) × (behind.offset + 1 ≤ length source)
+pub fault_bounded : (source : List ℕ) (tokens : List Spelled) (at behind : Position) (rest : List ℕ) (step : Step) (n : ℕ) (kind : FaultKind) (reached : Reached source tokens at rest) → step ≡ Fault n kind → behind ≡ after at (take (size_of step) rest) → 0 < length rest → NextStep reached.before rest step → (Bounded source behind (drop (size_of step) rest)) × (behind.offset + 1 ≤ length source)
 fault_bounded source tokens at behind rest step n kind reached is behind_is some stands =
     let front = take (size_of step) rest in
-    let inside : n < length rest = subst (λ s. Within s rest) is (stands_within reached.before rest step some stands) in
+    let inside : n < length rest = subst (λ s. Within s rest) is (step_within reached.before rest step some stands) in
     let size : size_of step ≡ n = ap size_of is in
     let here = behind_is ∙ ap (λ at. after at front) reached.here ∙ sym (position_more reached.before front) in
     let split =
@@ -217,7 +217,7 @@ own_fault text kinds.OpenString place faults = faults
 own_fault text kinds.WideNumber place faults = faults
 
 -- the fault that is answered is the text's own
-pub reached_own_fault : (source : List ℕ) (tokens : List Spelled) (at behind : Position) (rest : List ℕ) (step : Step) (n : ℕ) (kind : FaultKind) (found : LexFault) (reached : Reached source tokens at rest) → step ≡ Fault n kind → behind ≡ after at (take (size_of step) rest) → found ≡ fault_at kind (place_of behind) → 0 < length rest → Stands reached.before rest step → IsFault source found
+pub reached_own_fault : (source : List ℕ) (tokens : List Spelled) (at behind : Position) (rest : List ℕ) (step : Step) (n : ℕ) (kind : FaultKind) (found : LexFault) (reached : Reached source tokens at rest) → step ≡ Fault n kind → behind ≡ after at (take (size_of step) rest) → found ≡ fault_at kind (place_of behind) → 0 < length rest → NextStep reached.before rest step → IsFault source found
 reached_own_fault source tokens at behind rest step n kind found reached is behind_is found_is some stands =
     let before = reached.before in
     let place : place_of behind ≡ place_behind (before ++ take n rest) =
@@ -227,7 +227,7 @@ reached_own_fault source tokens at behind rest step n kind found reached is behi
     let known : found ≡ fault_at kind (place_behind (before ++ take n rest)) = found_is ∙ ap (fault_at kind) place in
     subst (IsFault source) (sym known) (own_fault source kind (place_behind (before ++ take n rest)) (
       reached.pieces ++ [],
-      reached.onward [] (Some (fault_at kind (place_behind (before ++ take n rest)))) (n, kind, some, subst (Stands before rest) is stands, refl),
+      reached.onward [] (Some (fault_at kind (place_behind (before ++ take n rest)))) (n, kind, some, subst (NextStep before rest) is stands, refl),
     ))
 
 pub empty_list : (rest : List ℕ) → length rest ≡ 0 → rest ≡ []

@@ -8,7 +8,7 @@ use Rattle.fk_lex.specs.declared.step.Step.TheVariants.{Token}
 use Rattle.fk_lex.specs.declared.token.TokenKind.TheVariants.{Text}
 use Rattle.fk_lex.specs.Bytes.{is_blank}
 use Rattle.fk_lex.specs.Spellings.{AreBlank, IsInclude, IsTextBody, Spellings}
-use Rattle.fk_lex.specs.Steps.{is_named, is_header, is_include, Stands}
+use Rattle.fk_lex.specs.Steps.{is_named, is_header, is_include, NextStep}
 use Rattle.fk_lex.specs.Texts.{bytes_of}
 use Rattle.fk_lex.proofs.Comments.{commented, comments, unclosed, opened, line_commented, line_comments}
 use Rattle.fk_lex.proofs.Fronts.{all_longest, length_more, length_none}
@@ -73,14 +73,14 @@ includes line is =
 
 -- texts
 
-pub ended : (before body : List ℕ) (n : ℕ) → Stands before (34 ∷ body) (Token (n + 1) Text) → IsTextBody body n
+pub ended : (before body : List ℕ) (n : ℕ) → NextStep before (34 ∷ body) (Token (n + 1) Text) → IsTextBody body n
 ended before body n (parts, rest, inl (is, are, inl (good, step))) =
     let size : n + 1 ≡ length (bytes_of parts) + 2 = cc in
     (parts, rest, good, are, cc, omega arith)
 ended before body n (parts, rest, inl (is, are, inr bad)) = let step = bad.2 in absurd cc
 ended before body n (parts, rest, inr a) = let step = a.3 in absurd cc
 
-ends : (before body : List ℕ) (n : ℕ) → IsTextBody body n → Stands before (34 ∷ body) (Token (n + 1) Text)
+ends : (before body : List ℕ) (n : ℕ) → IsTextBody body n → NextStep before (34 ∷ body) (Token (n + 1) Text)
 ends before body n (parts, rest, good, are, is, counted) =
     let size : n + 1 ≡ length (bytes_of parts) + 2 = omega arith in
     (parts, rest, inl (ap (λ l. 34 ∷ l) is, are, inl (good, ap (λ k. Token k Text) size)))

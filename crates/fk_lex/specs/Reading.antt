@@ -11,7 +11,7 @@ use Rattle.fk_lex.specs.declared.step.Step.{Step}
 use Rattle.fk_lex.specs.declared.step.Step.TheVariants.{Gap, Token, Fault}
 use Rattle.fk_lex.specs.Positions.{place_behind}
 use Rattle.fk_lex.specs.Sizes.{size_of}
-use Rattle.fk_lex.specs.Steps.{Stands}
+use Rattle.fk_lex.specs.Steps.{NextStep}
 
 -- a token: its kind, its bytes, and the place of the first of them
 pub record Spelled : Type 0 where
@@ -41,10 +41,10 @@ IsPiece (Fault n kind) = ⊥
 abbrev pub Cuts : List Step → List ℕ → List ℕ → Option LexFault → Type 0
 Cuts [] before text None = text ≡ []
 Cuts [] before text (Some fault) =
-    (n : ℕ) × (kind : FaultKind) × (0 < length text) × Stands before text (Fault n kind)
+    (n : ℕ) × (kind : FaultKind) × (0 < length text) × NextStep before text (Fault n kind)
     × (fault ≡ fault_at kind (place_behind (before ++ take n text)))
 Cuts (piece ∷ pieces) before text end =
-    (0 < length text) × Stands before text piece × IsPiece piece
+    (0 < length text) × NextStep before text piece × IsPiece piece
     × Cuts pieces (before ++ take (size_of piece) text) (drop (size_of piece) text) end
 
 abbrev pub spelled_by : Step → List ℕ → List ℕ → List Spelled

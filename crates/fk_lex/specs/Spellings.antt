@@ -6,7 +6,7 @@ use Rattle.fk_lex.specs.declared.step.Step.TheVariants.{Gap, Token, Fault}
 use Rattle.fk_lex.specs.declared.token.TokenKind.TheVariants.{Text}
 use Rattle.fk_lex.specs.Bytes.{is_blank}
 use Rattle.fk_lex.specs.Positions.{in_line, EndsLine}
-use Rattle.fk_lex.specs.Steps.{is_include, Stands}
+use Rattle.fk_lex.specs.Steps.{is_include, NextStep}
 use Rattle.fk_lex.specs.Texts.{Part, bytes_of, AreParts, AreGood}
 
 -- `*/` occurs somewhere in these bytes
@@ -47,20 +47,20 @@ IsTextBody body n =
     × (body ≡ bytes_of parts ++ 34 ∷ rest) × (n ≡ length (bytes_of parts) + 1)
 
 pub record Spellings : Type 0 where
-  pub commented : (before body : List ℕ) (n : ℕ) → Stands before (codes "/*" ++ body) (Gap n)
+  pub commented : (before body : List ℕ) (n : ℕ) → NextStep before (codes "/*" ++ body) (Gap n)
       → IsComment (codes "/*" ++ body) n
-  pub comments : (before text : List ℕ) (n : ℕ) → IsComment text n → Stands before text (Gap n)
-  pub unclosed : (before body : List ℕ) → Stands before (codes "/*" ++ body) (Fault 0 OpenComment)
+  pub comments : (before text : List ℕ) (n : ℕ) → IsComment text n → NextStep before text (Gap n)
+  pub unclosed : (before body : List ℕ) → NextStep before (codes "/*" ++ body) (Fault 0 OpenComment)
       → HasCommentEnd body → ⊥
   pub opened : (before body : List ℕ) → (HasCommentEnd body → ⊥)
-      → Stands before (codes "/*" ++ body) (Fault 0 OpenComment)
-  pub line_commented : (before body : List ℕ) (n : ℕ) → Stands before (codes "//" ++ body) (Gap n)
+      → NextStep before (codes "/*" ++ body) (Fault 0 OpenComment)
+  pub line_commented : (before body : List ℕ) (n : ℕ) → NextStep before (codes "//" ++ body) (Gap n)
       → IsLineComment (codes "//" ++ body) n
   pub line_comments : (before text : List ℕ) (n : ℕ) → IsLineComment text n
-      → Stands before text (Gap n)
+      → NextStep before text (Gap n)
   pub included : (line : List ℕ) → is_include line ≡ true → IsInclude line
   pub includes : (line : List ℕ) → IsInclude line → is_include line ≡ true
-  pub ended : (before body : List ℕ) (n : ℕ) → Stands before (34 ∷ body) (Token (n + 1) Text)
+  pub ended : (before body : List ℕ) (n : ℕ) → NextStep before (34 ∷ body) (Token (n + 1) Text)
       → IsTextBody body n
   pub ends : (before body : List ℕ) (n : ℕ) → IsTextBody body n
-      → Stands before (34 ∷ body) (Token (n + 1) Text)
+      → NextStep before (34 ∷ body) (Token (n + 1) Text)

@@ -96,15 +96,15 @@ TokenStep text step =
     ((n : ℕ) × (kind : TokenKind) × Longest text n kind × (step ≡ token_or_fault text n kind))
     ⊎ (SpellsNone text × (step ≡ Fault 0 BadByte))
 
-abbrev pub StandsBy : Beginning → List ℕ → List ℕ → Step → Type 0
-StandsBy begins.Blank before text step = step ≡ Gap 1
-StandsBy begins.Comment before text step = CommentStep text step
-StandsBy begins.LineComment before text step = step ≡ Gap (line_length text)
-StandsBy begins.Directive before text step = step ≡ directive_step (only_blanks before) text
-StandsBy begins.Character before text step = step ≡ character_step text
-StandsBy begins.Text before text step = TextStep text step
-StandsBy begins.Other before text step = TokenStep text step
+abbrev pub StepBy : Beginning → List ℕ → List ℕ → Step → Type 0
+StepBy begins.Blank before text step = step ≡ Gap 1
+StepBy begins.Comment before text step = CommentStep text step
+StepBy begins.LineComment before text step = step ≡ Gap (line_length text)
+StepBy begins.Directive before text step = step ≡ directive_step (only_blanks before) text
+StepBy begins.Character before text step = step ≡ character_step text
+StepBy begins.Text before text step = TextStep text step
+StepBy begins.Other before text step = TokenStep text step
 
 -- `step` is what lies after the bytes `before`, where `text` follows
-abbrev pub Stands : List ℕ → List ℕ → Step → Type 0
-Stands before text step = StandsBy (beginning text) before text step
+abbrev pub NextStep : List ℕ → List ℕ → Step → Type 0
+NextStep before text step = StepBy (beginning text) before text step

@@ -1,7 +1,7 @@
 //! The step at a point of a source text.
 
 ghost use Rattle.std.specs.Prelude.{◌≡◌, ℕ, ◌<◌, ◌≤◌, false, List, ◌++◌, length, slice_index};
-ghost use Rattle.fk_lex.specs.Steps.{Stands, TokenStep};
+ghost use Rattle.fk_lex.specs.Steps.{NextStep, TokenStep};
 ghost use Rattle.fk_lex.specs.Moves.{HasPlace, place_of, position_of};
 ghost use Rattle.fk_lex.specs.Bytes;
 ghost use Rattle.fk_lex.specs.Reading;
@@ -90,7 +90,7 @@ pub fn step_at(source: &[u8], at: Position, text: &[u8]) -> Step
     requires line { at.line_start ≤ at.offset }
     requires inside { at.offset ≤ length source.now }
     ensures { (before : List ℕ) → source.now ≡ before ++ text.now → at ≡ position_of before
-        → Stands before text.now result }
+        → NextStep before text.now result }
 {
     if is_letter(text[0]) {
         return word_step(text);

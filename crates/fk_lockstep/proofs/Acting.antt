@@ -16,7 +16,7 @@ use Rattle.fk_meaning.specs.Round.{Step, Runner, Acting, taking, done, do_local,
 use Rattle.fk_lockstep.specs.InStep.{is_agree}
 use Rattle.fk_lockstep.specs.Untouched.{changes_tree}
 use Rattle.fk_lockstep.proofs.Rounds.{Outcome, OutcomeBy}
-use Rattle.fk_lockstep.specs.Course.{Stand, InGroup, Waits, ByItself, Stays, Does, DoesNext, FollowsFor, Follows}
+use Rattle.fk_lockstep.specs.Course.{Context, InGroup, Waits, ByItself, Stays, Does, DoesNext, FollowsFor, Follows}
 use Rattle.fk_lockstep.specs.Counts.{Counts, ArePending, Leaves, CountsGoOn, CountedNext, CountedFor, IsCounted}
 
 pub untrue : {A : Type 0} → false ≡ true → A
@@ -179,11 +179,11 @@ module _ {W : Type 0} (next : W → Option (Step W)) (outs : W → List W) (coun
   plain_numbers (o.Meet false) w rest is e h v size p ns are = h v 0 size p ns are
   plain_numbers op w rest is e h v size p ns are = (subst (λ (c : Class). Leaves next outs counts c op w rest) is h) v 0 size p ns are
 
-  pub does_so : (stand : Stand) (w : W) (step : Step W) → Follows next outs stand w → next w ≡ Some step → (n : ℕ) → Does next outs (FollowsFor next outs n) stand step.operation w step.rest
-  does_so stand w step f e n = subst (DoesNext next outs (FollowsFor next outs n) stand w) e (f (suc n))
+  pub does_so : (context : Context) (w : W) (step : Step W) → Follows next outs context w → next w ≡ Some step → (n : ℕ) → Does next outs (FollowsFor next outs n) context step.operation w step.rest
+  does_so context w step f e n = subst (DoesNext next outs (FollowsFor next outs n) context w) e (f (suc n))
 
   -- local operations and requests leave a processor where it is
-  group_stays : (F : Stand → W → Type 0) (agreed : Bool) (op : Operation) (w : W) (rest : Bool → W) (c : Class) → class_of op ≡ c → c ≢ Tree
+  group_stays : (F : Context → W → Type 0) (agreed : Bool) (op : Operation) (w : W) (rest : Bool → W) (c : Class) → class_of op ≡ c → c ≢ Tree
       → Does next outs F (InGroup agreed) op w rest → Stays next outs F (InGroup false) w rest
   group_stays F agreed (o.Branch onward) w rest c is isnt h = h.1
   group_stays F agreed o.Block w rest c is isnt h = absurd (isnt (sym is))
@@ -200,12 +200,12 @@ module _ {W : Type 0} (next : W → Option (Step W)) (outs : W → List W) (coun
   group_stays F agreed o.Halt w rest c is isnt h = absurd h
   group_stays F agreed op w rest c is isnt h = h
 
-  group_branch : (F : Stand → W → Type 0) (agreed : Bool) (op : Operation) (w : W) (rest : Bool → W) (onward : Bool) → op ≡ o.Branch onward
+  group_branch : (F : Context → W → Type 0) (agreed : Bool) (op : Operation) (w : W) (rest : Bool → W) (onward : Bool) → op ≡ o.Branch onward
       → Does next outs F (InGroup agreed) op w rest → agreed ≡ true
   group_branch F agreed op w rest onward e h = (subst (λ (op' : Operation). Does next outs F (InGroup agreed) op' w rest) e h).0
 
   -- steps of the tree that don't change it
-  group_plain : (F : Stand → W → Type 0) (agreed : Bool) (op : Operation) (w : W) (rest : Bool → W) → class_of op ≡ Tree → changes_tree op ≡ false
+  group_plain : (F : Context → W → Type 0) (agreed : Bool) (op : Operation) (w : W) (rest : Bool → W) → class_of op ≡ Tree → changes_tree op ≡ false
       → Does next outs F (InGroup agreed) op w rest → Stays next outs F (InGroup (is_agree op)) w rest
   group_plain F agreed o.Block w rest is e h = h.1
   group_plain F agreed o.Agree w rest is e h = h
@@ -222,7 +222,7 @@ module _ {W : Type 0} (next : W → Option (Step W)) (outs : W → List W) (coun
   group_plain F agreed (o.Branch onward) w rest is e h = h.1
   group_plain F agreed op w rest is e h = h
 
-  alone_stays : (F : Stand → W → Type 0) (alone : Bool) (op : Operation) (w : W) (rest : Bool → W) (c : Class) → class_of op ≡ c → c ≢ Tree
+  alone_stays : (F : Context → W → Type 0) (alone : Bool) (op : Operation) (w : W) (rest : Bool → W) (c : Class) → class_of op ≡ c → c ≢ Tree
       → Does next outs F (ByItself alone) op w rest → Stays next outs F (ByItself alone) w rest
   alone_stays F true o.Begin w rest c is isnt h = absurd h
   alone_stays F false o.Begin w rest c is isnt h = absurd (isnt (sym is))
@@ -247,7 +247,7 @@ module _ {W : Type 0} (next : W → Option (Step W)) (outs : W → List W) (coun
   alone_stays F true op w rest c is isnt h = h
   alone_stays F false op w rest c is isnt h = h
 
-  pub alone_plain : (F : Stand → W → Type 0) (alone : Bool) (op : Operation) (w : W) (rest : Bool → W) → changes_tree op ≡ false → op ≢ o.Halt
+  pub alone_plain : (F : Context → W → Type 0) (alone : Bool) (op : Operation) (w : W) (rest : Bool → W) → changes_tree op ≡ false → op ≢ o.Halt
       → Does next outs F (ByItself alone) op w rest → Stays next outs F (ByItself alone) w rest
   alone_plain F true o.Begin w rest e isnt h = absurd h
   alone_plain F false o.Begin w rest e isnt h = absurd (true≢false e)
@@ -276,7 +276,7 @@ module _ {W : Type 0} (next : W → Option (Step W)) (outs : W → List W) (coun
   halts alone o.Halt = inl refl
   halts alone op = inr (λ e. cc)
 
-  alone_halt : (F : Stand → W → Type 0) (alone : Bool) (op : Operation) (w : W) (rest : Bool → W) → op ≡ o.Halt
+  alone_halt : (F : Context → W → Type 0) (alone : Bool) (op : Operation) (w : W) (rest : Bool → W) → op ≡ o.Halt
       → Does next outs F (ByItself alone) op w rest → (onward : Bool) → next (rest onward) ≡ None
   alone_halt F alone op w rest e h = by alone (subst (λ (op' : Operation). Does next outs F (ByItself alone) op' w rest) e h)
     where
@@ -285,12 +285,12 @@ module _ {W : Type 0} (next : W → Option (Step W)) (outs : W → List W) (coun
       by false h' = h'
 
   -- the only operation of who waits
-  waits_resume : (F : Stand → W → Type 0) (inner : Bool) (op : Operation) (w : W) (rest : Bool → W) → Does next outs F (Waits inner) op w rest → op ≡ o.Resume
+  waits_resume : (F : Context → W → Type 0) (inner : Bool) (op : Operation) (w : W) (rest : Bool → W) → Does next outs F (Waits inner) op w rest → op ≡ o.Resume
   waits_resume F inner o.Resume w rest h = refl
   waits_resume F inner op w rest h = absurd h
 
   -- who runs by itself changes the tree only together with others
-  alone_joint : (F : Stand → W → Type 0) (alone : Bool) (op : Operation) (w : W) (rest : Bool → W) → changes_tree op ≡ true
+  alone_joint : (F : Context → W → Type 0) (alone : Bool) (op : Operation) (w : W) (rest : Bool → W) → changes_tree op ≡ true
       → Does next outs F (ByItself alone) op w rest → joint_of op ≢ joint.Alone
   alone_joint F true o.Begin w rest e h = absurd h
   alone_joint F false o.Begin w rest e h = λ same_one. cc

@@ -11,7 +11,7 @@ use Rattle.fk_meaning_operation.specs.declared.operation.OwnValue.TheVariants as
 use Rattle.fk_meaning_forms.specs.declared.tables.Region.{Region}
 use Rattle.fk_meaning_forms.specs.Code.{perform, choose}
 use Rattle.fk_meaning_forms.specs.Tables.{Tables, note, slot, frame_at}
-use Rattle.fk_meaning_forms.specs.Expressions.{Coded, nowhere, plain, Standing, Signature, agreed, addressed, assigned, dropped, variable, framed, parameters, value}
+use Rattle.fk_meaning_forms.specs.Expressions.{Coded, nowhere, plain, ResultLocation, Signature, agreed, addressed, assigned, dropped, variable, framed, parameters, value}
 use Rattle.fk_meaning.proofs.Spine.{untrue}
 use Rattle.fk_meaning.proofs.Kept.{entered}
 use Rattle.fk_lockstep.specs.InStep.{InStep}
@@ -69,10 +69,10 @@ module _ (tables : Tables) (functions : (binding : ℕ) → Signature) (may_call
     enters = λ who. enters;
   }
 
-  pub addresses : (s : Standing) (rest : Coded) → Ok rest → Ok (addressed tables functions s rest)
+  pub addresses : (s : ResultLocation) (rest : Coded) → Ok rest → Ok (addressed tables functions s rest)
   addresses s rest p = k.addresses kept tt s rest p
 
-  pub assigns : (s : Standing) (rest : Coded) → Ok rest → Ok (assigned tables functions s rest)
+  pub assigns : (s : ResultLocation) (rest : Coded) → Ok rest → Ok (assigned tables functions s rest)
   assigns s rest p = k.assigns kept tt s rest p
 
   pub drops : (at : ℕ) (rest : Coded) → Ok rest → Ok (dropped tables functions at rest)

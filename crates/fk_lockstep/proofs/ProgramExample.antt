@@ -18,7 +18,7 @@ use Rattle.fk_meaning.specs.Schedule.{Schedule, opening, run, ArePossible}
 use Rattle.fk_meaning_forms.specs.Code.{Code, done, perform, choose, while, until, turn, again, quit, break, continue, call, ends, append}
 use Rattle.fk_meaning.specs.Next.{Work, going, next}
 use Rattle.fk_meaning.specs.Behind.{outs}
-use Rattle.fk_lockstep.specs.Course.{Stand, InGroup, Waits, ByItself, FollowsFor, Follows}
+use Rattle.fk_lockstep.specs.Course.{Context, InGroup, Waits, ByItself, FollowsFor, Follows}
 use Rattle.fk_lockstep.specs.Counts.{Counts, ArePending, AsMany, Leaves, IsTaken, CountsGoOn, CountedFor, IsCounted}
 use Rattle.fk_lockstep.specs.OneProgram.{KeepOneProgram}
 use Rattle.fk_lockstep.proofs.ProgramRuns.{groups_have_one_program}
@@ -67,8 +67,8 @@ main = perform 0 (o.Get n.Processors) (choose 1 o.Begin in_start done behind_all
 abbrev next_in_main : Work → Option (Step Work)
 next_in_main = next (λ binding. main)
 
-abbrev Goes : Stand → Code ℕ → Type 0
-Goes stand code = Follows next_in_main all_outs stand (going code [])
+abbrev Goes : Context → Code ℕ → Type 0
+Goes context code = Follows next_in_main all_outs context (going code [])
 
 ends_all : Goes (ByItself false) (ends 21 o.Halt done)
 ends_all zero = tt
@@ -271,8 +271,8 @@ turns (suc k) =
       drops = λ onward. (refl, t.tests);
     }
 
-abbrev Loops : Stand → Code ℕ → Type 0
-Loops stand code = Follows next_in_loop all_outs stand (going code [])
+abbrev Loops : Context → Code ℕ → Type 0
+Loops context code = Follows next_in_loop all_outs context (going code [])
 
 loop_last : Loops (ByItself false) (ends 21 o.Halt done)
 loop_last zero = tt
@@ -348,8 +348,8 @@ fork_counts = record {
   many = λ work p ns h. ap length ((bytes_eq-Decides ns (numbers_at (above work.left) p)).0 h) ∙ as_many_at (above work.left) p;
 }
 
-abbrev Forks : Stand → Code ℕ → Type 0
-Forks stand code = Follows next_in_fork all_outs stand (going code [])
+abbrev Forks : Context → Code ℕ → Type 0
+Forks context code = Follows next_in_fork all_outs context (going code [])
 
 abbrev IsCountedThere : Code ℕ → Type 0
 IsCountedThere code = IsCounted next_in_fork all_outs fork_counts (going code [])

@@ -20,7 +20,7 @@ use Rattle.fk_meaning.specs.Round.{Step, Runner, State, Round, Acting, taking, d
 use Rattle.fk_lockstep.specs.Untouched.{changes_tree}
 use Rattle.fk_lockstep.proofs.Rounds.{Outcome}
 use Rattle.fk_lockstep.specs.Counts.{Counts}
-use Rattle.fk_lockstep.specs.Course.{Stand, InGroup, ByItself, Does, FollowsFor}
+use Rattle.fk_lockstep.specs.Course.{Context, InGroup, ByItself, Does, FollowsFor}
 use Rattle.fk_lockstep.proofs.Acting.{untrue, Here, Out, told, HasValue, Is, within, Grouped, Parted, LonerOrNone, Apart, AtNode, ahead_of, does_so, alone_plain as stays_alone, going_on, taken_by, acting_elim, after_passing, passing_grouped, passing_is, closed_grouped, closed_is, quietly, lone_many, wait_many, wait_closed, Settles, plain_way}
 use Rattle.fk_lockstep.proofs.Trees.{NodeIs, IsThere, Inv}
 use Rattle.fk_lockstep.proofs.Round as rounds
@@ -40,12 +40,12 @@ leave_onward op p e = absurd (cc)
 
 module _ {W : Type 0} (next : W → Option (Step W)) (outs : W → List W) where
   -- at a halt one is in no body
-  halt_outside : (F : Stand → W → Type 0) (alone : Bool) (w : W) (rest : Bool → W) → Does next outs F (ByItself alone) o.Halt w rest → alone ≡ false
+  halt_outside : (F : Context → W → Type 0) (alone : Bool) (w : W) (rest : Bool → W) → Does next outs F (ByItself alone) o.Halt w rest → alone ≡ false
   halt_outside F true w rest h = absurd h
   halt_outside F false w rest h = refl
 
   -- a block stands behind an agree
-  block_agreed : (F : Stand → W → Type 0) (agreed : Bool) (w : W) (rest : Bool → W) → Does next outs F (InGroup agreed) o.Block w rest → agreed ≡ true
+  block_agreed : (F : Context → W → Type 0) (agreed : Bool) (w : W) (rest : Bool → W) → Does next outs F (InGroup agreed) o.Block w rest → agreed ≡ true
   block_agreed F agreed w rest h = h.0
 
 is_halt : (op : Operation) → (op ≡ o.Halt) ⊎ (op ≢ o.Halt)
@@ -65,7 +65,7 @@ value_of None = 0
 value_of (Some v) = v
 
 -- a block takes as many words as the group has agreed on
-known_value : {W : Type 0} (next : W → Option (Step W)) (outs : W → List W) (F : Stand → W → Type 0) (a : Option ℕ) (op : Operation) (w : W) (rest : Bool → W) (r : Runner W) (t' : Tier)
+known_value : {W : Type 0} (next : W → Option (Step W)) (outs : W → List W) (F : Context → W → Type 0) (a : Option ℕ) (op : Operation) (w : W) (rest : Bool → W) (r : Runner W) (t' : Tier)
     → Does next outs F (InGroup (is_some a)) op w rest → HasValue a r → plain_own op (value_of a) t' ≡ plain_own op (last (values r.has)) t'
 known_value next outs F None o.Block w rest r t' h value = untrue (h.0)
 known_value next outs F (Some v) o.Block w rest r t' h value = ap (λ (u : ℕ). plain_own o.Block u t') (sym value)

@@ -10,7 +10,7 @@ use Rattle.fk_lockstep.proofs.Acting.{untrue}
 use Rattle.fk_num.specs.Word.{Memory}
 use Rattle.fk_meaning.specs.Processor.{Setting}
 use Rattle.fk_meaning.specs.Schedule.{Schedule, opening, run, ArePossible}
-use Rattle.fk_lockstep.specs.Course.{Stand, InGroup, Waits, ByItself, Follows}
+use Rattle.fk_lockstep.specs.Course.{Context, InGroup, Waits, ByItself, Follows}
 use Rattle.fk_lockstep.specs.Counts.{Counts, CountedFor, IsCounted}
 use Rattle.fk_lockstep.specs.OneSpace.{KeepOneSpace}
 use Rattle.fk_lockstep.proofs.SpaceRuns.{groups_have_one_space}
@@ -125,8 +125,8 @@ whole zero = tt
 whole (suc k) = record { calls = λ onward. refl; in_group = λ e. untrue e; own = λ e. untrue e; outermost = λ e. untrue e; met = λ e. untrue e; goes_on = λ onward. begins k }
 
 -- it goes through its group and its body in their order
-abbrev Goes : Stand → Code ℕ → List (Code ℕ) → Type 0
-Goes stand code callers = Follows (next bodies) all_outs stand (going code callers)
+abbrev Goes : Context → Code ℕ → List (Code ℕ) → Type 0
+Goes context code callers = Follows (next bodies) all_outs context (going code callers)
 
 goes_last : Goes (ByItself false) (ends 11 o.Halt done) []
 goes_last zero = tt

@@ -7,26 +7,26 @@ use Rattle.fk_meaning_operation.specs.declared.operation.SplitKind.{SplitKind}
 use Rattle.fk_meaning_operation.specs.declared.operation.SplitKind.TheVariants.{IfElse}
 use Rattle.fk_meaning.specs.Round.{Step}
 
--- where a processor is: in a group in lockstep, directly after an agree or not; waiting for parts,
--- within a `start` or for one; or by itself, in a body or outside of each `start`
-pub data Stand : Type 0 where
-  InGroup : (agreed : Bool) → Stand
-  Waits : (within : Bool) → Stand
-  ByItself : (within : Bool) → Stand
+-- the context of a processor: in a group in lockstep, directly after an agree or not; waiting for
+-- parts, within a `start` or for one; or by itself, in a body or outside of each `start`
+pub data Context : Type 0 where
+  InGroup : (agreed : Bool) → Context
+  Waits : (within : Bool) → Context
+  ByItself : (within : Bool) → Context
 
 -- after waiting, a processor goes on in its group, or by itself
-abbrev pub after_waiting : (within : Bool) → Stand
+abbrev pub after_waiting : (within : Bool) → Context
 after_waiting true = InGroup false
 after_waiting false = ByItself false
 
 -- `outs` lists the remaining work at each point where a processor meets those of outer nodes: after
 -- each part and at the end of each body that it is in, and at each `start` ahead of it
 module _ {W : Type 0} (next : W → Option (Step W)) (outs : W → List W) where
-  module _ (Follows : Stand → W → Type 0) where
+  module _ (Follows : Context → W → Type 0) where
     -- the processor goes on where it is
-    abbrev pub Stays : Stand → (here : W) → (rest : Bool → W) → Type 0
-    Stays stand here rest = (onward : Bool)
-        → (outs (rest onward) ≡ outs here) × Follows stand (rest onward)
+    abbrev pub Stays : Context → (here : W) → (rest : Bool → W) → Type 0
+    Stays context here rest = (onward : Bool)
+        → (outs (rest onward) ≡ outs here) × Follows context (rest onward)
 
     -- after the parts of a split comes the point where the other members wait
     abbrev pub Parts : SplitKind → (here : W) → (rest : Bool → W) → (outs_of_part : List W) → Type 0
@@ -40,7 +40,7 @@ module _ {W : Type 0} (next : W → Option (Step W)) (outs : W → List W) where
         × Follows (InGroup false) (rest true) × (rest false ≡ parent)
 
     -- which operations a processor may do where it is, and how it goes on
-    abbrev pub Does : Stand → Operation → (here : W) → (rest : Bool → W) → Type 0
+    abbrev pub Does : Context → Operation → (here : W) → (rest : Bool → W) → Type 0
     Does (InGroup agreed) (o.Branch onward) here rest = (agreed ≡ true)
         × Stays (InGroup false) here rest
     Does (InGroup agreed) o.Block here rest = (agreed ≡ true) × Stays (InGroup false) here rest
@@ -81,14 +81,14 @@ module _ {W : Type 0} (next : W → Option (Step W)) (outs : W → List W) where
     Does (ByItself false) o.Halt here rest = (onward : Bool) → next (rest onward) ≡ None
     Does (ByItself within) operation here rest = Stays (ByItself within) here rest
 
-    abbrev pub DoesNext : Stand → (here : W) → Option (Step W) → Type 0
-    DoesNext stand here None = Unit {0}
-    DoesNext stand here (Some step) = Does stand step.operation here step.rest
+    abbrev pub DoesNext : Context → (here : W) → Option (Step W) → Type 0
+    DoesNext context here None = Unit {0}
+    DoesNext context here (Some step) = Does context step.operation here step.rest
 
   -- for this many operations, whichever branches are taken
-  abbrev pub FollowsFor : (operations : ℕ) → Stand → W → Type 0
-  FollowsFor zero stand here = Unit {0}
-  FollowsFor (suc n) stand here = DoesNext (FollowsFor n) stand here (next here)
+  abbrev pub FollowsFor : (operations : ℕ) → Context → W → Type 0
+  FollowsFor zero context here = Unit {0}
+  FollowsFor (suc n) context here = DoesNext (FollowsFor n) context here (next here)
 
-  abbrev pub Follows : Stand → W → Type 0
-  Follows stand here = (operations : ℕ) → FollowsFor operations stand here
+  abbrev pub Follows : Context → W → Type 0
+  Follows context here = (operations : ℕ) → FollowsFor operations context here

@@ -9,7 +9,7 @@ use Rattle.fk_meaning.specs.Round.{Step}
 use Rattle.fk_core.specs.declared.op.CoreOp.{CoreOp}
 use Rattle.fk_core.specs.Next.{Position, position, landing, follows, next}
 use Rattle.fk_core.specs.WellFormed.{LeadsOn}
-use Rattle.fk_lockstep.specs.Course.{Stand, InGroup, Waits, ByItself, Stays, Does, DoesNext, FollowsFor, Follows}
+use Rattle.fk_lockstep.specs.Course.{Context, InGroup, Waits, ByItself, Stays, Does, DoesNext, FollowsFor, Follows}
 use Rattle.fk_lockstep_one_group.specs.Where as w
 use Rattle.fk_lockstep_one_group.specs.Where.{Where, goes, GoesNext, GoesFor, Goes}
 use Rattle.fk_lockstep_one_group.proofs.Moves.{goes_on}
@@ -135,15 +135,15 @@ module _ {V : Type 0} (next_in : V → Option (Step V)) (outs_in : V → List V)
     -- one operation
     module _ (n : ℕ) (v : V) (raw : Position) (r : R v raw) (place : Where) (gone : Goes next_in place v) (s : Step V) (u : Step Position)
         (next_is : next_in v ≡ Some s) (core_next : next core raw ≡ Some u) (h : Same R (Some s) (Some u))
-        (more : (stand : Stand) (to : Where) (y : Held V) → IsBeside y → Follows next_in outs_in stand y.work → Goes next_in to y.work → FollowsFor (next_held next_in core) outs_held n stand y) where
+        (more : (context : Context) (to : Where) (y : Held V) → IsBeside y → Follows next_in outs_in context y.work → Goes next_in to y.work → FollowsFor (next_held next_in core) outs_held n context y) where
       abbrev x : Held V
       x = held v (seat core raw)
 
       abbrev rest : Bool → Held V
       rest onward = held (s.rest onward) (seat core (u.rest onward))
 
-      abbrev F' : Stand → Held V → Type 0
-      F' stand y = FollowsFor (next_held next_in core) outs_held n stand y
+      abbrev F' : Context → Held V → Type 0
+      F' context y = FollowsFor (next_held next_in core) outs_held n context y
 
       to : (onward : Bool) → (to : Where) × (goes place s.operation onward ≡ Some to) × Goes next_in to (s.rest onward)
       to onward = goes_on next_in place v s gone next_is onward
@@ -151,8 +151,8 @@ module _ {V : Type 0} (next_in : V → Option (Step V)) (outs_in : V → List V)
       beside : (onward : Bool) → IsBeside (rest onward)
       beside onward = record { raw = u.rest onward; related = h.2 onward; at = refl }
 
-      on : (stand : Stand) (onward : Bool) → ((m : ℕ) → FollowsFor next_in outs_in m stand (s.rest onward)) → F' stand (rest onward)
-      on stand onward f = let t = to onward in more stand t.0 (rest onward) (beside onward) f t.2
+      on : (context : Context) (onward : Bool) → ((m : ℕ) → FollowsFor next_in outs_in m context (s.rest onward)) → F' context (rest onward)
+      on context onward f = let t = to onward in more context t.0 (rest onward) (beside onward) f t.2
 
       f : Found core raw u
       f = found core raw u core_next
@@ -188,8 +188,8 @@ module _ {V : Type 0} (next_in : V → Option (Step V)) (outs_in : V → List V)
           ∙ ap (last_of k) (sym here_calls))
           (shallow v) (subst (AllShallow depth (depth (s.rest onward))) e (shallow (s.rest onward)))
 
-      stays : (stand : Stand) → ((m : ℕ) → Stays next_in outs_in (FollowsFor next_in outs_in m) stand v s.rest) → Stays (next_held next_in core) outs_held F' stand x rest
-      stays stand k onward = (outs_stay onward ((k 0) onward).0, on stand onward (λ m. ((k m) onward).1))
+      stays : (context : Context) → ((m : ℕ) → Stays next_in outs_in (FollowsFor next_in outs_in m) context v s.rest) → Stays (next_held next_in core) outs_held F' context x rest
+      stays context k onward = (outs_stay onward ((k 0) onward).0, on context onward (λ m. ((k m) onward).1))
 
       -- here, and behind the operation, others are met
       here_met : is_joint s.operation ≡ true → x ≡ met x.at.callers v
@@ -198,11 +198,11 @@ module _ {V : Type 0} (next_in : V → Option (Step V)) (outs_in : V → List V)
       rest_met : (onward : Bool) → Joins (s.rest onward) → (cs : List ℕ) → (rest onward).at.callers ≡ cs → rest onward ≡ met cs (s.rest onward)
       rest_met onward j cs e = is_met (s.rest onward) (u.rest onward) j.step cs (h.2 onward) j.next_is j.is (sym (rest_calls onward) ∙ e)
 
-      abbrev D : ℕ → Stand → Operation → Type 0
-      D m stand op = Does next_in outs_in (FollowsFor next_in outs_in m) stand op v s.rest
+      abbrev D : ℕ → Context → Operation → Type 0
+      D m context op = Does next_in outs_in (FollowsFor next_in outs_in m) context op v s.rest
 
-      abbrev D' : Stand → Operation → Type 0
-      D' stand op = Does (next_held next_in core) outs_held F' stand op x rest
+      abbrev D' : Context → Operation → Type 0
+      D' context op = Does (next_held next_in core) outs_held F' context op x rest
 
       grouped : (op : Operation) → s.operation ≡ op → is_of_group core op ≡ true → is_of_group core s.operation ≡ true
       grouped op e g = ap (is_of_group core) e ∙ g
@@ -233,7 +233,7 @@ module _ {V : Type 0} (next_in : V → Option (Step V)) (outs_in : V → List V)
           by None g = refl
           by (Some t) g = absurd g
 
-      does : (stand : Stand) (op : Operation) → s.operation ≡ op → ((m : ℕ) → D m stand op) → D' stand op
+      does : (context : Context) (op : Operation) → s.operation ≡ op → ((m : ℕ) → D m context op) → D' context op
       does (InGroup a) (o.Branch b) e k = ((k 0).0, stays (InGroup false) (λ m. (k m).1))
       does (InGroup a) o.Block e k = ((k 0).0, stays (InGroup false) (λ m. (k m).1))
       does (InGroup a) o.Agree e k = stays (InGroup true) k
@@ -280,26 +280,26 @@ module _ {V : Type 0} (next_in : V → Option (Step V)) (outs_in : V → List V)
       does (ByItself false) o.Halt e k = λ onward. nothing onward ((k 0) onward)
       does (ByItself b) op e k = stays (ByItself b) k
 
-      does_next : (stand : Stand) → ((m : ℕ) → D m stand s.operation) → D' stand u.operation
-      does_next stand k = subst (D' stand) h.0 (does stand s.operation refl k)
+      does_next : (context : Context) → ((m : ℕ) → D m context s.operation) → D' context u.operation
+      does_next context k = subst (D' context) h.0 (does context s.operation refl k)
 
     -- so far
-    pub follows_held : (n : ℕ) (stand : Stand) (place : Where) (x : Held V) → IsBeside x → Follows next_in outs_in stand x.work → Goes next_in place x.work
-        → FollowsFor (next_held next_in core) outs_held n stand x
-    follows_held zero stand place x is fs gs = tt
-    follows_held (suc n) stand place x is fs gs =
+    pub follows_held : (n : ℕ) (context : Context) (place : Where) (x : Held V) → IsBeside x → Follows next_in outs_in context x.work → Goes next_in place x.work
+        → FollowsFor (next_held next_in core) outs_held n context x
+    follows_held zero context place x is fs gs = tt
+    follows_held (suc n) context place x is fs gs =
         let v = x.work in
-        subst (λ (p : Position). DoesNext (next_held next_in core) outs_held (λ stand' y. FollowsFor (next_held next_in core) outs_held n stand' y) stand (held v p) (option_map (carried (seat core) v (next_in v)) (next core p))) (sym is.at)
-        (subst (λ (b : Option (Step Position)). DoesNext (next_held next_in core) outs_held (λ stand' y. FollowsFor (next_held next_in core) outs_held n stand' y) stand (held v (seat core is.raw)) (option_map (carried (seat core) v (next_in v)) b))
+        subst (λ (p : Position). DoesNext (next_held next_in core) outs_held (λ context' y. FollowsFor (next_held next_in core) outs_held n context' y) context (held v p) (option_map (carried (seat core) v (next_in v)) (next core p))) (sym is.at)
+        (subst (λ (b : Option (Step Position)). DoesNext (next_held next_in core) outs_held (λ context' y. FollowsFor (next_held next_in core) outs_held n context' y) context (held v (seat core is.raw)) (option_map (carried (seat core) v (next_in v)) b))
         (sym (seat_next core leads_on is.raw))
-        (by (λ stand' to y b f' g'. follows_held n stand' to y b f' g') (next_in v) refl (next core is.raw) refl (same v is.raw is.related) (λ m. fs (suc m))))
+        (by (λ context' to y b f' g'. follows_held n context' to y b f' g') (next_in v) refl (next core is.raw) refl (same v is.raw is.related) (λ m. fs (suc m))))
       where
-        by : ((stand' : Stand) (to : Where) (y : Held V) → IsBeside y → Follows next_in outs_in stand' y.work → Goes next_in to y.work → FollowsFor (next_held next_in core) outs_held n stand' y)
+        by : ((context' : Context) (to : Where) (y : Held V) → IsBeside y → Follows next_in outs_in context' y.work → Goes next_in to y.work → FollowsFor (next_held next_in core) outs_held n context' y)
             → (a : Option (Step V)) → next_in x.work ≡ a → (b : Option (Step Position)) → next core is.raw ≡ b → Same R a b
-            → ((m : ℕ) → DoesNext next_in outs_in (FollowsFor next_in outs_in m) stand x.work a)
-            → DoesNext (next_held next_in core) outs_held (λ stand' y. FollowsFor (next_held next_in core) outs_held n stand' y) stand (held x.work (seat core is.raw)) (option_map (carried (seat core) x.work a) b)
+            → ((m : ℕ) → DoesNext next_in outs_in (FollowsFor next_in outs_in m) context x.work a)
+            → DoesNext (next_held next_in core) outs_held (λ context' y. FollowsFor (next_held next_in core) outs_held n context' y) context (held x.work (seat core is.raw)) (option_map (carried (seat core) x.work a) b)
         by more None e None g h k = tt
-        by more (Some s) e (Some u) g h k = does_next n x.work is.raw is.related place gs s u e g h more stand k
+        by more (Some s) e (Some u) g h k = does_next n x.work is.raw is.related place gs s u e g h more context k
         by more None e (Some u) g h k = absurd h
         by more (Some s) e None g h k = absurd h
 

@@ -9,7 +9,7 @@ use Rattle.fk_meaning.specs.Round.{Step}
 use Rattle.fk_core.specs.declared.op.CoreOp.{CoreOp}
 use Rattle.fk_core.specs.Numbers.{operation_of}
 use Rattle.fk_core.specs.Next.{Position, position, landing, follows, step_by, step_of, next}
-use Rattle.fk_core.specs.Stands.{Stay}
+use Rattle.fk_core.specs.CodeAt.{Stay}
 use Rattle.fk_core.specs.WellFormed.{LeadsOn}
 use Rattle.fk_core.proofs.Leading.{op_stops, lands}
 use Rattle.fk_lockstep_one_group.specs.Lists.{HasOwnSites}

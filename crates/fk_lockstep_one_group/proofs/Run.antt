@@ -7,7 +7,7 @@ use Rattle.fk_meaning.specs.Round.{Step}
 use Rattle.fk_meaning_forms.specs.Code.{Code, done, perform, choose, while, until, turn, again, quit, break, continue, call, ends, append}
 use Rattle.fk_meaning.specs.Left.{broken}
 use Rattle.fk_meaning.specs.Next.{Work, going, returned, step, step_of, next}
-use Rattle.fk_core.specs.Stands.{is_first}
+use Rattle.fk_core.specs.CodeAt.{is_first}
 use Rattle.fk_core.proofs.Running.{first_before}
 use Rattle.fk_core_flat.specs.Shape.{is_closed}
 use Rattle.fk_lockstep_one_group.specs.Where.{Where, InRoot, Waits, InGroup, InBody, BehindBody, goes, GoesNext, GoesFor}

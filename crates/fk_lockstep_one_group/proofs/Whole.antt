@@ -3,9 +3,9 @@ use Rattle.std.proofs.Common.{◌≡◌, ◌⊎◌, inl, inr, ⊎_elim, ℕ, Boo
 use Rattle.std.proofs.lemmas.Bool.{or_cases}
 use Rattle.fk_meaning_forms.specs.Code.{Code, done, perform, choose, while, until, turn, again, quit, break, continue, call, ends, append}
 use Rattle.fk_meaning.specs.Left.{broken, continued, opened, settled}
-use Rattle.fk_core.specs.Stands.{is_first, is_start}
+use Rattle.fk_core.specs.CodeAt.{is_first, is_start}
 use Rattle.fk_core_flat.specs.Shape.{is_done, is_closed, IsShaped}
-use Rattle.fk_core_flat.proofs.Standing.{opening_is_shaped}
+use Rattle.fk_core_flat.proofs.CodeAt.{opening_is_shaped}
 use Rattle.fk_lockstep_one_group.specs.Where.{Where, InRoot, goes}
 use Rattle.fk_lockstep_one_group.specs.Leads.{is_in_group, Comes, Leads}
 

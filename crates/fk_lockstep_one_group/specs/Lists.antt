@@ -7,7 +7,7 @@ use Rattle.fk_meaning.specs.Next.{going}
 use Rattle.fk_core.specs.declared.op.CoreOp.{CoreOp}
 use Rattle.fk_core.specs.Numbers.{operation_of}
 use Rattle.fk_core.specs.Next.{position, landing, next}
-use Rattle.fk_core.specs.Stands.{Stands}
+use Rattle.fk_core.specs.CodeAt.{CodeAt}
 use Rattle.fk_core.specs.WellFormed.{LeadsOn}
 use Rattle.fk_lockstep.specs.Course.{ByItself, Follows}
 use Rattle.fk_lockstep_one_group.specs.Where.{InRoot, Goes}
@@ -26,7 +26,7 @@ abbrev pub ListsHaveOneGroup : Type 0
 ListsHaveOneGroup =
     (bodies : (binding : ℕ) → Code ℕ) (core : List CoreOp) (entry : (binding : ℕ) → ℕ) (main : ℕ)
     → LeadsOn core
-    → ((binding : ℕ) → Stands core entry (bodies binding) None (entry binding) (length core))
+    → ((binding : ℕ) → CodeAt core entry (bodies binding) None (entry binding) (length core))
     → HasOwnSites core
     → Follows (source.next bodies) all_outs (ByItself false) (going (bodies main) [])
     → Goes (source.next bodies) InRoot (going (bodies main) [])

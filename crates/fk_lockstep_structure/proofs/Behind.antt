@@ -10,11 +10,11 @@ use Rattle.fk_meaning.proofs.Spine.{untrue, past_append, broken_append, continue
 use Rattle.fk_meaning.proofs.Nested.{Allows, Nested, settles, no_exits, way_allows, allows_append}
 use Rattle.fk_meaning.proofs.Steps.{WorkNested, is_stepped}
 use Rattle.fk_lockstep.specs.InStep.{InStep}
-use Rattle.fk_lockstep.specs.Course.{Stand, InGroup, Waits, ByItself, after_waiting, DoesNext, FollowsFor}
+use Rattle.fk_lockstep.specs.Course.{Context, InGroup, Waits, ByItself, after_waiting, DoesNext, FollowsFor}
 use Rattle.fk_lockstep_structure.specs.Placed.{Who, OfGroup, OfBody, OfMain, is_outermost, Placed}
 use Rattle.fk_lockstep_structure.specs.Ahead.{starts, all_outs}
 use Rattle.fk_lockstep_structure.proofs.Even.{at, settled_times, stable, same_starts, Even, EvenBehind}
-use Rattle.fk_lockstep_structure.proofs.Far.{stand_of, joined}
+use Rattle.fk_lockstep_structure.proofs.Far.{context_of, joined}
 
 pub either_yes : (b : Bool) (E G : Type 0) → Either b E G → b ≡ true → E
 either_yes true E G h e = h
@@ -31,37 +31,37 @@ behind_part a y callers x s h g =
     ∙ ap (λ cs. going y callers ∷ (works callers cs ++ waiting callers)) (sym (settles y h).same)
 
 module _ (may_call : (in_group : Bool) → (function : ℕ) → Bool) (bodies : ℕ → Code ℕ) where
-  abbrev pub F : ℕ → Stand → Work → Type 0
+  abbrev pub F : ℕ → Context → Work → Type 0
   F n = FollowsFor (next bodies) all_outs n
 
-  abbrev pub FollowsTo : ℕ → Stand → Work → Type 0
-  FollowsTo zero stand w = Unit {0}
-  FollowsTo (suc n) stand w = F (suc n) stand w × FollowsTo n stand w
+  abbrev pub FollowsTo : ℕ → Context → Work → Type 0
+  FollowsTo zero context w = Unit {0}
+  FollowsTo (suc n) context w = F (suc n) context w × FollowsTo n context w
 
-  pub exactly : (n : ℕ) (stand : Stand) (w : Work) → FollowsTo n stand w → F n stand w
-  exactly zero stand w h = tt
-  exactly (suc n) stand w h = h.0
+  pub exactly : (n : ℕ) (context : Context) (w : Work) → FollowsTo n context w → F n context w
+  exactly zero context w h = tt
+  exactly (suc n) context w h = h.0
 
-  abbrev pub Far : ℕ → Stand → List (Code ℕ) → Code ℕ → Type 0
-  Far n stand callers code = (k : ℕ) → FollowsTo n stand (at (settled_times k code) callers)
+  abbrev pub Far : ℕ → Context → List (Code ℕ) → Code ℕ → Type 0
+  Far n context callers code = (k : ℕ) → FollowsTo n context (at (settled_times k code) callers)
 
-  pub far_fewer : (n : ℕ) (stand : Stand) (callers : List (Code ℕ)) (code : Code ℕ) → Far (suc n) stand callers code → Far n stand callers code
-  far_fewer n stand callers code h k = (h k).1
+  pub far_fewer : (n : ℕ) (context : Context) (callers : List (Code ℕ)) (code : Code ℕ) → Far (suc n) context callers code → Far n context callers code
+  far_fewer n context callers code h k = (h k).1
 
-  pub far_stable : (n : ℕ) (stand : Stand) (callers : List (Code ℕ)) (code : Code ℕ) → settled code ≡ code → FollowsTo n stand (at code callers) → Far n stand callers code
-  far_stable n stand callers code e h k = subst (λ c. FollowsTo n stand (at c callers)) (sym (stable code e k)) h
+  pub far_stable : (n : ℕ) (context : Context) (callers : List (Code ℕ)) (code : Code ℕ) → settled code ≡ code → FollowsTo n context (at code callers) → Far n context callers code
+  far_stable n context callers code e h k = subst (λ c. FollowsTo n context (at c callers)) (sym (stable code e k)) h
 
-  pub far_settled : (n : ℕ) (stand : Stand) (callers : List (Code ℕ)) (code : Code ℕ) → FollowsTo n stand (at code callers) → Far n stand callers (settled code) → Far n stand callers code
-  far_settled n stand callers code h g zero = h
-  far_settled n stand callers code h g (suc k) = g k
+  pub far_settled : (n : ℕ) (context : Context) (callers : List (Code ℕ)) (code : Code ℕ) → FollowsTo n context (at code callers) → Far n context callers (settled code) → Far n context callers code
+  far_settled n context callers code h g zero = h
+  far_settled n context callers code h g (suc k) = g k
 
-  pub idle : (n : ℕ) (stand : Stand) (w : Work) → next bodies w ≡ None → FollowsTo n stand w
-  idle zero stand w e = tt
-  idle (suc n) stand w e = (subst (λ u. DoesNext (next bodies) all_outs (F n) stand w u) (sym e) tt, idle n stand w e)
+  pub idle : (n : ℕ) (context : Context) (w : Work) → next bodies w ≡ None → FollowsTo n context w
+  idle zero context w e = tt
+  idle (suc n) context w e = (subst (λ u. DoesNext (next bodies) all_outs (F n) context w u) (sym e) tt, idle n context w e)
 
   abbrev pub Returns : ℕ → Who → (within : Bool) → List Work → List (Code ℕ) → Type 0
   Returns n (OfMain outermost) within ahead callers = callers ≡ []
-  Returns n who within ahead callers = (starts (returned callers) ≡ ahead) × FollowsTo n (stand_of who false within) (returned callers)
+  Returns n who within ahead callers = (starts (returned callers) ≡ ahead) × FollowsTo n (context_of who false within) (returned callers)
 
   pub returns_fewer : (n : ℕ) (who : Who) (within : Bool) (ahead : List Work) (callers : List (Code ℕ)) → Returns (suc n) who within ahead callers → Returns n who within ahead callers
   returns_fewer n OfGroup within ahead callers h = (h.0, h.1.1)
@@ -76,10 +76,10 @@ module _ (may_call : (in_group : Bool) → (function : ℕ) → Bool) (bodies : 
     pub in_group : part ≡ true → who ≡ OfGroup
     pub even : EvenBehind may_call ahead callers x d
     pub even_tests : x.tests ≡ true → Even ahead callers (broken d)
-    pub onward : part ≡ false → Far n (stand_of who false within) callers d
-    pub breaks : x.breaks ≡ true → Far n (stand_of who false within) callers (broken d)
-    pub continues : x.continues ≡ true → Far n (stand_of who false within) callers (continued d)
-    pub tests : x.tests ≡ true → x.shrinking ≡ false → Far n (stand_of who false within) callers (broken d)
+    pub onward : part ≡ false → Far n (context_of who false within) callers d
+    pub breaks : x.breaks ≡ true → Far n (context_of who false within) callers (broken d)
+    pub continues : x.continues ≡ true → Far n (context_of who false within) callers (continued d)
+    pub tests : x.tests ≡ true → x.shrinking ≡ false → Far n (context_of who false within) callers (broken d)
     pub returns : x.returns ≡ true → Returns n who within ahead callers
 
   pub behind_fewer : (n : ℕ) (who : Who) (within : Bool) (ahead : List Work) (callers : List (Code ℕ)) (part : Bool) (x : Exits) (d : Code ℕ)
@@ -108,7 +108,7 @@ module _ (may_call : (in_group : Bool) → (function : ℕ) → Bool) (bodies : 
   All n =
       (who : Who) (agreed within : Bool) (ahead : List Work) (callers : List (Code ℕ)) (part : Bool) (x : Exits) (code d : Code ℕ)
       → Shape part false x code → Placed may_call who false code → is_outermost who ≡ false → Steps who agreed code
-      → Behind n who within ahead callers part x d → Far n (stand_of who agreed within) callers (append code d)
+      → Behind n who within ahead callers part x d → Far n (context_of who agreed within) callers (append code d)
 
   -- behind the parts of a group, and at the end of a body
   pub part_behind : (n : ℕ) (within : Bool) (ahead : List Work) (callers : List (Code ℕ)) (y : Code ℕ) → WorkNested (at y callers) → begins y ≡ true → Even ahead callers y
@@ -129,7 +129,7 @@ module _ (may_call : (in_group : Bool) → (function : ℕ) → Bool) (bodies : 
   }
 
   pub before_more : (n : ℕ) (who : Who) (within : Bool) (ahead : List Work) (callers : List (Code ℕ)) (y : Code ℕ) → WorkNested (at y callers) → Even ahead callers y
-      → Far n (stand_of who false within) callers y → Behind n who within ahead callers false none y
+      → Far n (context_of who false within) callers y → Behind n who within ahead callers false none y
   before_more n who within ahead callers y h even far = record {
     nested = h;
     allows = no_exits y;
@@ -147,12 +147,12 @@ module _ (may_call : (in_group : Bool) → (function : ℕ) → Bool) (bodies : 
 
   -- behind the arms of a branch
   pub arm_behind : (n : ℕ) (who : Who) (within : Bool) (ahead : List Work) (callers : List (Code ℕ)) (part : Bool) (x : Exits) (rest d : Code ℕ) → Shape part false x rest
-      → Behind n who within ahead callers part x d → Nested (append rest d) → Even ahead callers (append rest d) → Far n (stand_of who false within) callers (append rest d)
+      → Behind n who within ahead callers part x d → Nested (append rest d) → Even ahead callers (append rest d) → Far n (context_of who false within) callers (append rest d)
       → Behind n who within ahead callers false (of_arm x) (append rest d)
   arm_behind n who within ahead callers part x rest d s b h even far =
       let breaks_as = sym (broken_append part false x rest d s) in
       let continues_as = sym (continued_append part false x rest d s) in
-      let stand = stand_of who false within in
+      let context = context_of who false within in
       record {
         nested = record { left = h; callers = b.nested.callers };
         allows = way_allows false x (append rest d) (λ f. allows_append part x rest d s b.quiet b.allows);
@@ -166,8 +166,8 @@ module _ (may_call : (in_group : Bool) → (function : ℕ) → Bool) (bodies : 
         };
         even_tests = λ f. untrue f;
         onward = λ f. far;
-        breaks = λ f. subst (λ c. Far n stand callers c) breaks_as (b.breaks f);
-        continues = λ f. subst (λ c. Far n stand callers c) continues_as (b.continues f);
+        breaks = λ f. subst (λ c. Far n context callers c) breaks_as (b.breaks f);
+        continues = λ f. subst (λ c. Far n context callers c) continues_as (b.continues f);
         tests = λ f. untrue f;
         returns = b.returns;
       }

@@ -11,15 +11,15 @@ use Rattle.fk_meaning.specs.Behind.{outs, GoesOn}
 use Rattle.fk_meaning.specs.Shape.{is_performed, closes, ends_part}
 use Rattle.fk_meaning.proofs.Spine.{untrue}
 use Rattle.fk_lockstep.specs.InStep.{is_agree, may_stand}
-use Rattle.fk_lockstep.specs.Course.{Stand, InGroup, Waits, ByItself, Parts, Does}
+use Rattle.fk_lockstep.specs.Course.{Context, InGroup, Waits, ByItself, Parts, Does}
 use Rattle.fk_lockstep_structure.specs.Placed.{Who, OfGroup, OfBody, OfMain, may_perform}
 use Rattle.fk_lockstep_structure.specs.Ahead.{starts, all_outs}
 
--- where code of a text stands
-abbrev pub stand_of : Who → (agreed within : Bool) → Stand
-stand_of OfGroup agreed within = InGroup agreed
-stand_of OfBody agreed within = ByItself within
-stand_of (OfMain outermost) agreed within = ByItself false
+-- the context of code of a text
+abbrev pub context_of : Who → (agreed within : Bool) → Context
+context_of OfGroup agreed within = InGroup agreed
+context_of OfBody agreed within = ByItself within
+context_of (OfMain outermost) agreed within = ByItself false
 
 pub joined : (ws xs ys zs : List Work) → ws ≡ ys → xs ≡ zs → ws ++ xs ≡ ys ++ zs
 joined ws xs ys zs e f = ap₂ (λ (a b : List Work). a ++ b) e f
@@ -29,15 +29,15 @@ abbrev pub Goes : (here : Work) → Option (Step Work) → Type 0
 Goes here None = Unit {0}
 Goes here (Some u) = GoesOn u.operation here (outs here) u.rest
 
-module _ (P : Stand → Work → Type 0) (bodies : ℕ → Code ℕ) where
-  abbrev D : Stand → Operation → (here : Work) → (rest : Bool → Work) → Type 0
+module _ (P : Context → Work → Type 0) (bodies : ℕ → Code ℕ) where
+  abbrev D : Context → Operation → (here : Work) → (rest : Bool → Work) → Type 0
   D = Does (next bodies) all_outs P
 
   -- an operation of its own
   pub performed : (who : Who) (agreed within : Bool) (op : Operation) (here w : Work) → may_perform false op ≡ true → is_performed op ≡ true → closes op ≡ false
       → (ends_part op ≡ true → who ≡ OfGroup) → (who ≡ OfGroup → may_stand agreed op ≡ true)
-      → GoesOn op here (outs here) (λ onward. w) → starts w ≡ starts here → (ends_part op ≡ false → P (stand_of who (is_agree op) within) w)
-      → D (stand_of who agreed within) op here (λ onward. w)
+      → GoesOn op here (outs here) (λ onward. w) → starts w ≡ starts here → (ends_part op ≡ false → P (context_of who (is_agree op) within) w)
+      → D (context_of who agreed within) op here (λ onward. w)
   performed OfGroup agreed within o.Resume here w may is closing part stands go even f = untrue may
   performed OfGroup agreed within o.Halt here w may is closing part stands go even f = untrue may
   performed OfGroup agreed within (o.Split by) here w may is closing part stands go even f = untrue is
@@ -82,8 +82,8 @@ module _ (P : Stand → Work → Type 0) (bodies : ℕ → Code ℕ) where
   -- a branch, or what leaves a loop
   pub branched : (who : Who) (agreed within on : Bool) (here : Work) (rest : Bool → Work) → (who ≡ OfGroup → agreed ≡ true)
       → ((onward : Bool) → outs (rest onward) ≡ outs here) → ((onward : Bool) → starts (rest onward) ≡ starts here)
-      → ((onward : Bool) → P (stand_of who false within) (rest onward))
-      → D (stand_of who agreed within) (o.Branch on) here rest
+      → ((onward : Bool) → P (context_of who false within) (rest onward))
+      → D (context_of who agreed within) (o.Branch on) here rest
   branched OfGroup agreed within on here rest stands go even f =
       (stands refl, λ onward. (joined (outs (rest onward)) (starts (rest onward)) (outs here) (starts here) (go onward) (even onward), f onward))
   branched OfBody agreed true on here rest stands go even f =

@@ -14,15 +14,15 @@ use Rattle.fk_meaning.proofs.Spine.{untrue, append_done}
 use Rattle.fk_meaning.proofs.Nested.{Nested, nested_append, body_nested, no_exits}
 use Rattle.fk_meaning.proofs.Steps.{WorkNested}
 use Rattle.fk_lockstep.specs.InStep.{is_agree, may_stand, leaves_step, InStep}
-use Rattle.fk_lockstep.specs.Course.{Stand, InGroup, Waits, ByItself, Does}
+use Rattle.fk_lockstep.specs.Course.{Context, InGroup, Waits, ByItself, Does}
 use Rattle.fk_lockstep_structure.specs.Placed.{Who, OfGroup, OfBody, OfMain, is_group, is_main, is_outermost, is_halt, inner, callee_of, may_end, Placed}
 use Rattle.fk_lockstep_structure.specs.Ahead.{starts, all_outs, AreCourses}
 use Rattle.fk_lockstep_structure.proofs.Even.{at, Even, even_append, inner_low}
-use Rattle.fk_lockstep_structure.proofs.Far.{stand_of, joined, performed, branched, one_part, two_parts}
+use Rattle.fk_lockstep_structure.proofs.Far.{context_of, joined, performed, branched, one_part, two_parts}
 use Rattle.fk_lockstep_structure.proofs.Behind.{either_yes, either_no, behind_part, F, exactly, Far, far_stable, idle, Returns, Behind, Steps, All, part_behind, before_more, arm_behind, waits, meets}
 
 module _ (may_call : (in_group : Bool) → (function : ℕ) → Bool) (bodies : ℕ → Code ℕ) (main : ℕ) (facts : AreCourses may_call bodies main) where
-  abbrev Does' : ℕ → Stand → Operation → (here : Work) → (rest : Bool → Work) → Type 0
+  abbrev Does' : ℕ → Context → Operation → (here : Work) → (rest : Bool → Work) → Type 0
   Does' n = Does (next bodies) all_outs (F may_call bodies n)
 
   -- what is in step, by its parts
@@ -109,13 +109,13 @@ module _ (may_call : (in_group : Bool) → (function : ℕ) → Bool) (bodies : 
         → Shape part false x (perform t op rest) → Placed may_call who false (perform t op rest) → is_outermost who ≡ false → Steps may_call bodies who agreed (perform t op rest)
         → Behind may_call bodies n who within ahead callers part x d → (here : Work) → starts here ≡ ahead
         → GoesOn op here (outs here) (λ onward. going (append rest d) callers)
-        → Does' n (stand_of who agreed within) op here (λ onward. going (append rest d) callers)
+        → Does' n (context_of who agreed within) op here (λ onward. going (append rest d) callers)
     first_perform who agreed within ahead callers part x t op rest d s p low i b here even g =
         let w = going (append rest d) callers in
         let steps = of_perform who agreed t op rest i in
         performed (F may_call bodies n) bodies who agreed within op here w p.0 s.1 s.0
         (λ e. b.in_group (either_yes (ends_part op) _ _ s.2 e).0) steps.0 g (by (ends_part op) s.2 ∙ sym even)
-        (λ e. exactly may_call bodies n (stand_of who (is_agree op) within) w
+        (λ e. exactly may_call bodies n (context_of who (is_agree op) within) w
         (ih who (is_agree op) within ahead callers part x rest d (either_no (ends_part op) _ _ s.2 e) p.1 low steps.1 b 1))
       where
         by : (e : Bool) → Either e ((part ≡ true) × (x.tests ≡ false) × (rest ≡ done)) (Shape part false x rest) → starts (going (append rest d) callers) ≡ ahead
@@ -128,7 +128,7 @@ module _ (may_call : (in_group : Bool) → (function : ℕ) → Bool) (bodies : 
         → Steps may_call bodies who agreed (choose t (o.Branch on) a z rest)
         → Behind may_call bodies n who within ahead callers part x d → (here : Work) → starts here ≡ ahead
         → GoesOn (o.Branch on) here (outs here) (λ onward. going (append (if onward then a else z) (append rest d)) callers)
-        → Does' n (stand_of who agreed within) (o.Branch on) here (λ onward. going (append (if onward then a else z) (append rest d)) callers)
+        → Does' n (context_of who agreed within) (o.Branch on) here (λ onward. going (append (if onward then a else z) (append rest d)) callers)
     first_branch who agreed within ahead callers part x t on a z rest d s p low i b here even g =
         branched (F may_call bodies n) bodies who agreed within on here (λ onward. going (append (if onward then a else z) y) callers) steps.0 g evens ways
       where
@@ -155,10 +155,10 @@ module _ (may_call : (in_group : Bool) → (function : ℕ) → Bool) (bodies : 
         evens true = even_append may_call ahead callers who false false false (of_arm x) a y low s.2 (in_arm a p.2) behind.even 1 ∙ sym even
         evens false = even_append may_call ahead callers who false false false (of_arm x) z y low s.3 (in_arm z p.3) behind.even 1 ∙ sym even
 
-        ways : (onward : Bool) → F may_call bodies n (stand_of who false within) (going (append (if onward then a else z) y) callers)
-        ways true = exactly may_call bodies n (stand_of who false within) (going (append a y) callers)
+        ways : (onward : Bool) → F may_call bodies n (context_of who false within) (going (append (if onward then a else z) y) callers)
+        ways true = exactly may_call bodies n (context_of who false within) (going (append a y) callers)
             (ih who false within ahead callers false (of_arm x) a y s.2 (in_arm a p.2) low steps.1 behind 1)
-        ways false = exactly may_call bodies n (stand_of who false within) (going (append z y) callers)
+        ways false = exactly may_call bodies n (context_of who false within) (going (append z y) callers)
             (ih who false within ahead callers false (of_arm x) z y s.3 (in_arm z p.3) low steps.2 behind 1)
 
     of_any_within : (within : Bool) (ahead : List Work) (callers : List (Code ℕ)) (part : Bool) (x : Exits) (d : Code ℕ)
@@ -297,7 +297,7 @@ module _ (may_call : (in_group : Bool) → (function : ℕ) → Bool) (bodies : 
         → Shape part false x (quit t op rest) → Placed may_call who false (quit t op rest) → is_outermost who ≡ false → Steps may_call bodies who agreed (quit t op rest)
         → Behind may_call bodies n who within ahead callers part x d → (here : Work) → starts here ≡ ahead
         → GoesOn op here (outs here) (λ onward. going (if onward then append rest d else broken (append rest d)) callers)
-        → Does' n (stand_of who agreed within) op here (λ onward. going (if onward then append rest d else broken (append rest d)) callers)
+        → Does' n (context_of who agreed within) op here (λ onward. going (if onward then append rest d else broken (append rest d)) callers)
     first_quit who agreed within ahead callers part x t (o.Branch on) done d s p low i b here even g =
         branched (F may_call bodies n) bodies who agreed within on here (λ onward. going (if onward then d else broken d) callers) (of_quit who agreed t (o.Branch on) done i) g evens fars
       where
@@ -305,9 +305,9 @@ module _ (may_call : (in_group : Bool) → (function : ℕ) → Bool) (bodies : 
         evens true = b.even.onward 1 ∙ sym even
         evens false = b.even_tests s.3 1 ∙ sym even
 
-        fars : (onward : Bool) → F may_call bodies n (stand_of who false within) (going (if onward then d else broken d) callers)
-        fars true = exactly may_call bodies n (stand_of who false within) (going d callers) (b.onward s.2 1)
-        fars false = exactly may_call bodies n (stand_of who false within) (going (broken d) callers) (b.tests s.3 (sym s.4) 1)
+        fars : (onward : Bool) → F may_call bodies n (context_of who false within) (going (if onward then d else broken d) callers)
+        fars true = exactly may_call bodies n (context_of who false within) (going d callers) (b.onward s.2 1)
+        fars false = exactly may_call bodies n (context_of who false within) (going (broken d) callers) (b.tests s.3 (sym s.4) 1)
     first_quit OfGroup agreed within ahead callers part x t o.Shrink done d s p low i b here even g = (
       joined (outs (going d callers)) (starts (going d callers)) (outs here) (starts here) g.0 (b.even.onward 1 ∙ sym even),
       exactly may_call bodies n (InGroup false) (going d callers) (b.onward s.2 1),
@@ -320,7 +320,7 @@ module _ (may_call : (in_group : Bool) → (function : ℕ) → Bool) (bodies : 
 
     -- calls: what is called, behind it what the caller has left
     returns_to : (who : Who) (within : Bool) (ahead : List Work) (callers : List (Code ℕ)) (y : Code ℕ) → is_main who ≡ false → Even ahead callers y
-        → Far may_call bodies n (stand_of who false within) callers y → Returns may_call bodies n who within ahead (y ∷ callers)
+        → Far may_call bodies n (context_of who false within) callers y → Returns may_call bodies n who within ahead (y ∷ callers)
     returns_to OfGroup within ahead callers y not_main even far = (even 1, far 1)
     returns_to OfBody within ahead callers y not_main even far = (even 1, far 1)
     returns_to (OfMain b) within ahead callers y not_main even far = absurd (true≢false not_main)
@@ -328,11 +328,11 @@ module _ (may_call : (in_group : Bool) → (function : ℕ) → Bool) (bodies : 
     callee : (who : Who) (within : Bool) (ahead : List Work) (callers : List (Code ℕ)) (y opening : Code ℕ) (f : ℕ) → is_main who ≡ false → is_outermost who ≡ false
         → Shape false false none opening → Placed may_call who false opening → Steps may_call bodies who false opening
         → Placed may_call who false (bodies f) → Steps may_call bodies who false (bodies f) → WorkNested (at y callers) → Even ahead callers y
-        → Far may_call bodies n (stand_of who false within) callers y
-        → F may_call bodies n (stand_of who false within) (going (append opening (bodies f)) (y ∷ callers))
+        → Far may_call bodies n (context_of who false within) callers y
+        → F may_call bodies n (context_of who false within) (going (append opening (bodies f)) (y ∷ callers))
     callee who within ahead callers y opening f not_main low s p i q j nested even far =
         let body = bodies f in
-        let stand = stand_of who false within in
+        let context = context_of who false within in
         let within_nested : WorkNested (at done (y ∷ callers)) = record { left = tt; callers = (nested.left, nested.callers) } in
         let even_in : (c : Code ℕ) → Even ahead (y ∷ callers) c = λ c k. even 0 in
         let end : Behind may_call bodies n who within ahead (y ∷ callers) false of_function done = record {
@@ -343,23 +343,23 @@ module _ (may_call : (in_group : Bool) → (function : ℕ) → Bool) (bodies : 
           in_group = λ e. untrue e;
           even = record { onward = even_in done; breaks = λ e. even_in done; continues = λ e. even_in done };
           even_tests = λ e. even_in done;
-          onward = λ e. far_stable may_call bodies n stand (y ∷ callers) done refl (idle may_call bodies n stand (at done (y ∷ callers)) refl);
+          onward = λ e. far_stable may_call bodies n context (y ∷ callers) done refl (idle may_call bodies n context (at done (y ∷ callers)) refl);
           breaks = λ e. untrue e;
           continues = λ e. untrue e;
           tests = λ e. untrue e;
           returns = λ e. returns_to who within ahead callers y not_main even far;
         } in
-        let in_body : Far may_call bodies n stand (y ∷ callers) body =
-        subst (λ c. Far may_call bodies n stand (y ∷ callers) c) (append_done body)
+        let in_body : Far may_call bodies n context (y ∷ callers) body =
+        subst (λ c. Far may_call bodies n context (y ∷ callers) c) (append_done body)
         (ih who false within ahead (y ∷ callers) false of_function body done (facts.nested f) q low j end) in
         let behind = before_more may_call bodies n who within ahead (y ∷ callers) body
         (record { left = body_nested body (facts.nested f); callers = (nested.left, nested.callers) }) (even_in body) in_body in
-        exactly may_call bodies n stand (going (append opening body) (y ∷ callers))
+        exactly may_call bodies n context (going (append opening body) (y ∷ callers))
         (ih who false within ahead (y ∷ callers) false none opening body s p low i behind 1)
 
     stays : (who : Who) (agreed within : Bool) (op : Operation) (here w : Work) → is_of_call op ≡ true → is_halt op ≡ false
-        → GoesOn op here (outs here) (λ onward. w) → starts w ≡ starts here → F may_call bodies n (stand_of who false within) w
-        → Does' n (stand_of who agreed within) op here (λ onward. w)
+        → GoesOn op here (outs here) (λ onward. w) → starts w ≡ starts here → F may_call bodies n (context_of who false within) w
+        → Does' n (context_of who agreed within) op here (λ onward. w)
     stays OfGroup agreed within (o.Enter k) here w is not_halt g even far = λ onward. (joined (outs w) (starts w) (outs here) (starts here) (g onward) even, far)
     stays OfGroup agreed within (o.Leave gives framed) here w is not_halt g even far = λ onward. (joined (outs w) (starts w) (outs here) (starts here) (g onward) even, far)
     stays OfBody agreed true (o.Enter k) here w is not_halt g even far = λ onward. (joined (outs w) (starts w) (outs here) (starts here) (g onward) even, far)
@@ -374,9 +374,9 @@ module _ (may_call : (in_group : Bool) → (function : ℕ) → Bool) (bodies : 
     -- `y` is left of the caller
     pub calls_in : (who : Who) (agreed within : Bool) (ahead : List Work) (callers : List (Code ℕ)) (t : ℕ) (op : Operation) (f : ℕ) (opening y : Code ℕ)
         → is_of_call op ≡ true → is_halt op ≡ false → Shape false false none opening → may_call (is_group who) f ≡ true → Placed may_call (callee_of who) false opening
-        → Steps may_call bodies (callee_of who) false opening → WorkNested (at y callers) → Even ahead callers y → Far may_call bodies n (stand_of who false within) callers y
+        → Steps may_call bodies (callee_of who) false opening → WorkNested (at y callers) → Even ahead callers y → Far may_call bodies n (context_of who false within) callers y
         → (here : Work) → starts here ≡ ahead → GoesOn op here (outs here) (λ onward. going (append opening (bodies f)) (y ∷ callers))
-        → Does' n (stand_of who agreed within) op here (λ onward. going (append opening (bodies f)) (y ∷ callers))
+        → Does' n (context_of who agreed within) op here (λ onward. going (append opening (bodies f)) (y ∷ callers))
     calls_in OfGroup agreed within ahead callers t op f opening y is not_halt s may p i nested even far here even_here g =
         stays OfGroup agreed within op here (going (append opening (bodies f)) (y ∷ callers)) is not_halt g (even 0 ∙ sym even_here)
         (callee OfGroup within ahead callers y opening f refl refl s p i (facts.in_group f may) (facts.in_step f may) nested even far)
@@ -390,7 +390,7 @@ module _ (may_call : (in_group : Bool) → (function : ℕ) → Bool) (bodies : 
     -- the end of a function
     pub first_ends : (who : Who) (agreed within : Bool) (ahead : List Work) (callers : List (Code ℕ)) (op : Operation) → is_of_call op ≡ true → may_end who op ≡ true
         → Returns may_call bodies n who within ahead callers → (here : Work) → starts here ≡ ahead → GoesOn op here (outs here) (λ onward. returned callers)
-        → Does' n (stand_of who agreed within) op here (λ onward. returned callers)
+        → Does' n (context_of who agreed within) op here (λ onward. returned callers)
     first_ends OfGroup agreed within ahead callers o.Halt is may r here even g = untrue may
     first_ends OfBody agreed within ahead callers o.Halt is may r here even g = untrue may
     first_ends (OfMain b) agreed within ahead callers o.Halt is may r here even g =
@@ -412,7 +412,7 @@ module _ (may_call : (in_group : Bool) → (function : ℕ) → Bool) (bodies : 
         → Shape part false x (choose t op a z rest) → Placed may_call who false (choose t op a z rest) → is_outermost who ≡ false → Steps may_call bodies who agreed (choose t op a z rest)
         → Behind may_call bodies n who within ahead callers part x d → (here : Work) → starts here ≡ ahead
         → GoesOn op here (outs here) (λ onward. going (append (if onward then a else z) (append rest d)) callers)
-        → Does' n (stand_of who agreed within) op here (λ onward. going (append (if onward then a else z) (append rest d)) callers)
+        → Does' n (context_of who agreed within) op here (λ onward. going (append (if onward then a else z) (append rest d)) callers)
     first_choose who agreed within ahead callers part x t (o.Branch on) a z rest d s p low i b here even g =
         first_branch who agreed within ahead callers part x t on a z rest d s p low i b here even g
     first_choose OfGroup agreed within ahead callers part x t (o.Split by) a z rest d s p low i b here even g =

@@ -14,7 +14,7 @@ use Rattle.fk_meaning_operation.specs.declared.operation.SplitKind.TheVariants.{
 use Rattle.fk_meaning_forms.specs.declared.tables.Region.{Region}
 use Rattle.fk_meaning_forms.specs.Code.{perform, choose}
 use Rattle.fk_meaning_forms.specs.Tables.{Tables, note, slot, frame_at}
-use Rattle.fk_meaning_forms.specs.Expressions.{Coded, nowhere, plain, Standing, Signature, agreed, addressed, assigned, dropped, variable, framed, parameters, value}
+use Rattle.fk_meaning_forms.specs.Expressions.{Coded, nowhere, plain, ResultLocation, Signature, agreed, addressed, assigned, dropped, variable, framed, parameters, value}
 use Rattle.fk_meaning.proofs.Spine.{untrue}
 use Rattle.fk_meaning.proofs.Kept.{entered}
 use Rattle.fk_lockstep.proofs.Kept as k
@@ -88,10 +88,10 @@ module _ (tables : Tables) (functions : (binding : ℕ) → Signature) (may_call
     enters = enters;
   }
 
-  pub addresses : (who : Who) → (s : Standing) (rest : Coded) → Ok who rest → Ok who (addressed tables functions s rest)
+  pub addresses : (who : Who) → (s : ResultLocation) (rest : Coded) → Ok who rest → Ok who (addressed tables functions s rest)
   addresses who s rest p = k.addresses kept who s rest p
 
-  pub assigns : (who : Who) → (s : Standing) (rest : Coded) → Ok who rest → Ok who (assigned tables functions s rest)
+  pub assigns : (who : Who) → (s : ResultLocation) (rest : Coded) → Ok who rest → Ok who (assigned tables functions s rest)
   assigns who s rest p = k.assigns kept who s rest p
 
   pub drops : (who : Who) → (at : ℕ) (rest : Coded) → Ok who rest → Ok who (dropped tables functions at rest)

@@ -12,9 +12,9 @@ use Rattle.fk_meaning_operation.specs.declared.operation.OwnValue.TheVariants as
 use Rattle.fk_meaning_operation.specs.declared.operation.SplitKind.TheVariants.{IfAlone, IfElse, Loop, Fork}
 use Rattle.fk_meaning_forms.specs.declared.tables.Region.{Region}
 use Rattle.fk_meaning_forms.specs.Code as c
-use Rattle.fk_meaning_forms.specs.Code.{done, perform, choose, while, until, quit, break, continue, ends}
+use Rattle.fk_meaning_forms.specs.Code.{done, perform, choose, while, until, quit, ends}
 use Rattle.fk_meaning_forms.specs.Tables.{Tables, note, frame_at}
-use Rattle.fk_meaning_forms.specs.Expressions.{Coded, Standing, nowhere, plain, agreed, token, framed, Signature, addressed, assigned, dropped, variable, value}
+use Rattle.fk_meaning_forms.specs.Expressions.{Coded, ResultLocation, nowhere, plain, agreed, token, framed, Signature, addressed, assigned, dropped, variable, value}
 use Rattle.fk_meaning_forms.specs.Statements.{Inside, is_scalar, used, used_or, value_or, declared, all_declared, part_frame, leaving, tested, looping, left_by, executed, all_executed, end_of, body_of}
 use Rattle.fk_meaning.specs.Shape.{Exits, none, of_function, of_turn}
 use Rattle.fk_meaning.specs.Shaped.{is_split, of_branch, StatementShaped, StatementsShaped}
@@ -83,7 +83,7 @@ module _ (tables : Tables) (functions : (binding : ℕ) → Signature) (may_call
 
   declares_one : (who : Who) (x : DeclaredTree) → Calls tables may_call (is_group who) x.name → TellsIf who x.first → Keeps who (declared tables functions x)
   declares_one who x calls h rest q =
-      let k : Standing → Coded = λ s. addressed tables functions s (value_or tables functions (plain (o.Push 0)) x.first (assigned tables functions s (plain o.DropLast rest))) in
+      let k : ResultLocation → Coded = λ s. addressed tables functions s (value_or tables functions (plain (o.Push 0)) x.first (assigned tables functions s (plain o.DropLast rest))) in
       either who (is_scalar x) (variable tables functions x.name k) rest
       (names tables functions may_call frameless who x.name calls k
       (λ s fits.

@@ -8,11 +8,11 @@ use Rattle.fk_meaning.specs.Shape.{Exits, none, of_test, of_turn, begins, Shape}
 use Rattle.fk_meaning.proofs.Spine.{untrue, broken_append}
 use Rattle.fk_meaning.proofs.Nested.{Loop, Nested, nested_append, turn_allows, test_allows, turn_nested}
 use Rattle.fk_meaning.proofs.Steps.{WorkNested, is_stepped}
-use Rattle.fk_lockstep.specs.Course.{Stand, DoesNext}
+use Rattle.fk_lockstep.specs.Course.{Context, DoesNext}
 use Rattle.fk_lockstep_structure.specs.Placed.{Who, is_outermost, Placed}
 use Rattle.fk_lockstep_structure.specs.Ahead.{starts, all_outs, AreCourses}
 use Rattle.fk_lockstep_structure.proofs.Even.{at, Even, EvenBehind, even_append, even_turn, even_again}
-use Rattle.fk_lockstep_structure.proofs.Far.{stand_of, Goes}
+use Rattle.fk_lockstep_structure.proofs.Far.{context_of, Goes}
 use Rattle.fk_lockstep_structure.proofs.Behind.{F, Far, far_stable, far_settled, idle, Returns, Behind, Steps, All, before_more}
 use Rattle.fk_lockstep_structure.proofs.First.{of_call, first_perform, first_choose, first_quit, calls_in, first_ends}
 
@@ -21,7 +21,7 @@ module _ (may_call : (in_group : Bool) → (function : ℕ) → Bool) (bodies : 
   pub first : (n : ℕ) → All may_call bodies n → (who : Who) (agreed within : Bool) (ahead : List Work) (callers : List (Code ℕ)) (part : Bool) (x : Exits) (code d : Code ℕ)
       → Shape part false x code → Placed may_call who false code → is_outermost who ≡ false → Steps may_call bodies who agreed code
       → Behind may_call bodies n who within ahead callers part x d → (here : Work) → starts here ≡ ahead → Goes here (step bodies (append code d) callers) → (code ≡ done → ⊥)
-      → DoesNext (next bodies) all_outs (F may_call bodies n) (stand_of who agreed within) here (step bodies (append code d) callers)
+      → DoesNext (next bodies) all_outs (F may_call bodies n) (context_of who agreed within) here (step bodies (append code d) callers)
   first n ih who agreed within ahead callers part x done d s p low i b here even g never = absurd (never refl)
   first n ih who agreed within ahead callers part x (perform t op rest) d s p low i b here even g never =
       first_perform may_call bodies main facts n ih who agreed within ahead callers part x t op rest d s p low i b here even g
@@ -87,8 +87,8 @@ module _ (may_call : (in_group : Bool) → (function : ℕ) → Bool) (bodies : 
 
   module _ (who : Who) (within : Bool) (ahead : List Work) (callers : List (Code ℕ)) (x : Exits) (shrinking : Bool) (test body after rest : Code ℕ)
       (h : IsLoop who ahead callers x shrinking test body after rest) where
-    abbrev stand : Stand
-    stand = stand_of who false within
+    abbrev context : Context
+    context = context_of who false within
 
     abbrev as_loop : Loop test body after rest
     as_loop = record {
@@ -117,10 +117,10 @@ module _ (may_call : (in_group : Bool) → (function : ℕ) → Bool) (bodies : 
     even_behind : EvenBehind may_call ahead callers (of_turn shrinking x) (turn test body after rest)
     even_behind = record { onward = turn_is_even; breaks = λ e. h.even; continues = λ e. after_even }
 
-    pub turn_far : (n : ℕ) → Far may_call bodies n stand callers (append after (again test body after rest)) → Far may_call bodies n stand callers (turn test body after rest)
-    turn_far n far = far_settled may_call bodies n stand callers (turn test body after rest) (idle may_call bodies n stand (at (turn test body after rest) callers) refl) far
+    pub turn_far : (n : ℕ) → Far may_call bodies n context callers (append after (again test body after rest)) → Far may_call bodies n context callers (turn test body after rest)
+    turn_far n far = far_settled may_call bodies n context callers (turn test body after rest) (idle may_call bodies n context (at (turn test body after rest) callers) refl) far
 
-    pub turn_behind : (n : ℕ) → Far may_call bodies n stand callers (append after (again test body after rest)) → (shrinking ≡ false → Far may_call bodies n stand callers rest)
+    pub turn_behind : (n : ℕ) → Far may_call bodies n context callers (append after (again test body after rest)) → (shrinking ≡ false → Far may_call bodies n context callers rest)
         → ((if shrinking then false else x.returns) ≡ true → Returns may_call bodies n who within ahead callers)
         → Behind may_call bodies n who within ahead callers false (of_turn shrinking x) (turn test body after rest)
     turn_behind n far behind returns = record {
@@ -138,7 +138,7 @@ module _ (may_call : (in_group : Bool) → (function : ℕ) → Bool) (bodies : 
       returns = returns;
     }
 
-    test_behind : (n : ℕ) → Far may_call bodies n stand callers (append body (turn test body after rest)) → (shrinking ≡ false → Far may_call bodies n stand callers rest)
+    test_behind : (n : ℕ) → Far may_call bodies n context callers (append body (turn test body after rest)) → (shrinking ≡ false → Far may_call bodies n context callers rest)
         → Behind may_call bodies n who within ahead callers false (of_test shrinking) (append body (turn test body after rest))
     test_behind n far behind =
         let broken_is = sym (broken_append false false (of_turn shrinking x) body (turn test body after rest) h.body_in) in
@@ -157,14 +157,14 @@ module _ (may_call : (in_group : Bool) → (function : ℕ) → Bool) (bodies : 
           onward = λ e. far;
           breaks = λ e. untrue e;
           continues = λ e. untrue e;
-          tests = λ e f. subst (λ c. Far may_call bodies n stand callers c) broken_is (behind f);
+          tests = λ e f. subst (λ c. Far may_call bodies n context callers c) broken_is (behind f);
           returns = λ e. untrue e;
         }
 
     -- one operation further
-    pub again_far : (n : ℕ) → All may_call bodies n → Far may_call bodies n stand callers (again test body after rest) → (shrinking ≡ false → Far may_call bodies n stand callers rest)
+    pub again_far : (n : ℕ) → All may_call bodies n → Far may_call bodies n context callers (again test body after rest) → (shrinking ≡ false → Far may_call bodies n context callers rest)
         → ((if shrinking then false else x.returns) ≡ true → Returns may_call bodies n who within ahead callers)
-        → Far may_call bodies (suc n) stand callers (again test body after rest)
+        → Far may_call bodies (suc n) context callers (again test body after rest)
     again_far n ih far behind returns =
         let here = at (again test body after rest) callers in
         let this = append body (turn test body after rest) in
@@ -173,7 +173,7 @@ module _ (may_call : (in_group : Bool) → (function : ℕ) → Bool) (bodies : 
         let this_far = ih who false within ahead callers false (of_turn shrinking x) body (turn test body after rest) h.body_in h.body_placed h.low h.body_steps
         (turn_behind n after_far behind returns) in
         let never = test_not_done shrinking test h.test_in in
-        far_stable may_call bodies (suc n) stand callers (again test body after rest) refl (
+        far_stable may_call bodies (suc n) context callers (again test body after rest) refl (
           first n ih who false within ahead callers false (of_test shrinking) test this h.test_in h.test_placed h.low h.test_steps
               (test_behind n this_far behind) here (again_even 0) (again_goes test body after rest callers again_nested never) never,
           far 0,

@@ -16,7 +16,7 @@ use Rattle.fk_meaning_forms.specs.declared.tables.Region.{Region}
 use Rattle.fk_meaning_forms.specs.Code as c
 use Rattle.fk_meaning_forms.specs.Code.{Code, done, perform, choose, while, until, turn, again, quit, break, continue, call, ends, size, numbered}
 use Rattle.fk_meaning_forms.specs.Tables.{Tables, note, frame_at}
-use Rattle.fk_meaning_forms.specs.Expressions.{Coded, nowhere, plain, Standing, Signature, agreed, token, addressed, assigned, dropped, variable, framed, value}
+use Rattle.fk_meaning_forms.specs.Expressions.{Coded, nowhere, plain, ResultLocation, Signature, agreed, token, addressed, assigned, dropped, variable, framed, value}
 use Rattle.fk_meaning_forms.specs.Statements.{Inside, is_scalar, used, used_or, value_or, declared, all_declared, part_frame, leaving, tested, looping, left_by, executed, all_executed, end_of, body_of}
 use Rattle.fk_meaning.specs.Shape.{ends_part}
 use Rattle.fk_meaning.proofs.Spine.{untrue}
@@ -175,7 +175,7 @@ module _ (may_call : (in_group : Bool) → (function : ℕ) → Bool) (functions
 
     declares_one : (who : Who) (x : DeclaredTree) → Calls tables may_call (is_group who) x.name → OptionInPlace tables may_call (is_group who) x.first → Keeps (declared tables functions x)
     declares_one who x calls h rest q =
-        let k' : Standing → Coded = λ s. addressed tables functions s (value_or tables functions (plain (o.Push 0)) x.first (assigned tables functions s (plain o.DropLast rest))) in
+        let k' : ResultLocation → Coded = λ s. addressed tables functions s (value_or tables functions (plain (o.Push 0)) x.first (assigned tables functions s (plain o.DropLast rest))) in
         either (is_scalar x) (variable tables functions x.name k') rest
         (k.names kept who x.name calls k'
         (λ s fits.

@@ -5,14 +5,14 @@ use Rattle.fk_syntax.specs.declared.facts.Note.{Note}
 use Rattle.fk_syntax.specs.declared.place.Spot.{Spot}
 use Rattle.fk_syntax.specs.Tree.{Tree}
 use Rattle.fk_syntax.specs.Program as p
-use Rattle.fk_syntax.specs.Program.{DeclaredTree, Statement, Statements, FunctionTree, ProgramTree}
+use Rattle.fk_syntax.specs.Program.{DeclaredTree, Statement, Statements}
 use Rattle.fk_meaning_operation.specs.declared.operation.Operation.TheVariants as o
 use Rattle.fk_meaning_operation.specs.declared.operation.OwnValue.TheVariants as n
 use Rattle.fk_meaning_operation.specs.declared.operation.SplitKind.TheVariants.{IfAlone, IfElse, Loop, Fork}
 use Rattle.fk_meaning_forms.specs.Code as c
-use Rattle.fk_meaning_forms.specs.Code.{Code, done, perform, choose, while, until, turn, again, quit, break, continue, call, ends, size, numbered}
+use Rattle.fk_meaning_forms.specs.Code.{done, choose, while, until, quit, ends}
 use Rattle.fk_meaning_forms.specs.Tables.{Tables, note, frame_at}
-use Rattle.fk_meaning_forms.specs.Expressions.{Coded, Standing, nowhere, plain, agreed, token, Signature, addressed, assigned, dropped, variable, value}
+use Rattle.fk_meaning_forms.specs.Expressions.{Coded, ResultLocation, nowhere, plain, agreed, token, Signature, addressed, assigned, dropped, variable, value}
 use Rattle.fk_meaning_forms.specs.Statements.{Inside, is_scalar, used, used_or, value_or, declared, all_declared, part_frame, leaving, tested, looping, left_by, executed, all_executed, end_of, body_of}
 use Rattle.fk_meaning.proofs.Spine.{untrue}
 use Rattle.fk_lockstep.specs.InStep.{InStep}
@@ -20,7 +20,7 @@ use Rattle.fk_lockstep.specs.Noted.{StatementNoted}
 use Rattle.fk_lockstep.proofs.Statements.{forms_are_in_step}
 use Rattle.fk_lockstep.proofs.Forms.{frames as framed_in_step}
 use Rattle.fk_lockstep_structure.specs.Placed as w
-use Rattle.fk_lockstep_structure.specs.Placed.{Who, OfGroup, OfBody, OfMain, is_group, is_outermost, is_begin, inner, callee_of, may_end, who_in, Placed}
+use Rattle.fk_lockstep_structure.specs.Placed.{Who, OfGroup, OfBody, OfMain, is_group, inner, may_end, Placed}
 use Rattle.fk_lockstep_structure.specs.InPlace.{Splits, Calls, InPlace, OptionInPlace, VariablesInPlace, StatementInPlace, StatementsInPlace}
 use Rattle.fk_lockstep_structure.proofs.Forms.{Ok, either, splits_to, agrees_or, addresses, assigns, drops, names, frames, value_in_place, inner_group}
 
@@ -59,7 +59,7 @@ module _ (tables : Tables) (functions : (binding : ℕ) → Signature) (may_call
 
   declares_one : (who : Who) (x : DeclaredTree) → Calls tables may_call (is_group who) x.name → TellsIf who x.first → Keeps who (declared tables functions x)
   declares_one who x calls h rest q =
-      let k : Standing → Coded = λ s. addressed tables functions s (value_or tables functions (plain (o.Push 0)) x.first (assigned tables functions s (plain o.DropLast rest))) in
+      let k : ResultLocation → Coded = λ s. addressed tables functions s (value_or tables functions (plain (o.Push 0)) x.first (assigned tables functions s (plain o.DropLast rest))) in
       either tables functions may_call who (is_scalar x) (variable tables functions x.name k) rest
       (names tables functions may_call who x.name calls k
       (λ s fits.

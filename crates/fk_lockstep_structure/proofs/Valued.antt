@@ -27,7 +27,7 @@ use Rattle.fk_meaning_forms.specs.Code.{done, perform, choose, call}
 use Rattle.fk_meaning_forms.specs.Tables.{Tables, no_binding, note, kind_at, is_array, is_void, is_unsigned, slot, frame_at}
 use Rattle.fk_meaning_forms.specs.Signs.{operator_of, is_shift, move_of}
 use Rattle.fk_meaning_forms.specs.Texts.{text_of}
-use Rattle.fk_meaning_forms.specs.Expressions.{Coded, nowhere, plain, Standing, OnList, AtAddress, InWord, ToCall, Stands, token, spot_of, is_name, Signature, put_bytes, moved, agreed, checked, valued, addressed, fetched, assigned, value_of, dropped, predeclared, placed, variable, operate, updated, one, prefixed, truth, logical, chosen, joined, assignment, member, is_deep, indexed, dotted, pointed, step_back, raised, arguments, framed, parameters, multiprefix, with_one, called_predeclared, called, calling, stands, linked, suffixed, all_stand, value}
+use Rattle.fk_meaning_forms.specs.Expressions.{Coded, nowhere, plain, ResultLocation, OnList, AtAddress, InWord, ToCall, Evaluation, token, spot_of, is_name, Signature, put_bytes, moved, agreed, checked, valued, addressed, fetched, assigned, value_of, dropped, predeclared, placed, variable, operate, updated, one, prefixed, truth, logical, chosen, joined, assignment, member, is_deep, indexed, dotted, pointed, step_back, raised, arguments, framed, parameters, multiprefix, with_one, called_predeclared, called, calling, evaluated, linked, suffixed, all_evaluated, value}
 use Rattle.fk_meaning.specs.Calls.{takes_two, TakesEnough}
 use Rattle.fk_meaning.specs.Shape.{ends_part}
 use Rattle.fk_meaning.proofs.Spine.{untrue}
@@ -53,7 +53,7 @@ abbrev up : (gives : Bool) → ℕ → ℕ
 up true m = suc m
 up false m = m
 
--- by how an expression stands: a word of a processor's own is not among the values yet
+-- by where the result of an expression is: a word of a processor's own is not among the values yet
 abbrev up_of : Way → ℕ → ℕ
 up_of Valued m = suc m
 up_of Placed m = suc m
@@ -70,13 +70,13 @@ module _ (may_call : (function : ℕ) → Bool) (tables : Tables) (functions : (
   abbrev above : Option ℕ → Coded → Option ℕ
   above after code = pending.above results after code
 
-  abbrev Fits : Way → Standing → Type 0
+  abbrev Fits : Way → ResultLocation → Type 0
   Fits Valued OnList = Unit {0}
   Fits Absent OnList = Unit {0}
   Fits Placed (AtAddress deep spot) = Unit {0}
   Fits Word (InWord variable) = Unit {0}
   Fits (Function name) (ToCall other) = (name ≡ other) × (may_call (note tables name.at).binding ≡ true)
-  Fits way standing = ⊥
+  Fits way location = ⊥
 
   on : {way : Bool} {after : Option ℕ} (t' : Place) (op : Operation) (m m' : ℕ) (rest : Coded) → stands_alone op ≡ true → ends_part op ≡ false → above_before op m ≡ Some m'
       → At may_call results caller way after m rest → At may_call results caller way after m' (perform t' op rest)
@@ -86,11 +86,11 @@ module _ (may_call : (function : ℕ) → Bool) (tables : Tables) (functions : (
     leading = λ is. and_from _ _ (ap not p) (a.leading is);
   }
 
-  abbrev Goes : Way → (Standing → Coded) → Bool → Option ℕ → ℕ → Type 0
-  Goes w k way after m = (s : Standing) → Fits w s → At may_call results caller way after (up_of w m) (k s)
+  abbrev Goes : Way → (ResultLocation → Coded) → Bool → Option ℕ → ℕ → Type 0
+  Goes w k way after m = (s : ResultLocation) → Fits w s → At may_call results caller way after (up_of w m) (k s)
 
-  abbrev Good : Way → Stands → Type 0
-  Good w e = (way : Bool) (after : Option ℕ) (m : ℕ) (k : Standing → Coded) → Goes w k way after m → At may_call results caller way after m (e k)
+  abbrev Good : Way → Evaluation → Type 0
+  Good w e = (way : Bool) (after : Option ℕ) (m : ℕ) (k : ResultLocation → Coded) → Goes w k way after m → At may_call results caller way after m (e k)
 
   -- code that leaves one value more
   abbrev Adds : (Coded → Coded) → Type 0
@@ -160,7 +160,7 @@ module _ (may_call : (function : ℕ) → Bool) (tables : Tables) (functions : (
       checks true spot m rest a = on spot.place (o.Check false) (suc m) (suc m) rest refl refl refl a
       checks false spot m rest a = a
 
-      values_at : (w : Way) (s : Standing) (rest : Coded) (m : ℕ) → Fits w s → At may_call results caller way after (up (gives w) m) rest → At may_call results caller way after (up_of w m) (valued tables functions s rest)
+      values_at : (w : Way) (s : ResultLocation) (rest : Coded) (m : ℕ) → Fits w s → At may_call results caller way after (up (gives w) m) rest → At may_call results caller way after (up_of w m) (valued tables functions s rest)
       values_at Valued OnList rest m r a = a
       values_at Absent OnList rest m r a = a
       values_at Placed (AtAddress deep spot) rest m r a =
@@ -170,14 +170,14 @@ module _ (may_call : (function : ℕ) → Bool) (tables : Tables) (functions : (
       values_at (Function name) (ToCall other) rest m r a = a
       values_at w s rest m r a = absurd r
 
-      addresses_at : (w : Way) (s : Standing) (rest : Coded) (m : ℕ) → IsTarget w → Fits w s → At may_call results caller way after (up_of w m) rest → At may_call results caller way after (up_of w m) (addressed tables functions s rest)
+      addresses_at : (w : Way) (s : ResultLocation) (rest : Coded) (m : ℕ) → IsTarget w → Fits w s → At may_call results caller way after (up_of w m) rest → At may_call results caller way after (up_of w m) (addressed tables functions s rest)
       addresses_at Placed (AtAddress deep spot) rest m i r a = checks deep spot m rest a
       addresses_at Word (InWord variable') rest m i r a = a
       addresses_at Placed s rest m i r a = absurd r
       addresses_at Word s rest m i r a = absurd r
       addresses_at w s rest m i r a = absurd i
 
-      fetches_at : (w : Way) (s : Standing) (rest : Coded) (m : ℕ) → IsTarget w → Fits w s → At may_call results caller way after (suc (up_of w m)) rest → At may_call results caller way after (up_of w m) (fetched tables functions s rest)
+      fetches_at : (w : Way) (s : ResultLocation) (rest : Coded) (m : ℕ) → IsTarget w → Fits w s → At may_call results caller way after (suc (up_of w m)) rest → At may_call results caller way after (up_of w m) (fetched tables functions s rest)
       fetches_at Placed (AtAddress deep spot) rest m i r a =
           checks deep spot m (plain o.CopyLast (plain o.Read rest))
           (on nowhere o.CopyLast (suc (suc m)) (suc m) (plain o.Read rest) refl refl refl (on nowhere o.Read (suc (suc m)) (suc (suc m)) rest refl refl refl a))
@@ -186,7 +186,7 @@ module _ (may_call : (function : ℕ) → Bool) (tables : Tables) (functions : (
       fetches_at Word s rest m i r a = absurd r
       fetches_at w s rest m i r a = absurd i
 
-      assigns_at : (w : Way) (s : Standing) (rest : Coded) (m : ℕ) → IsTarget w → Fits w s → At may_call results caller way after (suc m) rest → At may_call results caller way after (suc (up_of w m)) (assigned tables functions s rest)
+      assigns_at : (w : Way) (s : ResultLocation) (rest : Coded) (m : ℕ) → IsTarget w → Fits w s → At may_call results caller way after (suc m) rest → At may_call results caller way after (suc (up_of w m)) (assigned tables functions s rest)
       assigns_at Placed (AtAddress deep spot) rest m i r a = on nowhere o.Write (suc m) (suc (suc m)) rest refl refl refl a
       assigns_at Word (InWord variable') rest m i r a = on nowhere (o.Set variable') (suc m) (suc m) rest refl refl refl a
       assigns_at Placed s rest m i r a = absurd r
@@ -212,10 +212,10 @@ module _ (may_call : (function : ℕ) → Bool) (tables : Tables) (functions : (
       members : (at : ℕ) (m : ℕ) (rest : Coded) → At may_call results caller way after (suc m) rest → At may_call results caller way after (suc m) (member tables functions at rest)
       members at m rest a = pushes _ (suc m) (plain (o.Binary f.Add false) rest) (on nowhere (o.Binary f.Add false) (suc m) (suc (suc m)) rest refl refl refl a)
 
-    value_at : (w : Way) (e : Stands) → Good w e → (way : Bool) (after : Option ℕ) (m : ℕ) (rest : Coded) → At may_call results caller way after (up (gives w) m) rest → At may_call results caller way after m (value_of tables functions e rest)
+    value_at : (w : Way) (e : Evaluation) → Good w e → (way : Bool) (after : Option ℕ) (m : ℕ) (rest : Coded) → At may_call results caller way after (up (gives w) m) rest → At may_call results caller way after m (value_of tables functions e rest)
     value_at w e good way after m rest a = good way after m (λ s. valued tables functions s rest) (λ s r. values_at w s rest m r a)
 
-    adds : (w : Way) (e : Stands) → Good w e → gives w ≡ true → Adds (value_of tables functions e)
+    adds : (w : Way) (e : Evaluation) → Good w e → gives w ≡ true → Adds (value_of tables functions e)
     adds w e good is way after m rest a = value_at w e good way after m rest (subst (λ b. At may_call results caller way after (up b m) rest) (sym is) a)
 
     -- names
@@ -257,7 +257,7 @@ module _ (may_call : (function : ℕ) → Bool) (tables : Tables) (functions : (
         by false q = homes (slot tables (note tables name.at).binding).home (slot tables (note tables name.at).binding).index name may way after m k q
 
     -- operators
-    updates : (sign : Sign) (w : Way) (target : Stands) → Good w target → IsTarget w → (left right : ℕ) (e : Coded → Coded) → Adds e
+    updates : (sign : Sign) (w : Way) (target : Evaluation) → Good w target → IsTarget w → (left right : ℕ) (e : Coded → Coded) → Adds e
         → Good Valued (updated tables functions sign target left right e)
     updates sign w target good is left right e keeps way after m k p =
         good way after m (λ s. fetched tables functions s (e (operate tables functions sign left right (assigned tables functions s (k OnList)))))
@@ -270,7 +270,7 @@ module _ (may_call : (function : ℕ) → Bool) (tables : Tables) (functions : (
     ones : Adds (one tables functions)
     ones way after m rest a = pushes 1 m rest a
 
-    prefixes : (spot : Spot) (sign : Sign) (w : Way) (e : Stands) (at : ℕ) → Good w e → PrefixNeeds sign w → Good (prefix_way sign) (prefixed tables functions spot sign e at)
+    prefixes : (spot : Spot) (sign : Sign) (w : Way) (e : Evaluation) (at : ℕ) → Good w e → PrefixNeeds sign w → Good (prefix_way sign) (prefixed tables functions spot sign e at)
     prefixes spot g.Minus w e at good is way after m k q =
         adds w e good is way after m (plain (o.Apply u.Negate) (k OnList)) (on nowhere (o.Apply u.Negate) (suc m) (suc m) (k OnList) refl refl refl (q OnList tt))
     prefixes spot g.Tilde w e at good is way after m k q =
@@ -285,12 +285,12 @@ module _ (may_call : (function : ℕ) → Bool) (tables : Tables) (functions : (
     prefixes spot g.Decrement w e at good is way after m k q = updates g.Minus w e good is at spot.at (one tables functions) ones way after m k q
     prefixes spot sign w e at good is way after m k q = adds w e good is way after m (k OnList) (q OnList tt)
 
-    truths : (w : Way) (e : Stands) → Good w e → gives w ≡ true → (way : Bool) (after : Option ℕ) (m : ℕ) (rest : Coded) → At may_call results caller way after (suc m) rest → At may_call results caller way after m (truth tables functions e rest)
+    truths : (w : Way) (e : Evaluation) → Good w e → gives w ≡ true → (way : Bool) (after : Option ℕ) (m : ℕ) (rest : Coded) → At may_call results caller way after (suc m) rest → At may_call results caller way after m (truth tables functions e rest)
     truths w e good is way after m rest a =
         adds w e good is way after m (plain (o.Push 0) (plain (o.Binary f.Ne false) rest))
         (pushes 0 (suc m) (plain (o.Binary f.Ne false) rest) (on nowhere (o.Binary f.Ne false) (suc m) (suc (suc m)) rest refl refl refl a))
 
-    logicals : (spot : Spot) (split : SplitKind) (onward : Bool) (other : ℕ) (w x : Way) (a b : Stands) → Good w a → gives w ≡ true → Good x b → gives x ≡ true
+    logicals : (spot : Spot) (split : SplitKind) (onward : Bool) (other : ℕ) (w x : Way) (a b : Evaluation) → Good w a → gives w ≡ true → Good x b → gives x ≡ true
         → is_fork (o.Split split) ≡ false → ((m : ℕ) → above_choice (o.Split split) true m ≡ Some (suc m)) → ((m : ℕ) → above_choice (o.Split split) false (suc m) ≡ Some (suc m))
         → Good Valued (logical tables functions spot split onward other a b)
     logicals spot split onward other w x a b good_a has_a good_b has_b no_fork true_way false_way way after m k p =
@@ -314,7 +314,7 @@ module _ (may_call : (function : ℕ) → Bool) (tables : Tables) (functions : (
     result_fits true = tt
     result_fits false = tt
 
-    choices : (spot : Spot) (w x y : Way) (c a b : Stands) → Good w c → gives w ≡ true → Good x a → Good y b → gives y ≡ gives x
+    choices : (spot : Spot) (w x y : Way) (c a b : Evaluation) → Good w c → gives w ≡ true → Good x a → Good y b → gives y ≡ gives x
         → Good (result (gives x)) (chosen tables functions spot c a b)
     choices spot w x y c a b good_c has_c good_a good_b alike way after m k p =
         let l = up (gives x) m in
@@ -336,7 +336,7 @@ module _ (may_call : (function : ℕ) → Bool) (tables : Tables) (functions : (
         (chooses nowhere (o.Branch true) (first done) (second done) (k OnList) m l m m refl refl behind
         (in_first done (arm_ends l)) (in_second done (arm_ends l)) refl refl)))
 
-    joins : (spot : Spot) (sign : Sign) (w : Way) (a : Stands) (left : ℕ) (x : Way) (b : Stands) (right : ℕ) → Good w a → Good x b → JoinNeeds tables functions sign w left x
+    joins : (spot : Spot) (sign : Sign) (w : Way) (a : Evaluation) (left : ℕ) (x : Way) (b : Evaluation) (right : ℕ) → Good w a → Good x b → JoinNeeds tables functions sign w left x
         → Good (joined_way sign x) (joined tables functions spot sign a left b right)
     joins spot g.Comma w a left x b right good_a good_b is way after m k p =
         let more = value_of tables functions b (k OnList) in
@@ -348,7 +348,7 @@ module _ (may_call : (function : ℕ) → Bool) (tables : Tables) (functions : (
         let op = operate tables functions sign left right (k OnList) in
         adds w a good_a is.0 way after m (value_of tables functions b op) (adds x b good_b is.1 way after (suc m) op (operates sign left right m (k OnList) (p OnList tt)))
 
-    assignments : (sign : Sign) (w : Way) (target : Stands) (left : ℕ) (x : Way) (e : Stands) (right : ℕ) → Good w target → IsTarget w → Good x e → gives x ≡ true
+    assignments : (sign : Sign) (w : Way) (target : Evaluation) (left : ℕ) (x : Way) (e : Evaluation) (right : ℕ) → Good w target → IsTarget w → Good x e → gives x ≡ true
         → Good Valued (assignment tables functions sign target left e right)
     assignments g.Assign w target left x e right good is good_e has way after m k p =
         good way after m (λ s. addressed tables functions s (value_of tables functions e (assigned tables functions s (k OnList))))
@@ -359,14 +359,14 @@ module _ (may_call : (function : ℕ) → Bool) (tables : Tables) (functions : (
         updates sign w target good is left right (value_of tables functions e) (adds x e good_e has) way after m k p
 
     -- suffixes
-    indexes : (spot : Spot) (w x : Way) (e by : Stands) → Good w e → gives w ≡ true → Good x by → gives x ≡ true → Good Placed (indexed tables functions spot e by)
+    indexes : (spot : Spot) (w x : Way) (e by : Evaluation) → Good w e → gives w ≡ true → Good x by → gives x ≡ true → Good Placed (indexed tables functions spot e by)
     indexes spot w x e by good has good_by has_by way after m k p =
         let address = k (AtAddress true spot) in
         let op = plain (o.Index (4 * (kind_at tables spot.at).words)) address in
         adds w e good has way after m (value_of tables functions by op)
         (adds x by good_by has_by way after (suc m) op (on nowhere (o.Index (4 * (kind_at tables spot.at).words)) (suc m) (suc (suc m)) address refl refl refl (p (AtAddress true spot) tt)))
 
-    dots : (spot : Spot) (at : ℕ) (w : Way) (e : Stands) → Good w e → HasAddress w → Good Placed (dotted tables functions spot at e)
+    dots : (spot : Spot) (at : ℕ) (w : Way) (e : Evaluation) → Good w e → HasAddress w → Good Placed (dotted tables functions spot at e)
     dots spot at Placed e good is way after m k p =
         good way after m (λ s. member tables functions at (k (AtAddress (is_deep tables functions s) spot))) deep
       where
@@ -377,11 +377,11 @@ module _ (may_call : (function : ℕ) → Bool) (tables : Tables) (functions : (
         deep (ToCall name) fits = absurd fits
     dots spot at w e good is way after m k p = absurd is
 
-    points : (spot : Spot) (at : ℕ) (w : Way) (e : Stands) → Good w e → gives w ≡ true → Good Placed (pointed tables functions spot at e)
+    points : (spot : Spot) (at : ℕ) (w : Way) (e : Evaluation) → Good w e → gives w ≡ true → Good Placed (pointed tables functions spot at e)
     points spot at w e good has way after m k p =
         adds w e good has way after m (member tables functions at (k (AtAddress true spot))) (members at m (k (AtAddress true spot)) (p (AtAddress true spot) tt))
 
-    raises : (sign back : Sign) (w : Way) (e : Stands) (at : ℕ) → Good w e → IsTarget w → Good Valued (raised tables functions sign back e at)
+    raises : (sign back : Sign) (w : Way) (e : Evaluation) (at : ℕ) → Good w e → IsTarget w → Good Valued (raised tables functions sign back e at)
     raises sign back w e at good is way after m k p =
         updates sign w e good is at 0 (one tables functions) ones way after m (λ s. plain (o.Push (step_back tables functions at)) (plain (operator_of back false) (k OnList))) undone
       where
@@ -389,12 +389,12 @@ module _ (may_call : (function : ℕ) → Bool) (tables : Tables) (functions : (
         undone s fits = pushes (step_back tables functions at) (suc m) (plain (operator_of back false) (k OnList)) (operators back false m (k OnList) (p OnList tt))
 
     -- calls of predeclared functions
-    abbrev AllAdd : Trees → List Stands → Type 0
+    abbrev AllAdd : Trees → List Evaluation → Type 0
     AllAdd t.no_trees [] = Unit {0}
     AllAdd (t.tree x xs) (e ∷ es) = Adds (value_of tables functions e) × AllAdd xs es
     AllAdd xs es = ⊥
 
-    pairs : (name : Named) (by : Multiprefix) (xs : Trees) (es : List Stands) → AllAdd xs es → TakesEnough name xs → takes_two name ≡ true → Good Valued (multiprefix tables functions name by es)
+    pairs : (name : Named) (by : Multiprefix) (xs : Trees) (es : List Evaluation) → AllAdd xs es → TakesEnough name xs → takes_two name ≡ true → Good Valued (multiprefix tables functions name by es)
     pairs name by t.no_trees [] all enough two = absurd (untrue (sym enough.0 ∙ two))
     pairs name by (t.tree x t.no_trees) (a ∷ []) all enough two = absurd (untrue (sym enough ∙ two))
     pairs name by (t.tree x (t.tree y others)) (a ∷ b ∷ es) all enough two = λ way after m k p.
@@ -407,13 +407,13 @@ module _ (may_call : (function : ℕ) → Bool) (tables : Tables) (functions : (
     pairs name by (t.tree x (t.tree y others)) (a ∷ []) all enough two = absurd all.1
     pairs name by xs es all enough two = absurd all
 
-    singles : (name : Named) (act : Coded → Coded) (xs : Trees) (es : List Stands) → AllAdd xs es → TakesEnough name xs → is_name name (codes "groupsize") ≡ false
-        → (way : Bool) (after : Option ℕ) (m : ℕ) (k : Standing → Coded) → At may_call results caller way after (suc m) (act (k OnList)) → At may_call results caller way after m (with_one tables functions act es k)
+    singles : (name : Named) (act : Coded → Coded) (xs : Trees) (es : List Evaluation) → AllAdd xs es → TakesEnough name xs → is_name name (codes "groupsize") ≡ false
+        → (way : Bool) (after : Option ℕ) (m : ℕ) (k : ResultLocation → Coded) → At may_call results caller way after (suc m) (act (k OnList)) → At may_call results caller way after m (with_one tables functions act es k)
     singles name act t.no_trees [] all enough sizes way after m k a = absurd (untrue (sym sizes ∙ enough.1))
     singles name act (t.tree x others) (e ∷ es) all enough sizes way after m k a = all.0 way after m (act (k OnList)) a
     singles name act xs es all enough sizes way after m k a = absurd all
 
-    predeclared_calls : (name : Named) (xs : Trees) (es : List Stands) → AllAdd xs es → TakesEnough name xs → Good (result (predeclared_gives name)) (called_predeclared tables functions name es)
+    predeclared_calls : (name : Named) (xs : Trees) (es : List Evaluation) → AllAdd xs es → TakesEnough name xs → Good (result (predeclared_gives name)) (called_predeclared tables functions name es)
     predeclared_calls name xs es all enough way after m k p =
         by (is_name name (codes "mpadd")) (is_name name (codes "mpmax")) (is_name name (codes "mpand")) (is_name name (codes "mpor")) (is_name name (codes "groupsize"))
         (is_name name (codes "putint")) (is_name name (codes "putchar")) (is_name name (codes "malloc")) (is_name name (codes "shmalloc")) refl refl p
@@ -451,7 +451,7 @@ module _ (may_call : (function : ℕ) → Bool) (tables : Tables) (functions : (
             (on nowhere o.Agree (suc m) (suc m) (plain o.Block (k OnList)) refl refl refl (on nowhere o.Block (suc m) (suc m) (k OnList) refl refl refl (q OnList tt)))
 
     -- and of those of the program
-    arguments_on : (xs : List DeclaredTree) (ts : Trees) (es : List Stands) → AllAdd ts es → AreEnough xs ts → (way : Bool) (after : Option ℕ) (m : ℕ) (rest : Coded)
+    arguments_on : (xs : List DeclaredTree) (ts : Trees) (es : List Evaluation) → AllAdd ts es → AreEnough xs ts → (way : Bool) (after : Option ℕ) (m : ℕ) (rest : Coded)
         → At may_call results caller way after (more (length xs) m) rest → At may_call results caller way after m (arguments tables functions xs es rest)
     arguments_on [] ts es all enough way after m rest a = a
     arguments_on (x ∷ xs) t.no_trees [] all enough way after m rest a = absurd enough
@@ -477,7 +477,7 @@ module _ (may_call : (function : ℕ) → Bool) (tables : Tables) (functions : (
       leading = a.leading;
     }
 
-    own_calls : (name : Named) (xs : Trees) (es : List Stands) → AllAdd xs es → AreEnough (functions (note tables name.at).binding).parameters xs → may_call (note tables name.at).binding ≡ true
+    own_calls : (name : Named) (xs : Trees) (es : List Evaluation) → AllAdd xs es → AreEnough (functions (note tables name.at).binding).parameters xs → may_call (note tables name.at).binding ≡ true
         → Good (result (results (note tables name.at).binding)) (called tables functions name es)
     own_calls name xs es all enough may way after m k p =
         let b = (note tables name.at).binding in
@@ -487,7 +487,7 @@ module _ (may_call : (function : ℕ) → Bool) (tables : Tables) (functions : (
         (enters_on name.place b (length function.parameters) m opening (k OnList) may (opening_idle may_call results (Some (results b)) tables functions (frame_at tables function.at 0) name.place function.parameters) way after
         (subst (λ m'. At may_call results caller way after m' (k OnList)) (result_up (results b) m) (p OnList (result_fits (results b)))))
 
-    calls : (w : Way) (e : Stands) (xs : Trees) (es : List Stands) → Good w e → AllAdd xs es → CallNeeds tables functions w xs → Good (called_way tables functions w) (λ k. e (calling tables functions es k))
+    calls : (w : Way) (e : Evaluation) (xs : Trees) (es : List Evaluation) → Good w e → AllAdd xs es → CallNeeds tables functions w xs → Good (called_way tables functions w) (λ k. e (calling tables functions es k))
     calls (Function name) e xs es good all needs way after m k p = good way after m (calling tables functions es k) by
       where
         by_binding : (no : Bool) → NameTakes tables functions no name xs → may_call (note tables name.at).binding ≡ true → Goes (result (call_gives tables functions no name)) k way after m
@@ -505,7 +505,7 @@ module _ (may_call : (function : ℕ) → Bool) (tables : Tables) (functions : (
     calls w e xs es good all needs way after m k p = absurd needs
 
     mutual
-      pub evaluates : (x : Tree) → Evaluates tables functions x → Told x → Good (w.way tables functions x) (stands tables functions x)
+      pub evaluates : (x : Tree) → Evaluates tables functions x → Told x → Good (w.way tables functions x) (evaluated tables functions x)
       evaluates (t.Number spot value' unsigned) h d way after m k p = pushes value' m (k OnList) (p OnList tt)
       evaluates (t.Puts spot text) h d way after m k p = put (text_of text) m (k OnList) (p OnList tt)
       evaluates (t.Sizeof spot type) h d way after m k p = pushes (note tables spot.at).binding m (k OnList) (p OnList tt)
@@ -513,34 +513,34 @@ module _ (may_call : (function : ℕ) → Bool) (tables : Tables) (functions : (
       evaluates (t.GroupNumber spot) h d way after m k p = on nowhere (o.Get n.GroupNumber) (suc m) m (k OnList) refl refl refl (p OnList tt)
       evaluates (t.GroupRank spot) h d way after m k p = on nowhere (o.Get n.Rank) (suc m) m (k OnList) refl refl refl (p OnList tt)
       evaluates (t.Prefix spot sign operand) h d way after m k p =
-          prefixes spot sign (w.way tables functions operand) (stands tables functions operand) (token operand) (evaluates operand h.0 d) h.1 way after m k p
+          prefixes spot sign (w.way tables functions operand) (evaluated tables functions operand) (token operand) (evaluates operand h.0 d) h.1 way after m k p
       evaluates (t.Cast spot type operand) h d way after m k p =
-          adds (w.way tables functions operand) (stands tables functions operand) (evaluates operand h.0 d) h.1 way after m (k OnList) (p OnList tt)
+          adds (w.way tables functions operand) (evaluated tables functions operand) (evaluates operand h.0 d) h.1 way after m (k OnList) (p OnList tt)
       evaluates (t.Chain first links) h d way after m k p =
-          links_evaluate (stands tables functions first) (w.way tables functions first) (token first) links (evaluates first h.0 d.0) h.1 d.1 way after m k p
+          links_evaluate (evaluated tables functions first) (w.way tables functions first) (token first) links (evaluates first h.0 d.0) h.1 d.1 way after m k p
       evaluates (t.Postfix whole suffixes) h d way after m k p =
-          suffixes_evaluate (stands tables functions whole) (w.way tables functions whole) (token whole) suffixes (evaluates whole h.0 d.0) h.1 d.1 way after m k p
+          suffixes_evaluate (evaluated tables functions whole) (w.way tables functions whole) (token whole) suffixes (evaluates whole h.0 d.0) h.1 d.1 way after m k p
       evaluates (t.Assign spot sign target value') h d way after m k p =
-          assignments sign (w.way tables functions target) (stands tables functions target) (token target) (w.way tables functions value') (stands tables functions value') (token value')
+          assignments sign (w.way tables functions target) (evaluated tables functions target) (token target) (w.way tables functions value') (evaluated tables functions value') (token value')
           (evaluates target h.0 d.0) h.1 (evaluates value' h.2 d.1) h.3 way after m k p
       evaluates (t.Choose spot condition first second) h d way after m k p =
-          choices spot (w.way tables functions condition) (w.way tables functions first) (w.way tables functions second) (stands tables functions condition) (stands tables functions first) (stands tables functions second)
+          choices spot (w.way tables functions condition) (w.way tables functions first) (w.way tables functions second) (evaluated tables functions condition) (evaluated tables functions first) (evaluated tables functions second)
           (evaluates condition h.0 d.1) h.1 (evaluates first h.2 d.2) (evaluates second h.3 d.3) h.4 way after m k p
 
-      links_evaluate : (e : Stands) (w' : Way) (at : ℕ) (links : Links) → Good w' e → LinksEvaluate tables functions w' at links → told.LinksTold Decides Means links → Good (chain_way tables functions w' links) (linked tables functions e at links)
+      links_evaluate : (e : Evaluation) (w' : Way) (at : ℕ) (links : Links) → Good w' e → LinksEvaluate tables functions w' at links → told.LinksTold Decides Means links → Good (chain_way tables functions w' links) (linked tables functions e at links)
       links_evaluate e w' at t.no_links good h d = good
       links_evaluate e w' at (t.link spot sign right others) good h d =
-          links_evaluate (joined tables functions spot sign e at (stands tables functions right) (token right)) (joined_way sign (w.way tables functions right)) spot.at others
-          (joins spot sign w' e at (w.way tables functions right) (stands tables functions right) (token right) good (evaluates right h.0 d.1) h.1) h.2 d.2
+          links_evaluate (joined tables functions spot sign e at (evaluated tables functions right) (token right)) (joined_way sign (w.way tables functions right)) spot.at others
+          (joins spot sign w' e at (w.way tables functions right) (evaluated tables functions right) (token right) good (evaluates right h.0 d.1) h.1) h.2 d.2
 
-      suffixes_evaluate : (e : Stands) (w' : Way) (at : ℕ) (suffixes : Suffixes) → Good w' e → SuffixesEvaluate tables functions w' suffixes → told.SuffixesTold Decides Means suffixes → Good (suffixed_way tables functions w' suffixes) (suffixed tables functions e at suffixes)
+      suffixes_evaluate : (e : Evaluation) (w' : Way) (at : ℕ) (suffixes : Suffixes) → Good w' e → SuffixesEvaluate tables functions w' suffixes → told.SuffixesTold Decides Means suffixes → Good (suffixed_way tables functions w' suffixes) (suffixed tables functions e at suffixes)
       suffixes_evaluate e w' at t.no_suffixes good h d = good
       suffixes_evaluate e w' at (t.index spot by others) good h d =
-          suffixes_evaluate (indexed tables functions spot e (stands tables functions by)) Placed spot.at others
-          (indexes spot w' (w.way tables functions by) e (stands tables functions by) good h.0 (evaluates by h.1 d.0) h.2) h.3 d.1
+          suffixes_evaluate (indexed tables functions spot e (evaluated tables functions by)) Placed spot.at others
+          (indexes spot w' (w.way tables functions by) e (evaluated tables functions by) good h.0 (evaluates by h.1 d.0) h.2) h.3 d.1
       suffixes_evaluate e w' at (t.call spot arguments' others) good h d =
-          suffixes_evaluate (λ k. e (calling tables functions (all_stand tables functions arguments') k)) (called_way tables functions w') spot.at others
-          (calls w' e arguments' (all_stand tables functions arguments') good (all_evaluate arguments' h.1 d.0) h.0) h.2 d.1
+          suffixes_evaluate (λ k. e (calling tables functions (all_evaluated tables functions arguments') k)) (called_way tables functions w') spot.at others
+          (calls w' e arguments' (all_evaluated tables functions arguments') good (all_evaluate arguments' h.1 d.0) h.0) h.2 d.1
       suffixes_evaluate e w' at (t.dot spot name others) good h d =
           suffixes_evaluate (dotted tables functions spot name.at e) Placed spot.at others (dots spot name.at w' e good h.0) h.1 d
       suffixes_evaluate e w' at (t.arrow spot name others) good h d =
@@ -550,9 +550,9 @@ module _ (may_call : (function : ℕ) → Bool) (tables : Tables) (functions : (
       suffixes_evaluate e w' at (t.down spot others) good h d =
           suffixes_evaluate (raised tables functions g.Minus g.Plus e at) Valued spot.at others (raises g.Minus g.Plus w' e at good h.0) h.1 d
 
-      all_evaluate : (xs : Trees) → AllEvaluate tables functions xs → told.AllTold Decides Means xs → AllAdd xs (all_stand tables functions xs)
+      all_evaluate : (xs : Trees) → AllEvaluate tables functions xs → told.AllTold Decides Means xs → AllAdd xs (all_evaluated tables functions xs)
       all_evaluate t.no_trees h d = tt
-      all_evaluate (t.tree first others) h d = (adds (w.way tables functions first) (stands tables functions first) (evaluates first h.0 d.0) h.1, all_evaluate others h.2 d.1)
+      all_evaluate (t.tree first others) h d = (adds (w.way tables functions first) (evaluated tables functions first) (evaluates first h.0 d.0) h.1, all_evaluate others h.2 d.1)
 
     pub value_evaluates : (e : Tree) → IsValued tables functions e → Told e → (way : Bool) (after : Option ℕ) (m : ℕ) (rest : Coded) → At may_call results caller way after (suc m) rest → At may_call results caller way after m (value tables functions e rest)
-    value_evaluates e h d way after m rest a = adds (w.way tables functions e) (stands tables functions e) (evaluates e h.0 d) h.1 way after m rest a
+    value_evaluates e h d way after m rest a = adds (w.way tables functions e) (evaluated tables functions e) (evaluates e h.0 d) h.1 way after m rest a

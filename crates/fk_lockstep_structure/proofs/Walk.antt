@@ -11,23 +11,23 @@ use Rattle.fk_meaning.specs.Shape.{Exits, none, of_test, of_turn, begins, Either
 use Rattle.fk_meaning.proofs.Spine.{untrue, broken_append, continued_append, begins_settled}
 use Rattle.fk_meaning.proofs.Nested.{Nested, nested_append, allows_append, settles}
 use Rattle.fk_meaning.proofs.Steps.{is_stepped}
-use Rattle.fk_lockstep.specs.Course.{Stand, InGroup, Does, DoesNext}
+use Rattle.fk_lockstep.specs.Course.{Context, InGroup, Does, DoesNext}
 use Rattle.fk_lockstep_structure.specs.Placed.{Who, OfGroup, OfBody, OfMain, is_outermost, inner, Placed}
 use Rattle.fk_lockstep_structure.specs.Ahead.{all_outs, AreCourses}
 use Rattle.fk_lockstep_structure.proofs.Even.{at, settled_times, Even, even_append, opened_is, inner_low}
-use Rattle.fk_lockstep_structure.proofs.Far.{stand_of, Goes}
+use Rattle.fk_lockstep_structure.proofs.Far.{context_of, Goes}
 use Rattle.fk_lockstep_structure.proofs.Behind.{either_no, F, FollowsTo, Far, far_stable, far_settled, idle, Behind, behind_fewer, Steps, All}
 use Rattle.fk_lockstep_structure.proofs.Loops.{first, IsLoop, turn_behind, again_far}
 
 module _ (may_call : (in_group : Bool) → (function : ℕ) → Bool) (bodies : ℕ → Code ℕ) (main : ℕ) (facts : AreCourses may_call bodies main) where
   -- directly behind an agree goes what goes elsewhere
-  does_more : (P : Stand → Work → Type 0) (op : Operation) (here : Work) (rest : Bool → Work)
+  does_more : (P : Context → Work → Type 0) (op : Operation) (here : Work) (rest : Bool → Work)
       → Does (next bodies) all_outs P (InGroup false) op here rest → Does (next bodies) all_outs P (InGroup true) op here rest
   does_more P (o.Branch on) here rest h = untrue h.0
   does_more P o.Block here rest h = untrue h.0
   does_more P op here rest h = h
 
-  does_next : (P : Stand → Work → Type 0) (here : Work) (u : Option (Step Work))
+  does_next : (P : Context → Work → Type 0) (here : Work) (u : Option (Step Work))
       → DoesNext (next bodies) all_outs P (InGroup false) here u → DoesNext (next bodies) all_outs P (InGroup true) here u
   does_next P here None h = tt
   does_next P here (Some u) h = does_more P u.operation here u.rest h
@@ -37,7 +37,7 @@ module _ (may_call : (in_group : Bool) → (function : ℕ) → Bool) (bodies : 
   to_more (suc n) w h = (does_next (F may_call bodies n) w (next bodies w) h.0, to_more n w h.1)
 
   far_more : (n : ℕ) (who : Who) (agreed within : Bool) (callers : List (Code ℕ)) (code : Code ℕ)
-      → Far may_call bodies n (stand_of who false within) callers code → Far may_call bodies n (stand_of who agreed within) callers code
+      → Far may_call bodies n (context_of who false within) callers code → Far may_call bodies n (context_of who agreed within) callers code
   far_more n OfGroup true within callers code h = λ k. to_more n (at (settled_times k code) callers) (h k)
   far_more n OfGroup false within callers code h = h
   far_more n OfBody agreed within callers code h = h
@@ -116,14 +116,14 @@ module _ (may_call : (in_group : Bool) → (function : ℕ) → Bool) (bodies : 
         → Behind may_call bodies n who within ahead callers part x d → settled (append code d) ≡ append code d → (code ≡ done → ⊥)
         → next bodies (at (append code d) callers) ≡ step bodies (append code d) callers
         → Goes (at (append code d) callers) (step bodies (append code d) callers)
-        → Far may_call bodies (suc n) (stand_of who agreed within) callers (append code d)
+        → Far may_call bodies (suc n) (context_of who agreed within) callers (append code d)
     goes who agreed within ahead callers part x code d s p low i b e never f g =
         let here = at (append code d) callers in
-        let stand = stand_of who agreed within in
+        let context = context_of who agreed within in
         let even = even_append may_call ahead callers who part false false x code d low s p b.even in
         let now = first may_call bodies main facts n ih who agreed within ahead callers part x code d s p low i b here (even 0) g never in
-        far_stable may_call bodies (suc n) stand callers (append code d) e (
-          subst (λ u. DoesNext (next bodies) all_outs (F may_call bodies n) stand here u) (sym f) now,
+        far_stable may_call bodies (suc n) context callers (append code d) e (
+          subst (λ u. DoesNext (next bodies) all_outs (F may_call bodies n) context here u) (sym f) now,
           ih who agreed within ahead callers part x code d s p low i b 0,
         )
 
@@ -143,35 +143,35 @@ module _ (may_call : (in_group : Bool) → (function : ℕ) → Bool) (bodies : 
         let b' = behind_fewer may_call bodies n who within ahead callers part x d b in
         let y = append rest d in
         let r = settled y in
-        let stand = stand_of who false within in
+        let context = context_of who false within in
         let loop = loop_behind n who within ahead callers part s.1 x test body after rest d s.2 s.3 s.4 s.5 p.1 p.2 p.3 p.4 low steps.0 steps.1 steps.2 b' h.1 in
-        let same : Far may_call bodies n stand callers (append (while test body after rest) d) =
+        let same : Far may_call bodies n context callers (append (while test body after rest) d) =
         ih who false within ahead callers part x (while test body after rest) d s p low (as_while who test body after rest steps.0 steps.1 steps.2 steps.3) b' in
-        let behind : s.1 ≡ false → Far may_call bodies n stand callers r = λ e k. ih who false within ahead callers part x rest d (either_no s.1 _ _ s.5 e) p.4 low steps.3 b' (suc k) in
-        let again_goes : Far may_call bodies (suc n) stand callers (again test body after r) =
+        let behind : s.1 ≡ false → Far may_call bodies n context callers r = λ e k. ih who false within ahead callers part x rest d (either_no s.1 _ _ s.5 e) p.4 low steps.3 b' (suc k) in
+        let again_goes : Far may_call bodies (suc n) context callers (again test body after r) =
         again_far may_call bodies main facts who within ahead callers x s.1 test body after r loop n ih (λ k. same (suc k)) behind (λ e. b'.returns (not_if s.1 x.returns e)) in
         far_more (suc n) who agreed within callers (while test body after y)
-        (far_settled may_call bodies (suc n) stand callers (while test body after y) (idle may_call bodies (suc n) stand (at (while test body after y) callers) refl) again_goes)
+        (far_settled may_call bodies (suc n) context callers (while test body after y) (idle may_call bodies (suc n) context (at (while test body after y) callers) refl) again_goes)
     walk_on who agreed within ahead callers part x (until body test rest) d s p low i b =
         let h : Nested (append (until body test rest) d) = nested_append part false x (until body test rest) d s b.nested.left b.allows b.quiet b.first in
         let steps = of_until who agreed test body rest i in
         let b' = behind_fewer may_call bodies n who within ahead callers part x d b in
         let y = append rest d in
         let r = settled y in
-        let stand = stand_of who false within in
+        let context = context_of who false within in
         let loop = loop_behind n who within ahead callers part s.1 x test body done rest d s.2 s.3 (refl, refl, refl) s.4 p.2 p.1 refl p.3 low steps.0 steps.1 (as_done who) b' h.1 in
-        let same : Far may_call bodies n stand callers (append (while test body done rest) d) =
+        let same : Far may_call bodies n context callers (append (while test body done rest) d) =
         ih who false within ahead callers part x (while test body done rest) d (refl, s.1, s.2, s.3, (refl, refl, refl), s.4) (refl, p.2, p.1, refl, p.3) low
         (as_while who test body done rest steps.0 steps.1 (as_done who) steps.2) b' in
-        let behind : s.1 ≡ false → Far may_call bodies n stand callers r = λ e k. ih who false within ahead callers part x rest d (either_no s.1 _ _ s.4 e) p.3 low steps.2 b' (suc k) in
-        let again_goes : Far may_call bodies (suc n) stand callers (again test body done r) =
+        let behind : s.1 ≡ false → Far may_call bodies n context callers r = λ e k. ih who false within ahead callers part x rest d (either_no s.1 _ _ s.4 e) p.3 low steps.2 b' (suc k) in
+        let again_goes : Far may_call bodies (suc n) context callers (again test body done r) =
         again_far may_call bodies main facts who within ahead callers x s.1 test body done r loop n ih (λ k. same (suc k)) behind (λ e. b'.returns (not_if s.1 x.returns e)) in
-        let behind_all : s.1 ≡ false → Far may_call bodies (suc n) stand callers r = λ e k. walk_on who false within ahead callers part x rest d (either_no s.1 _ _ s.4 e) p.3 low steps.2 b (suc k) in
+        let behind_all : s.1 ≡ false → Far may_call bodies (suc n) context callers r = λ e k. walk_on who false within ahead callers part x rest d (either_no s.1 _ _ s.4 e) p.3 low steps.2 b (suc k) in
         let turns = turn_behind may_call bodies main facts who within ahead callers x s.1 test body done r loop (suc n) again_goes behind_all (λ e. b.returns (not_if s.1 x.returns e)) in
         let whole = walk_on who false within ahead callers false (of_turn s.1 x) body (turn test body done r) s.3 loop.body_placed low steps.1 turns in
         far_more (suc n) who agreed within callers (until body test y)
-        (far_settled may_call bodies (suc n) stand callers (until body test y) (idle may_call bodies (suc n) stand (at (until body test y) callers) refl)
-        (subst (λ c. Far may_call bodies (suc n) stand callers c) (sym (opened_is body test body done r)) (λ k. whole (suc k))))
+        (far_settled may_call bodies (suc n) context callers (until body test y) (idle may_call bodies (suc n) context (at (until body test y) callers) refl)
+        (subst (λ c. Far may_call bodies (suc n) context callers c) (sym (opened_is body test body done r)) (λ k. whole (suc k))))
     walk_on who agreed within ahead callers part x (turn test body after rest) d s p low i b = absurd s
     walk_on who agreed within ahead callers part x (again test body after rest) d s p low i b = absurd s
     walk_on who agreed within ahead callers part x (quit t op rest) d s p low i b =
@@ -179,17 +179,17 @@ module _ (may_call : (in_group : Bool) → (function : ℕ) → Bool) (bodies : 
         goes who agreed within ahead callers part x (quit t op rest) d s p low i (behind_fewer may_call bodies n who within ahead callers part x d b) refl (λ e. absurd (cc e)) refl
         (is_stepped bodies facts.nested (at (append (quit t op rest) d) callers) (record { left = h; callers = b.nested.callers })).goes_on
     walk_on who agreed within ahead callers part x (break rest) d s p low i b =
-        let stand = stand_of who false within in
+        let context = context_of who false within in
         let y = append rest d in
         far_more (suc n) who agreed within callers (break y)
-        (far_settled may_call bodies (suc n) stand callers (break y) (idle may_call bodies (suc n) stand (at (break y) callers) refl)
-        (subst (λ c. Far may_call bodies (suc n) stand callers c) (sym (broken_append part false x rest d s.2)) (b.breaks s.1)))
+        (far_settled may_call bodies (suc n) context callers (break y) (idle may_call bodies (suc n) context (at (break y) callers) refl)
+        (subst (λ c. Far may_call bodies (suc n) context callers c) (sym (broken_append part false x rest d s.2)) (b.breaks s.1)))
     walk_on who agreed within ahead callers part x (continue rest) d s p low i b =
-        let stand = stand_of who false within in
+        let context = context_of who false within in
         let y = append rest d in
         far_more (suc n) who agreed within callers (continue y)
-        (far_settled may_call bodies (suc n) stand callers (continue y) (idle may_call bodies (suc n) stand (at (continue y) callers) refl)
-        (subst (λ c. Far may_call bodies (suc n) stand callers c) (sym (continued_append part false x rest d s.2)) (b.continues s.1)))
+        (far_settled may_call bodies (suc n) context callers (continue y) (idle may_call bodies (suc n) context (at (continue y) callers) refl)
+        (subst (λ c. Far may_call bodies (suc n) context callers c) (sym (continued_append part false x rest d s.2)) (b.continues s.1)))
     walk_on who agreed within ahead callers part x (call t op f opening rest) d s p low i b =
         let h : Nested (append (call t op f opening rest) d) = nested_append part false x (call t op f opening rest) d s b.nested.left b.allows b.quiet b.first in
         goes who agreed within ahead callers part x (call t op f opening rest) d s p low i (behind_fewer may_call bodies n who within ahead callers part x d b) refl (λ e. absurd (cc e)) refl

@@ -1,7 +1,7 @@
 -- Where code begins.
 use Rattle.std.proofs.Common.{◌≡◌, ℕ, ◌+◌, true, false, Some, ap, ◌∙◌, refl, arith}
 use Rattle.fk_meaning_forms.specs.Code.{Code, done, perform, choose, while, until, turn, again, quit, break, continue, call, ends}
-use Rattle.fk_core.specs.Stands.{Around}
+use Rattle.fk_core.specs.CodeAt.{Around}
 use Rattle.fk_core_flat.specs.Flat.{extent, label}
 use Rattle.fk_lower.specs.declared.span.Start.{Start}
 use Rattle.fk_lower.specs.declared.span.Start.TheVariants.{At, Next, Behind, Onward}

@@ -3,7 +3,7 @@ use Rattle.std.proofs.Common.{◌≡◌, ℕ, suc, ◌+◌, Bool, true, false, L
 use Rattle.std.specs.Prelude.{◌==◌, ◌&&◌, ◌||◌, if◌then◌else◌}
 use Rattle.std.proofs.lemmas.List.{map-append}
 use Rattle.fk_meaning_forms.specs.Code.{Code}
-use Rattle.fk_core.specs.Stands.{Loop, Around}
+use Rattle.fk_core.specs.CodeAt.{Loop, Around}
 use Rattle.fk_core_flat.specs.Items.{Item, jump, act, way_of, goes_away, aim}
 use Rattle.fk_core_flat.specs.Flat.{begins_here, skip, gap, extent, behind, label, flat}
 use Rattle.fk_lower.specs.declared.block.Act.{Act}

@@ -2,7 +2,7 @@
 -- its list is, and where it begins.
 use Rattle.std.specs.Prelude.{ℕ, ◌+◌, ◌≤◌, Bool, true, false, if◌then◌else◌}
 use Rattle.fk_meaning_forms.specs.Code.{Code, done, until, break, continue}
-use Rattle.fk_core.specs.Stands.{Around}
+use Rattle.fk_core.specs.CodeAt.{Around}
 use Rattle.fk_core_flat.specs.Flat.{begins_here, extent, behind, onward}
 use Rattle.fk_lower.specs.declared.span.Start.{Start}
 use Rattle.fk_lower.specs.declared.span.Start.TheVariants as s

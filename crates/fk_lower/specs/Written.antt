@@ -5,8 +5,8 @@ use Rattle.fk_meaning_operation.specs.declared.operation.Operation.{Operation}
 use Rattle.fk_core.specs.declared.op.CoreOp.{CoreOp}
 use Rattle.fk_core.specs.Numbers.{operation_of}
 use Rattle.fk_core.specs.Next.{is_jump}
-use Rattle.fk_core.specs.Stands as core
-use Rattle.fk_core.specs.Stands.{Around}
+use Rattle.fk_core.specs.CodeAt as core
+use Rattle.fk_core.specs.CodeAt.{Around}
 use Rattle.fk_core_flat.specs.Items.{Item, jump, act, way_of, goes_away, aim}
 use Rattle.fk_core_flat.specs.Flat.{gap, behind}
 use Rattle.fk_lower.specs.declared.block.Act.{Act}

@@ -8,7 +8,7 @@ use Rattle.fk_meaning_forms.specs.Code.{Code, size, numbered}
 use Rattle.fk_meaning_forms.specs.Tables.{Tables}
 use Rattle.fk_meaning_forms.specs.Program.{functions_of, binding_of, code_of, body_in, bodies_of}
 use Rattle.fk_core.specs.declared.op.CoreOp.{CoreOp}
-use Rattle.fk_core.specs.Stands.{Around}
+use Rattle.fk_core.specs.CodeAt.{Around}
 use Rattle.fk_core.proofs.Leading.{op_stops}
 use Rattle.fk_core_flat.specs.Flat.{flat}
 use Rattle.fk_core_flat.specs.Laws.{IsFlat}

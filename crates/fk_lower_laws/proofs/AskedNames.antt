@@ -41,7 +41,7 @@ use Rattle.fk_check_laws.proofs.Things.{thing_tells}
 use Rattle.fk_lockstep_structure.specs.Valued.{predeclared_gives}
 use Rattle.fk_lower_laws.specs.Ways.{Way, Valued, Array, Word, Function, placed_way, predeclared_way, named_way}
 use Rattle.fk_lower_laws.specs.Asked.{NameAsks}
-use Rattle.fk_lower_laws.specs.Typed.{StandsAs, IsNoWord}
+use Rattle.fk_lower_laws.specs.Typed.{IsWayOf, IsNoWord}
 use Rattle.fk_lower_laws.proofs.Sizes.{IsSound, has_sound}
 use Rattle.fk_lower_laws.proofs.Tokens.{IsSoundType, kind_is, kind_words, array_is}
 use Rattle.fk_lower_laws.proofs.Places.{lies_within}
@@ -92,7 +92,7 @@ module _ (program : ProgramTree) (facts : Facts) (given : IsGiven program facts)
   bound name = (note tables name.at).binding
 
   abbrev pub Stood : Way → ExpressionType → Type 0
-  Stood w type = StandsAs Room w type
+  Stood w type = IsWayOf Room w type
 
   -- ---- what is declared is noted
 

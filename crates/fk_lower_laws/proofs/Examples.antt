@@ -25,7 +25,7 @@ use Rattle.fk_core_liveness.specs.declared.places.FunctionKind.TheVariants.{Main
 use Rattle.fk_core_typing.specs.Typed.{AreTyped}
 use Rattle.fk_lower_laws.specs.Ways.{Word, way}
 use Rattle.fk_lower_laws.specs.Asked.{Asked, place_of, ProgramAsked}
-use Rattle.fk_lower_laws.specs.Typed.{StandsAs, Known}
+use Rattle.fk_lower_laws.specs.Typed.{IsWayOf, Known}
 use Rattle.fk_lower_laws.proofs.Along.{EachOf}
 use Rattle.fk_lower_laws.proofs.Mains.{main_has_its_place}
 use Rattle.fk_lower_laws.proofs.TypedPrograms.{forms_are_typed}
@@ -115,8 +115,8 @@ abbrev Room : (address : ℕ) → DataType → Type 0
 Room address type = false ≡ true
 
 sum_known : Known Room env tables functions (place_of tables program) sum
-sum_known = ((λ type is. (tt, subst (StandsAs Room Word) (same_Some _ _ is) (refl, refl))), (tt, tt, tt))
+sum_known = ((λ type is. (tt, subst (IsWayOf Room Word) (same_Some _ _ is) (refl, refl))), (tt, tt, tt))
 
-sum_asked : Asked tables functions (place_of tables program) sum × StandsAs Room (way tables (place_of tables program) sum) (Computed Int)
+sum_asked : Asked tables functions (place_of tables program) sum × IsWayOf Room (way tables (place_of tables program) sum) (Computed Int)
 sum_asked =
     typed_is_asked (λ address type. false) (λ address type room. absurd (false≢true room)) env tables functions (place_of tables program) sum sum_known (Computed Int) refl

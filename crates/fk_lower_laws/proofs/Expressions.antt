@@ -39,7 +39,7 @@ use Rattle.fk_check_laws.proofs.Each.{Each, front_of, rest_of}
 use Rattle.fk_check_laws.proofs.Read.{Any}
 use Rattle.fk_lower_laws.specs.Ways.{Way, Valued, Unchecked, Constant, Function, gives, result, prefix_way, joined_way, call_gives, called_way, dotted_way, way, chain_way, suffixed_way}
 use Rattle.fk_lower_laws.specs.Asked.{CallAsks, Asked}
-use Rattle.fk_lower_laws.specs.Typed.{StandsAs, CommaIs, IsNoWord, PrefixIs, Known, LinksKnown, SuffixesKnown, AllKnown}
+use Rattle.fk_lower_laws.specs.Typed.{IsWayOf, CommaIs, IsNoWord, PrefixIs, Known, LinksKnown, SuffixesKnown, AllKnown}
 use Rattle.fk_lower_laws.proofs.Typing.{is_use, uncalled}
 use Rattle.fk_lower_laws.proofs.Tokens.{IsSoundType, void_is}
 use Rattle.fk_lower_laws.proofs.Valid.{IsGiven, about, words_of}
@@ -227,10 +227,10 @@ module _ (program : ProgramTree) (facts : Facts) (given : IsGiven program facts)
   sound_term (e.Choose spot condition first second) o type h = of_branched env.structs (value_in (type_of env condition)) _ _ type h
 
   -- a call gives a value or nothing
-  sound_called : (x : Way) (type : ExpressionType) → StandsAs Room (called_way tables places x) type → IsSoundType env.structs type
+  sound_called : (x : Way) (type : ExpressionType) → IsWayOf Room (called_way tables places x) type → IsSoundType env.structs type
   sound_called (Function name) type stands = by (call_gives tables places name) type stands
     where
-      by : (b : Bool) (type' : ExpressionType) → StandsAs Room (result b) type' → IsSoundType env.structs type'
+      by : (b : Bool) (type' : ExpressionType) → IsWayOf Room (result b) type' → IsSoundType env.structs type'
       by true (Computed v) h = tt
       by true (Stored x) h = absurd h
       by true Nothing h = tt
@@ -348,7 +348,7 @@ module _ (program : ProgramTree) (facts : Facts) (given : IsGiven program facts)
   no_word_tree (t.Choose spot condition first second) trim told h = no_word_result (gives (way tables places first))
 
   prefix_is : (around : List Holder) (spot : Spot) (shared : Bool) (sign : Sign) (x : Tree) → TreeHas nonempty_lists x → Told Any Used x
-      → K (s.stands around spot shared (w.Prefix sign (s.named_thing thing x))) → PrefixIs sign (way tables places x)
+      → K (s.token_in around spot shared (w.Prefix sign (s.named_thing thing x))) → PrefixIs sign (way tables places x)
   prefix_is around spot shared g.Ampersand x trim told kept =
       no_word_tree x trim told (λ is. kept rules.PrivateAddress (subst (λ o. sb.BreaksRule around (w.Prefix g.Ampersand o) rules.PrivateAddress) (sym is) sb.private_address))
   prefix_is around spot shared sign x trim told kept = tt
@@ -358,7 +358,7 @@ module _ (program : ProgramTree) (facts : Facts) (given : IsGiven program facts)
   abbrev Callable : (asked : Type 0) → Term → Way → Type 0
   Callable A before x =
       (spot : Spot) (es : Trees) (type : ExpressionType) → type_of env (e.Call spot before (with_arguments no_terms es)) ≡ Some type
-      → A × CallAsks tables functions places x es × StandsAs Room (called_way tables places x) type
+      → A × CallAsks tables functions places x es × IsWayOf Room (called_way tables places x) type
 
   uncallable : (A : Type 0) (before : Term) (x : Way) → is_use before ≡ false → Callable A before x
   uncallable A before x unused spot es type h =

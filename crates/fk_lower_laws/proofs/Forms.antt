@@ -29,7 +29,7 @@ use Rattle.fk_meaning_forms.specs.Code.{done, perform, choose, numbered}
 use Rattle.fk_meaning_forms.specs.Tables.{Tables, no_binding, note, kind_at, is_array, is_void, is_unsigned, slot, frame_at}
 use Rattle.fk_meaning_forms.specs.Signs.{operator_of, is_shift, move_of}
 use Rattle.fk_meaning_forms.specs.Texts.{text_of}
-use Rattle.fk_meaning_forms.specs.Expressions.{Coded, nowhere, plain, Standing, OnList, AtAddress, InWord, ToCall, Stands, token, spot_of, is_name, Signature, put_bytes, moved, agreed, checked, valued, addressed, fetched, assigned, value_of, dropped, predeclared, placed, variable, operate, updated, one, prefixed, truth, logical, chosen, joined, assignment, member, is_deep, indexed, dotted, pointed, step_back, raised, arguments, framed, parameters, called, multiprefix, with_one, called_predeclared, calling, stands, linked, suffixed, all_stand, value}
+use Rattle.fk_meaning_forms.specs.Expressions.{Coded, nowhere, plain, ResultLocation, OnList, AtAddress, InWord, ToCall, Evaluation, token, spot_of, is_name, Signature, put_bytes, moved, agreed, checked, valued, addressed, fetched, assigned, value_of, dropped, predeclared, placed, variable, operate, updated, one, prefixed, truth, logical, chosen, joined, assignment, member, is_deep, indexed, dotted, pointed, step_back, raised, arguments, framed, parameters, called, multiprefix, with_one, called_predeclared, calling, evaluated, linked, suffixed, all_evaluated, value}
 use Rattle.fk_meaning_forms.specs.Statements.{used, used_or, value_or, part_frame}
 use Rattle.fk_core_flat.specs.Shape.{is_done}
 use Rattle.fk_meaning.specs.Calls.{takes_two, TakesEnough, CallFits, LinksFit, FirstFits, SuffixesFit, AllFit}
@@ -47,9 +47,9 @@ module _ (tables : Tables) (functions : (binding : ℕ) → Signature) (has_body
   abbrev pub Fine : Coded → Type 0
   Fine code = Ok firsts words code
 
-  abbrev StandsThere : Standing → Type 0
+  abbrev StandsThere : ResultLocation → Type 0
   StandsThere (InWord variable) = HasItsWord firsts words variable
-  StandsThere standing = Unit {0}
+  StandsThere location = Unit {0}
 
   pub goes : {t : Place} {op : Operation} {rest : Coded} → names_none op ≡ true → Fine rest → Fine (perform t op rest)
   goes {op = op} e p = on (freely firsts words op e) p
@@ -65,16 +65,16 @@ module _ (tables : Tables) (functions : (binding : ℕ) → Signature) (has_body
   either true c d p q = p
   either false c d p q = q
 
-  abbrev Follows : (Standing → Coded) → Type 0
-  Follows k = (s : Standing) → StandsThere s → Fine (k s)
+  abbrev Follows : (ResultLocation → Coded) → Type 0
+  Follows k = (s : ResultLocation) → StandsThere s → Fine (k s)
 
-  abbrev Good : Stands → Type 0
-  Good e = (k : Standing → Coded) → Follows k → Fine (e k)
+  abbrev Good : Evaluation → Type 0
+  Good e = (k : ResultLocation → Coded) → Follows k → Fine (e k)
 
   abbrev pub Keeps : (Coded → Coded) → Type 0
   Keeps e = (rest : Coded) → Fine rest → Fine (e rest)
 
-  abbrev AllGood : List Stands → Type 0
+  abbrev AllGood : List Evaluation → Type 0
   AllGood [] = Unit {0}
   AllGood (e ∷ es) = Good e × AllGood es
 
@@ -95,33 +95,33 @@ module _ (tables : Tables) (functions : (binding : ℕ) → Signature) (has_body
   agrees true rest p = (goes refl p)
   agrees false rest p = p
 
-  -- how an expression stands
+  -- where the result of an expression is
   checks : (deep : Bool) (spot : Spot) → Keeps (checked tables functions deep spot)
   checks true spot rest p = (goes refl p)
   checks false spot rest p = p
 
-  values : (s : Standing) → StandsThere s → Keeps (valued tables functions s)
+  values : (s : ResultLocation) → StandsThere s → Keeps (valued tables functions s)
   values (AtAddress deep spot) h rest p =
       either (is_array tables spot.at) rest (checked tables functions deep spot (plain o.Read rest)) p
       (checks deep spot (plain o.Read rest) (goes refl p))
   values (InWord variable) h rest p = on (gets firsts words variable h) p
   values s h rest p = p
 
-  addresses : (s : Standing) → Keeps (addressed tables functions s)
+  addresses : (s : ResultLocation) → Keeps (addressed tables functions s)
   addresses (AtAddress deep spot) rest p = checks deep spot rest p
   addresses s rest p = p
 
-  fetches : (s : Standing) → StandsThere s → Keeps (fetched tables functions s)
+  fetches : (s : ResultLocation) → StandsThere s → Keeps (fetched tables functions s)
   fetches (AtAddress deep spot) h rest p = checks deep spot (plain o.CopyLast (plain o.Read rest)) (goes refl (goes refl p))
   fetches (InWord variable) h rest p = on (gets firsts words variable h) p
   fetches s h rest p = p
 
-  assigns : (s : Standing) → StandsThere s → Keeps (assigned tables functions s)
+  assigns : (s : ResultLocation) → StandsThere s → Keeps (assigned tables functions s)
   assigns (AtAddress deep spot) h rest p = (goes refl p)
   assigns (InWord variable) h rest p = on (sets firsts words variable h) p
   assigns s h rest p = p
 
-  value_is : (e : Stands) → Good e → Keeps (value_of tables functions e)
+  value_is : (e : Evaluation) → Good e → Keeps (value_of tables functions e)
   value_is e good rest p = good (λ s. valued tables functions s rest) (λ s h. values s h rest p)
 
   drops : (at : ℕ) → Keeps (dropped tables functions at)
@@ -169,7 +169,7 @@ module _ (tables : Tables) (functions : (binding : ℕ) → Signature) (has_body
       either (step == 0) (plain (operator_of sign unsigned) rest) (moved (move_of sign) step (operator_of sign unsigned) rest)
       (operator sign unsigned rest p) (moves (move_of sign) step sign unsigned rest p)
 
-  updates : (sign : Sign) (target : Stands) → Good target → (left right : ℕ) (e : Coded → Coded) → Keeps e → Good (updated tables functions sign target left right e)
+  updates : (sign : Sign) (target : Evaluation) → Good target → (left right : ℕ) (e : Coded → Coded) → Keeps e → Good (updated tables functions sign target left right e)
   updates sign target good left right e keeps k p =
       good (λ s. fetched tables functions s (e (operate tables functions sign left right (assigned tables functions s (k OnList)))))
       (λ s h.
@@ -180,7 +180,7 @@ module _ (tables : Tables) (functions : (binding : ℕ) → Signature) (has_body
   ones : Keeps (one tables functions)
   ones rest p = (goes refl p)
 
-  prefixes : (spot : Spot) (sign : Sign) (e : Stands) → Good e → (at : ℕ) → Good (prefixed tables functions spot sign e at)
+  prefixes : (spot : Spot) (sign : Sign) (e : Evaluation) → Good e → (at : ℕ) → Good (prefixed tables functions spot sign e at)
   prefixes spot g.Minus e good at k p = value_is e good (plain (o.Apply u.Negate) (k OnList)) (goes refl (p OnList tt))
   prefixes spot g.Tilde e good at k p = value_is e good (plain (o.Apply u.Complement) (k OnList)) (goes refl (p OnList tt))
   prefixes spot g.Exclamation e good at k p = value_is e good (plain (o.Apply u.Not) (k OnList)) (goes refl (p OnList tt))
@@ -191,10 +191,10 @@ module _ (tables : Tables) (functions : (binding : ℕ) → Signature) (has_body
   prefixes spot g.Decrement e good at k p = updates g.Minus e good at spot.at (one tables functions) ones k p
   prefixes spot sign e good at k p = value_is e good (k OnList) (p OnList tt)
 
-  truths : (e : Stands) → Good e → Keeps (truth tables functions e)
+  truths : (e : Evaluation) → Good e → Keeps (truth tables functions e)
   truths e good rest p = value_is e good (plain (o.Push 0) (plain (o.Binary f.Ne false) rest)) (goes refl (goes refl p))
 
-  logicals : (spot : Spot) (by : SplitKind) (onward : Bool) (other : ℕ) (a : Stands) → Good a → (b : Stands) → Good b
+  logicals : (spot : Spot) (by : SplitKind) (onward : Bool) (other : ℕ) (a : Evaluation) → Good a → (b : Evaluation) → Good b
       → Good (logical tables functions spot by onward other a b)
   logicals spot by onward other a good_a b good_b k p =
       let here = note tables spot.at in
@@ -206,7 +206,7 @@ module _ (tables : Tables) (functions : (binding : ℕ) → Signature) (has_body
       (agrees here.sync branched
       (fork (o.Branch onward) refl (truths b good_b done ended) (goes refl ended) (p OnList tt))))
 
-  chooses : (spot : Spot) (c : Stands) → Good c → (a : Stands) → Good a → (b : Stands) → Good b → Good (chosen tables functions spot c a b)
+  chooses : (spot : Spot) (c : Evaluation) → Good c → (a : Evaluation) → Good a → (b : Evaluation) → Good b → Good (chosen tables functions spot c a b)
   chooses spot c good_c a good_a b good_b k p =
       let here = note tables spot.at in
       let parted = choose spot.place (o.Split IfElse) (value_of tables functions a (plain o.End done)) (value_of tables functions b (plain o.End done)) (plain o.Resume (k OnList)) in
@@ -217,7 +217,7 @@ module _ (tables : Tables) (functions : (binding : ℕ) → Signature) (has_body
       (agrees here.sync branched
       (fork (o.Branch true) refl (value_is a good_a done ended) (value_is b good_b done ended) (p OnList tt))))
 
-  joins : (spot : Spot) (sign : Sign) (a : Stands) → Good a → (left : ℕ) (b : Stands) → Good b → (right : ℕ) → Good (joined tables functions spot sign a left b right)
+  joins : (spot : Spot) (sign : Sign) (a : Evaluation) → Good a → (left : ℕ) (b : Evaluation) → Good b → (right : ℕ) → Good (joined tables functions spot sign a left b right)
   joins spot g.Comma a good_a left b good_b right k p =
       value_is a good_a (dropped tables functions left (value_of tables functions b (k OnList)))
       (drops left (value_of tables functions b (k OnList)) (value_is b good_b (k OnList) (p OnList tt)))
@@ -227,7 +227,7 @@ module _ (tables : Tables) (functions : (binding : ℕ) → Signature) (has_body
       value_is a good_a (value_of tables functions b (operate tables functions sign left right (k OnList)))
       (value_is b good_b (operate tables functions sign left right (k OnList)) (operates sign left right (k OnList) (p OnList tt)))
 
-  gives : (sign : Sign) (target : Stands) → Good target → (left : ℕ) (e : Stands) → Good e → (right : ℕ) → Good (assignment tables functions sign target left e right)
+  gives : (sign : Sign) (target : Evaluation) → Good target → (left : ℕ) (e : Evaluation) → Good e → (right : ℕ) → Good (assignment tables functions sign target left e right)
   gives g.Assign target good left e good_e right k p =
       good (λ s. addressed tables functions s (value_of tables functions e (assigned tables functions s (k OnList))))
       (λ s h.
@@ -237,28 +237,28 @@ module _ (tables : Tables) (functions : (binding : ℕ) → Signature) (has_body
       updates sign target good left right (value_of tables functions e) (value_is e good_e) k p
 
   -- suffixes
-  indexes : (spot : Spot) (e : Stands) → Good e → (by : Stands) → Good by → Good (indexed tables functions spot e by)
+  indexes : (spot : Spot) (e : Evaluation) → Good e → (by : Evaluation) → Good by → Good (indexed tables functions spot e by)
   indexes spot e good by good_by k p =
       let element = plain (o.Index (4 * (kind_at tables spot.at).words)) (k (AtAddress true spot)) in
       value_is e good (value_of tables functions by element) (value_is by good_by element (goes refl (p (AtAddress true spot) tt)))
 
-  dots : (spot : Spot) (at : ℕ) (e : Stands) → Good e → Good (dotted tables functions spot at e)
+  dots : (spot : Spot) (at : ℕ) (e : Evaluation) → Good e → Good (dotted tables functions spot at e)
   dots spot at e good k p =
       good (λ s. member tables functions at (k (AtAddress (is_deep tables functions s) spot)))
       (λ s h. (goes refl (goes refl (p (AtAddress (is_deep tables functions s) spot) tt))))
 
-  points : (spot : Spot) (at : ℕ) (e : Stands) → Good e → Good (pointed tables functions spot at e)
+  points : (spot : Spot) (at : ℕ) (e : Evaluation) → Good e → Good (pointed tables functions spot at e)
   points spot at e good k p =
       value_is e good (member tables functions at (k (AtAddress true spot))) (goes refl (goes refl (p (AtAddress true spot) tt)))
 
-  raises : (sign back : Sign) (e : Stands) → Good e → (at : ℕ) → Good (raised tables functions sign back e at)
+  raises : (sign back : Sign) (e : Evaluation) → Good e → (at : ℕ) → Good (raised tables functions sign back e at)
   raises sign back e good at k p =
       updates sign e good at 0 (one tables functions) ones
       (λ s. plain (o.Push (step_back tables functions at)) (plain (operator_of back false) (k OnList)))
       (λ s h. (goes refl (operator back false (k OnList) (p OnList tt))))
 
   -- calls
-  takes : (xs : List DeclaredTree) (es : List Stands) → AllGood es → Keeps (arguments tables functions xs es)
+  takes : (xs : List DeclaredTree) (es : List Evaluation) → AllGood es → Keeps (arguments tables functions xs es)
   takes [] [] good rest p = p
   takes [] (e ∷ es) good rest p = p
   takes (y ∷ ys) [] good rest p = p
@@ -287,23 +287,23 @@ module _ (tables : Tables) (functions : (binding : ℕ) → Signature) (has_body
   opens_empty (Some r) place xs all first = absurd (true≢false (sym all.0))
   opens_empty None place xs all first = puts_none 0 xs all first
 
-  calls : (name : Named) (es : List Stands) → AllGood es → Good (called tables functions name es)
+  calls : (name : Named) (es : List Evaluation) → AllGood es → Good (called tables functions name es)
   calls name es good k p =
       let b = (note tables name.at).binding in
       let function = functions b in
       takes function.parameters es good (entered tables functions name (k OnList))
       (enters (opens_empty (frame_at tables function.at 0) name.place function.parameters) (room b) (p OnList tt))
 
-  both_good : (name : Named) (by : Multiprefix) (a b : Stands) (es : List Stands) → Good a → Good b → Good (multiprefix tables functions name by (a ∷ b ∷ es))
+  both_good : (name : Named) (by : Multiprefix) (a b : Evaluation) (es : List Evaluation) → Good a → Good b → Good (multiprefix tables functions name by (a ∷ b ∷ es))
   both_good name by a b es good_a good_b k p =
       let request = plain (o.Combine by) (k OnList) in
       value_is a good_a (perform name.place (o.Check true) (value_of tables functions b request)) (goes refl (value_is b good_b request (goes refl (p OnList tt))))
 
-  one_good : (after : Coded → Coded) → Keeps after → (e : Stands) (es : List Stands) → Good e → Good (with_one tables functions after (e ∷ es))
+  one_good : (after : Coded → Coded) → Keeps after → (e : Evaluation) (es : List Evaluation) → Good e → Good (with_one tables functions after (e ∷ es))
   one_good after keeps e es good k p = value_is e good (after (k OnList)) (keeps (k OnList) (p OnList tt))
 
   -- calls of predeclared functions
-  module _ (name : Named) (es : List Stands) (k : Standing → Coded) (p : Follows k) where
+  module _ (name : Named) (es : List Evaluation) (k : ResultLocation → Coded) (p : Follows k) where
     abbrev other_calls : Coded
     other_calls =
         if is_name name (codes "groupsize") then plain (o.Get n.GroupSize) (k OnList)
@@ -360,31 +360,31 @@ module _ (tables : Tables) (functions : (binding : ℕ) → Signature) (has_body
         (λ not_two. sizes (is_name name (codes "groupsize")) refl (one not_two))
 
   -- with the arguments of a call
-  calls_predeclared : (name : Named) (arguments' : Trees) → AllGood (all_stand tables functions arguments') → TakesEnough name arguments'
-      → Good (called_predeclared tables functions name (all_stand tables functions arguments'))
+  calls_predeclared : (name : Named) (arguments' : Trees) → AllGood (all_evaluated tables functions arguments') → TakesEnough name arguments'
+      → Good (called_predeclared tables functions name (all_evaluated tables functions arguments'))
   calls_predeclared name t.no_trees good enough k p =
       all_predeclared name [] k p (λ two. both_ways (takes_two name) two enough.0)
       (λ not_two not_size. both_ways (is_name name (codes "groupsize")) enough.1 not_size)
   calls_predeclared name (t.tree first t.no_trees) good enough k p =
-      all_predeclared name (stands tables functions first ∷ []) k p (λ two. both_ways (takes_two name) two enough)
-      (λ not_two not_size after keeps. one_good after keeps (stands tables functions first) [] good.0 k p)
+      all_predeclared name (evaluated tables functions first ∷ []) k p (λ two. both_ways (takes_two name) two enough)
+      (λ not_two not_size after keeps. one_good after keeps (evaluated tables functions first) [] good.0 k p)
   calls_predeclared name (t.tree first (t.tree second more)) good enough k p =
-      let es = all_stand tables functions more in
-      all_predeclared name (stands tables functions first ∷ stands tables functions second ∷ es) k p
-      (λ two by. both_good name by (stands tables functions first) (stands tables functions second) es good.0 good.1.0 k p)
-      (λ not_two not_size after keeps. one_good after keeps (stands tables functions first) (stands tables functions second ∷ es) good.0 k p)
+      let es = all_evaluated tables functions more in
+      all_predeclared name (evaluated tables functions first ∷ evaluated tables functions second ∷ es) k p
+      (λ two by. both_good name by (evaluated tables functions first) (evaluated tables functions second) es good.0 good.1.0 k p)
+      (λ not_two not_size after keeps. one_good after keeps (evaluated tables functions first) (evaluated tables functions second ∷ es) good.0 k p)
 
-  called_by : (name : Named) (arguments' : Trees) → AllGood (all_stand tables functions arguments')
+  called_by : (name : Named) (arguments' : Trees) → AllGood (all_evaluated tables functions arguments')
       → (predeclared' : Bool) → NameFits tables functions has_body predeclared' name arguments'
-      → (k : Standing → Coded) → Follows k
-      → Fine (if predeclared' then called_predeclared tables functions name (all_stand tables functions arguments') k else called tables functions name (all_stand tables functions arguments') k)
+      → (k : ResultLocation → Coded) → Follows k
+      → Fine (if predeclared' then called_predeclared tables functions name (all_evaluated tables functions arguments') k else called tables functions name (all_evaluated tables functions arguments') k)
   called_by name arguments' good true taken k p = calls_predeclared name arguments' good taken k p
-  called_by name arguments' good false taken k p = calls name (all_stand tables functions arguments') good k p
+  called_by name arguments' good false taken k p = calls name (all_evaluated tables functions arguments') good k p
 
-  call_is : (whole : Tree) (arguments' : Trees) → CallFits tables functions (Takes tables functions has_body) whole arguments' → AllGood (all_stand tables functions arguments')
-      → Good (λ j. stands tables functions whole (calling tables functions (all_stand tables functions arguments') j))
+  call_is : (whole : Tree) (arguments' : Trees) → CallFits tables functions (Takes tables functions has_body) whole arguments' → AllGood (all_evaluated tables functions arguments')
+      → Good (λ j. evaluated tables functions whole (calling tables functions (all_evaluated tables functions arguments') j))
   call_is (t.Variable name) arguments' fits good k p =
-      let es = all_stand tables functions arguments' in
+      let es = all_evaluated tables functions arguments' in
       subst Fine (sym (fits.0 (calling tables functions es k)))
       (called_by name arguments' good (is_predeclared tables name) fits.1 k p)
   call_is (t.Number spot number unsigned) arguments' fits good k p = absurd fits
@@ -414,69 +414,69 @@ module _ (tables : Tables) (functions : (binding : ℕ) → Signature) (has_body
   Scoped marks = Each Is marks
 
   mutual
-    expression : (e : Tree) → Fits tables functions has_body e → Scoped (tree_marks e) → Good (stands tables functions e)
+    expression : (e : Tree) → Fits tables functions has_body e → Scoped (tree_marks e) → Good (evaluated tables functions e)
     expression (t.Number spot number unsigned) fits asks k p = (goes refl (p OnList tt))
     expression (t.Puts spot text) fits asks k p = puts (text_of text) (k OnList) (p OnList tt)
     expression (t.Sizeof spot type) fits asks k p = (goes refl (p OnList tt))
     expression (t.Variable name) fits asks k p = names name asks.0 k p
     expression (t.GroupNumber spot) fits asks k p = (goes refl (p OnList tt))
     expression (t.GroupRank spot) fits asks k p = (goes refl (p OnList tt))
-    expression (t.Prefix spot sign operand) fits asks k p = prefixes spot sign (stands tables functions operand) (expression operand fits asks) (token operand) k p
-    expression (t.Cast spot type operand) fits asks k p = value_is (stands tables functions operand) (expression operand fits asks) (k OnList) (p OnList tt)
+    expression (t.Prefix spot sign operand) fits asks k p = prefixes spot sign (evaluated tables functions operand) (expression operand fits asks) (token operand) k p
+    expression (t.Cast spot type operand) fits asks k p = value_is (evaluated tables functions operand) (expression operand fits asks) (k OnList) (p OnList tt)
     expression (t.Chain first links) fits asks k p =
-        chain (stands tables functions first) (expression first fits.0 (front_of Is (tree_marks first) (links_marks links) asks)) (token first) links fits.1
+        chain (evaluated tables functions first) (expression first fits.0 (front_of Is (tree_marks first) (links_marks links) asks)) (token first) links fits.1
         (rest_of Is (tree_marks first) (links_marks links) asks) k p
     expression (t.Postfix whole suffixes) fits asks k p =
         first_suffix whole (expression whole fits.0 (front_of Is (tree_marks whole) (suffixes_marks suffixes) asks)) suffixes fits.1
         (rest_of Is (tree_marks whole) (suffixes_marks suffixes) asks) k p
     expression (t.Assign spot sign target value) fits asks k p =
-        gives sign (stands tables functions target) (expression target fits.0 (front_of Is (tree_marks target) (tree_marks value) asks)) (token target)
-        (stands tables functions value) (expression value fits.1 (rest_of Is (tree_marks target) (tree_marks value) asks)) (token value) k p
+        gives sign (evaluated tables functions target) (expression target fits.0 (front_of Is (tree_marks target) (tree_marks value) asks)) (token target)
+        (evaluated tables functions value) (expression value fits.1 (rest_of Is (tree_marks target) (tree_marks value) asks)) (token value) k p
     expression (t.Choose spot condition first second) fits asks k p =
         let ms = three_of Is (tree_marks condition) (tree_marks first) (tree_marks second) asks in
-        chooses spot (stands tables functions condition) (expression condition fits.0 ms.0) (stands tables functions first) (expression first fits.1 ms.1)
-        (stands tables functions second) (expression second fits.2 ms.2) k p
+        chooses spot (evaluated tables functions condition) (expression condition fits.0 ms.0) (evaluated tables functions first) (expression first fits.1 ms.1)
+        (evaluated tables functions second) (expression second fits.2 ms.2) k p
 
-    chain : (e : Stands) → Good e → (at : ℕ) (links : Links) → LinksFit tables functions (Takes tables functions has_body) links → Scoped (links_marks links)
+    chain : (e : Evaluation) → Good e → (at : ℕ) (links : Links) → LinksFit tables functions (Takes tables functions has_body) links → Scoped (links_marks links)
         → Good (linked tables functions e at links)
     chain e good at t.no_links fits asks k p = good k p
     chain e good at (t.link spot sign right others) fits asks k p =
-        chain (joined tables functions spot sign e at (stands tables functions right) (token right))
-        (joins spot sign e good at (stands tables functions right) (expression right fits.0 (front_of Is (tree_marks right) (links_marks others) asks)) (token right))
+        chain (joined tables functions spot sign e at (evaluated tables functions right) (token right))
+        (joins spot sign e good at (evaluated tables functions right) (expression right fits.0 (front_of Is (tree_marks right) (links_marks others) asks)) (token right))
         spot.at others fits.1 (rest_of Is (tree_marks right) (links_marks others) asks) k p
 
-    first_suffix : (whole : Tree) → Good (stands tables functions whole) → (suffixes : Suffixes) → FirstFits tables functions (Takes tables functions has_body) whole suffixes
-        → Scoped (suffixes_marks suffixes) → Good (suffixed tables functions (stands tables functions whole) (token whole) suffixes)
+    first_suffix : (whole : Tree) → Good (evaluated tables functions whole) → (suffixes : Suffixes) → FirstFits tables functions (Takes tables functions has_body) whole suffixes
+        → Scoped (suffixes_marks suffixes) → Good (suffixed tables functions (evaluated tables functions whole) (token whole) suffixes)
     first_suffix whole good t.no_suffixes fits asks k p = good k p
     first_suffix whole good (t.index spot by others) fits asks k p =
-        let e = stands tables functions whole in
-        postfix (indexed tables functions spot e (stands tables functions by))
-        (indexes spot e good (stands tables functions by) (expression by fits.0 (front_of Is (tree_marks by) (suffixes_marks others) asks)))
+        let e = evaluated tables functions whole in
+        postfix (indexed tables functions spot e (evaluated tables functions by))
+        (indexes spot e good (evaluated tables functions by) (expression by fits.0 (front_of Is (tree_marks by) (suffixes_marks others) asks)))
         spot.at others fits.1 (rest_of Is (tree_marks by) (suffixes_marks others) asks) k p
     first_suffix whole good (t.call spot arguments' others) fits asks k p =
-        let es = all_stand tables functions arguments' in
-        postfix (λ j. stands tables functions whole (calling tables functions es j))
+        let es = all_evaluated tables functions arguments' in
+        postfix (λ j. evaluated tables functions whole (calling tables functions es j))
         (call_is whole arguments' fits.0 (all_expressions arguments' fits.1 (front_of Is (trees_marks arguments') (suffixes_marks others) asks)))
         spot.at others fits.2 (rest_of Is (trees_marks arguments') (suffixes_marks others) asks) k p
     first_suffix whole good (t.dot spot name others) fits asks k p =
-        let e = stands tables functions whole in
+        let e = evaluated tables functions whole in
         postfix (dotted tables functions spot name.at e) (dots spot name.at e good) spot.at others fits asks k p
     first_suffix whole good (t.arrow spot name others) fits asks k p =
-        let e = stands tables functions whole in
+        let e = evaluated tables functions whole in
         postfix (pointed tables functions spot name.at e) (points spot name.at e good) spot.at others fits asks k p
     first_suffix whole good (t.up spot others) fits asks k p =
-        let e = stands tables functions whole in
+        let e = evaluated tables functions whole in
         postfix (raised tables functions g.Plus g.Minus e (token whole)) (raises g.Plus g.Minus e good (token whole)) spot.at others fits asks k p
     first_suffix whole good (t.down spot others) fits asks k p =
-        let e = stands tables functions whole in
+        let e = evaluated tables functions whole in
         postfix (raised tables functions g.Minus g.Plus e (token whole)) (raises g.Minus g.Plus e good (token whole)) spot.at others fits asks k p
 
-    postfix : (e : Stands) → Good e → (at : ℕ) (suffixes : Suffixes) → SuffixesFit tables functions (Takes tables functions has_body) suffixes → Scoped (suffixes_marks suffixes)
+    postfix : (e : Evaluation) → Good e → (at : ℕ) (suffixes : Suffixes) → SuffixesFit tables functions (Takes tables functions has_body) suffixes → Scoped (suffixes_marks suffixes)
         → Good (suffixed tables functions e at suffixes)
     postfix e good at t.no_suffixes fits asks k p = good k p
     postfix e good at (t.index spot by others) fits asks k p =
-        postfix (indexed tables functions spot e (stands tables functions by))
-        (indexes spot e good (stands tables functions by) (expression by fits.0 (front_of Is (tree_marks by) (suffixes_marks others) asks)))
+        postfix (indexed tables functions spot e (evaluated tables functions by))
+        (indexes spot e good (evaluated tables functions by) (expression by fits.0 (front_of Is (tree_marks by) (suffixes_marks others) asks)))
         spot.at others fits.1 (rest_of Is (tree_marks by) (suffixes_marks others) asks) k p
     postfix e good at (t.call spot arguments' others) fits asks k p = absurd fits
     postfix e good at (t.dot spot name others) fits asks k p = postfix (dotted tables functions spot name.at e) (dots spot name.at e good) spot.at others fits asks k p
@@ -484,13 +484,13 @@ module _ (tables : Tables) (functions : (binding : ℕ) → Signature) (has_body
     postfix e good at (t.up spot others) fits asks k p = postfix (raised tables functions g.Plus g.Minus e at) (raises g.Plus g.Minus e good at) spot.at others fits asks k p
     postfix e good at (t.down spot others) fits asks k p = postfix (raised tables functions g.Minus g.Plus e at) (raises g.Minus g.Plus e good at) spot.at others fits asks k p
 
-    all_expressions : (es : Trees) → AllFit tables functions (Takes tables functions has_body) es → Scoped (trees_marks es) → AllGood (all_stand tables functions es)
+    all_expressions : (es : Trees) → AllFit tables functions (Takes tables functions has_body) es → Scoped (trees_marks es) → AllGood (all_evaluated tables functions es)
     all_expressions t.no_trees fits asks = tt
     all_expressions (t.tree first others) fits asks =
         (expression first fits.0 (front_of Is (tree_marks first) (trees_marks others) asks), all_expressions others fits.1 (rest_of Is (tree_marks first) (trees_marks others) asks))
 
   pub values_kept : (e : Tree) → Fits tables functions has_body e → Scoped (tree_marks e) → Keeps (value tables functions e)
-  values_kept e fits asks rest p = value_is (stands tables functions e) (expression e fits asks) rest p
+  values_kept e fits asks rest p = value_is (evaluated tables functions e) (expression e fits asks) rest p
 
   -- what statements have of expressions
   pub uses : (e : Tree) → Fits tables functions has_body e → Scoped (tree_marks e) → Keeps (used tables functions e)

@@ -30,7 +30,7 @@ use Rattle.fk_meaning_forms.specs.Tables.{Tables, no_binding, nth, note, no_note
 use Rattle.fk_meaning_forms.specs.Signs.{operator_of, move_of}
 use Rattle.fk_meaning_forms.specs.Texts.{escaped, up_to_quote, text_of}
 use Rattle.fk_meaning_forms.specs.Expressions as x
-use Rattle.fk_meaning_forms.specs.Expressions.{Coded, Standing, OnList, AtAddress, InWord, ToCall, Stands, Signature, token, is_name, put_bytes, moved}
+use Rattle.fk_meaning_forms.specs.Expressions.{Coded, ResultLocation, OnList, AtAddress, InWord, ToCall, Evaluation, Signature, token, is_name, put_bytes, moved}
 use Rattle.fk_layout_walk.specs.Shown.{as_word, shown_variable}
 use Rattle.fk_lower_text.specs.Whole as w
 use Rattle.fk_lower_text.specs.Whole.{IsWhole}
@@ -61,12 +61,12 @@ InRoom (v.Private n) = n < 2 ^ 32
 InRoom (v.OfFile n) = n < 2 ^ 32
 
 -- a word in which an expression stands has room
-abbrev pub Good : Standing → Type 0
+abbrev pub Good : ResultLocation → Type 0
 Good (InWord variable) = InRoom variable
 Good other = Unit {0}
 
-abbrev pub Keeps : Stands → Type 0
-Keeps e = (k : Standing → Coded) → ((s : Standing) → Good s → IsWhole (k s)) → IsWhole (e k)
+abbrev pub Keeps : Evaluation → Type 0
+Keeps e = (k : ResultLocation → Coded) → ((s : ResultLocation) → Good s → IsWhole (k s)) → IsWhole (e k)
 
 variable_fits : (variable : Variable) → InRoom variable → shown_variable variable ≡ variable
 variable_fits (v.Private n) h = ap v.Private (fits n h)
@@ -156,44 +156,44 @@ module _ (tables : Tables) (functions : (binding : ℕ) → Signature) (room : H
   pub framed_whole : (at part : ℕ) (place : Place) (rest : Coded) → IsWhole rest → IsWhole (x.framed tables functions (frame_at tables at part) place rest)
   framed_whole at part place rest r = given_frame_whole (frame_at tables at part) place rest (frame_in_fits tables.regions room.levels room.frames at part) r
 
-  -- ---- how an expression stands
+  -- ---- where the result of an expression is
 
   checked_whole : (deep : Bool) (spot : Spot) (rest : Coded) → IsWhole rest → IsWhole (x.checked tables functions deep spot rest)
   checked_whole deep spot rest r = either_whole deep _ _ (refl, r) r
 
-  pub valued_whole : (standing : Standing) → Good standing → (rest : Coded) → IsWhole rest → IsWhole (x.valued tables functions standing rest)
+  pub valued_whole : (location : ResultLocation) → Good location → (rest : Coded) → IsWhole rest → IsWhole (x.valued tables functions location rest)
   valued_whole OnList i rest r = r
   valued_whole (AtAddress deep spot) i rest r = either_whole (is_array tables spot.at) _ _ r (checked_whole deep spot (x.plain o.Read rest) (refl, r))
   valued_whole (InWord variable) i rest r = (get_room variable i, r)
   valued_whole (ToCall name) i rest r = r
 
-  pub addressed_whole : (standing : Standing) (rest : Coded) → IsWhole rest → IsWhole (x.addressed tables functions standing rest)
+  pub addressed_whole : (location : ResultLocation) (rest : Coded) → IsWhole rest → IsWhole (x.addressed tables functions location rest)
   addressed_whole OnList rest r = r
   addressed_whole (AtAddress deep spot) rest r = checked_whole deep spot rest r
   addressed_whole (InWord variable) rest r = r
   addressed_whole (ToCall name) rest r = r
 
-  fetched_whole : (standing : Standing) → Good standing → (rest : Coded) → IsWhole rest → IsWhole (x.fetched tables functions standing rest)
+  fetched_whole : (location : ResultLocation) → Good location → (rest : Coded) → IsWhole rest → IsWhole (x.fetched tables functions location rest)
   fetched_whole OnList i rest r = r
   fetched_whole (AtAddress deep spot) i rest r = checked_whole deep spot (x.plain o.CopyLast (x.plain o.Read rest)) (refl, (refl, r))
   fetched_whole (InWord variable) i rest r = (get_room variable i, r)
   fetched_whole (ToCall name) i rest r = r
 
-  pub assigned_whole : (standing : Standing) → Good standing → (rest : Coded) → IsWhole rest → IsWhole (x.assigned tables functions standing rest)
+  pub assigned_whole : (location : ResultLocation) → Good location → (rest : Coded) → IsWhole rest → IsWhole (x.assigned tables functions location rest)
   assigned_whole OnList i rest r = r
   assigned_whole (AtAddress deep spot) i rest r = (refl, r)
   assigned_whole (InWord variable) i rest r = (ap o.Set (variable_fits variable i), r)
   assigned_whole (ToCall name) i rest r = r
 
-  value_of_whole : (e : Stands) → Keeps e → (rest : Coded) → IsWhole rest → IsWhole (x.value_of tables functions e rest)
-  value_of_whole e h rest r = h (λ standing. x.valued tables functions standing rest) (λ standing i. valued_whole standing i rest r)
+  value_of_whole : (e : Evaluation) → Keeps e → (rest : Coded) → IsWhole rest → IsWhole (x.value_of tables functions e rest)
+  value_of_whole e h rest r = h (λ location. x.valued tables functions location rest) (λ location i. valued_whole location i rest r)
 
   pub dropped_whole : (at : ℕ) (rest : Coded) → IsWhole rest → IsWhole (x.dropped tables functions at rest)
   dropped_whole at rest r = either_whole (is_void tables at) _ _ r (refl, r)
 
   -- ---- names
 
-  pub variable_keeps : (name : Named) → (k : Standing → Coded) → ((s : Standing) → Good s → IsWhole (k s)) → IsWhole (x.variable tables functions name k)
+  pub variable_keeps : (name : Named) → (k : ResultLocation → Coded) → ((s : ResultLocation) → Good s → IsWhole (k s)) → IsWhole (x.variable tables functions name k)
   variable_keeps name k f = either_whole ((note tables name.at).binding == no_binding) _ _
       (either_whole (is_name name (codes "__PROC_NR__")) _ _ (refl, f OnList tt) (either_whole (is_name name (codes "__STARTED_PROCS__")) _ _ (refl, f OnList tt)
       (either_whole (is_name name (codes "__inputs")) _ _ (refl, f OnList tt) (either_whole (is_name name (codes "__input")) _ _ (refl, f (AtAddress false (x.spot_of name)) tt) (f (ToCall name) tt)))))
@@ -213,51 +213,51 @@ module _ (tables : Tables) (functions : (binding : ℕ) → Signature) (room : H
       either_whole ((kind_at tables left).step == 0) _ _ (operator_room sign _, r)
       (moved_whole (move_of sign) (kind_at tables left).step _ rest (step_fits left) (operator_room sign _) r)
 
-  updated_whole : (sign : Sign) (target : Stands) (left right : ℕ) (e : Coded → Coded) (k : Standing → Coded) → Keeps target → ((rest : Coded) → IsWhole rest → IsWhole (e rest))
+  updated_whole : (sign : Sign) (target : Evaluation) (left right : ℕ) (e : Coded → Coded) (k : ResultLocation → Coded) → Keeps target → ((rest : Coded) → IsWhole rest → IsWhole (e rest))
       → IsWhole (k OnList) → IsWhole (x.updated tables functions sign target left right e k)
   updated_whole sign target left right e k h go r =
-      h _ (λ standing i. fetched_whole standing i _ (go _ (operate_whole sign left right _ (assigned_whole standing i (k OnList) r))))
+      h _ (λ location i. fetched_whole location i _ (go _ (operate_whole sign left right _ (assigned_whole location i (k OnList) r))))
 
   one_whole : (rest : Coded) → IsWhole rest → IsWhole (x.one tables functions rest)
   one_whole rest r = (refl, r)
 
-  prefixed_keeps : (spot : Spot) (sign : Sign) (e : Stands) (at : ℕ) → Keeps e → Keeps (x.prefixed tables functions spot sign e at)
+  prefixed_keeps : (spot : Spot) (sign : Sign) (e : Evaluation) (at : ℕ) → Keeps e → Keeps (x.prefixed tables functions spot sign e at)
   prefixed_keeps spot g.Minus e at h k f = value_of_whole e h _ (refl, f OnList tt)
   prefixed_keeps spot g.Tilde e at h k f = value_of_whole e h _ (refl, f OnList tt)
   prefixed_keeps spot g.Exclamation e at h k f = value_of_whole e h _ (refl, f OnList tt)
   prefixed_keeps spot g.Star e at h k f = value_of_whole e h _ (f (AtAddress true spot) tt)
-  prefixed_keeps spot g.Ampersand e at h k f = h _ (λ standing i. addressed_whole standing (k OnList) (f OnList tt))
+  prefixed_keeps spot g.Ampersand e at h k f = h _ (λ location i. addressed_whole location (k OnList) (f OnList tt))
   prefixed_keeps spot g.Increment e at h k f = updated_whole g.Plus e at spot.at (x.one tables functions) k h one_whole (f OnList tt)
   prefixed_keeps spot g.Decrement e at h k f = updated_whole g.Minus e at spot.at (x.one tables functions) k h one_whole (f OnList tt)
   prefixed_keeps spot sign e at h k f = value_of_whole e h _ (f OnList tt)
 
-  truth_whole : (e : Stands) → Keeps e → (rest : Coded) → IsWhole rest → IsWhole (x.truth tables functions e rest)
+  truth_whole : (e : Evaluation) → Keeps e → (rest : Coded) → IsWhole rest → IsWhole (x.truth tables functions e rest)
   truth_whole e h rest r = value_of_whole e h _ (refl, (refl, r))
 
-  logical_whole : (spot : Spot) (split : SplitKind) (onward : Bool) (other : ℕ) (a b : Stands) (k : Standing → Coded) → other < 2 ^ 32 → Keeps a → Keeps b → IsWhole (k OnList)
+  logical_whole : (spot : Spot) (split : SplitKind) (onward : Bool) (other : ℕ) (a b : Evaluation) (k : ResultLocation → Coded) → other < 2 ^ 32 → Keeps a → Keeps b → IsWhole (k OnList)
       → IsWhole (x.logical tables functions spot split onward other a b k)
   logical_whole spot split onward other a b k o' h j r =
       value_of_whole a h _ (either_whole (note tables spot.at).splits _ _
       (refl, truth_whole b j _ (refl, tt), tt, (refl, r))
       (agreed_whole (note tables spot.at).sync _ (refl, truth_whole b j _ tt, (push_room other o', tt), r)))
 
-  chosen_whole : (spot : Spot) (condition a b : Stands) (k : Standing → Coded) → Keeps condition → Keeps a → Keeps b → IsWhole (k OnList)
+  chosen_whole : (spot : Spot) (condition a b : Evaluation) (k : ResultLocation → Coded) → Keeps condition → Keeps a → Keeps b → IsWhole (k OnList)
       → IsWhole (x.chosen tables functions spot condition a b k)
   chosen_whole spot condition a b k h i j r =
       value_of_whole condition h _ (either_whole (note tables spot.at).splits _ _
       (refl, value_of_whole a i _ (refl, tt), value_of_whole b j _ (refl, tt), (refl, r))
       (agreed_whole (note tables spot.at).sync _ (refl, value_of_whole a i _ tt, value_of_whole b j _ tt, r)))
 
-  joined_keeps : (spot : Spot) (sign : Sign) (a : Stands) (left : ℕ) (b : Stands) (right : ℕ) → Keeps a → Keeps b → Keeps (x.joined tables functions spot sign a left b right)
+  joined_keeps : (spot : Spot) (sign : Sign) (a : Evaluation) (left : ℕ) (b : Evaluation) (right : ℕ) → Keeps a → Keeps b → Keeps (x.joined tables functions spot sign a left b right)
   joined_keeps spot g.Comma a left b right h j k f = value_of_whole a h _ (dropped_whole left _ (value_of_whole b j (k OnList) (f OnList tt)))
   joined_keeps spot g.AndAnd a left b right h j k f = logical_whole spot AndThen true 0 a b k (omega arith) h j (f OnList tt)
   joined_keeps spot g.OrOr a left b right h j k f = logical_whole spot OrElse false 1 a b k (omega arith) h j (f OnList tt)
   joined_keeps spot sign a left b right h j k f = value_of_whole a h _ (value_of_whole b j _ (operate_whole sign left right (k OnList) (f OnList tt)))
 
-  assignment_whole : (sign : Sign) (target : Stands) (left : ℕ) (value : Stands) (right : ℕ) (k : Standing → Coded) → Keeps target → Keeps value → IsWhole (k OnList)
+  assignment_whole : (sign : Sign) (target : Evaluation) (left : ℕ) (value : Evaluation) (right : ℕ) (k : ResultLocation → Coded) → Keeps target → Keeps value → IsWhole (k OnList)
       → IsWhole (x.assignment tables functions sign target left value right k)
   assignment_whole g.Assign target left value right k h j r =
-      h _ (λ standing i. addressed_whole standing _ (value_of_whole value j _ (assigned_whole standing i (k OnList) r)))
+      h _ (λ location i. addressed_whole location _ (value_of_whole value j _ (assigned_whole location i (k OnList) r)))
   assignment_whole sign target left value right k h j r = updated_whole sign target left right (x.value_of tables functions value) k h (λ rest s. value_of_whole value j rest s) r
 
   -- ---- suffixes
@@ -265,29 +265,29 @@ module _ (tables : Tables) (functions : (binding : ℕ) → Signature) (room : H
   member_whole : (at : ℕ) → (note tables at).binding < 2 ^ 29 → (rest : Coded) → IsWhole rest → IsWhole (x.member tables functions at rest)
   member_whole at h rest r = (push_room (4 * (note tables at).binding) (omega arith), (refl, r))
 
-  indexed_keeps : (spot : Spot) (e by : Stands) → Keeps e → Keeps by → Keeps (x.indexed tables functions spot e by)
+  indexed_keeps : (spot : Spot) (e by : Evaluation) → Keeps e → Keeps by → Keeps (x.indexed tables functions spot e by)
   indexed_keeps spot e by h j k f =
       let i = words_fit spot.at in
       value_of_whole e h _ (value_of_whole by j _ (index_room (4 * (kind_at tables spot.at).words) (omega arith), f (AtAddress true spot) tt))
 
-  dotted_keeps : (spot : Spot) (at : ℕ) (e : Stands) → (note tables at).binding < 2 ^ 29 → Keeps e → Keeps (x.dotted tables functions spot at e)
-  dotted_keeps spot at e i h k f = h _ (λ standing j. member_whole at i (k (AtAddress (x.is_deep tables functions standing) spot)) (f (AtAddress (x.is_deep tables functions standing) spot) tt))
+  dotted_keeps : (spot : Spot) (at : ℕ) (e : Evaluation) → (note tables at).binding < 2 ^ 29 → Keeps e → Keeps (x.dotted tables functions spot at e)
+  dotted_keeps spot at e i h k f = h _ (λ location j. member_whole at i (k (AtAddress (x.is_deep tables functions location) spot)) (f (AtAddress (x.is_deep tables functions location) spot) tt))
 
-  pointed_keeps : (spot : Spot) (at : ℕ) (e : Stands) → (note tables at).binding < 2 ^ 29 → Keeps e → Keeps (x.pointed tables functions spot at e)
+  pointed_keeps : (spot : Spot) (at : ℕ) (e : Evaluation) → (note tables at).binding < 2 ^ 29 → Keeps e → Keeps (x.pointed tables functions spot at e)
   pointed_keeps spot at e i h k f = value_of_whole e h _ (member_whole at i (k (AtAddress true spot)) (f (AtAddress true spot) tt))
 
-  raised_keeps : (sign back : Sign) (e : Stands) (at : ℕ) → Keeps e → Keeps (x.raised tables functions sign back e at)
+  raised_keeps : (sign back : Sign) (e : Evaluation) (at : ℕ) → Keeps e → Keeps (x.raised tables functions sign back e at)
   raised_keeps sign back e at h k f =
-      updated_whole sign e at 0 (x.one tables functions) (λ standing. x.plain (o.Push (x.step_back tables functions at)) (x.plain (operator_of back false) (k OnList))) h one_whole
+      updated_whole sign e at 0 (x.one tables functions) (λ location. x.plain (o.Push (x.step_back tables functions at)) (x.plain (operator_of back false) (k OnList))) h one_whole
       (push_room (x.step_back tables functions at) (either IsWord ((kind_at tables at).step == 0) _ _ (omega arith) (step_fits at)), (operator_room back false, f OnList tt))
 
   -- ---- calls
 
-  abbrev AllKeep : List Stands → Type 0
+  abbrev AllKeep : List Evaluation → Type 0
   AllKeep [] = Unit {0}
   AllKeep (e ∷ es) = Keeps e × AllKeep es
 
-  arguments_whole : (ys : List DeclaredTree) (es : List Stands) (rest : Coded) → AllKeep es → IsWhole rest → IsWhole (x.arguments tables functions ys es rest)
+  arguments_whole : (ys : List DeclaredTree) (es : List Evaluation) (rest : Coded) → AllKeep es → IsWhole rest → IsWhole (x.arguments tables functions ys es rest)
   arguments_whole [] es rest h r = r
   arguments_whole (y ∷ ys) [] rest h r = r
   arguments_whole (y ∷ ys) (e ∷ es) rest h r = value_of_whole e h.0 _ (agreed_whole y.shared _ (arguments_whole ys es rest h.1 r))
@@ -302,7 +302,7 @@ module _ (tables : Tables) (functions : (binding : ℕ) → Signature) (room : H
       (frame_room 0 (slot tables b).index (omega arith) (omega arith), (get_room (v.Private i) (omega arith), (refl, (refl, others))))
       others
 
-  called_whole : (name : Named) (es : List Stands) (k : Standing → Coded) → AllKeep es → IsWhole (k OnList) → IsWhole (x.called tables functions name es k)
+  called_whole : (name : Named) (es : List Evaluation) (k : ResultLocation → Coded) → AllKeep es → IsWhole (k OnList) → IsWhole (x.called tables functions name es k)
   called_whole name es k h r =
       let function = functions (note tables name.at).binding in
       let short = few (note tables name.at).binding in
@@ -312,16 +312,16 @@ module _ (tables : Tables) (functions : (binding : ℕ) → Signature) (room : H
         r,
       )
 
-  multiprefix_whole : (name : Named) (by : Multiprefix) (es : List Stands) (k : Standing → Coded) → AllKeep es → IsWhole (k OnList) → IsWhole (x.multiprefix tables functions name by es k)
+  multiprefix_whole : (name : Named) (by : Multiprefix) (es : List Evaluation) (k : ResultLocation → Coded) → AllKeep es → IsWhole (k OnList) → IsWhole (x.multiprefix tables functions name by es k)
   multiprefix_whole name by [] k h r = tt
   multiprefix_whole name by (a ∷ []) k h r = tt
   multiprefix_whole name by (a ∷ b ∷ es) k h r = value_of_whole a h.0 _ (refl, value_of_whole b h.1.0 _ (refl, r))
 
-  with_one_whole : (after : Coded → Coded) (es : List Stands) (k : Standing → Coded) → AllKeep es → IsWhole (after (k OnList)) → IsWhole (x.with_one tables functions after es k)
+  with_one_whole : (after : Coded → Coded) (es : List Evaluation) (k : ResultLocation → Coded) → AllKeep es → IsWhole (after (k OnList)) → IsWhole (x.with_one tables functions after es k)
   with_one_whole after [] k h r = tt
   with_one_whole after (e ∷ es) k h r = value_of_whole e h.0 _ r
 
-  predeclared_whole : (name : Named) (es : List Stands) (k : Standing → Coded) → AllKeep es → IsWhole (k OnList) → IsWhole (x.called_predeclared tables functions name es k)
+  predeclared_whole : (name : Named) (es : List Evaluation) (k : ResultLocation → Coded) → AllKeep es → IsWhole (k OnList) → IsWhole (x.called_predeclared tables functions name es k)
   predeclared_whole name es k h r =
       either_whole (is_name name (codes "mpadd")) _ _ (multiprefix_whole name MpAdd es k h r)
       (either_whole (is_name name (codes "mpmax")) _ _ (multiprefix_whole name MpMax es k h r)
@@ -334,51 +334,51 @@ module _ (tables : Tables) (functions : (binding : ℕ) → Signature) (room : H
       (either_whole (is_name name (codes "shmalloc")) _ _ (with_one_whole (x.plain o.Heap) es k h (refl, r))
       (with_one_whole (λ rest. x.plain o.Agree (x.plain o.Block rest)) es k h (refl, (refl, r)))))))))))
 
-  calling_whole : (es : List Stands) (k : Standing → Coded) (standing : Standing) → AllKeep es → IsWhole (k OnList) → IsWhole (x.calling tables functions es k standing)
+  calling_whole : (es : List Evaluation) (k : ResultLocation → Coded) (location : ResultLocation) → AllKeep es → IsWhole (k OnList) → IsWhole (x.calling tables functions es k location)
   calling_whole es k (ToCall name) h r = either_whole ((note tables name.at).binding == no_binding) _ _ (predeclared_whole name es k h r) (called_whole name es k h r)
-  calling_whole es k standing h r = tt
+  calling_whole es k location h r = tt
 
   -- ---- trees
 
-  abbrev stands : Tree → Stands
-  stands e = x.stands tables functions e
+  abbrev evaluated : Tree → Evaluation
+  evaluated e = x.evaluated tables functions e
 
   mutual
-    pub keeps : (e : Tree) → TreeHas word_numbers e → TreeHas (near_members tables) e → Keeps (stands e)
+    pub keeps : (e : Tree) → TreeHas word_numbers e → TreeHas (near_members tables) e → Keeps (evaluated e)
     keeps (t.Number spot value unsigned) i j k f = (push_room value i, f OnList tt)
     keeps (t.Puts spot text) i j k f = put_whole (text_of text) (k OnList) (text_words text i) (f OnList tt)
     keeps (t.Sizeof spot type) i j k f = (push_room (note tables spot.at).binding (binding_fits spot.at), f OnList tt)
     keeps (t.Variable name) i j k f = variable_keeps name k f
     keeps (t.GroupNumber spot) i j k f = (refl, f OnList tt)
     keeps (t.GroupRank spot) i j k f = (refl, f OnList tt)
-    keeps (t.Prefix spot sign operand) i j k f = prefixed_keeps spot sign (stands operand) (token operand) (keeps operand i j) k f
-    keeps (t.Cast spot type operand) i j k f = value_of_whole (stands operand) (keeps operand i j) (k OnList) (f OnList tt)
-    keeps (t.Chain first links) i j k f = links_keep (stands first) (token first) (keeps first i.1 j.1) links i.2 j.2 k f
-    keeps (t.Postfix whole suffixes) i j k f = suffixes_keep (stands whole) (token whole) (keeps whole i.1 j.1) suffixes i.2 j.2 k f
+    keeps (t.Prefix spot sign operand) i j k f = prefixed_keeps spot sign (evaluated operand) (token operand) (keeps operand i j) k f
+    keeps (t.Cast spot type operand) i j k f = value_of_whole (evaluated operand) (keeps operand i j) (k OnList) (f OnList tt)
+    keeps (t.Chain first links) i j k f = links_keep (evaluated first) (token first) (keeps first i.1 j.1) links i.2 j.2 k f
+    keeps (t.Postfix whole suffixes) i j k f = suffixes_keep (evaluated whole) (token whole) (keeps whole i.1 j.1) suffixes i.2 j.2 k f
     keeps (t.Assign spot sign target value) i j k f =
-        assignment_whole sign (stands target) (token target) (stands value) (token value) k (keeps target i.0 j.0) (keeps value i.1 j.1) (f OnList tt)
+        assignment_whole sign (evaluated target) (token target) (evaluated value) (token value) k (keeps target i.0 j.0) (keeps value i.1 j.1) (f OnList tt)
     keeps (t.Choose spot condition first second) i j k f =
-        chosen_whole spot (stands condition) (stands first) (stands second) k (keeps condition i.0 j.0) (keeps first i.1 j.1) (keeps second i.2 j.2) (f OnList tt)
+        chosen_whole spot (evaluated condition) (evaluated first) (evaluated second) k (keeps condition i.0 j.0) (keeps first i.1 j.1) (keeps second i.2 j.2) (f OnList tt)
 
-    links_keep : (e : Stands) (at : ℕ) → Keeps e → (links : Links) → LinksHave word_numbers links → LinksHave (near_members tables) links → Keeps (x.linked tables functions e at links)
+    links_keep : (e : Evaluation) (at : ℕ) → Keeps e → (links : Links) → LinksHave word_numbers links → LinksHave (near_members tables) links → Keeps (x.linked tables functions e at links)
     links_keep e at p t.no_links i j k f = p k f
     links_keep e at p (t.link spot sign right others) i j k f =
-        links_keep _ spot.at (joined_keeps spot sign e at (stands right) (token right) p (keeps right i.0 j.0)) others i.1 j.1 k f
+        links_keep _ spot.at (joined_keeps spot sign e at (evaluated right) (token right) p (keeps right i.0 j.0)) others i.1 j.1 k f
 
-    suffixes_keep : (e : Stands) (at : ℕ) → Keeps e → (suffixes : Suffixes) → SuffixesHave word_numbers suffixes → SuffixesHave (near_members tables) suffixes → Keeps (x.suffixed tables functions e at suffixes)
+    suffixes_keep : (e : Evaluation) (at : ℕ) → Keeps e → (suffixes : Suffixes) → SuffixesHave word_numbers suffixes → SuffixesHave (near_members tables) suffixes → Keeps (x.suffixed tables functions e at suffixes)
     suffixes_keep e at p t.no_suffixes i j k f = p k f
-    suffixes_keep e at p (t.index spot by others) i j k f = suffixes_keep _ spot.at (indexed_keeps spot e (stands by) p (keeps by i.0 j.0)) others i.1 j.1 k f
+    suffixes_keep e at p (t.index spot by others) i j k f = suffixes_keep _ spot.at (indexed_keeps spot e (evaluated by) p (keeps by i.0 j.0)) others i.1 j.1 k f
     suffixes_keep e at p (t.call spot arguments others) i j k f =
-        suffixes_keep (λ q. e (x.calling tables functions (x.all_stand tables functions arguments) q)) spot.at
-        (λ q s. p _ (λ standing good. calling_whole (x.all_stand tables functions arguments) q standing (all_keep arguments i.0 j.0) (s OnList tt))) others i.1 j.1 k f
+        suffixes_keep (λ q. e (x.calling tables functions (x.all_evaluated tables functions arguments) q)) spot.at
+        (λ q s. p _ (λ location good. calling_whole (x.all_evaluated tables functions arguments) q location (all_keep arguments i.0 j.0) (s OnList tt))) others i.1 j.1 k f
     suffixes_keep e at p (t.dot spot name others) i j k f = suffixes_keep _ spot.at (dotted_keeps spot name.at e j.0 p) others i.1 j.1 k f
     suffixes_keep e at p (t.arrow spot name others) i j k f = suffixes_keep _ spot.at (pointed_keeps spot name.at e j.0 p) others i.1 j.1 k f
     suffixes_keep e at p (t.up spot others) i j k f = suffixes_keep _ spot.at (raised_keeps g.Plus g.Minus e at p) others i j k f
     suffixes_keep e at p (t.down spot others) i j k f = suffixes_keep _ spot.at (raised_keeps g.Minus g.Plus e at p) others i j k f
 
-    all_keep : (arguments : Trees) → TreesHave word_numbers arguments → TreesHave (near_members tables) arguments → AllKeep (x.all_stand tables functions arguments)
+    all_keep : (arguments : Trees) → TreesHave word_numbers arguments → TreesHave (near_members tables) arguments → AllKeep (x.all_evaluated tables functions arguments)
     all_keep t.no_trees i j = tt
     all_keep (t.tree first others) i j = (keeps first i.0 j.0, all_keep others i.1 j.1)
 
   pub value_whole : (e : Tree) → TreeHas word_numbers e → TreeHas (near_members tables) e → (rest : Coded) → IsWhole rest → IsWhole (x.value tables functions e rest)
-  value_whole e i j rest r = value_of_whole (stands e) (keeps e i j) rest r
+  value_whole e i j rest r = value_of_whole (evaluated e) (keeps e i j) rest r

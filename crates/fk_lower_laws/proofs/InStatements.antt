@@ -12,7 +12,7 @@ use Rattle.fk_meaning_forms.specs.Code as c
 use Rattle.fk_meaning_forms.specs.Code.{done}
 use Rattle.fk_meaning_forms.specs.Tables.{Tables, note}
 use Rattle.fk_meaning_forms.specs.Expressions as x
-use Rattle.fk_meaning_forms.specs.Expressions.{Coded, Standing, Signature, token}
+use Rattle.fk_meaning_forms.specs.Expressions.{Coded, ResultLocation, Signature, token}
 use Rattle.fk_meaning_forms.specs.Statements as s
 use Rattle.fk_meaning_forms.specs.Statements.{Inside}
 use Rattle.fk_lower_text.specs.Whole as w
@@ -44,18 +44,18 @@ module _ (tables : Tables) (functions : (binding : ℕ) → Signature) (room : H
   -- ---- variables
 
   -- a variable that stands in a way gets its first value
-  abbrev put : Coded → Standing → Coded
-  put rest standing = x.assigned tables functions standing (x.plain o.DropLast rest)
+  abbrev put : Coded → ResultLocation → Coded
+  put rest location = x.assigned tables functions location (x.plain o.DropLast rest)
 
-  abbrev given : Option Tree → Coded → Standing → Coded
-  given first rest standing = s.value_or tables functions (x.plain (o.Push 0)) first (put rest standing)
+  abbrev given : Option Tree → Coded → ResultLocation → Coded
+  given first rest location = s.value_or tables functions (x.plain (o.Push 0)) first (put rest location)
 
   declared_whole : (y : DeclaredTree) → OptionHas word_numbers y.first → OptionHas (near_members tables) y.first → (rest : Coded) → IsWhole rest → IsWhole (s.declared tables functions y rest)
   declared_whole y i j rest r =
       either_whole (s.is_scalar y) _ _
-      (e.variable_keeps tables functions room few y.name (λ standing. x.addressed tables functions standing (given y.first rest standing))
-      (λ standing good. e.addressed_whole tables functions room few standing (given y.first rest standing)
-      (value_or_whole (o.Push 0) refl y.first i j (put rest standing) (e.assigned_whole tables functions room few standing good (x.plain o.DropLast rest) (refl, r)))))
+      (e.variable_keeps tables functions room few y.name (λ location. x.addressed tables functions location (given y.first rest location))
+      (λ location good. e.addressed_whole tables functions room few location (given y.first rest location)
+      (value_or_whole (o.Push 0) refl y.first i j (put rest location) (e.assigned_whole tables functions room few location good (x.plain o.DropLast rest) (refl, r)))))
       r
 
   all_declared_whole : (ys : List DeclaredTree) → VariablesHave word_numbers ys → VariablesHave (near_members tables) ys → (rest : Coded) → IsWhole rest → IsWhole (s.all_declared tables functions ys rest)

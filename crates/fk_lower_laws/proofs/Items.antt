@@ -7,7 +7,7 @@ use Rattle.fk_meaning_forms.specs.Expressions.{Coded}
 use Rattle.fk_core.specs.declared.op.CoreOp.{CoreOp}
 use Rattle.fk_core.specs.Numbers.{operation_of}
 use Rattle.fk_core.specs.Next.{is_jump}
-use Rattle.fk_core.specs.Stands.{Around}
+use Rattle.fk_core.specs.CodeAt.{Around}
 use Rattle.fk_core_flat.specs.Items.{Item, jump, act, Has, way_of, goes_away}
 use Rattle.fk_core_flat.specs.Flat.{begins_here, skip, gap, label, flat}
 use Rattle.fk_core_flat.proofs.Parts.{choice_at, turns_at, rounds_at, entering_at}

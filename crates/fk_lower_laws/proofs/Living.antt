@@ -11,7 +11,7 @@ use Rattle.fk_core.specs.declared.op.CoreOp.{CoreOp}
 use Rattle.fk_core.specs.Numbers.{operation_of}
 use Rattle.fk_core.specs.Next.{is_jump, follows}
 use Rattle.fk_core_typing.specs.LocalDepths.{is_ordinary}
-use Rattle.fk_sim_block.specs.Next.{StandsOp}
+use Rattle.fk_sim_block.specs.Next.{OpAt}
 use Rattle.fk_sim_block.specs.Suits.{writes}
 use Rattle.fk_core_liveness.specs.Live.{reads, needed, kept_behind, asked_by, asked_of, asked, IsLive}
 
@@ -20,7 +20,7 @@ or_true true = refl
 or_true false = refl
 
 module _ (core : List CoreOp) (keeps : (index word : ℕ) → Bool) where
-  pub at_operation : (i : ℕ) (op : CoreOp) (operation : Operation) → StandsOp core i op operation → (word : ℕ)
+  pub at_operation : (i : ℕ) (op : CoreOp) (operation : Operation) → OpAt core i op operation → (word : ℕ)
       → asked core keeps i word ≡ needed operation (kept_behind core keeps operation i op.target word) word
   at_operation i op operation stands word =
       ap (λ o. asked_of core keeps o i word) stands.stands
@@ -57,13 +57,13 @@ module _ (core : List CoreOp) (keeps : (index word : ℕ) → Bool) where
       by false k = k
 
   module _ (live : IsLive core keeps) where
-    pub kept_before : (i : ℕ) (op : CoreOp) (operation : Operation) → StandsOp core i op operation → (word : ℕ)
+    pub kept_before : (i : ℕ) (op : CoreOp) (operation : Operation) → OpAt core i op operation → (word : ℕ)
         → kept_behind core keeps operation i op.target word ≡ true → writes operation word ≡ false → keeps i word ≡ true
     kept_before i op operation stands word k w =
         live i word (at_operation i op operation stands word ∙ ap (λ a. (a && not (writes operation word)) || reads operation word) k
         ∙ ap (λ b. (true && not b) || reads operation word) w)
 
-    pub read_before : (i : ℕ) (op : CoreOp) (word : ℕ) → StandsOp core i op (o.Get (n.Value (v.Private word))) → word < 64 → keeps i word ≡ true
+    pub read_before : (i : ℕ) (op : CoreOp) (word : ℕ) → OpAt core i op (o.Get (n.Value (v.Private word))) → word < 64 → keeps i word ≡ true
     read_before i op word stands low =
         live i word (at_operation i op (o.Get (n.Value (v.Private word))) stands word
         ∙ ap (λ b. (kept_behind core keeps (o.Get (n.Value (v.Private word))) i op.target word && true) || b) here

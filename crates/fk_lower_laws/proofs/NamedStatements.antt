@@ -16,7 +16,7 @@ use Rattle.fk_meaning_forms.specs.declared.tables.Home.TheVariants as h
 use Rattle.fk_meaning_forms.specs.Code as c
 use Rattle.fk_meaning_forms.specs.Code.{done, choose, quit, ends}
 use Rattle.fk_meaning_forms.specs.Tables.{Tables, no_binding, note, slot}
-use Rattle.fk_meaning_forms.specs.Expressions.{Coded, nowhere, plain, agreed, Signature, Standing, addressed, assigned, predeclared, placed, variable, value}
+use Rattle.fk_meaning_forms.specs.Expressions.{Coded, nowhere, plain, agreed, Signature, ResultLocation, addressed, assigned, predeclared, placed, variable, value}
 use Rattle.fk_meaning_forms.specs.Statements.{Inside, is_scalar, used_or, value_or, declared, all_declared, part_frame, leaving, tested, looping, left_by, executed, all_executed, end_of, body_of}
 use Rattle.fk_core_flat.specs.Fitting.{Fits, OptionFits, OptionConditionFits, VariablesFit, StatementFits, StatementsFit}
 use Rattle.fk_check_laws.proofs.Each.{Each, front_of, two_of, three_of, four_of}
@@ -65,10 +65,10 @@ module _ (tables : Tables) (functions : (binding : ℕ) → Signature) (has_body
   -- ---- declarations
 
   -- what is stored where a scalar is declared
-  abbrev stored : Option Tree → Coded → Standing → Coded
-  stored first rest standing =
-      addressed tables functions standing
-      (value_or tables functions (plain (o.Push 0)) first (assigned tables functions standing (plain o.DropLast rest)))
+  abbrev stored : Option Tree → Coded → ResultLocation → Coded
+  stored first rest location =
+      addressed tables functions location
+      (value_or tables functions (plain (o.Push 0)) first (assigned tables functions location (plain o.DropLast rest)))
 
   module _ (first : Option Tree) (fits : OptionFits tables functions has_body first) (asks : Scoped (optional_marks first)) (rest : Coded) where
     gives : (code : Coded) → Fine code → Fine (value_or tables functions (plain (o.Push 0)) first code)

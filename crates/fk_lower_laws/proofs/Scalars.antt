@@ -57,7 +57,7 @@ scalar around None false kept = (refl, refl)
 
 module _ (thing : ℕ → Option Thing) where
   -- a token breaks no rule
-  abbrev pub Kept : s.Standing (List Holder) → Type 0
+  abbrev pub Kept : s.TokenIn (List Holder) → Type 0
   Kept token = (rule : _) → sb.BreaksRule token.around token.word rule → ⊥
 
   of_variable : (around : List Holder) (x : DeclaredTree) → Each Kept (s.variable_tokens thing around x) → IsScalar x
@@ -73,7 +73,7 @@ module _ (thing : ℕ → Option Thing) where
   of_file around [] k = tt
   of_file around (x ∷ xs) k = (of_variable around x (front_of Kept (s.variable_tokens thing around x) _ k), of_file around xs (rest_of Kept (s.variable_tokens thing around x) _ k))
 
-  abbrev tokens_of : List Holder → Statement → List (s.Standing (List Holder))
+  abbrev tokens_of : List Holder → Statement → List (s.TokenIn (List Holder))
   tokens_of around st = s.statement_tokens thing ◌∷◌ around st
 
   mutual

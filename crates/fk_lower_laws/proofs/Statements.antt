@@ -54,7 +54,7 @@ use Rattle.fk_check_laws.proofs.Expressions.{told}
 use Rattle.fk_check_laws.proofs.Read.{Any, IsNamed, read}
 use Rattle.fk_lower_laws.specs.Ways.{placed_way, way}
 use Rattle.fk_lower_laws.specs.Asked.{IsTarget, NameAsks, Asked, ValueAsked, OptionValueAsked, UsedAsked, OptionUsedAsked, ScalarAsked, VariablesAsked, ReturnAsked, StatementAsked, StatementsAsked}
-use Rattle.fk_lower_laws.specs.Typed.{IsNothing, StandsAs}
+use Rattle.fk_lower_laws.specs.Typed.{IsNothing, IsWayOf}
 use Rattle.fk_lower_laws.proofs.Typing.{tree_is, gives_value, gives_by}
 use Rattle.fk_lower_laws.proofs.Sizes.{has_sound}
 use Rattle.fk_lower_laws.proofs.Tokens.{void_is}
@@ -111,7 +111,7 @@ module _ (program : ProgramTree) (facts : Facts) (given : IsGiven program facts)
     type : ExpressionType
     typed : type_of env (term_of e) ≡ Some type
     asked : Asked tables functions places e
-    stands : StandsAs Room (way tables places e) type
+    stands : IsWayOf Room (way tables places e) type
     void : is_some (left_of type) ≡ true → is_void tables (token e) ≡ IsNothing type
 
   module _ (around : List Holder) where
@@ -254,7 +254,7 @@ module _ (program : ProgramTree) (facts : Facts) (given : IsGiven program facts)
   pub scope_of : (ms : List MarkTree) → Each S (o.scope ms) → Each S ms
   scope_of ms m = front_of S ms (o.Closes ∷ []) m.1
 
-  abbrev tokens_of : List Holder → Statement → List (s.Standing (List Holder))
+  abbrev tokens_of : List Holder → Statement → List (s.TokenIn (List Holder))
   tokens_of around st = s.statement_tokens thing ◌∷◌ around st
 
   abbrev Fits' : Bool → Statement → Type 0

@@ -21,7 +21,7 @@ use Rattle.fk_core_flat.specs.Items as w
 use Rattle.fk_core_flat.specs.Items.{Way}
 use Rattle.fk_core_flat.specs.Shape.{is_done, is_closed}
 use Rattle.fk_core_typing.specs.LocalDepths.{is_ordinary}
-use Rattle.fk_sim_block.specs.Next.{StandsOp}
+use Rattle.fk_sim_block.specs.Next.{OpAt}
 use Rattle.fk_sim_block.specs.Stands.{Frames, HasRoom, ahead}
 use Rattle.fk_sim_block.specs.Suits as b
 use Rattle.fk_sim_block.specs.Suits.{writes, nothing, Flows}
@@ -76,7 +76,7 @@ module _ (bodies : ℕ → Code ℕ) (core : List CoreOp) (entry : ℕ → ℕ) 
   same : (op : Operation) (s : Sized) (way : Way) → way_of op ≡ way → (way ≡ w.straight) ⊎ (way ≡ w.onto) → sys.behind op false s ≡ sys.behind op true s
   same op s way e f = ap (λ x. sized x s.words s.most) (same_ways op s.state way e f)
 
-  sound_at : (i : ℕ) (op : CoreOp) (operation : Operation) → StandsOp core i op operation → Sounds i op.site operation op.target
+  sound_at : (i : ℕ) (op : CoreOp) (operation : Operation) → OpAt core i op operation → Sounds i op.site operation op.target
   sound_at i op operation stands = of_operation bodies core entry place_of typed sys lawful judged bare_main true tall.depth heights i op operation stands.stands stands.is_read
 
   onto : (op : Operation) (i m target : ℕ) → is_ordinary op ≡ true → Sounds i m op target → (onward : Bool)
@@ -135,7 +135,7 @@ module _ (bodies : ℕ → Code ℕ) (core : List CoreOp) (entry : ℕ → ℕ) 
           → asked_by core own operation i op.target word ≡ true → own i word ≡ true
       by_operation op None s j r e = absurd (cc)
       by_operation op (Some operation) s j r e =
-          let stands : StandsOp core i op operation = record { stands = s; no_jump = j; is_read = r } in
+          let stands : OpAt core i op operation = record { stands = s; no_jump = j; is_read = r } in
           let sound = sound_at i op operation stands in
           by (split_or (kept_behind core own operation i op.target word && not (writes operation word)) (reads operation word) e) sound
         where
@@ -189,14 +189,14 @@ module _ (bodies : ℕ → Code ℕ) (core : List CoreOp) (entry : ℕ → ℕ) 
     grown : (op : Operation) (i : ℕ) → length (behind op true (at i).state).values ≤ (at i).most → raised (count i) op true ≤ (at i).most
     grown op i a = let e = rises op true (at i).state in omega (arith, e, a)
 
-    there : (known : OwnValue) (i : ℕ) (op : CoreOp) → StandsOp core i op (o.Get known) → HasWord firsts (at i).words (o.Get known)
+    there : (known : OwnValue) (i : ℕ) (op : CoreOp) → OpAt core i op (o.Get known) → HasWord firsts (at i).words (o.Get known)
         → ahead_in firsts (at i).state.place + 8 + (at i).words + (at i).most ≤ 64 → b.IsThere core frames known i
     there (n.Value (v.Private word)) i op stands h room =
         let low : word < (at i).words = h in read_before core keeps live i op word stands (omega (arith, low, room))
     there (n.Value (v.OfFile word)) i op stands h room = h
     there known i op stands h room = tt
 
-    place : (operation : Operation) (i : ℕ) (op : CoreOp) → StandsOp core i op operation → Sounds i op.site operation op.target → b.HasPlace core frames operation i (count i)
+    place : (operation : Operation) (i : ℕ) (op : CoreOp) → OpAt core i op operation → Sounds i op.site operation op.target → b.HasPlace core frames operation i (count i)
     place (o.Push x) i op stands s = has_room i op.site (o.Push x) op.target (suc (count i)) s (let a = grown (o.Push x) i s.may.roomy in omega (arith, a))
     place o.CopyLast i op stands s = has_room i op.site o.CopyLast op.target (suc (count i)) s (let a = grown o.CopyLast i s.may.roomy in omega (arith, a))
     place (o.Get known) i op stands s =
@@ -218,14 +218,14 @@ module _ (bodies : ℕ → Code ℕ) (core : List CoreOp) (entry : ℕ → ℕ) 
     ordinary o.Halt i target r h = absurd (cc)
     ordinary op i target r h = h
 
-    by_ordinary : (operation : Operation) (i : ℕ) (op : CoreOp) → StandsOp core i op operation → is_ordinary operation ≡ true → Sounds i op.site operation op.target
+    by_ordinary : (operation : Operation) (i : ℕ) (op : CoreOp) → OpAt core i op operation → is_ordinary operation ≡ true → Sounds i op.site operation op.target
         → b.GoesOn core frames operation i op.target (count i)
     by_ordinary operation i op stands r s =
         ordinary operation i op.target r (λ onward. flows (sys.behind operation onward (at i)) (writes operation) i (follows core operation i op.target [] onward).at refl
         (λ word k u. kept_before core keeps live i op operation stands word (behind_either core keeps operation i op.target word r onward k) u)
         (onto operation i op.site op.target r s onward))
 
-    calls : (arguments i : ℕ) (op : CoreOp) → StandsOp core i op (o.Enter arguments) → Sounds i op.site (o.Enter arguments) op.target → b.Calls core frames arguments i (count i)
+    calls : (arguments i : ℕ) (op : CoreOp) → OpAt core i op (o.Enter arguments) → Sounds i op.site (o.Enter arguments) op.target → b.Calls core frames arguments i (count i)
     calls arguments i op stands s =
         let c = called arguments i op.site op.target s in
         record {
@@ -243,13 +243,13 @@ module _ (bodies : ℕ → Code ℕ) (core : List CoreOp) (entry : ℕ → ℕ) 
               (sym c.on.grants.state.place) (let a = s.may.low in omega (arith, a));
         }
 
-    goes : (operation : Operation) (i : ℕ) (op : CoreOp) → StandsOp core i op operation → Sounds i op.site operation op.target → b.GoesOn core frames operation i op.target (count i)
+    goes : (operation : Operation) (i : ℕ) (op : CoreOp) → OpAt core i op operation → Sounds i op.site operation op.target → b.GoesOn core frames operation i op.target (count i)
     goes (o.Enter arguments) i op stands s = calls arguments i op stands s
     goes (o.Leave gives framed) i op stands s = ap is_main_place s.goes
     goes o.Halt i op stands s = ap is_main_place s.goes
     goes operation i op stands s = by_ordinary operation i op stands refl s
 
-    fits : (i : ℕ) (op : CoreOp) (operation : Operation) → StandsOp core i op operation → b.Fits core frames i op operation
+    fits : (i : ℕ) (op : CoreOp) (operation : Operation) → OpAt core i op operation → b.Fits core frames i op operation
     fits i op operation stands =
         let s = sound_at i op operation stands in
         let e : count i ≡ op.depth = sym (s.height refl) ∙ sym (tall.told i op operation stands.stands stands.is_read) in

@@ -28,7 +28,7 @@ use Rattle.fk_meaning_forms.specs.Code.{done, perform, choose, call}
 use Rattle.fk_meaning_forms.specs.Tables.{Tables, no_binding, note, kind_at, is_array, is_void, is_unsigned, slot, frame_at}
 use Rattle.fk_meaning_forms.specs.Signs.{operator_of, is_shift, move_of}
 use Rattle.fk_meaning_forms.specs.Texts.{text_of}
-use Rattle.fk_meaning_forms.specs.Expressions.{Coded, nowhere, plain, Standing, OnList, AtAddress, InWord, ToCall, Stands, token, spot_of, is_name, Signature, put_bytes, moved, agreed, checked, valued, addressed, fetched, assigned, value_of, dropped, predeclared, placed, variable, operate, updated, one, prefixed, truth, logical, chosen, joined, assignment, member, is_deep, indexed, dotted, pointed, step_back, raised, arguments, framed, parameters, called, multiprefix, with_one, called_predeclared, calling, stands, linked, suffixed, all_stand}
+use Rattle.fk_meaning_forms.specs.Expressions.{Coded, nowhere, plain, ResultLocation, OnList, AtAddress, InWord, ToCall, Evaluation, token, spot_of, is_name, Signature, put_bytes, moved, agreed, checked, valued, addressed, fetched, assigned, value_of, dropped, predeclared, placed, variable, operate, updated, one, prefixed, truth, logical, chosen, joined, assignment, member, is_deep, indexed, dotted, pointed, step_back, raised, arguments, framed, parameters, called, multiprefix, with_one, called_predeclared, calling, evaluated, linked, suffixed, all_evaluated}
 use Rattle.fk_meaning.specs.Calls.{takes_two, TakesEnough}
 use Rattle.fk_core_liveness.specs.declared.places.FunctionKind.{FunctionKind}
 use Rattle.fk_core_liveness.specs.declared.places.FunctionKind.TheVariants.{Main, Called}
@@ -110,7 +110,7 @@ module _ (tables : Tables) (functions : (binding : ℕ) → Signature) (place_of
   stood Word vs = level p vs
   stood (Function name) vs = level p vs
 
-  abbrev pub IsOf : Way → Standing → Type 0
+  abbrev pub IsOf : Way → ResultLocation → Type 0
   IsOf Valued OnList = Unit {0}
   IsOf Absent OnList = Unit {0}
   IsOf Unchecked (AtAddress true spot) = Unit {0}
@@ -118,11 +118,11 @@ module _ (tables : Tables) (functions : (binding : ℕ) → Signature) (place_of
   IsOf Array (AtAddress false spot) = is_array tables spot.at ≡ true
   IsOf Word (InWord variable) = Unit {0}
   IsOf (Function name) (ToCall other) = name ≡ other
-  IsOf w standing = ⊥
+  IsOf w location = ⊥
 
-  abbrev pub Good : Stands → Way → Type 0
-  Good s w = (l : Option State) (vs : List Value) (k : Standing → Coded) (e : State)
-      → ((st : Standing) → IsOf w st → Ok place_of l (stood w vs) (k st) e) → Fine l vs (s k) e
+  abbrev pub Good : Evaluation → Way → Type 0
+  Good s w = (l : Option State) (vs : List Value) (k : ResultLocation → Coded) (e : State)
+      → ((st : ResultLocation) → IsOf w st → Ok place_of l (stood w vs) (k st) e) → Fine l vs (s k) e
 
   -- code that pushes a value or none
   abbrev pub Pushes : Bool → (Coded → Coded) → Type 0
@@ -153,8 +153,8 @@ module _ (tables : Tables) (functions : (binding : ℕ) → Signature) (place_of
   agrees true vs l rest e q = on agree q
   agrees false vs l rest e q = q
 
-  -- how an expression stands
-  values : (w : Way) (st : Standing) → IsOf w st → (l : Option State) (vs : List Value) (rest : Coded) (e : State) → Fine l (after (gives w) vs) rest e
+  -- where the result of an expression is
+  values : (w : Way) (st : ResultLocation) → IsOf w st → (l : Option State) (vs : List Value) (rest : Coded) (e : State) → Fine l (after (gives w) vs) rest e
       → Ok place_of l (stood w vs) (valued tables functions st rest) e
   values Valued OnList i l vs rest e q = q
   values Absent OnList i l vs rest e q = q
@@ -167,7 +167,7 @@ module _ (tables : Tables) (functions : (binding : ℕ) → Signature) (place_of
   values (Function name) (ToCall other) i l vs rest e q = q
   values w st i l vs rest e q = absurd i
 
-  addresses : (w : Way) → HasAddress w → (st : Standing) → IsOf w st → (l : Option State) (vs : List Value) (rest : Coded) (e : State) → Fine l (Unknown ∷ vs) rest e
+  addresses : (w : Way) → HasAddress w → (st : ResultLocation) → IsOf w st → (l : Option State) (vs : List Value) (rest : Coded) (e : State) → Fine l (Unknown ∷ vs) rest e
       → Ok place_of l (stood w vs) (addressed tables functions st rest) e
   addresses Unchecked has (AtAddress true spot) i l vs rest e q = on check (forgets Usable vs q)
   addresses (Constant c) has (AtAddress false spot) i l vs rest e q = unnoted c vs (forgets Shared vs q)
@@ -178,7 +178,7 @@ module _ (tables : Tables) (functions : (binding : ℕ) → Signature) (place_of
   addresses (Function name) has st i l vs rest e q = absurd has
   addresses w has st i l vs rest e q = absurd i
 
-  pub holds : (w : Way) → IsTarget w → (st : Standing) → IsOf w st → (l : Option State) (vs : List Value) (rest : Coded) (e : State) → Fine l (held w vs) rest e
+  pub holds : (w : Way) → IsTarget w → (st : ResultLocation) → IsOf w st → (l : Option State) (vs : List Value) (rest : Coded) (e : State) → Fine l (held w vs) rest e
       → Ok place_of l (stood w vs) (addressed tables functions st rest) e
   holds Unchecked is (AtAddress true spot) i l vs rest e q = on check q
   holds (Constant c) is (AtAddress false spot) i l vs rest e q = unnoted c vs q
@@ -189,7 +189,7 @@ module _ (tables : Tables) (functions : (binding : ℕ) → Signature) (place_of
   holds (Function name) is st i l vs rest e q = absurd is
   holds w is st i l vs rest e q = absurd i
 
-  fetches : (w : Way) → IsTarget w → (st : Standing) → IsOf w st → (l : Option State) (vs : List Value) (rest : Coded) (e : State) → Fine l (Unknown ∷ held w vs) rest e
+  fetches : (w : Way) → IsTarget w → (st : ResultLocation) → IsOf w st → (l : Option State) (vs : List Value) (rest : Coded) (e : State) → Fine l (Unknown ∷ held w vs) rest e
       → Ok place_of l (stood w vs) (fetched tables functions st rest) e
   fetches Unchecked is (AtAddress true spot) i l vs rest e q = on check (on copy (on (read Usable refl) q))
   fetches (Constant c) is (AtAddress false spot) i l vs rest e q = unnoted c vs (on copy (on (read Shared refl) q))
@@ -200,7 +200,7 @@ module _ (tables : Tables) (functions : (binding : ℕ) → Signature) (place_of
   fetches (Function name) is st i l vs rest e q = absurd is
   fetches w is st i l vs rest e q = absurd i
 
-  pub assigns : (w : Way) → IsTarget w → (st : Standing) → IsOf w st → (vs : List Value) → Leads (Unknown ∷ held w vs) (Unknown ∷ vs) (assigned tables functions st)
+  pub assigns : (w : Way) → IsTarget w → (st : ResultLocation) → IsOf w st → (vs : List Value) → Leads (Unknown ∷ held w vs) (Unknown ∷ vs) (assigned tables functions st)
   assigns Unchecked is (AtAddress true spot) i vs l rest e q = on (write Usable refl) q
   assigns (Constant c) is (AtAddress false spot) i vs l rest e q = on (write Shared refl) q
   assigns Word is (InWord variable) i vs l rest e q = on (set variable) q
@@ -210,10 +210,10 @@ module _ (tables : Tables) (functions : (binding : ℕ) → Signature) (place_of
   assigns (Function name) is st i vs l rest e q = absurd is
   assigns w is st i vs l rest e q = absurd i
 
-  pub value_is : (s : Stands) (w : Way) → Good s w → Pushes (gives w) (value_of tables functions s)
+  pub value_is : (s : Evaluation) (w : Way) → Good s w → Pushes (gives w) (value_of tables functions s)
   value_is s w good vs l rest e q = good l vs (λ st. valued tables functions st rest) e (λ st i. values w st i l vs rest e q)
 
-  pub a_value : (s : Stands) (w : Way) → Good s w → gives w ≡ true → Pushes true (value_of tables functions s)
+  pub a_value : (s : Evaluation) (w : Way) → Good s w → gives w ≡ true → Pushes true (value_of tables functions s)
   a_value s w good is = subst (λ b. Pushes b (value_of tables functions s)) is (value_is s w good)
 
   -- a value is dropped where there is one
@@ -258,7 +258,7 @@ module _ (tables : Tables) (functions : (binding : ℕ) → Signature) (place_of
       (predeclared_way name) (placed_way (slot tables b).home (slot tables b).index name)
       (predeclares name) (places (slot tables b).home (slot tables b).index name)
     where
-      by : (is : Bool) (s r : Stands) (w x : Way) → (NameAsks tables functions place_of name.at w → Good s w) → (NameAsks tables functions place_of name.at x → Good r x)
+      by : (is : Bool) (s r : Evaluation) (w x : Way) → (NameAsks tables functions place_of name.at w → Good s w) → (NameAsks tables functions place_of name.at x → Good r x)
           → NameAsks tables functions place_of name.at (if is then w else x) → Good (λ k. if is then s k else r k) (if is then w else x)
       by true s r w x a b asks = a asks
       by false s r w x a b asks = b asks
@@ -271,7 +271,7 @@ module _ (tables : Tables) (functions : (binding : ℕ) → Signature) (place_of
       either (step == 0) (plain (operator_of sign unsigned) rest) (moved (move_of sign) step (operator_of sign unsigned) rest)
       (on (operator sign unsigned vs) q) (moves (move_of sign) step sign unsigned vs l rest e q)
 
-  updates : (sign : Sign) (s : Stands) (w : Way) → Good s w → IsTarget w → (left right : ℕ) (f : Coded → Coded) → Pushes true f
+  updates : (sign : Sign) (s : Evaluation) (w : Way) → Good s w → IsTarget w → (left right : ℕ) (f : Coded → Coded) → Pushes true f
       → Good (updated tables functions sign s left right f) Valued
   updates sign s w good is left right f pushes l vs k e q =
       good l vs (λ st. fetched tables functions st (f (operate tables functions sign left right (assigned tables functions st (k OnList))))) e
@@ -284,7 +284,7 @@ module _ (tables : Tables) (functions : (binding : ℕ) → Signature) (place_of
   ones : Pushes true (one tables functions)
   ones vs l rest e q = on (push 1) q
 
-  prefixes : (spot : Spot) (sign : Sign) (s : Stands) (w : Way) → Good s w → PrefixAsks sign w → (at : ℕ) → Good (prefixed tables functions spot sign s at) (prefix_way sign)
+  prefixes : (spot : Spot) (sign : Sign) (s : Evaluation) (w : Way) → Good s w → PrefixAsks sign w → (at : ℕ) → Good (prefixed tables functions spot sign s at) (prefix_way sign)
   prefixes spot g.Minus s w good is at l vs k e q = a_value s w good is vs l (plain (o.Apply u.Negate) (k OnList)) e (on (apply u.Negate) (q OnList tt))
   prefixes spot g.Tilde s w good is at l vs k e q = a_value s w good is vs l (plain (o.Apply u.Complement) (k OnList)) e (on (apply u.Complement) (q OnList tt))
   prefixes spot g.Exclamation s w good is at l vs k e q = a_value s w good is vs l (plain (o.Apply u.Not) (k OnList)) e (on (apply u.Not) (q OnList tt))
@@ -295,7 +295,7 @@ module _ (tables : Tables) (functions : (binding : ℕ) → Signature) (place_of
   prefixes spot g.Decrement s w good is at l vs k e q = updates g.Minus s w good is at spot.at (one tables functions) ones l vs k e q
   prefixes spot sign s w good is at l vs k e q = a_value s w good is vs l (k OnList) e (q OnList tt)
 
-  truths : (s : Stands) → Pushes true (value_of tables functions s) → Pushes true (truth tables functions s)
+  truths : (s : Evaluation) → Pushes true (value_of tables functions s) → Pushes true (truth tables functions s)
   truths s good vs l rest e q = good vs l (plain (o.Push 0) (plain (o.Binary f.Ne false) rest)) e (on (push 0) (on (join f.Ne false) q))
 
   -- the others have the value of the whole
@@ -323,7 +323,7 @@ module _ (tables : Tables) (functions : (binding : ℕ) → Signature) (place_of
   pub resumes : (vs : List Value) → Acts true o.Resume (level p vs) (level p vs)
   resumes vs = simply p true o.Resume vs (omega arith) (omega arith) (λ ws. tt) (λ c ws. refl)
 
-  logicals : (spot : Spot) (by : SplitKind) → Parts by → (onward : Bool) (other : ℕ) (a b : Stands) → Pushes true (value_of tables functions a) → Pushes true (value_of tables functions b)
+  logicals : (spot : Spot) (by : SplitKind) → Parts by → (onward : Bool) (other : ℕ) (a b : Evaluation) → Pushes true (value_of tables functions a) → Pushes true (value_of tables functions b)
       → Good (logical tables functions spot by onward other a b) Valued
   logicals spot by parts onward other a b good_a good_b l vs k e q =
       let here = note tables spot.at in
@@ -337,8 +337,8 @@ module _ (tables : Tables) (functions : (binding : ℕ) → Signature) (place_of
       (branch (branches onward true vs) (branches onward false vs) (truths b good_b vs l done (level p (Unknown ∷ vs)) ended) (on (push other) ended) (q OnList tt))))
 
   -- what stands as a value or none
-  on_list : (b : Bool) (l : Option State) (vs : List Value) (k : Standing → Coded) (e : State)
-      → ((st : Standing) → IsOf (result b) st → Ok place_of l (stood (result b) vs) (k st) e) → Fine l (after b vs) (k OnList) e
+  on_list : (b : Bool) (l : Option State) (vs : List Value) (k : ResultLocation → Coded) (e : State)
+      → ((st : ResultLocation) → IsOf (result b) st → Ok place_of l (stood (result b) vs) (k st) e) → Fine l (after b vs) (k OnList) e
   on_list true l vs k e q = q OnList tt
   on_list false l vs k e q = q OnList tt
 
@@ -346,7 +346,7 @@ module _ (tables : Tables) (functions : (binding : ℕ) → Signature) (place_of
   divides true vs = simply p true (o.Split IfElse) (Unknown ∷ vs) (omega arith) (omega arith) (λ ws. tt) (λ c ws. refl)
   divides false vs = simply p false (o.Split IfElse) (Unknown ∷ vs) (omega arith) (omega arith) (λ ws. tt) (λ c ws. refl)
 
-  chooses : (spot : Spot) (c a b : Stands) (v : Bool) → Pushes true (value_of tables functions c) → Pushes v (value_of tables functions a) → Pushes v (value_of tables functions b)
+  chooses : (spot : Spot) (c a b : Evaluation) (v : Bool) → Pushes true (value_of tables functions c) → Pushes v (value_of tables functions a) → Pushes v (value_of tables functions b)
       → Good (chosen tables functions spot c a b) (result v)
   chooses spot c a b v good_c good_a good_b l vs k e q =
       let here = note tables spot.at in
@@ -362,7 +362,7 @@ module _ (tables : Tables) (functions : (binding : ℕ) → Signature) (place_of
       (agrees here.sync vs l branched e
       (branch (branches true true vs) (branches true false vs) (good_a vs l done whole ended) (good_b vs l done whole ended) goes_on)))
 
-  joins : (spot : Spot) (sign : Sign) (a : Stands) (w : Way) → Good a w → (left : ℕ) (b : Stands) (x : Way) → Good b x → (right : ℕ) → JoinAsks tables functions place_of sign w left x
+  joins : (spot : Spot) (sign : Sign) (a : Evaluation) (w : Way) → Good a w → (left : ℕ) (b : Evaluation) (x : Way) → Good b x → (right : ℕ) → JoinAsks tables functions place_of sign w left x
       → Good (joined tables functions spot sign a left b right) (joined_way sign x)
   joins spot g.Comma a w good_a left b x good_b right is l vs k e q =
       value_is a w good_a vs l (dropped tables functions left (value_of tables functions b (k OnList))) e
@@ -377,7 +377,7 @@ module _ (tables : Tables) (functions : (binding : ℕ) → Signature) (place_of
       (a_value b x good_b is.1 (Unknown ∷ vs) l (operate tables functions sign left right (k OnList)) e
       (operates sign left right vs l (k OnList) e (q OnList tt)))
 
-  assignments : (sign : Sign) (s : Stands) (w : Way) → Good s w → IsTarget w → (left : ℕ) (b : Stands) → Pushes true (value_of tables functions b) → (right : ℕ)
+  assignments : (sign : Sign) (s : Evaluation) (w : Way) → Good s w → IsTarget w → (left : ℕ) (b : Evaluation) → Pushes true (value_of tables functions b) → (right : ℕ)
       → Good (assignment tables functions sign s left b right) Valued
   assignments g.Assign s w good is left b good_b right l vs k e q =
       good l vs (λ st. addressed tables functions st (value_of tables functions b (assigned tables functions st (k OnList)))) e
@@ -389,18 +389,18 @@ module _ (tables : Tables) (functions : (binding : ℕ) → Signature) (place_of
       updates sign s w good is left right (value_of tables functions b) good_b l vs k e q
 
   -- suffixes
-  indexes : (spot : Spot) (a by : Stands) → Pushes true (value_of tables functions a) → Pushes true (value_of tables functions by) → Good (indexed tables functions spot a by) Unchecked
+  indexes : (spot : Spot) (a by : Evaluation) → Pushes true (value_of tables functions a) → Pushes true (value_of tables functions by) → Good (indexed tables functions spot a by) Unchecked
   indexes spot a by good good_by l vs k e q =
       let element = plain (o.Index (4 * (kind_at tables spot.at).words)) (k (AtAddress true spot)) in
       good vs l (value_of tables functions by element) e (good_by (Unknown ∷ vs) l element e (on (index _) (q (AtAddress true spot) tt)))
 
-  dots : (spot : Spot) (at : ℕ) (s : Stands) (w : Way) → Good s w → DotAsks tables functions place_of at w → Good (dotted tables functions spot at s) (dotted_way tables place_of at w)
+  dots : (spot : Spot) (at : ℕ) (s : Evaluation) (w : Way) → Good s w → DotAsks tables functions place_of at w → Good (dotted tables functions spot at s) (dotted_way tables place_of at w)
   dots spot at s w good is l vs k e q =
       good l vs (λ st. member tables functions at (k (AtAddress (is_deep tables functions st) spot))) e (λ st i. by w is q st i)
     where
       by : (w : Way) → DotAsks tables functions place_of at w
-          → ((st : Standing) → IsOf (dotted_way tables place_of at w) st → Ok place_of l (stood (dotted_way tables place_of at w) vs) (k st) e)
-          → (st : Standing) → IsOf w st → Ok place_of l (stood w vs) (member tables functions at (k (AtAddress (is_deep tables functions st) spot))) e
+          → ((st : ResultLocation) → IsOf (dotted_way tables place_of at w) st → Ok place_of l (stood (dotted_way tables place_of at w) vs) (k st) e)
+          → (st : ResultLocation) → IsOf w st → Ok place_of l (stood w vs) (member tables functions at (k (AtAddress (is_deep tables functions st) spot))) e
       by Unchecked is q (AtAddress true other) i = on (push _) (on (join f.Add false) (q (AtAddress true spot) tt))
       by (Constant c) is q (AtAddress false other) i = on (push_offset c _) (on (add_offset c _ is) (q (AtAddress false spot) tt))
       by Valued is q st i = absurd is
@@ -410,31 +410,31 @@ module _ (tables : Tables) (functions : (binding : ℕ) → Signature) (place_of
       by (Function name) is q st i = absurd is
       by w is q st i = absurd i
 
-  points : (spot : Spot) (at : ℕ) (s : Stands) → Pushes true (value_of tables functions s) → Good (pointed tables functions spot at s) Unchecked
+  points : (spot : Spot) (at : ℕ) (s : Evaluation) → Pushes true (value_of tables functions s) → Good (pointed tables functions spot at s) Unchecked
   points spot at s good l vs k e q =
       good vs l (member tables functions at (k (AtAddress true spot))) e (on (push _) (on (join f.Add false) (q (AtAddress true spot) tt)))
 
-  raises : (sign back : Sign) (s : Stands) (w : Way) → Good s w → IsTarget w → (at : ℕ) → Good (raised tables functions sign back s at) Valued
+  raises : (sign back : Sign) (s : Evaluation) (w : Way) → Good s w → IsTarget w → (at : ℕ) → Good (raised tables functions sign back s at) Valued
   raises sign back s w good is at l vs k e q =
       updates sign s w good is at 0 (one tables functions) ones l vs
       (λ st. plain (o.Push (step_back tables functions at)) (plain (operator_of back false) (k OnList))) e
       (λ st i. by st i)
     where
-      by : (st : Standing) → IsOf Valued st → Ok place_of l (level p (Unknown ∷ vs)) (plain (o.Push (step_back tables functions at)) (plain (operator_of back false) (k OnList))) e
+      by : (st : ResultLocation) → IsOf Valued st → Ok place_of l (level p (Unknown ∷ vs)) (plain (o.Push (step_back tables functions at)) (plain (operator_of back false) (k OnList))) e
       by st i = on (push _) (on (operator back false vs) (q OnList tt))
 
   -- calls
   abbrev AllGood : Trees → Type 0
   AllGood t.no_trees = Unit {0}
-  AllGood (t.tree first others) = Pushes true (value_of tables functions (stands tables functions first)) × AllGood others
+  AllGood (t.tree first others) = Pushes true (value_of tables functions (evaluated tables functions first)) × AllGood others
 
   takes_all : (xs : List DeclaredTree) (es : Trees) → AreEnough xs es → AllGood es → (vs : List Value)
-      → Leads vs (stacked (length xs) vs) (arguments tables functions xs (all_stand tables functions es))
+      → Leads vs (stacked (length xs) vs) (arguments tables functions xs (all_evaluated tables functions es))
   takes_all [] t.no_trees enough good vs l rest e q = q
   takes_all [] (t.tree first others) enough good vs l rest e q = q
   takes_all (x ∷ xs) t.no_trees enough good vs l rest e q = absurd enough
   takes_all (x ∷ xs) (t.tree first others) enough good vs l rest e q =
-      let more = arguments tables functions xs (all_stand tables functions others) rest in
+      let more = arguments tables functions xs (all_evaluated tables functions others) rest in
       good.0 vs l (agreed x.shared more) e (agrees x.shared vs l more e (takes_all xs others enough good.1 (Unknown ∷ vs) l rest e q))
 
   -- the beginning of a call has nothing to do with values
@@ -467,14 +467,14 @@ module _ (tables : Tables) (functions : (binding : ℕ) → Signature) (place_of
       (subst (λ ws. Fine l ws rest e) (sym (ap (λ ws. replicate (results b) Unknown ++ ws) (unstacked n vs) ∙ pushed_results b vs)) q)
 
   calls : (name : Named) (es : Trees) → TakesAll tables functions place_of (note tables name.at).binding es → AllGood es
-      → Good (called tables functions name (all_stand tables functions es)) (result (place_gives (place_of (note tables name.at).binding)))
+      → Good (called tables functions name (all_evaluated tables functions es)) (result (place_gives (place_of (note tables name.at).binding)))
   calls name es taken good l vs k e q =
       let b = (note tables name.at).binding in
       takes_all (functions b).parameters es taken.enough good vs l _ e
       (enters_function name (place_of b) refl taken.called vs l (k OnList) e (on_list (place_gives (place_of b)) l vs k e q))
 
   -- calls of predeclared functions
-  module _ (name : Named) (es : List Stands) (l : Option State) (vs : List Value) (k : Standing → Coded) (e : State) where
+  module _ (name : Named) (es : List Evaluation) (l : Option State) (vs : List Value) (k : ResultLocation → Coded) (e : State) where
     abbrev Goal : (gives : Bool) → Coded → Type 0
     Goal v code = Fine l (after v vs) (k OnList) e → Fine l vs code e
 
@@ -532,45 +532,45 @@ module _ (tables : Tables) (functions : (binding : ℕ) → Signature) (place_of
   never : {X : Type 0} {b : Bool} → b ≡ true → b ≡ false → X
   never is isnt = absurd (false≢true (sym isnt ∙ is))
 
-  one_good : (e' : Stands) (es : List Stands) → Pushes true (value_of tables functions e') → (l : Option State) (vs : List Value) (k : Standing → Coded) (e : State)
+  one_good : (e' : Evaluation) (es : List Evaluation) → Pushes true (value_of tables functions e') → (l : Option State) (vs : List Value) (k : ResultLocation → Coded) (e : State)
       → (v : Bool) (f : Coded → Coded) → Leads (Unknown ∷ vs) (after v vs) f → Fine l (after v vs) (k OnList) e → Fine l vs (with_one tables functions f (e' ∷ es) k) e
   one_good e' es good l vs k e v f leads q = good vs l (f (k OnList)) e (leads l (k OnList) e q)
 
-  both_good : (name : Named) (a b : Stands) (es : List Stands) → Pushes true (value_of tables functions a) → Pushes true (value_of tables functions b)
-      → (l : Option State) (vs : List Value) (k : Standing → Coded) (e : State) (by : Multiprefix) → Fine l (Unknown ∷ vs) (k OnList) e
+  both_good : (name : Named) (a b : Evaluation) (es : List Evaluation) → Pushes true (value_of tables functions a) → Pushes true (value_of tables functions b)
+      → (l : Option State) (vs : List Value) (k : ResultLocation → Coded) (e : State) (by : Multiprefix) → Fine l (Unknown ∷ vs) (k OnList) e
       → Fine l vs (multiprefix tables functions name by (a ∷ b ∷ es) k) e
   both_good name a b es good_a good_b l vs k e by q =
       let request = plain (o.Combine by) (k OnList) in
       good_a vs l (perform name.place (o.Check true) (value_of tables functions b request)) e
       (on check_shared (good_b (Shared ∷ vs) l request e (on (combine by) q)))
 
-  calls_predeclared : (name : Named) (es : Trees) → AllGood es → TakesEnough name es → Good (called_predeclared tables functions name (all_stand tables functions es)) (result (predeclared_gives name))
+  calls_predeclared : (name : Named) (es : Trees) → AllGood es → TakesEnough name es → Good (called_predeclared tables functions name (all_evaluated tables functions es)) (result (predeclared_gives name))
   calls_predeclared name t.no_trees good enough l vs k e q =
       all_predeclared name [] l vs k e (λ two. never two enough.0) (λ not_two not_size. never enough.1 not_size) (on_list (predeclared_gives name) l vs k e q)
   calls_predeclared name (t.tree first t.no_trees) good enough l vs k e q =
-      all_predeclared name (stands tables functions first ∷ []) l vs k e (λ two. never two enough)
-      (λ not_two not_size. one_good (stands tables functions first) [] good.0 l vs k e) (on_list (predeclared_gives name) l vs k e q)
+      all_predeclared name (evaluated tables functions first ∷ []) l vs k e (λ two. never two enough)
+      (λ not_two not_size. one_good (evaluated tables functions first) [] good.0 l vs k e) (on_list (predeclared_gives name) l vs k e q)
   calls_predeclared name (t.tree first (t.tree second more)) good enough l vs k e q =
-      let es = all_stand tables functions more in
-      all_predeclared name (stands tables functions first ∷ stands tables functions second ∷ es) l vs k e
-      (λ two. both_good name (stands tables functions first) (stands tables functions second) es good.0 good.1.0 l vs k e)
-      (λ not_two not_size. one_good (stands tables functions first) (stands tables functions second ∷ es) good.0 l vs k e)
+      let es = all_evaluated tables functions more in
+      all_predeclared name (evaluated tables functions first ∷ evaluated tables functions second ∷ es) l vs k e
+      (λ two. both_good name (evaluated tables functions first) (evaluated tables functions second) es good.0 good.1.0 l vs k e)
+      (λ not_two not_size. one_good (evaluated tables functions first) (evaluated tables functions second ∷ es) good.0 l vs k e)
       (on_list (predeclared_gives name) l vs k e q)
 
   called_by : (name : Named) (es : Trees) → AllGood es → (is : Bool) → NameTakes tables functions place_of is name es
-      → Good (λ k. if is then called_predeclared tables functions name (all_stand tables functions es) k else called tables functions name (all_stand tables functions es) k)
+      → Good (λ k. if is then called_predeclared tables functions name (all_evaluated tables functions es) k else called tables functions name (all_evaluated tables functions es) k)
       (result (if is then predeclared_gives name else place_gives (place_of (note tables name.at).binding)))
   called_by name es good true taken = calls_predeclared name es good taken
   called_by name es good false taken = calls name es taken good
 
-  call_is : (s : Stands) (w : Way) → Good s w → (es : Trees) → CallAsks tables functions place_of w es → AllGood es
-      → Good (λ j. s (calling tables functions (all_stand tables functions es) j)) (called_way tables place_of w)
+  call_is : (s : Evaluation) (w : Way) → Good s w → (es : Trees) → CallAsks tables functions place_of w es → AllGood es
+      → Good (λ j. s (calling tables functions (all_evaluated tables functions es) j)) (called_way tables place_of w)
   call_is s (Function name) good es asks all l vs k e q =
-      good l vs (calling tables functions (all_stand tables functions es) k) e (λ st i. by st i)
+      good l vs (calling tables functions (all_evaluated tables functions es) k) e (λ st i. by st i)
     where
-      by : (st : Standing) → IsOf (Function name) st → Ok place_of l (level p vs) (calling tables functions (all_stand tables functions es) k st) e
+      by : (st : ResultLocation) → IsOf (Function name) st → Ok place_of l (level p vs) (calling tables functions (all_evaluated tables functions es) k st) e
       by (ToCall other) i =
-          subst (λ x. Ok place_of l (level p vs) (calling tables functions (all_stand tables functions es) k (ToCall x)) e) i
+          subst (λ x. Ok place_of l (level p vs) (calling tables functions (all_evaluated tables functions es) k (ToCall x)) e) i
           (called_by name es all ((note tables name.at).binding == no_binding) asks l vs k e q)
       by OnList i = absurd i
       by (AtAddress deep spot) i = absurd i
@@ -578,7 +578,7 @@ module _ (tables : Tables) (functions : (binding : ℕ) → Signature) (place_of
   call_is s w good es asks all l vs k e q = absurd asks
 
   mutual
-    pub tree_good : (x : Tree) → Asked tables functions place_of x → Good (stands tables functions x) (way tables place_of x)
+    pub tree_good : (x : Tree) → Asked tables functions place_of x → Good (evaluated tables functions x) (way tables place_of x)
     tree_good (t.Number spot number unsigned) asks l vs k e q = on (push number) (q OnList tt)
     tree_good (t.Puts spot text) asks l vs k e q = puts (text_of text) vs l (k OnList) e (q OnList tt)
     tree_good (t.Sizeof spot type) asks l vs k e q = on (push _) (q OnList tt)
@@ -586,38 +586,38 @@ module _ (tables : Tables) (functions : (binding : ℕ) → Signature) (place_of
     tree_good (t.GroupNumber spot) asks l vs k e q = on (get n.GroupNumber) (q OnList tt)
     tree_good (t.GroupRank spot) asks l vs k e q = on (get n.Rank) (q OnList tt)
     tree_good (t.Prefix spot sign operand) asks l vs k e q =
-        prefixes spot sign (stands tables functions operand) (way tables place_of operand) (tree_good operand asks.0) asks.1 (token operand) l vs k e q
+        prefixes spot sign (evaluated tables functions operand) (way tables place_of operand) (tree_good operand asks.0) asks.1 (token operand) l vs k e q
     tree_good (t.Cast spot type operand) asks l vs k e q =
-        a_value (stands tables functions operand) (way tables place_of operand) (tree_good operand asks.0) asks.1 vs l (k OnList) e (q OnList tt)
+        a_value (evaluated tables functions operand) (way tables place_of operand) (tree_good operand asks.0) asks.1 vs l (k OnList) e (q OnList tt)
     tree_good (t.Chain first links) asks l vs k e q =
-        links_good (stands tables functions first) (way tables place_of first) (tree_good first asks.0) (token first) links asks.1 l vs k e q
+        links_good (evaluated tables functions first) (way tables place_of first) (tree_good first asks.0) (token first) links asks.1 l vs k e q
     tree_good (t.Postfix whole suffixes) asks l vs k e q =
-        suffixes_good (stands tables functions whole) (way tables place_of whole) (tree_good whole asks.0) (token whole) suffixes asks.1 l vs k e q
+        suffixes_good (evaluated tables functions whole) (way tables place_of whole) (tree_good whole asks.0) (token whole) suffixes asks.1 l vs k e q
     tree_good (t.Assign spot sign target value) asks l vs k e q =
-        assignments sign (stands tables functions target) (way tables place_of target) (tree_good target asks.0) asks.1 (token target)
-        (stands tables functions value) (a_value (stands tables functions value) (way tables place_of value) (tree_good value asks.2) asks.3) (token value) l vs k e q
+        assignments sign (evaluated tables functions target) (way tables place_of target) (tree_good target asks.0) asks.1 (token target)
+        (evaluated tables functions value) (a_value (evaluated tables functions value) (way tables place_of value) (tree_good value asks.2) asks.3) (token value) l vs k e q
     tree_good (t.Choose spot condition first second) asks l vs k e q =
-        chooses spot (stands tables functions condition) (stands tables functions first) (stands tables functions second) (gives (way tables place_of first))
-        (a_value (stands tables functions condition) (way tables place_of condition) (tree_good condition asks.0) asks.1)
-        (value_is (stands tables functions first) (way tables place_of first) (tree_good first asks.2))
-        (subst (λ b. Pushes b (value_of tables functions (stands tables functions second))) asks.4
-        (value_is (stands tables functions second) (way tables place_of second) (tree_good second asks.3))) l vs k e q
+        chooses spot (evaluated tables functions condition) (evaluated tables functions first) (evaluated tables functions second) (gives (way tables place_of first))
+        (a_value (evaluated tables functions condition) (way tables place_of condition) (tree_good condition asks.0) asks.1)
+        (value_is (evaluated tables functions first) (way tables place_of first) (tree_good first asks.2))
+        (subst (λ b. Pushes b (value_of tables functions (evaluated tables functions second))) asks.4
+        (value_is (evaluated tables functions second) (way tables place_of second) (tree_good second asks.3))) l vs k e q
 
-    links_good : (s : Stands) (w : Way) → Good s w → (at : ℕ) (x : Links) → LinksAsked tables functions place_of w at x → Good (linked tables functions s at x) (chain_way tables place_of w x)
+    links_good : (s : Evaluation) (w : Way) → Good s w → (at : ℕ) (x : Links) → LinksAsked tables functions place_of w at x → Good (linked tables functions s at x) (chain_way tables place_of w x)
     links_good s w good at t.no_links asks = good
     links_good s w good at (t.link spot sign right others) asks =
-        links_good (joined tables functions spot sign s at (stands tables functions right) (token right)) (joined_way sign (way tables place_of right))
-        (joins spot sign s w good at (stands tables functions right) (way tables place_of right) (tree_good right asks.0) (token right) asks.1)
+        links_good (joined tables functions spot sign s at (evaluated tables functions right) (token right)) (joined_way sign (way tables place_of right))
+        (joins spot sign s w good at (evaluated tables functions right) (way tables place_of right) (tree_good right asks.0) (token right) asks.1)
         spot.at others asks.2
 
-    suffixes_good : (s : Stands) (w : Way) → Good s w → (at : ℕ) (x : Suffixes) → SuffixesAsked tables functions place_of w x → Good (suffixed tables functions s at x) (suffixed_way tables place_of w x)
+    suffixes_good : (s : Evaluation) (w : Way) → Good s w → (at : ℕ) (x : Suffixes) → SuffixesAsked tables functions place_of w x → Good (suffixed tables functions s at x) (suffixed_way tables place_of w x)
     suffixes_good s w good at t.no_suffixes asks = good
     suffixes_good s w good at (t.index spot by others) asks =
-        suffixes_good (indexed tables functions spot s (stands tables functions by)) Unchecked
-        (indexes spot s (stands tables functions by) (a_value s w good asks.0)
-        (a_value (stands tables functions by) (way tables place_of by) (tree_good by asks.1) asks.2)) spot.at others asks.3
+        suffixes_good (indexed tables functions spot s (evaluated tables functions by)) Unchecked
+        (indexes spot s (evaluated tables functions by) (a_value s w good asks.0)
+        (a_value (evaluated tables functions by) (way tables place_of by) (tree_good by asks.1) asks.2)) spot.at others asks.3
     suffixes_good s w good at (t.call spot given others) asks =
-        suffixes_good (λ j. s (calling tables functions (all_stand tables functions given) j)) (called_way tables place_of w)
+        suffixes_good (λ j. s (calling tables functions (all_evaluated tables functions given) j)) (called_way tables place_of w)
         (call_is s w good given asks.0 (all_good given asks.1)) spot.at others asks.2
     suffixes_good s w good at (t.dot spot name others) asks =
         suffixes_good (dotted tables functions spot name.at s) (dotted_way tables place_of name.at w) (dots spot name.at s w good asks.0) spot.at others asks.1
@@ -631,4 +631,4 @@ module _ (tables : Tables) (functions : (binding : ℕ) → Signature) (place_of
     all_good : (x : Trees) → AllAsked tables functions place_of x → AllGood x
     all_good t.no_trees asks = tt
     all_good (t.tree first others) asks =
-        (a_value (stands tables functions first) (way tables place_of first) (tree_good first asks.0) asks.1, all_good others asks.2)
+        (a_value (evaluated tables functions first) (way tables place_of first) (tree_good first asks.0) asks.1, all_good others asks.2)

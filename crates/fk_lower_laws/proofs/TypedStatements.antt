@@ -12,7 +12,7 @@ use Rattle.fk_meaning_operation.specs.declared.operation.SplitKind.TheVariants.{
 use Rattle.fk_meaning_forms.specs.Code as c
 use Rattle.fk_meaning_forms.specs.Code.{done, choose, quit, ends}
 use Rattle.fk_meaning_forms.specs.Tables.{Tables, note, is_void, frame_at}
-use Rattle.fk_meaning_forms.specs.Expressions.{Coded, nowhere, plain, agreed, token, Signature, addressed, assigned, dropped, variable, stands, value}
+use Rattle.fk_meaning_forms.specs.Expressions.{Coded, nowhere, plain, agreed, token, Signature, addressed, assigned, dropped, variable, evaluated, value}
 use Rattle.fk_meaning_forms.specs.Statements.{Inside, is_scalar, used, used_or, value_or, declared, all_declared, part_frame, leaving, tested, looping, left_by, executed, all_executed, end_of, body_of}
 use Rattle.fk_core_liveness.specs.declared.places.FunctionKind.{FunctionKind}
 use Rattle.fk_core_liveness.specs.declared.places.FunctionKind.TheVariants.{Main, Called}
@@ -45,7 +45,7 @@ module _ (tables : Tables) (functions : (binding : ℕ) → Signature) (place_of
   leaves_without framed q = left (simply (Called false) true (o.Leave false framed) [] (omega arith) (omega arith) (λ ws. tt) (λ c ws. refl)) (λ s is. is) q
 
   values : (p : FunctionKind) (e : Tree) → ValueAsked tables functions place_of e → Pushes tables functions place_of p true (value tables functions e)
-  values p e asks = a_value tables functions place_of p (stands tables functions e) (way tables place_of e) (tree_good tables functions place_of p e asks.0) asks.1
+  values p e asks = a_value tables functions place_of p (evaluated tables functions e) (way tables place_of e) (tree_good tables functions place_of p e asks.0) asks.1
 
   ends_by : (p : FunctionKind) (main framed : Bool) → IsInside p main → ReturnAsked tables functions place_of p None → (l : Option State) (rest : Coded) (e : State)
       → Fine tables functions place_of p l [] rest e → Fine tables functions place_of p l [] (ends nowhere (if main then o.Halt else o.Leave false framed) rest) e
@@ -91,7 +91,7 @@ module _ (tables : Tables) (functions : (binding : ℕ) → Signature) (place_of
 
     uses : (x : Tree) → UsedAsked tables functions place_of x → (l : Option State) → Runs l (used tables functions x)
     uses x asks l rest e q =
-        value_is tables functions place_of p (stands tables functions x) (way tables place_of x) (tree_good tables functions place_of p x asks.0) []
+        value_is tables functions place_of p (evaluated tables functions x) (way tables place_of x) (tree_good tables functions place_of p x asks.0) []
         l (dropped tables functions (token x) rest) e
         (drops tables functions place_of p (is_void tables (token x)) (gives (way tables place_of x)) asks.1 [] l rest e q)
 

@@ -28,7 +28,7 @@ use Rattle.fk_meaning_forms.specs.Expressions.{Signature, token}
 use Rattle.fk_core_liveness.specs.declared.places.FunctionKind.{FunctionKind}
 use Rattle.fk_lower_laws.specs.Ways.{Way, Valued, Absent, Unchecked, Constant, Array, Grouped, Word, Function, gives, result, prefix_way, joined_way, behind_member, called_way, dotted_way, way, chain_way, suffixed_way}
 use Rattle.fk_lower_laws.specs.Asked.{IsTarget, HasAddress, PrefixAsks, DotAsks, JoinAsks, CallAsks, Asked, LinksAsked, SuffixesAsked, AllAsked}
-use Rattle.fk_lower_laws.specs.Typed.{IsNothing, StandsAs, CommaIs, IsNoWord, PrefixIs, MemberIs, Known, LinksKnown, SuffixesKnown, AllKnown, TypedIsAsked}
+use Rattle.fk_lower_laws.specs.Typed.{IsNothing, IsWayOf, CommaIs, IsNoWord, PrefixIs, MemberIs, Known, LinksKnown, SuffixesKnown, AllKnown, TypedIsAsked}
 
 -- ---- what is there where something made of it is
 
@@ -156,22 +156,22 @@ uncalled env before None count fit first U n h = cc
 uncalled env before (Some type) count fit first U n h = cc
 
 module _ (Room : (address : ℕ) → DataType → Type 0) where
-  stands_unchecked : (T : ExpressionType) → IsStored T → StandsAs Room Unchecked T
+  stands_unchecked : (T : ExpressionType) → IsStored T → IsWayOf Room Unchecked T
   stands_unchecked (Stored type) s = tt
   stands_unchecked (Computed value) s = absurd s
   stands_unchecked Nothing s = absurd s
 
-  stands_valued : (v : Value) (T : ExpressionType) → Computed v ≡ T → StandsAs Room Valued T
-  stands_valued v T h = subst (StandsAs Room Valued) h tt
+  stands_valued : (v : Value) (T : ExpressionType) → Computed v ≡ T → IsWayOf Room Valued T
+  stands_valued v T h = subst (IsWayOf Room Valued) h tt
 
-  pub gives_value : (w : Way) (T : ExpressionType) (v : Value) → value_of T ≡ Some v → StandsAs Room w T → gives w ≡ true
+  pub gives_value : (w : Way) (T : ExpressionType) (v : Value) → value_of T ≡ Some v → IsWayOf Room w T → gives w ≡ true
   gives_value Absent Nothing v h s = absurd (cc)
   gives_value Absent (Stored type) v h s = absurd s
   gives_value Absent (Computed value) v h s = absurd s
   gives_value (Function name) T v h s = absurd s
   gives_value w T v h s = refl
 
-  pub gives_by : (w : Way) (T : ExpressionType) → StandsAs Room w T → gives w ≡ not (IsNothing T)
+  pub gives_by : (w : Way) (T : ExpressionType) → IsWayOf Room w T → gives w ≡ not (IsNothing T)
   gives_by Valued (Computed value) s = refl
   gives_by Absent Nothing s = refl
   gives_by Unchecked (Stored type) s = refl
@@ -181,7 +181,7 @@ module _ (Room : (address : ℕ) → DataType → Type 0) where
   gives_by Word (Stored type) s = refl
   gives_by w T s = absurd s
 
-  is_target : (w : Way) (T : ExpressionType) → IsStored T → is_array T ≡ false → StandsAs Room w T → IsTarget w
+  is_target : (w : Way) (T : ExpressionType) → IsStored T → is_array T ≡ false → IsWayOf Room w T → IsTarget w
   is_target Unchecked T i n s = tt
   is_target (Constant address) T i n s = tt
   is_target Word T i n s = tt
@@ -192,7 +192,7 @@ module _ (Room : (address : ℕ) → DataType → Type 0) where
   is_target (Function name) (Stored type) i n s = absurd s
   is_target w T i n s = absurd i
 
-  has_address : (w : Way) (T : ExpressionType) → IsStored T → IsNoWord w → StandsAs Room w T → HasAddress w
+  has_address : (w : Way) (T : ExpressionType) → IsStored T → IsNoWord w → IsWayOf Room w T → HasAddress w
   has_address Unchecked T i n s = tt
   has_address (Constant address) T i n s = tt
   has_address Array T i n s = tt
@@ -203,9 +203,9 @@ module _ (Room : (address : ℕ) → DataType → Type 0) where
   has_address (Function name) (Stored type) i n s = absurd s
   has_address w T i n s = absurd i
 
-  left_stands : (w : Way) (r T : ExpressionType) → left_of r ≡ Some T → StandsAs Room w r → StandsAs Room (result (gives w)) T
+  left_stands : (w : Way) (r T : ExpressionType) → left_of r ≡ Some T → IsWayOf Room w r → IsWayOf Room (result (gives w)) T
   left_stands Valued (Computed value) T h s = stands_valued value T (same_Some _ _ h)
-  left_stands Absent Nothing T h s = subst (StandsAs Room Absent) (same_Some _ _ h) tt
+  left_stands Absent Nothing T h s = subst (IsWayOf Room Absent) (same_Some _ _ h) tt
   left_stands Unchecked (Stored type) T h s = let m = map_some Computed (value_stored type) T h in stands_valued m.0 T m.2
   left_stands (Constant address) (Stored type) T h s = let m = map_some Computed (value_stored type) T h in stands_valued m.0 T m.2
   left_stands Grouped (Stored type) T h s = let m = map_some Computed (value_stored type) T h in stands_valued m.0 T m.2
@@ -217,7 +217,7 @@ module _ (Room : (address : ℕ) → DataType → Type 0) where
   module _ (env : Env) where
     -- so much is asked of what has a type, and so it stands
     abbrev Is : (asked : Type 0) → Term → Way → Type 0
-    Is A term w = (T : ExpressionType) → type_of env term ≡ Some T → A × StandsAs Room w T
+    Is A term w = (T : ExpressionType) → type_of env term ≡ Some T → A × IsWayOf Room w T
 
     valued : (A : Type 0) (term : Term) (w : Way) → Is A term w → (v : Value) → value_in (type_of env term) ≡ Some v → A × (gives w ≡ true)
     valued A term w is v h =
@@ -230,7 +230,7 @@ module _ (Room : (address : ℕ) → DataType → Type 0) where
 
     -- signs in front
     count_is : (spot : Spot) (is_before : Bool) (A : Type 0) (term : Term) (w : Way) → Is A term w → (T : ExpressionType) → type_of env (e.Count spot is_before term) ≡ Some T
-        → A × IsTarget w × StandsAs Room Valued T
+        → A × IsTarget w × IsWayOf Room Valued T
     count_is spot is_before A term w is T h =
         let n = if_none (is_no_target env term) (option_and_then counted_type (type_of env term)) T h in
         let t = then_some counted_type (type_of env term) T n.1 in
@@ -240,7 +240,7 @@ module _ (Room : (address : ℕ) → DataType → Type 0) where
         (r.0, is_target w t.0 (target_stored env term t.0 n.0 t.1) c.0 r.1, stands_valued m.0 T m.2)
 
     prefix_is : (spot : Spot) (sign : Sign) (A : Type 0) (term : Term) (w : Way) → Is A term w → PrefixIs sign w → (T : ExpressionType)
-        → type_of env (prefix_term spot sign term) ≡ Some T → A × PrefixAsks sign w × StandsAs Room (prefix_way sign) T
+        → type_of env (prefix_term spot sign term) ≡ Some T → A × PrefixAsks sign w × IsWayOf Room (prefix_way sign) T
     prefix_is spot g.Star A term w is p T h =
         let a = then_some pointed (value_in (type_of env term)) T h in
         let r = valued A term w is a.0 a.1 in
@@ -263,7 +263,7 @@ module _ (Room : (address : ℕ) → DataType → Type 0) where
         (may : (address : ℕ) (type : DataType) → Room address type → may_use true address ≡ true) where
       join_is : (spot : Spot) (sign : Sign) (A : Type 0) (l : Term) (w : Way) → Is A l w → (at : ℕ) → CommaIs Room env tables functions place_of sign l at
           → (B : Type 0) (r : Term) (x : Way) → Is B r x → (T : ExpressionType) → type_of env (joined_term spot sign l r) ≡ Some T
-          → A × B × JoinAsks tables functions place_of sign w at x × StandsAs Room (joined_way sign x) T
+          → A × B × JoinAsks tables functions place_of sign w at x × IsWayOf Room (joined_way sign x) T
       join_is spot g.Comma A l w is at comma B r x also' T h =
           let s = last_some (type_of env l) (type_of env r) T h in
           let a = is s.0 s.2 in
@@ -278,7 +278,7 @@ module _ (Room : (address : ℕ) → DataType → Type 0) where
 
       -- members
       dot_is : (spot : Spot) (name : Named) (A : Type 0) (term : Term) (w : Way) → Is A term w → MemberIs Room env tables functions place_of spot term name → (T : ExpressionType)
-          → type_of env (e.Member spot term name) ≡ Some T → A × DotAsks tables functions place_of name.at w × StandsAs Room (dotted_way tables place_of name.at w) T
+          → type_of env (e.Member spot term name) ≡ Some T → A × DotAsks tables functions place_of name.at w × IsWayOf Room (dotted_way tables place_of name.at w) T
       dot_is spot name A term w is has T h =
           let a = then_some (λ i. option_and_then (λ place. option_map Stored (env.member_type i place)) (member_named env.structs i name.bytes)) (option_and_then struct_of (type_of env term)) T h in
           let b = then_some struct_of (type_of env term) a.0 a.1 in
@@ -287,8 +287,8 @@ module _ (Room : (address : ℕ) → DataType → Type 0) where
           (r.0, s.0, s.1)
         where
           by : (w : Way) (U : ExpressionType) (i : ℕ) (T : ExpressionType) → type_of env term ≡ Some U → struct_of U ≡ Some i
-              → type_of env (e.Member spot term name) ≡ Some T → IsStored T → StandsAs Room w U
-              → DotAsks tables functions place_of name.at w × StandsAs Room (dotted_way tables place_of name.at w) T
+              → type_of env (e.Member spot term name) ≡ Some T → IsStored T → IsWayOf Room w U
+              → DotAsks tables functions place_of name.at w × IsWayOf Room (dotted_way tables place_of name.at w) T
           by Unchecked U i T typed in_struct member stored s = (tt, stands_unchecked T stored)
           by Grouped U i T typed in_struct member stored s = (tt, stands_unchecked T stored)
           by (Constant address) (Stored type) i (Stored other) typed in_struct member stored s =
@@ -313,7 +313,7 @@ module _ (Room : (address : ℕ) → DataType → Type 0) where
         pub tree_is : (x : Tree) (other : Type 0) → Known Room env tables functions place_of x → Is (Asked tables functions place_of x) (term_of x) (way tables place_of x)
         tree_is (t.Number spot value true) other k T h = (tt, stands_valued Unsigned T (same_Some _ _ h))
         tree_is (t.Number spot value false) other k T h = (tt, stands_valued Int T (same_Some _ _ h))
-        tree_is (t.Puts spot text) other k T h = (tt, subst (StandsAs Room Absent) (same_Some _ _ h) tt)
+        tree_is (t.Puts spot text) other k T h = (tt, subst (IsWayOf Room Absent) (same_Some _ _ h) tt)
         tree_is (t.Sizeof spot type) other k T h = (tt, stands_valued Unsigned T (sizeof_some (type_spelled env.structs type None) T h))
         tree_is (t.Variable name) other k T h = k T h
         tree_is (t.GroupNumber spot) other k T h = (tt, stands_valued Int T (same_Some _ _ h))
@@ -342,10 +342,10 @@ module _ (Room : (address : ℕ) → DataType → Type 0) where
             let d = valued (Asked tables functions place_of c) (term_of c) (way tables place_of c) (tree_is c (Unit {0}) k.0) s.0 s.3 in
             let a = operand (Asked tables functions place_of x) (term_of x) (way tables place_of x) (tree_is x (Unit {0}) k.1) s.1 s.4 in
             let b = operand (Asked tables functions place_of y) (term_of y) (way tables place_of y) (tree_is y (Unit {0}) k.2) s.2 s.5 in
-            ((d.0, d.1, a.0, b.0, b.1 ∙ sym a.1), subst (λ v. StandsAs Room (result v) T) (sym a.1) (stands_valued s.6 T s.7))
+            ((d.0, d.1, a.0, b.0, b.1 ∙ sym a.1), subst (λ v. IsWayOf Room (result v) T) (sym a.1) (stands_valued s.6 T s.7))
 
         links_are : (A : Type 0) (before : Term) (w : Way) → Is A before w → (at : ℕ) (x : Links) → LinksKnown Room env tables functions place_of before at x → (T : ExpressionType)
-            → type_of env (with_links before x) ≡ Some T → A × LinksAsked tables functions place_of w at x × StandsAs Room (chain_way tables place_of w x) T
+            → type_of env (with_links before x) ≡ Some T → A × LinksAsked tables functions place_of w at x × IsWayOf Room (chain_way tables place_of w x) T
         links_are A before w is at t.no_links k T h = let r = is T h in (r.0, tt, r.1)
         links_are A before w is at (t.link spot sign right others) k T h =
             let r = links_are (A × Asked tables functions place_of right × JoinAsks tables functions place_of sign w at (way tables place_of right))
@@ -359,7 +359,7 @@ module _ (Room : (address : ℕ) → DataType → Type 0) where
         -- what is asked before, and with what stands before the suffixes
         suffixes_are : (A B : Type 0) (before : Term) (w : Way) → (is_use before ≡ true → A → B) → Is B before w → (x : Suffixes)
             → SuffixesKnown Room env tables functions place_of A before w x → (T : ExpressionType)
-            → type_of env (with_suffixes before x) ≡ Some T → B × SuffixesAsked tables functions place_of w x × StandsAs Room (suffixed_way tables place_of w x) T
+            → type_of env (with_suffixes before x) ≡ Some T → B × SuffixesAsked tables functions place_of w x × IsWayOf Room (suffixed_way tables place_of w x) T
         suffixes_are A B before w named is t.no_suffixes k T h = let r = is T h in (r.0, tt, r.1)
         suffixes_are A B before w named is (t.index spot by others) k T h =
             let r = suffixes_are A (B × (gives w ≡ true) × Asked tables functions place_of by × (gives (way tables place_of by) ≡ true))

@@ -58,7 +58,7 @@ pub record About : Type 1 where
   -- a type has its words at an address
   pub Room : (address : ℕ) → DataType → Type 0
   -- a token breaks no rule
-  pub Kept : sharing.Standing (List Holder) → Type 0
+  pub Kept : sharing.TokenIn (List Holder) → Type 0
   -- marks, references and notes among those of the program, and names that are used in it
   pub Stands : MarkTree → Type 0
   pub Referred : ReferenceTree → Type 0

@@ -8,7 +8,7 @@ use Rattle.fk_syntax.specs.declared.facts.Kind.{Kind}
 use Rattle.fk_syntax.specs.declared.facts.Note.{Note}
 use Rattle.fk_syntax.specs.Program.{ProgramTree}
 use Rattle.fk_types_names.specs.Outline.{DeclarationTree, MarkTree, Variable, Header, Opens, Closes, Declares, Uses, outline}
-use Rattle.fk_types_names.specs.Means.{StandsFor, DefinesHere, binding}
+use Rattle.fk_types_names.specs.Means.{Denotes, DefinesHere, binding}
 use Rattle.fk_types_name_rules.proofs.ListLemmas.{some_at, at_some}
 use Rattle.fk_types_structs.specs.Types.{StructTree}
 use Rattle.fk_types_structs.specs.declared.types.DataType.{DataType}
@@ -90,7 +90,7 @@ module _ (program : ProgramTree) (facts : Facts) (valid : IsCorrect program fact
 
   -- ---- what tokens name
 
-  pub declared_number : (here meant : ℕ) (d : DeclarationTree) (bytes : List ℕ) → slice_get (outline program) here ≡ Some (Declares d) → StandsFor (outline program) bytes here d meant
+  pub declared_number : (here meant : ℕ) (d : DeclarationTree) (bytes : List ℕ) → slice_get (outline program) here ≡ Some (Declares d) → Denotes (outline program) bytes here d meant
       → binding (outline program) meant < program.tokens
   declared_number here meant (Variable v) bytes is stands =
       subst (λ (i : ℕ). binding (outline program) i < program.tokens) (sym stands) (number_low program valid.well_formed _ (Variable v) (declared_here (outline program) here (Variable v) is))

@@ -38,16 +38,16 @@ PrefixIs sign w = Unit {0}
 -- For a condition of room for what is stored at a constant address.
 module _ (Room : (address : ℕ) → DataType → Type 0) where
   -- An expression of a type is in such a way. What is in a private word is no array and no struct.
-  abbrev pub StandsAs : Way → ExpressionType → Type 0
-  StandsAs Valued (Computed value) = Unit {0}
-  StandsAs Absent Nothing = Unit {0}
-  StandsAs Unchecked (Stored type) = Unit {0}
-  StandsAs (Constant address) (Stored type) = Room address type
-  StandsAs Array (Stored type) = is_some type.length ≡ true
-  StandsAs Grouped (Stored type) = Unit {0}
-  StandsAs Word (Stored type) = (is_some type.length ≡ false)
+  abbrev pub IsWayOf : Way → ExpressionType → Type 0
+  IsWayOf Valued (Computed value) = Unit {0}
+  IsWayOf Absent Nothing = Unit {0}
+  IsWayOf Unchecked (Stored type) = Unit {0}
+  IsWayOf (Constant address) (Stored type) = Room address type
+  IsWayOf Array (Stored type) = is_some type.length ≡ true
+  IsWayOf Grouped (Stored type) = Unit {0}
+  IsWayOf Word (Stored type) = (is_some type.length ≡ false)
       × (struct_of_root type.root type.stars ≡ None)
-  StandsAs w type = ⊥
+  IsWayOf w type = ⊥
 
   module _ (env : Env) (tables : Tables) (functions : (binding : ℕ) → Signature)
       (place_of : (binding : ℕ) → FunctionKind) where
@@ -56,7 +56,7 @@ module _ (Room : (address : ℕ) → DataType → Type 0) where
     NameIs name =
         (type : ExpressionType) → type_of env (e.Use name) ≡ Some type
         → NameAsks tables functions place_of name.at (named_way tables place_of name)
-        × StandsAs (named_way tables place_of name) type
+        × IsWayOf (named_way tables place_of name) type
 
     -- A type is noted at the token of what a comma drops, which is no struct.
     abbrev pub CommaIs : Sign → Term → (at : ℕ) → Type 0
@@ -102,7 +102,7 @@ module _ (Room : (address : ℕ) → DataType → Type 0) where
           × ((type : ExpressionType)
           → type_of env (e.Call spot before (with_arguments no_terms given)) ≡ Some type
           → A × CallAsks tables functions place_of w given
-          × StandsAs (called_way tables place_of w) type)
+          × IsWayOf (called_way tables place_of w) type)
           × SuffixesKnown A (e.Call spot before (with_arguments no_terms given))
           (called_way tables place_of w) others
       SuffixesKnown A before w (t.dot spot name others) =
@@ -129,4 +129,4 @@ TypedIsAsked =
     → Known (λ address type. has_room address type ≡ true) env tables functions place_of x
     → (type : ExpressionType) → type_of env (term_of x) ≡ Some type
     → Asked tables functions place_of x
-    × StandsAs (λ address type'. has_room address type' ≡ true) (way tables place_of x) type
+    × IsWayOf (λ address type'. has_room address type' ≡ true) (way tables place_of x) type

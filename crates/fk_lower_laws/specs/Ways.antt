@@ -1,4 +1,4 @@
--- How an expression stands when its operations are done, told of its tree.
+-- Where the result of an expression is when its operations are done, told of its tree.
 use Rattle.std.specs.Prelude.{ℕ, ◌+◌, ◌*◌, ◌==◌, Bool, true, false, codes, if◌then◌else◌}
 use Rattle.fk_num.specs.Word.{word}
 use Rattle.fk_num.specs.Op.{applied}

@@ -11,7 +11,7 @@ use Rattle.fk_layout_walk_statements.specs.Texts.{functions_in, code_in}
 use Rattle.fk_core_flat.specs.Laws.{AreShaped, IsFlat}
 use Rattle.fk_core.specs.declared.op.CoreOp.{CoreOp}
 use Rattle.fk_core.proofs.KeepsRuns.{flat_lists_keep_runs}
-use Rattle.fk_core_flat.proofs.FlatCode.{flat_code_stands}
+use Rattle.fk_core_flat.proofs.FlatCode.{flat_lists_have_code}
 use Rattle.fk_lower.specs.declared.block.Block.{Block}
 use Rattle.fk_lower.specs.View.{part_of}
 use Rattle.fk_lower.specs.Lowered.{bodies_in}
@@ -130,7 +130,7 @@ module _ (known : ProgramTables) where
       pub has_program : (core : List CoreOp) (entry : ℕ → ℕ) → IsFlat (bodies_in (map part_of blocks)) core entry → HasProgram known program core entry
       has_program core entry flat =
           let is_flat = subst (λ (bodies : ℕ → Code ℕ). IsFlat bodies core entry) (λ i. λ b. in_blocks b i) flat in
-          record { flat = is_flat; code = flat_code_stands (tables_of known) program core entry lowerable.shaped is_flat }
+          record { flat = is_flat; code = flat_lists_have_code (tables_of known) program core entry lowerable.shaped is_flat }
 
       pub has_its_runs : (core : List CoreOp) (entry : ℕ → ℕ) → IsFlat (bodies_in (map part_of blocks)) core entry → HasItsRuns known program core entry
       has_its_runs core entry flat =

@@ -1,6 +1,7 @@
 //! The machine.
 
 ghost use Rattle.std.specs.Prelude.{◌≡◌, ◌+◌, ◌*◌, ◌≤◌, vec_len, vec_capacity};
+ghost use Rattle.fk_num.specs.Limits.{most_data_words};
 
 use crate::hart::first_harts;
 use crate::setting::Setting;
@@ -55,7 +56,7 @@ impl Machine {
         requires some_harts { 1 ≤ harts }
         requires few_harts { harts ≤ 1024 }
         requires few_inputs { length input.now ≤ 65536 }
-        requires room { vec_len image.now.globals + length input.now ≤ 524288 }
+        requires room { vec_len image.now.globals + length input.now ≤ most_data_words }
         ensures { IfOk result (λ m. machine_of m ≡ machine_opening image.now input.now harts) }
     {
         let setting = Setting::new(alloc, &image.code, harts, input.len() as u32)?;

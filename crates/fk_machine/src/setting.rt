@@ -1,6 +1,7 @@
 //! What stays the same in a cycle.
 
 ghost use Rattle.std.specs.Prelude.{◌≡◌, ◌≤◌, false, vec_len};
+ghost use Rattle.fk_num.specs.Limits.{most_code_words};
 ghost use Rattle.fk_isa.specs.declared.instruction.Instruction.TheVariants.{Ebreak};
 ghost use Rattle.fk_isa.specs.Fits.{Fits};
 ghost use Rattle.fk_isa.specs.FitsProp.{Fits-prop};
@@ -49,7 +50,7 @@ pub struct Setting {
     pub inputs: u32,
     /// The number of cycles finished before this one.
     pub finished: u32,
-    ghost short: { vec_len code ≤ 262144 },
+    ghost short: { vec_len code ≤ most_code_words },
 }
 
 impl Setting {
@@ -59,7 +60,7 @@ impl Setting {
 
     /// The setting of the first cycle. Fails if there isn't enough memory.
     pub fn new(alloc: Global, code: &[u32], harts: u32, inputs: u32) -> Result<Setting, AllocError>
-        requires { length code.now ≤ 262144 }
+        requires { length code.now ≤ most_code_words }
         ensures code { IfOk result (λ t. map row_of t.code.items ≡ map row code.now) }
         ensures harts { IfOk result (λ t. t.harts ≡ harts) }
         ensures inputs { IfOk result (λ t. t.inputs ≡ inputs) }

@@ -2,6 +2,7 @@
 
 ghost use Rattle.std.specs.Prelude.{◌≡◌, ℕ, ◌+◌, ◌≤◌, ◌<◌, ◌^◌, ◌++◌, None, false, length, map};
 ghost use Rattle.std.specs.Prelude.{slice_index, slice_index_or, vec_len, IfOk};
+ghost use Rattle.fk_num.specs.Limits.{most_data_words};
 ghost use Rattle.fk_isa.specs.Atomic.{unless};
 
 use crate::place::{CONTROL_WORDS, SHARED_WORDS};
@@ -45,7 +46,7 @@ impl SharedState {
         input: &[u32],
         harts: u32,
     ) -> Result<SharedState, AllocError>
-        requires { length globals.now + length input.now ≤ 524288 }
+        requires { length globals.now + length input.now ≤ most_data_words }
         ensures words { IfOk result (λ s.
             slice_index s.words.items ≡ slice_index (globals.now ++ input.now)) }
         ensures control { IfOk result (λ s. slice_index s.control.items ≡ λ i. 0) }
@@ -159,7 +160,7 @@ fn clear_all(reserved: &mut [Option<u32>], word: u32) -> bool
 
 // The globals, then the input numbers, then zeros.
 fn first_words(alloc: Global, globals: &[u32], input: &[u32]) -> Result<Vec<u32>, AllocError>
-    requires { length globals.now + length input.now ≤ 524288 }
+    requires { length globals.now + length input.now ≤ most_data_words }
     ensures len { IfOk result (λ words. vec_len words ≡ 2 ^ 20) }
     ensures words { IfOk result (λ words.
         slice_index words.items ≡ slice_index (globals.now ++ input.now)) }

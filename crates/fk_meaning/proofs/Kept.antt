@@ -28,7 +28,7 @@ use Rattle.fk_meaning_forms.specs.Code.{done, perform, choose, call}
 use Rattle.fk_meaning_forms.specs.Tables.{Tables, no_binding, note, kind_at, is_array, is_void, is_unsigned, slot, frame_at}
 use Rattle.fk_meaning_forms.specs.Signs.{operator_of, is_shift, move_of}
 use Rattle.fk_meaning_forms.specs.Texts.{text_of}
-use Rattle.fk_meaning_forms.specs.Expressions.{Coded, nowhere, plain, Standing, OnList, AtAddress, InWord, ToCall, Stands, token, spot_of, is_name, Signature, put_bytes, moved, agreed, checked, valued, addressed, fetched, assigned, value_of, dropped, predeclared, placed, variable, operate, updated, one, prefixed, truth, logical, chosen, joined, assignment, member, is_deep, indexed, dotted, pointed, step_back, raised, arguments, framed, parameters, called, multiprefix, with_one, called_predeclared, calling, stands, linked, suffixed, all_stand, value}
+use Rattle.fk_meaning_forms.specs.Expressions.{Coded, nowhere, plain, ResultLocation, OnList, AtAddress, InWord, ToCall, Evaluation, token, spot_of, is_name, Signature, put_bytes, moved, agreed, checked, valued, addressed, fetched, assigned, value_of, dropped, predeclared, placed, variable, operate, updated, one, prefixed, truth, logical, chosen, joined, assignment, member, is_deep, indexed, dotted, pointed, step_back, raised, arguments, framed, parameters, called, multiprefix, with_one, called_predeclared, calling, evaluated, linked, suffixed, all_evaluated, value}
 use Rattle.fk_meaning_forms.specs.Statements.{is_scalar, used, used_or, value_or, declared, all_declared, part_frame}
 use Rattle.fk_meaning.specs.Calls.{takes_two, TakesEnough, CallFits, Fits, LinksFit, FirstFits, SuffixesFit, AllFit, OptionFits, VariablesFit}
 use Rattle.fk_meaning.proofs.Spine.{both_ways}
@@ -103,16 +103,16 @@ module _ {tables : Tables} {functions : (binding : ℕ) → Signature} {Takes : 
   either x true c d p q = p
   either x false c d p q = q
 
-  abbrev Follows : W → (Standing → Coded) → Type 0
-  Follows x k = (s : Standing) → Fine x (k s)
+  abbrev Follows : W → (ResultLocation → Coded) → Type 0
+  Follows x k = (s : ResultLocation) → Fine x (k s)
 
-  abbrev Good : Stands → Type 0
-  Good e = (x : W) (k : Standing → Coded) → Follows x k → Fine x (e k)
+  abbrev Good : Evaluation → Type 0
+  Good e = (x : W) (k : ResultLocation → Coded) → Follows x k → Fine x (e k)
 
   abbrev pub Keeps : (Coded → Coded) → Type 0
   Keeps e = (x : W) (rest : Coded) → Fine x rest → Fine x (e rest)
 
-  abbrev AllGood : List Stands → Type 0
+  abbrev AllGood : List Evaluation → Type 0
   AllGood [] = Unit {0}
   AllGood (e ∷ es) = Good e × AllGood es
 
@@ -133,33 +133,33 @@ module _ {tables : Tables} {functions : (binding : ℕ) → Signature} {Takes : 
   agrees true x rest p = (on refl p)
   agrees false x rest p = p
 
-  -- how an expression stands
+  -- where the result of an expression is
   checks : (deep : Bool) (spot : Spot) → Keeps (checked tables functions deep spot)
   checks true spot x rest p = (on refl p)
   checks false spot x rest p = p
 
-  values : (s : Standing) → Keeps (valued tables functions s)
+  values : (s : ResultLocation) → Keeps (valued tables functions s)
   values (AtAddress deep spot) x rest p =
       either x (is_array tables spot.at) rest (checked tables functions deep spot (plain o.Read rest)) p
       (checks deep spot x (plain o.Read rest) (on refl p))
   values (InWord variable) x rest p = (on refl p)
   values s x rest p = p
 
-  addresses : (s : Standing) → Keeps (addressed tables functions s)
+  addresses : (s : ResultLocation) → Keeps (addressed tables functions s)
   addresses (AtAddress deep spot) x rest p = checks deep spot x rest p
   addresses s x rest p = p
 
-  fetches : (s : Standing) → Keeps (fetched tables functions s)
+  fetches : (s : ResultLocation) → Keeps (fetched tables functions s)
   fetches (AtAddress deep spot) x rest p = checks deep spot x (plain o.CopyLast (plain o.Read rest)) (on refl (on refl p))
   fetches (InWord variable) x rest p = (on refl p)
   fetches s x rest p = p
 
-  assigns : (s : Standing) → Keeps (assigned tables functions s)
+  assigns : (s : ResultLocation) → Keeps (assigned tables functions s)
   assigns (AtAddress deep spot) x rest p = (on refl p)
   assigns (InWord variable) x rest p = (on refl p)
   assigns s x rest p = p
 
-  value_is : (e : Stands) → Good e → Keeps (value_of tables functions e)
+  value_is : (e : Evaluation) → Good e → Keeps (value_of tables functions e)
   value_is e good x rest p = good x (λ s. valued tables functions s rest) (λ s. values s x rest p)
 
   drops : (at : ℕ) → Keeps (dropped tables functions at)
@@ -203,7 +203,7 @@ module _ {tables : Tables} {functions : (binding : ℕ) → Signature} {Takes : 
       either x (step == 0) (plain (operator_of sign unsigned) rest) (moved (move_of sign) step (operator_of sign unsigned) rest)
       (operator sign unsigned x rest p) (moves (move_of sign) step sign unsigned x rest p)
 
-  updates : (sign : Sign) (target : Stands) → Good target → (left right : ℕ) (e : Coded → Coded) → Keeps e → Good (updated tables functions sign target left right e)
+  updates : (sign : Sign) (target : Evaluation) → Good target → (left right : ℕ) (e : Coded → Coded) → Keeps e → Good (updated tables functions sign target left right e)
   updates sign target good left right e keeps x k p =
       good x (λ s. fetched tables functions s (e (operate tables functions sign left right (assigned tables functions s (k OnList)))))
       (λ s.
@@ -214,7 +214,7 @@ module _ {tables : Tables} {functions : (binding : ℕ) → Signature} {Takes : 
   ones : Keeps (one tables functions)
   ones x rest p = (on refl p)
 
-  prefixes : (spot : Spot) (sign : Sign) (e : Stands) → Good e → (at : ℕ) → Good (prefixed tables functions spot sign e at)
+  prefixes : (spot : Spot) (sign : Sign) (e : Evaluation) → Good e → (at : ℕ) → Good (prefixed tables functions spot sign e at)
   prefixes spot g.Minus e good at x k p = value_is e good x (plain (o.Apply u.Negate) (k OnList)) (on refl (p OnList))
   prefixes spot g.Tilde e good at x k p = value_is e good x (plain (o.Apply u.Complement) (k OnList)) (on refl (p OnList))
   prefixes spot g.Exclamation e good at x k p = value_is e good x (plain (o.Apply u.Not) (k OnList)) (on refl (p OnList))
@@ -225,10 +225,10 @@ module _ {tables : Tables} {functions : (binding : ℕ) → Signature} {Takes : 
   prefixes spot g.Decrement e good at x k p = updates g.Minus e good at spot.at (one tables functions) ones x k p
   prefixes spot sign e good at x k p = value_is e good x (k OnList) (p OnList)
 
-  truths : (e : Stands) → Good e → Keeps (truth tables functions e)
+  truths : (e : Evaluation) → Good e → Keeps (truth tables functions e)
   truths e good x rest p = value_is e good x (plain (o.Push 0) (plain (o.Binary f.Ne false) rest)) (on refl (on refl p))
 
-  logicals : (spot : Spot) (by : SplitKind) (onward : Bool) (other : ℕ) (a : Stands) → Good a → (b : Stands) → Good b → is_alone by ≡ true
+  logicals : (spot : Spot) (by : SplitKind) (onward : Bool) (other : ℕ) (a : Evaluation) → Good a → (b : Evaluation) → Good b → is_alone by ≡ true
       → Good (logical tables functions spot by onward other a b)
   logicals spot by onward other a good_a b good_b e x k p =
       let here = note tables spot.at in
@@ -240,7 +240,7 @@ module _ {tables : Tables} {functions : (binding : ℕ) → Signature} {Takes : 
       (agrees here.sync x branched
       (branch (truths b good_b (kept.in_way x) done (kept.way_ends x)) (on refl (kept.way_ends x)) (p OnList))))
 
-  chooses : (spot : Spot) (c : Stands) → Good c → (a : Stands) → Good a → (b : Stands) → Good b → Good (chosen tables functions spot c a b)
+  chooses : (spot : Spot) (c : Evaluation) → Good c → (a : Evaluation) → Good a → (b : Evaluation) → Good b → Good (chosen tables functions spot c a b)
   chooses spot c good_c a good_a b good_b x k p =
       let here = note tables spot.at in
       let parted = choose spot.place (o.Split IfElse) (value_of tables functions a (plain o.End done)) (value_of tables functions b (plain o.End done)) (plain o.Resume (k OnList)) in
@@ -251,7 +251,7 @@ module _ {tables : Tables} {functions : (binding : ℕ) → Signature} {Takes : 
       (agrees here.sync x branched
       (branch (value_is a good_a (kept.in_way x) done (kept.way_ends x)) (value_is b good_b (kept.in_way x) done (kept.way_ends x)) (p OnList))))
 
-  joins : (spot : Spot) (sign : Sign) (a : Stands) → Good a → (left : ℕ) (b : Stands) → Good b → (right : ℕ) → Good (joined tables functions spot sign a left b right)
+  joins : (spot : Spot) (sign : Sign) (a : Evaluation) → Good a → (left : ℕ) (b : Evaluation) → Good b → (right : ℕ) → Good (joined tables functions spot sign a left b right)
   joins spot g.Comma a good_a left b good_b right x k p =
       value_is a good_a x (dropped tables functions left (value_of tables functions b (k OnList)))
       (drops left x (value_of tables functions b (k OnList)) (value_is b good_b x (k OnList) (p OnList)))
@@ -261,7 +261,7 @@ module _ {tables : Tables} {functions : (binding : ℕ) → Signature} {Takes : 
       value_is a good_a x (value_of tables functions b (operate tables functions sign left right (k OnList)))
       (value_is b good_b x (operate tables functions sign left right (k OnList)) (operates sign left right x (k OnList) (p OnList)))
 
-  gives : (sign : Sign) (target : Stands) → Good target → (left : ℕ) (e : Stands) → Good e → (right : ℕ) → Good (assignment tables functions sign target left e right)
+  gives : (sign : Sign) (target : Evaluation) → Good target → (left : ℕ) (e : Evaluation) → Good e → (right : ℕ) → Good (assignment tables functions sign target left e right)
   gives g.Assign target good left e good_e right x k p =
       good x (λ s. addressed tables functions s (value_of tables functions e (assigned tables functions s (k OnList))))
       (λ s.
@@ -271,28 +271,28 @@ module _ {tables : Tables} {functions : (binding : ℕ) → Signature} {Takes : 
       updates sign target good left right (value_of tables functions e) (value_is e good_e) x k p
 
   -- suffixes
-  indexes : (spot : Spot) (e : Stands) → Good e → (by : Stands) → Good by → Good (indexed tables functions spot e by)
+  indexes : (spot : Spot) (e : Evaluation) → Good e → (by : Evaluation) → Good by → Good (indexed tables functions spot e by)
   indexes spot e good by good_by x k p =
       let element = plain (o.Index (4 * (kind_at tables spot.at).words)) (k (AtAddress true spot)) in
       value_is e good x (value_of tables functions by element) (value_is by good_by x element (on refl (p (AtAddress true spot))))
 
-  dots : (spot : Spot) (at : ℕ) (e : Stands) → Good e → Good (dotted tables functions spot at e)
+  dots : (spot : Spot) (at : ℕ) (e : Evaluation) → Good e → Good (dotted tables functions spot at e)
   dots spot at e good x k p =
       good x (λ s. member tables functions at (k (AtAddress (is_deep tables functions s) spot)))
       (λ s. (on refl (on refl (p (AtAddress (is_deep tables functions s) spot)))))
 
-  points : (spot : Spot) (at : ℕ) (e : Stands) → Good e → Good (pointed tables functions spot at e)
+  points : (spot : Spot) (at : ℕ) (e : Evaluation) → Good e → Good (pointed tables functions spot at e)
   points spot at e good x k p =
       value_is e good x (member tables functions at (k (AtAddress true spot))) (on refl (on refl (p (AtAddress true spot))))
 
-  raises : (sign back : Sign) (e : Stands) → Good e → (at : ℕ) → Good (raised tables functions sign back e at)
+  raises : (sign back : Sign) (e : Evaluation) → Good e → (at : ℕ) → Good (raised tables functions sign back e at)
   raises sign back e good at x k p =
       updates sign e good at 0 (one tables functions) ones x
       (λ s. plain (o.Push (step_back tables functions at)) (plain (operator_of back false) (k OnList)))
       (λ s. (on refl (operator back false x (k OnList) (p OnList))))
 
   -- calls
-  takes : (xs : List DeclaredTree) (es : List Stands) → AllGood es → Keeps (arguments tables functions xs es)
+  takes : (xs : List DeclaredTree) (es : List Evaluation) → AllGood es → Keeps (arguments tables functions xs es)
   takes [] [] good x rest p = p
   takes [] (e ∷ es) good x rest p = p
   takes (y ∷ ys) [] good x rest p = p
@@ -304,21 +304,21 @@ module _ {tables : Tables} {functions : (binding : ℕ) → Signature} {Takes : 
   frames None place x rest p = p
   frames (Some r) place x rest p = (on refl p)
 
-  calls : (name : Named) (given : Trees) → Takes name given → is_predeclared tables name ≡ false → (es : List Stands) → AllGood es → Good (called tables functions name es)
+  calls : (name : Named) (given : Trees) → Takes name given → is_predeclared tables name ≡ false → (es : List Evaluation) → AllGood es → Good (called tables functions name es)
   calls name given taken own es good x k p =
       takes (functions (note tables name.at).binding).parameters es good x (entered tables functions name (k OnList))
       (kept.enters x name given (k OnList) taken own (p OnList))
 
-  both_good : (name : Named) (by : Multiprefix) (a b : Stands) (es : List Stands) → Good a → Good b → Good (multiprefix tables functions name by (a ∷ b ∷ es))
+  both_good : (name : Named) (by : Multiprefix) (a b : Evaluation) (es : List Evaluation) → Good a → Good b → Good (multiprefix tables functions name by (a ∷ b ∷ es))
   both_good name by a b es good_a good_b x k p =
       let request = plain (o.Combine by) (k OnList) in
       value_is a good_a x (perform name.place (o.Check true) (value_of tables functions b request)) (on refl (value_is b good_b x request (on refl (p OnList))))
 
-  one_good : (after : Coded → Coded) → Keeps after → (e : Stands) (es : List Stands) → Good e → Good (with_one tables functions after (e ∷ es))
+  one_good : (after : Coded → Coded) → Keeps after → (e : Evaluation) (es : List Evaluation) → Good e → Good (with_one tables functions after (e ∷ es))
   one_good after keeps e es good x k p = value_is e good x (after (k OnList)) (keeps x (k OnList) (p OnList))
 
   -- calls of predeclared functions
-  module _ (name : Named) (es : List Stands) (x : W) (k : Standing → Coded) (p : Follows x k) where
+  module _ (name : Named) (es : List Evaluation) (x : W) (k : ResultLocation → Coded) (p : Follows x k) where
     abbrev other_calls : Coded
     other_calls =
         if is_name name (codes "groupsize") then plain (o.Get n.GroupSize) (k OnList)
@@ -375,31 +375,31 @@ module _ {tables : Tables} {functions : (binding : ℕ) → Signature} {Takes : 
         (λ not_two. sizes (is_name name (codes "groupsize")) refl (one not_two))
 
   -- with the arguments of a call
-  calls_predeclared : (name : Named) (arguments' : Trees) → AllGood (all_stand tables functions arguments') → TakesEnough name arguments'
-      → Good (called_predeclared tables functions name (all_stand tables functions arguments'))
+  calls_predeclared : (name : Named) (arguments' : Trees) → AllGood (all_evaluated tables functions arguments') → TakesEnough name arguments'
+      → Good (called_predeclared tables functions name (all_evaluated tables functions arguments'))
   calls_predeclared name t.no_trees good enough x k p =
       all_predeclared name [] x k p (λ two. both_ways (takes_two name) two enough.0)
       (λ not_two not_size. both_ways (is_name name (codes "groupsize")) enough.1 not_size)
   calls_predeclared name (t.tree first t.no_trees) good enough x k p =
-      all_predeclared name (stands tables functions first ∷ []) x k p (λ two. both_ways (takes_two name) two enough)
-      (λ not_two not_size after keeps. one_good after keeps (stands tables functions first) [] good.0 x k p)
+      all_predeclared name (evaluated tables functions first ∷ []) x k p (λ two. both_ways (takes_two name) two enough)
+      (λ not_two not_size after keeps. one_good after keeps (evaluated tables functions first) [] good.0 x k p)
   calls_predeclared name (t.tree first (t.tree second more)) good enough x k p =
-      let es = all_stand tables functions more in
-      all_predeclared name (stands tables functions first ∷ stands tables functions second ∷ es) x k p
-      (λ two by. both_good name by (stands tables functions first) (stands tables functions second) es good.0 good.1.0 x k p)
-      (λ not_two not_size after keeps. one_good after keeps (stands tables functions first) (stands tables functions second ∷ es) good.0 x k p)
+      let es = all_evaluated tables functions more in
+      all_predeclared name (evaluated tables functions first ∷ evaluated tables functions second ∷ es) x k p
+      (λ two by. both_good name by (evaluated tables functions first) (evaluated tables functions second) es good.0 good.1.0 x k p)
+      (λ not_two not_size after keeps. one_good after keeps (evaluated tables functions first) (evaluated tables functions second ∷ es) good.0 x k p)
 
-  called_by : (name : Named) (arguments' : Trees) → AllGood (all_stand tables functions arguments') → Takes name arguments'
+  called_by : (name : Named) (arguments' : Trees) → AllGood (all_evaluated tables functions arguments') → Takes name arguments'
       → (predeclared' : Bool) → is_predeclared tables name ≡ predeclared'
-      → (x : W) (k : Standing → Coded) → Follows x k
-      → Fine x (if predeclared' then called_predeclared tables functions name (all_stand tables functions arguments') k else called tables functions name (all_stand tables functions arguments') k)
+      → (x : W) (k : ResultLocation → Coded) → Follows x k
+      → Fine x (if predeclared' then called_predeclared tables functions name (all_evaluated tables functions arguments') k else called tables functions name (all_evaluated tables functions arguments') k)
   called_by name arguments' good taken true e x k p = calls_predeclared name arguments' good (kept.takes_enough name arguments' taken e) x k p
-  called_by name arguments' good taken false e x k p = calls name arguments' taken e (all_stand tables functions arguments') good x k p
+  called_by name arguments' good taken false e x k p = calls name arguments' taken e (all_evaluated tables functions arguments') good x k p
 
-  call_is : (whole : Tree) (arguments' : Trees) → CallFits tables functions Takes whole arguments' → AllGood (all_stand tables functions arguments')
-      → Good (λ j. stands tables functions whole (calling tables functions (all_stand tables functions arguments') j))
+  call_is : (whole : Tree) (arguments' : Trees) → CallFits tables functions Takes whole arguments' → AllGood (all_evaluated tables functions arguments')
+      → Good (λ j. evaluated tables functions whole (calling tables functions (all_evaluated tables functions arguments') j))
   call_is (t.Variable name) arguments' fits good x k p =
-      let es = all_stand tables functions arguments' in
+      let es = all_evaluated tables functions arguments' in
       subst (Fine x) (sym (fits.0 (calling tables functions es k)))
       (called_by name arguments' good fits.1 (is_predeclared tables name) refl x k p)
   call_is (t.Number spot number unsigned) arguments' fits good x k p = absurd fits
@@ -423,66 +423,66 @@ module _ {tables : Tables} {functions : (binding : ℕ) → Signature} {Takes : 
 
   -- expressions
   mutual
-    expression : (e : Tree) → Fits tables functions Takes e → Good (stands tables functions e)
+    expression : (e : Tree) → Fits tables functions Takes e → Good (evaluated tables functions e)
     expression (t.Number spot number unsigned) fits x k p = (on refl (p OnList))
     expression (t.Puts spot text) fits x k p = puts (text_of text) x (k OnList) (p OnList)
     expression (t.Sizeof spot type) fits x k p = (on refl (p OnList))
     expression (t.Variable name) fits x k p = names name x k p
     expression (t.GroupNumber spot) fits x k p = (on refl (p OnList))
     expression (t.GroupRank spot) fits x k p = (on refl (p OnList))
-    expression (t.Prefix spot sign operand) fits x k p = prefixes spot sign (stands tables functions operand) (expression operand fits) (token operand) x k p
-    expression (t.Cast spot type operand) fits x k p = value_is (stands tables functions operand) (expression operand fits) x (k OnList) (p OnList)
-    expression (t.Chain first links) fits x k p = chain (stands tables functions first) (expression first fits.0) (token first) links fits.1 x k p
+    expression (t.Prefix spot sign operand) fits x k p = prefixes spot sign (evaluated tables functions operand) (expression operand fits) (token operand) x k p
+    expression (t.Cast spot type operand) fits x k p = value_is (evaluated tables functions operand) (expression operand fits) x (k OnList) (p OnList)
+    expression (t.Chain first links) fits x k p = chain (evaluated tables functions first) (expression first fits.0) (token first) links fits.1 x k p
     expression (t.Postfix whole suffixes) fits x k p = first_suffix whole (expression whole fits.0) suffixes fits.1 x k p
     expression (t.Assign spot sign target value) fits x k p =
-        gives sign (stands tables functions target) (expression target fits.0) (token target) (stands tables functions value) (expression value fits.1) (token value) x k p
+        gives sign (evaluated tables functions target) (expression target fits.0) (token target) (evaluated tables functions value) (expression value fits.1) (token value) x k p
     expression (t.Choose spot condition first second) fits x k p =
-        chooses spot (stands tables functions condition) (expression condition fits.0) (stands tables functions first) (expression first fits.1) (stands tables functions second) (expression second fits.2) x k p
+        chooses spot (evaluated tables functions condition) (expression condition fits.0) (evaluated tables functions first) (expression first fits.1) (evaluated tables functions second) (expression second fits.2) x k p
 
-    chain : (e : Stands) → Good e → (at : ℕ) (links : Links) → LinksFit tables functions Takes links → Good (linked tables functions e at links)
+    chain : (e : Evaluation) → Good e → (at : ℕ) (links : Links) → LinksFit tables functions Takes links → Good (linked tables functions e at links)
     chain e good at t.no_links fits x k p = good x k p
     chain e good at (t.link spot sign right others) fits x k p =
-        chain (joined tables functions spot sign e at (stands tables functions right) (token right))
-        (joins spot sign e good at (stands tables functions right) (expression right fits.0) (token right)) spot.at others fits.1 x k p
+        chain (joined tables functions spot sign e at (evaluated tables functions right) (token right))
+        (joins spot sign e good at (evaluated tables functions right) (expression right fits.0) (token right)) spot.at others fits.1 x k p
 
-    first_suffix : (whole : Tree) → Good (stands tables functions whole) → (suffixes : Suffixes) → FirstFits tables functions Takes whole suffixes
-        → Good (suffixed tables functions (stands tables functions whole) (token whole) suffixes)
+    first_suffix : (whole : Tree) → Good (evaluated tables functions whole) → (suffixes : Suffixes) → FirstFits tables functions Takes whole suffixes
+        → Good (suffixed tables functions (evaluated tables functions whole) (token whole) suffixes)
     first_suffix whole good t.no_suffixes fits x k p = good x k p
     first_suffix whole good (t.index spot by others) fits x k p =
-        let e = stands tables functions whole in
-        postfix (indexed tables functions spot e (stands tables functions by)) (indexes spot e good (stands tables functions by) (expression by fits.0)) spot.at others fits.1 x k p
+        let e = evaluated tables functions whole in
+        postfix (indexed tables functions spot e (evaluated tables functions by)) (indexes spot e good (evaluated tables functions by) (expression by fits.0)) spot.at others fits.1 x k p
     first_suffix whole good (t.call spot arguments' others) fits x k p =
-        let es = all_stand tables functions arguments' in
-        postfix (λ j. stands tables functions whole (calling tables functions es j)) (call_is whole arguments' fits.0 (all_expressions arguments' fits.1)) spot.at others fits.2 x k p
+        let es = all_evaluated tables functions arguments' in
+        postfix (λ j. evaluated tables functions whole (calling tables functions es j)) (call_is whole arguments' fits.0 (all_expressions arguments' fits.1)) spot.at others fits.2 x k p
     first_suffix whole good (t.dot spot name others) fits x k p =
-        let e = stands tables functions whole in
+        let e = evaluated tables functions whole in
         postfix (dotted tables functions spot name.at e) (dots spot name.at e good) spot.at others fits x k p
     first_suffix whole good (t.arrow spot name others) fits x k p =
-        let e = stands tables functions whole in
+        let e = evaluated tables functions whole in
         postfix (pointed tables functions spot name.at e) (points spot name.at e good) spot.at others fits x k p
     first_suffix whole good (t.up spot others) fits x k p =
-        let e = stands tables functions whole in
+        let e = evaluated tables functions whole in
         postfix (raised tables functions g.Plus g.Minus e (token whole)) (raises g.Plus g.Minus e good (token whole)) spot.at others fits x k p
     first_suffix whole good (t.down spot others) fits x k p =
-        let e = stands tables functions whole in
+        let e = evaluated tables functions whole in
         postfix (raised tables functions g.Minus g.Plus e (token whole)) (raises g.Minus g.Plus e good (token whole)) spot.at others fits x k p
 
-    postfix : (e : Stands) → Good e → (at : ℕ) (suffixes : Suffixes) → SuffixesFit tables functions Takes suffixes → Good (suffixed tables functions e at suffixes)
+    postfix : (e : Evaluation) → Good e → (at : ℕ) (suffixes : Suffixes) → SuffixesFit tables functions Takes suffixes → Good (suffixed tables functions e at suffixes)
     postfix e good at t.no_suffixes fits x k p = good x k p
     postfix e good at (t.index spot by others) fits x k p =
-        postfix (indexed tables functions spot e (stands tables functions by)) (indexes spot e good (stands tables functions by) (expression by fits.0)) spot.at others fits.1 x k p
+        postfix (indexed tables functions spot e (evaluated tables functions by)) (indexes spot e good (evaluated tables functions by) (expression by fits.0)) spot.at others fits.1 x k p
     postfix e good at (t.call spot arguments' others) fits x k p = absurd fits
     postfix e good at (t.dot spot name others) fits x k p = postfix (dotted tables functions spot name.at e) (dots spot name.at e good) spot.at others fits x k p
     postfix e good at (t.arrow spot name others) fits x k p = postfix (pointed tables functions spot name.at e) (points spot name.at e good) spot.at others fits x k p
     postfix e good at (t.up spot others) fits x k p = postfix (raised tables functions g.Plus g.Minus e at) (raises g.Plus g.Minus e good at) spot.at others fits x k p
     postfix e good at (t.down spot others) fits x k p = postfix (raised tables functions g.Minus g.Plus e at) (raises g.Minus g.Plus e good at) spot.at others fits x k p
 
-    all_expressions : (es : Trees) → AllFit tables functions Takes es → AllGood (all_stand tables functions es)
+    all_expressions : (es : Trees) → AllFit tables functions Takes es → AllGood (all_evaluated tables functions es)
     all_expressions t.no_trees fits = tt
     all_expressions (t.tree first others) fits = (expression first fits.0, all_expressions others fits.1)
 
   pub values_kept : (e : Tree) → Fits tables functions Takes e → Keeps (value tables functions e)
-  values_kept e fits x rest p = value_is (stands tables functions e) (expression e fits) x rest p
+  values_kept e fits x rest p = value_is (evaluated tables functions e) (expression e fits) x rest p
 
   -- what statements have of expressions
   pub uses : (e : Tree) → Fits tables functions Takes e → Keeps (used tables functions e)
@@ -498,7 +498,7 @@ module _ {tables : Tables} {functions : (binding : ℕ) → Signature} {Takes : 
 
   declares_one : (y : DeclaredTree) → OptionFits tables functions Takes y.first → Keeps (declared tables functions y)
   declares_one y fits x rest p =
-      let k : Standing → Coded = λ s. addressed tables functions s (value_or tables functions (plain (o.Push 0)) y.first (assigned tables functions s (plain o.DropLast rest))) in
+      let k : ResultLocation → Coded = λ s. addressed tables functions s (value_or tables functions (plain (o.Push 0)) y.first (assigned tables functions s (plain o.DropLast rest))) in
       either x (is_scalar y) (variable tables functions y.name k) rest
       (names y.name x k
       (λ s.

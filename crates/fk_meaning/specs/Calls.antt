@@ -6,7 +6,7 @@ use Rattle.fk_syntax.specs.Tree as t
 use Rattle.fk_syntax.specs.Tree.{Named, Tree, Links, Trees, Suffixes}
 use Rattle.fk_syntax.specs.Program.{DeclaredTree}
 use Rattle.fk_meaning_forms.specs.Tables.{Tables}
-use Rattle.fk_meaning_forms.specs.Expressions.{Coded, Standing, ToCall, Signature, is_name}
+use Rattle.fk_meaning_forms.specs.Expressions.{Coded, ResultLocation, ToCall, Signature, is_name}
 use Rattle.fk_meaning_forms.specs.Expressions.{variable}
 
 abbrev pub takes_two : Named → Bool
@@ -27,7 +27,7 @@ module _ (tables : Tables) (functions : (binding : ℕ) → Signature)
   -- without suffixes, are what they contain
   abbrev pub CallFits : Tree → Trees → Type 0
   CallFits (t.Variable name) arguments =
-      ((k : Standing → Coded) → variable tables functions name k ≡ k (ToCall name))
+      ((k : ResultLocation → Coded) → variable tables functions name k ≡ k (ToCall name))
       × Takes name arguments
   CallFits (t.Chain first t.no_links) arguments = CallFits first arguments
   CallFits (t.Postfix whole t.no_suffixes) arguments = CallFits whole arguments

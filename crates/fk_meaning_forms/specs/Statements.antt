@@ -58,9 +58,9 @@ module _ (tables : Tables) (functions : (binding : ℕ) → Signature) where
   abbrev pub declared : DeclaredTree → Coded → Coded
   declared x rest =
       if is_scalar x
-      then variable tables functions x.name (λ standing. addressed tables functions standing
+      then variable tables functions x.name (λ location. addressed tables functions location
       (value_or (plain (o.Push 0)) x.first
-      (assigned tables functions standing (plain o.DropLast rest))))
+      (assigned tables functions location (plain o.DropLast rest))))
       else rest
 
   abbrev pub all_declared : List DeclaredTree → Coded → Coded

@@ -16,7 +16,7 @@ use Rattle.fk_lex.specs.declared.token.TokenKind.TheVariants as kind
 use Rattle.fk_lex.specs.Bytes.{is_letter, is_digit, is_word_byte, is_plain, escape_value}
 use Rattle.fk_lex.specs.Kinds.{keywords, signs, lookup, or_word, is_numeral, numeral_value, is_unsigned, kind_of}
 use Rattle.fk_lex.specs.Positions.{only_blanks}
-use Rattle.fk_lex.specs.Steps.{line_length, is_include, directive_step, escaped, character_of, character_step, token_or_fault, StandsBy, beginning}
+use Rattle.fk_lex.specs.Steps.{line_length, is_include, directive_step, escaped, character_of, character_step, token_or_fault, StepBy, beginning}
 use Rattle.fk_lex.specs.Texts.{Part, Plain, Escape, Bad, bytes_of, is_escaped, is_some_byte, AreParts, AreGood}
 use Rattle.fk_lex.specs.Sizes.{size_of}
 use Rattle.fk_lex.specs.Reading.{Spelled, Cuts, spelled_by, tokens_in, Tokens}
@@ -154,7 +154,7 @@ token_good text n k other = tt
 -- ---- what stands in a text
 
 abbrev GoodBy : List ℕ → List ℕ → Beginning → Type 0
-GoodBy before text b = (step : Step) → StandsBy b before text step → IsGoodStep text step
+GoodBy before text b = (step : Step) → StepBy b before text step → IsGoodStep text step
 
 gap_or_fault : (text : List ℕ) (blanks : Bool) → IsGoodStep text (directive_step blanks text)
 unfolding directive_step

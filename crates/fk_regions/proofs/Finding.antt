@@ -13,7 +13,7 @@ use Rattle.fk_regions.specs.declared.around.Holder.{Holder}
 use Rattle.fk_regions.specs.declared.around.Around.{Around}
 use Rattle.fk_regions.specs.declared.token.Token.{Token}
 use Rattle.fk_regions.specs.declared.callee.Callee.{Callee}
-use Rattle.fk_regions.specs.Tokens.{Standing, tokens}
+use Rattle.fk_regions.specs.Tokens.{TokenIn, tokens}
 use Rattle.fk_regions.specs.Called.{Calls, callee_in}
 use Rattle.fk_regions.specs.Collected.{seen}
 use Rattle.fk_regions.specs.Retold.{retold}
@@ -39,14 +39,14 @@ one-more names list n d within a b r callee l e m f = IsLeast-one_more (TokenBre
 
 module _ (program : ProgramTree) (names : Names) (are : AreNames program names) where
   -- what the code finds of a token that is told shorter
-  abbrev Finds : Standing Around → Place → Rule → Type 0
+  abbrev Finds : TokenIn Around → Place → Rule → Type 0
   Finds x place rule = Breaks (callee_in names x.spot.at) x place rule
 
-  tells : (x : Standing (List Holder)) (place : Place) (rule : Rule) → Finds (retold x) place rule → (x.spot.place ≡ place) × BreaksRule (Calls program x.spot.at) x rule
+  tells : (x : TokenIn (List Holder)) (place : Place) (rule : Rule) → Finds (retold x) place rule → (x.spot.place ≡ place) × BreaksRule (Calls program x.spot.at) x rule
   tells x place rule (inl h) = (sym h.0, inl (misplaced-tells x.around (Calls program x.spot.at) (callee_in names x.spot.at) (calls-finds program names are x.spot.at) (calls-tells program names are x.spot.at) x.word rule h.1))
   tells x place rule (inr h) = (sym h.0, inr (straight-tells x.around (Calls program x.spot.at) (callee_in names x.spot.at) (calls-finds program names are x.spot.at) (calls-tells program names are x.spot.at) x.word rule h.1))
 
-  finds : (x : Standing (List Holder)) (place : Place) (rule : Rule) → x.spot.place ≡ place → BreaksRule (Calls program x.spot.at) x rule → Finds (retold x) place rule
+  finds : (x : TokenIn (List Holder)) (place : Place) (rule : Rule) → x.spot.place ≡ place → BreaksRule (Calls program x.spot.at) x rule → Finds (retold x) place rule
   finds x place rule e (inl h) = inl (sym e, misplaced-finds x.around (Calls program x.spot.at) (callee_in names x.spot.at) (calls-finds program names are x.spot.at) (calls-tells program names are x.spot.at) x.word rule h)
   finds x place rule e (inr h) = inr (sym e, straight-finds x.around (Calls program x.spot.at) (callee_in names x.spot.at) (calls-finds program names are x.spot.at) (calls-tells program names are x.spot.at) x.word h.1 h.2 ∙ ap Some (sym h.0))
 

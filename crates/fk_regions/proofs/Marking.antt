@@ -6,7 +6,7 @@ use Rattle.fk_regions.specs.declared.around.Around.{Around}
 use Rattle.fk_regions.specs.declared.around.Region.{Region}
 use Rattle.fk_regions.specs.declared.around.Region.TheVariants.{Synchronous, Asynchronous, Neither}
 use Rattle.fk_regions.specs.Around.{region}
-use Rattle.fk_regions.specs.Tokens.{Standing}
+use Rattle.fk_regions.specs.Tokens.{TokenIn}
 use Rattle.fk_regions.specs.Marked.{marked, synchronous_at, marked_by, after}
 use Rattle.fk_regions.specs.Retold.{retold}
 
@@ -42,14 +42,14 @@ by-says Asynchronous notes at index note e = (note.sync, e, (λ h. inl h, λ h. 
 by-says Neither notes at index note e = (note.sync, e, (λ h. inl h, λ h. elim h [ inl a ↦ a | inr b ↦ absurd (let impossible = b.1 in cc) ]))
 
 -- a token of the list stands in a synchronous region
-abbrev pub Stands : List (Standing (List Holder)) → ℕ → Type 0
-Stands xs index = (i : ℕ) × (x : Standing (List Holder)) × (slice_get xs i ≡ Some x) × (x.spot.at ≡ index) × (region x.around ≡ Synchronous)
+abbrev pub Stands : List (TokenIn (List Holder)) → ℕ → Type 0
+Stands xs index = (i : ℕ) × (x : TokenIn (List Holder)) × (slice_get xs i ≡ Some x) × (x.spot.at ≡ index) × (region x.around ≡ Synchronous)
 
-stands-cases : (y : Standing (List Holder)) (ys : List (Standing (List Holder))) (index i : ℕ) (x : Standing (List Holder)) → slice_get (y ∷ ys) i ≡ Some x → (x.spot.at ≡ index) × (region x.around ≡ Synchronous) → ((y.spot.at ≡ index) × (region y.around ≡ Synchronous)) ⊎ Stands ys index
+stands-cases : (y : TokenIn (List Holder)) (ys : List (TokenIn (List Holder))) (index i : ℕ) (x : TokenIn (List Holder)) → slice_get (y ∷ ys) i ≡ Some x → (x.spot.at ≡ index) × (region x.around ≡ Synchronous) → ((y.spot.at ≡ index) × (region y.around ≡ Synchronous)) ⊎ Stands ys index
 stands-cases y ys index zero x e h = let same : x ≡ y = cc in inl (subst (λ z. (z.spot.at ≡ index) × (region z.around ≡ Synchronous)) same h)
 stands-cases y ys index (suc i) x e h = inr (i, x, e, h.0, h.1)
 
-pub marks-say : (xs : List (Standing (List Holder))) (notes : List Note) (index : ℕ) (note : Note) → slice_get notes index ≡ Some note → Says (fold after notes (map retold xs)) index note ((note.sync ≡ true) ⊎ Stands xs index)
+pub marks-say : (xs : List (TokenIn (List Holder))) (notes : List Note) (index : ℕ) (note : Note) → slice_get notes index ≡ Some note → Says (fold after notes (map retold xs)) index note ((note.sync ≡ true) ⊎ Stands xs index)
 marks-say [] notes index note e = (note.sync, e, (λ h. inl h, λ h. elim h [ inl a ↦ a | inr s ↦ absurd (let impossible = s.2 in cc) ]))
 marks-say (x ∷ xs) notes index note e =
     let t = by-says (region x.around) notes x.spot.at index note e in
@@ -80,6 +80,6 @@ length-by Synchronous notes at = length-at notes at
 length-by Asynchronous notes at = refl
 length-by Neither notes at = refl
 
-pub length-marks : (xs : List (Standing Around)) (notes : List Note) → length (fold after notes xs) ≡ length notes
+pub length-marks : (xs : List (TokenIn Around)) (notes : List Note) → length (fold after notes xs) ≡ length notes
 length-marks [] notes = refl
 length-marks (x ∷ xs) notes = length-marks xs (after notes x) ∙ length-by x.around.region notes x.spot.at

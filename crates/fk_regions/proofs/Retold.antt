@@ -4,11 +4,11 @@ use Rattle.std.proofs.lemmas.List.{map-append}
 use Rattle.fk_syntax.specs.Tree as t
 use Rattle.fk_syntax.specs.Tree.{Tree, Links, Trees, Suffixes}
 use Rattle.fk_syntax.specs.Program as p
-use Rattle.fk_syntax.specs.Program.{DeclaredTree, Statement, Statements, FunctionTree, ItemTree, ProgramTree}
+use Rattle.fk_syntax.specs.Program.{DeclaredTree, Statement, Statements, ItemTree, ProgramTree}
 use Rattle.fk_regions.specs.declared.around.Holder.{Holder}
 use Rattle.fk_regions.specs.declared.around.Holder.TheVariants as h
 use Rattle.fk_regions.specs.declared.around.Around.{Around}
-use Rattle.fk_regions.specs.Tokens.{Standing, tree_tokens, links_tokens, trees_tokens, suffixes_tokens, optional_tokens, variables_tokens, variable_tokens, own_tokens, statement_tokens, statements_tokens, holder_of, body_tokens, item_tokens, items_tokens, tokens}
+use Rattle.fk_regions.specs.Tokens.{TokenIn, tree_tokens, links_tokens, trees_tokens, suffixes_tokens, optional_tokens, variables_tokens, variable_tokens, own_tokens, statement_tokens, statements_tokens, holder_of, body_tokens, item_tokens, items_tokens, tokens}
 use Rattle.fk_regions.specs.Collected.{within, outside}
 use Rattle.fk_regions.specs.Retold.{around_of, retold}
 
@@ -28,11 +28,11 @@ within-around h.Farm holders = refl
 within-around h.Seq holders = refl
 
 -- two lists one after the other
-both : (xs ys : List (Standing Holders)) (vs ws : List (Standing Around)) → map retold xs ≡ vs → map retold ys ≡ ws → map retold (xs ++ ys) ≡ vs ++ ws
+both : (xs ys : List (TokenIn Holders)) (vs ws : List (TokenIn Around)) → map retold xs ≡ vs → map retold ys ≡ ws → map retold (xs ++ ys) ≡ vs ++ ws
 both xs ys vs ws e f = map-append retold xs ys ∙ ap (λ a. a ++ map retold ys) e ∙ ap (λ b. vs ++ b) f
 
 -- one token more
-more : (y : Standing Around) (vs ws : List (Standing Around)) → vs ≡ ws → (y ∷ vs) ≡ (y ∷ ws)
+more : (y : TokenIn Around) (vs ws : List (TokenIn Around)) → vs ≡ ws → (y ∷ vs) ≡ (y ∷ ws)
 more y vs ws e = ap (λ a. y ∷ a) e
 
 mutual
@@ -95,7 +95,7 @@ own-retold around (p.Continue spot) = refl
 own-retold around (p.Return spot value) = more _ _ _ (optional-retold around value)
 
 -- the own tokens of a statement, and those of what it holds
-held : (around : Holders) (statement : Statement) (ys : List (Standing Holders)) (ws : List (Standing Around)) → map retold ys ≡ ws → map retold (own_tokens around statement ++ ys) ≡ own_tokens (around_of around) statement ++ ws
+held : (around : Holders) (statement : Statement) (ys : List (TokenIn Holders)) (ws : List (TokenIn Around)) → map retold ys ≡ ws → map retold (own_tokens around statement ++ ys) ≡ own_tokens (around_of around) statement ++ ws
 held around statement ys ws e = both (own_tokens around statement) ys (own_tokens (around_of around) statement) ws (own-retold around statement) e
 
 mutual

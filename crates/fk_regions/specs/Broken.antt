@@ -14,25 +14,25 @@ use Rattle.fk_check_rules.specs.Least.{IsLeast}
 use Rattle.fk_regions.specs.declared.around.Holder.{Holder}
 use Rattle.fk_regions.specs.declared.around.Region.TheVariants.{Synchronous}
 use Rattle.fk_regions.specs.declared.callee.Callee.{Callee}
-use Rattle.fk_regions.specs.Tokens.{Standing, tokens}
+use Rattle.fk_regions.specs.Tokens.{TokenIn, tokens}
 use Rattle.fk_regions.specs.Around.{region, is_straight}
 use Rattle.fk_regions.specs.Misplaced.{Misplaced, Decides}
 use Rattle.fk_regions.specs.Called.{Calls}
 
 -- a token breaks a rule at its place
-abbrev pub BreaksRule : (Callee → Type 0) → Standing (List Holder) → Rule → Type 0
+abbrev pub BreaksRule : (Callee → Type 0) → TokenIn (List Holder) → Rule → Type 0
 BreaksRule calls token rule = Misplaced token.around calls token.word rule
     ⊎ ((rule ≡ NotStraight) × (is_straight token.around ≡ true) × Decides calls token.word)
 
 -- the rules as a whole: some token of the program breaks the rule at its place
 abbrev pub Broken : ProgramTree → Place → Rule → Type 0
-Broken program place rule = (i : ℕ) × (token : Standing (List Holder))
+Broken program place rule = (i : ℕ) × (token : TokenIn (List Holder))
     × (slice_get (tokens program) i ≡ Some token)
     × (token.spot.place ≡ place) × BreaksRule (Calls program token.spot.at) token rule
 
 -- the token with this index is in a synchronous region
 abbrev pub IsSynchronous : ProgramTree → ℕ → Type 0
-IsSynchronous program index = (i : ℕ) × (token : Standing (List Holder))
+IsSynchronous program index = (i : ℕ) × (token : TokenIn (List Holder))
     × (slice_get (tokens program) i ≡ Some token)
     × (token.spot.at ≡ index) × (region token.around ≡ Synchronous)
 

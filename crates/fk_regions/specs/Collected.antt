@@ -9,7 +9,7 @@ use Rattle.fk_regions.specs.declared.around.Region.TheVariants.{Synchronous, Asy
 use Rattle.fk_regions.specs.declared.around.Loops.TheVariants.{Outside, Inside}
 use Rattle.fk_regions.specs.declared.around.Around.{Around}
 use Rattle.fk_regions.specs.declared.token.Token.{Token}
-use Rattle.fk_regions.specs.Tokens.{Standing}
+use Rattle.fk_regions.specs.Tokens.{TokenIn}
 use Rattle.fk_regions.specs.Around.{region_by, beyond, is_straight_mode}
 
 -- the surroundings at file scope, where there is no holder
@@ -43,5 +43,5 @@ within Farm around = body_around Asynchronous around
 within Seq around = body_around Asynchronous around
 
 -- the tokens that the code keeps
-abbrev pub seen : Token → Standing Around
+abbrev pub seen : Token → TokenIn Around
 seen token = record { around = token.around; spot = token.spot; word = token.word }

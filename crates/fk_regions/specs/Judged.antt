@@ -15,7 +15,7 @@ use Rattle.fk_regions.specs.declared.token.Spelling.{Spelling}
 use Rattle.fk_regions.specs.declared.token.Spelling.TheVariants as s
 use Rattle.fk_regions.specs.declared.callee.Callee.{Callee}
 use Rattle.fk_regions.specs.declared.callee.Callee.TheVariants as c
-use Rattle.fk_regions.specs.Tokens.{Standing}
+use Rattle.fk_regions.specs.Tokens.{TokenIn}
 
 -- the rule, unless the region is synchronous
 abbrev pub unless_synchronous : Region → Rule → Option Rule
@@ -87,7 +87,7 @@ straight_rule around word callee =
     where_true (around.straight && is_deciding word callee) r.NotStraight
 
 -- the rules that one token breaks, at its place
-abbrev pub Breaks : Option Callee → Standing Around → Place → Rule → Type 0
+abbrev pub Breaks : Option Callee → TokenIn Around → Place → Rule → Type 0
 Breaks callee token at rule =
     ((at ≡ token.spot.place) × (misplaced_rule token.around token.word callee ≡ Some rule))
     ⊎ ((at ≡ token.spot.place) × (straight_rule token.around token.word callee ≡ Some rule))

@@ -4,7 +4,7 @@ use Rattle.fk_syntax.specs.declared.facts.Note.{Note}
 use Rattle.fk_regions.specs.declared.around.Region.{Region}
 use Rattle.fk_regions.specs.declared.around.Region.TheVariants.{Synchronous, Asynchronous, Neither}
 use Rattle.fk_regions.specs.declared.around.Around.{Around}
-use Rattle.fk_regions.specs.Tokens.{Standing}
+use Rattle.fk_regions.specs.Tokens.{TokenIn}
 
 abbrev pub cleared : Note → Note
 cleared note = record note { sync = false }
@@ -23,5 +23,5 @@ marked_by Synchronous notes at = synchronous_at notes at
 marked_by Asynchronous notes at = notes
 marked_by Neither notes at = notes
 
-abbrev pub after : List Note → Standing Around → List Note
+abbrev pub after : List Note → TokenIn Around → List Note
 after notes token = marked_by token.around.region notes token.spot.at

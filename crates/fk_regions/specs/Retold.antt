@@ -2,7 +2,7 @@
 use Rattle.std.specs.Prelude.{List}
 use Rattle.fk_regions.specs.declared.around.Holder.{Holder}
 use Rattle.fk_regions.specs.declared.around.Around.{Around}
-use Rattle.fk_regions.specs.Tokens.{Standing}
+use Rattle.fk_regions.specs.Tokens.{TokenIn}
 use Rattle.fk_regions.specs.Around.{region, loops, is_straight, is_in_main, is_in_body}
 
 abbrev pub around_of : List Holder → Around
@@ -14,5 +14,5 @@ around_of holders = record {
   in_body = is_in_body holders;
 }
 
-abbrev pub retold : Standing (List Holder) → Standing Around
+abbrev pub retold : TokenIn (List Holder) → TokenIn Around
 retold token = record { around = around_of token.around; spot = token.spot; word = token.word }

@@ -8,7 +8,7 @@ ghost use Rattle.fk_syntax.specs.Program.{statements_of};
 ghost use Rattle.fk_syntax.specs.ProgramView.{declared_of, statement_of, function_of, item_of};
 ghost use Rattle.fk_regions.specs.declared.token.Word.TheVariants as w;
 ghost use Rattle.fk_regions.specs.TokensView.{seen_in};
-ghost use Rattle.fk_regions.specs.Tokens.{spot_of, stands, other, spelling_of, tree_tokens};
+ghost use Rattle.fk_regions.specs.Tokens.{spot_of, token_in, other, spelling_of, tree_tokens};
 ghost use Rattle.fk_regions.specs.Tokens.{links_tokens, trees_tokens, suffixes_tokens};
 ghost use Rattle.fk_regions.specs.Tokens.{optional_tokens, variable_tokens, variables_tokens};
 ghost use Rattle.fk_regions.specs.Tokens.{own_tokens, statement_tokens, statements_tokens};
@@ -45,7 +45,7 @@ impl Tokens {
     // methods.
     fn add(&mut self, around: Around, spot: Spot, word: Word) -> Result<(), AllocError>
         ensures { OnOk result (seen_in self.new ≡ seen_in self.old
-            ++ stands around spot word ∷ []) }
+            ++ token_in around spot word ∷ []) }
     {
         self.list.push(Token { around, spot, word })?;
         Ok(())
@@ -144,7 +144,7 @@ impl Tokens {
         into: &mut Self,
     ) -> Result<(), AllocError>
         ensures { OnOk result (seen_in into.new ≡ seen_in into.old
-            ++ (stands around spot w.Branching ∷ tree_tokens around (tree_of condition.now)
+            ++ (token_in around spot w.Branching ∷ tree_tokens around (tree_of condition.now)
             ++ tree_tokens around (tree_of first.now)
             ++ tree_tokens around (tree_of second.now))) }
     {
@@ -248,7 +248,7 @@ impl Tokens {
         into: &mut Self,
     ) -> Result<(), AllocError>
         ensures { OnOk result (seen_in into.new ≡ seen_in into.old
-            ++ (stands around spot w.Loop ∷ optional_tokens around (option_map tree_of before.now)
+            ++ (token_in around spot w.Loop ∷ optional_tokens around (option_map tree_of before.now)
             ++ optional_tokens around (option_map tree_of condition.now)
             ++ optional_tokens around (option_map tree_of after.now))) }
     {
@@ -268,7 +268,7 @@ impl Tokens {
         into: &mut Self,
     ) -> Result<(), AllocError>
         ensures { OnOk result (seen_in into.new ≡ seen_in into.old
-            ++ (stands around spot w.Fork ∷ tree_tokens around (tree_of parts.now)
+            ++ (token_in around spot w.Fork ∷ tree_tokens around (tree_of parts.now)
             ++ tree_tokens around (tree_of part.now)
             ++ optional_tokens around (option_map tree_of rank.now))) }
     {
@@ -287,7 +287,8 @@ impl Tokens {
         into: &mut Self,
     ) -> Result<(), AllocError>
         ensures { OnOk result (seen_in into.new ≡ seen_in into.old
-            ++ (stands around spot word ∷ optional_tokens around (option_map tree_of value.now))) }
+            ++ (token_in around spot word
+            ∷ optional_tokens around (option_map tree_of value.now))) }
     {
         into.add(around, spot, word)?;
         Self::add_optional(value, around, into)
@@ -302,7 +303,7 @@ impl Tokens {
         into: &mut Self,
     ) -> Result<(), AllocError>
         ensures { OnOk result (seen_in into.new ≡ seen_in into.old
-            ++ (stands around spot word ∷ tree_tokens around (tree_of condition.now))) }
+            ++ (token_in around spot word ∷ tree_tokens around (tree_of condition.now))) }
     {
         into.add(around, spot, word)?;
         Self::add_expression(condition, around, into)

@@ -16,7 +16,7 @@ use Rattle.fk_regions.proofs.Finding.{get-map, map-get}
 use Rattle.fk_sharing.specs.declared.around.Holder.{Holder}
 use Rattle.fk_sharing.specs.declared.around.Around.{Around}
 use Rattle.fk_sharing.specs.declared.token.Token.{Token}
-use Rattle.fk_sharing.specs.Tokens.{Standing, tokens}
+use Rattle.fk_sharing.specs.Tokens.{TokenIn, tokens}
 use Rattle.fk_sharing.specs.Collected.{seen}
 use Rattle.fk_sharing.specs.Retold.{retold}
 use Rattle.fk_sharing.specs.Judged.{Breaks}
@@ -30,7 +30,7 @@ one-more list n d within a b r l m f = IsLeast-one_more TokenBreaks list n (get_
 
 -- by what the names of the program are
 abbrev BrokenBy : ProgramTree → (ℕ → Option Thing) → Place → Rule → Type 0
-BrokenBy program thing place rule = (i : ℕ) × (token : Standing (List Holder)) × (slice_get (tokens thing program) i ≡ Some token) × (token.spot.place ≡ place) × BreaksRule token.around token.word rule
+BrokenBy program thing place rule = (i : ℕ) × (token : TokenIn (List Holder)) × (slice_get (tokens thing program) i ≡ Some token) × (token.spot.place ≡ place) × BreaksRule token.around token.word rule
 
 module _ (program : ProgramTree) (names : Names) (are : AreNames program names) (list : List Token) (same : map seen list ≡ map retold (tokens (thing_in names) program)) where
   broken-of : (place : Place) (rule : Rule) → among TokenBreaks list place rule → Broken program place rule
@@ -44,7 +44,7 @@ module _ (program : ProgramTree) (names : Names) (are : AreNames program names) 
   found-by place rule h =
       let there = ap (λ l. slice_get l h.0) same ∙ get-map retold (tokens (thing_in names) program) h.0 h.1 h.2 in
       let t = map-get seen list h.0 (retold h.1) there in
-      let P = λ (z : Standing Around). Breaks z place rule in
+      let P = λ (z : TokenIn Around). Breaks z place rule in
       (h.0, t.0, t.1, subst P (sym t.2) (sym h.3, rule-finds h.1.around h.1.word rule h.4))
 
   found-of : (place : Place) (rule : Rule) → Broken program place rule → among TokenBreaks list place rule

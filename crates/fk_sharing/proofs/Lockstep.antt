@@ -5,7 +5,7 @@ use Rattle.fk_syntax.specs.declared.program.Mode.{Mode}
 use Rattle.fk_syntax.specs.Tree as t
 use Rattle.fk_syntax.specs.Tree.{Tree, Links, Trees, Suffixes}
 use Rattle.fk_syntax.specs.Program as p
-use Rattle.fk_syntax.specs.Program.{DeclaredTree, Statement, Statements, FunctionTree, ItemTree, ProgramTree}
+use Rattle.fk_syntax.specs.Program.{DeclaredTree, Statement, Statements, ItemTree, ProgramTree}
 use Rattle.fk_sharing_class.specs.declared.thing.Thing.{Thing}
 use Rattle.fk_sharing_class.specs.Class.{is_shared, is_call_shared, is_joined_shared}
 use Rattle.fk_regions.specs.declared.around.Holder.TheVariants as g
@@ -20,7 +20,7 @@ use Rattle.fk_sharing.specs.declared.around.Holder.{Holder}
 use Rattle.fk_sharing.specs.declared.around.Holder.TheVariants as h
 use Rattle.fk_sharing.specs.declared.token.Word.{Word}
 use Rattle.fk_sharing.specs.declared.token.Word.TheVariants as w
-use Rattle.fk_sharing.specs.Tokens.{Standing, plain, tree_tokens, links_tokens, trees_tokens, suffixes_tokens, optional_tokens, is_condition_shared, variables_tokens, variable_tokens, condition_tokens, head_tokens, parts_tokens, statement_tokens, statements_tokens, parameters_tokens, body_tokens, item_tokens, items_tokens, tokens}
+use Rattle.fk_sharing.specs.Tokens.{TokenIn, plain, tree_tokens, links_tokens, trees_tokens, suffixes_tokens, optional_tokens, is_condition_shared, variables_tokens, variable_tokens, condition_tokens, head_tokens, parts_tokens, statement_tokens, statements_tokens, parameters_tokens, body_tokens, item_tokens, items_tokens, tokens}
 use Rattle.fk_sharing.specs.Around.{region, splits}
 use Rattle.fk_sharing.specs.Broken.{is_splitting, SplitsAt}
 
@@ -28,10 +28,10 @@ abbrev Bare : Type 0
 Bare = bare.Holder
 
 abbrev Ours : Type 0
-Ours = Standing (List Holder)
+Ours = TokenIn (List Holder)
 
 abbrev Theirs : Type 0
-Theirs = k.Standing (List Bare)
+Theirs = k.TokenIn (List Bare)
 
 -- one of the elements is so
 abbrev SomeIn : {X : Type 0} → (X → Type 0) → List X → Type 0

@@ -4,13 +4,13 @@ use Rattle.fk_syntax.specs.declared.facts.Note.{Note}
 use Rattle.fk_sharing.specs.declared.around.Holder.{Holder}
 use Rattle.fk_sharing.specs.declared.around.Around.{Around}
 use Rattle.fk_sharing.specs.Around.{region}
-use Rattle.fk_sharing.specs.Tokens.{Standing}
+use Rattle.fk_sharing.specs.Tokens.{TokenIn}
 use Rattle.fk_sharing.specs.Broken.{is_splitting}
 use Rattle.fk_sharing.specs.Marked.{joined, joined_at, after}
 use Rattle.fk_sharing.specs.Retold.{retold}
 
 abbrev pub Held : Type 0
-Held = Standing (List Holder)
+Held = TokenIn (List Holder)
 
 -- two numbers are one
 abbrev is_same : ℕ → ℕ → Bool
@@ -123,6 +123,6 @@ length-at [] at s p = refl
 length-at (x ∷ notes) zero s p = refl
 length-at (x ∷ notes) (suc at) s p = ap suc (length-at notes at s p)
 
-pub length-marks : (xs : List (Standing Around)) (notes : List Note) → length (fold after notes xs) ≡ length notes
+pub length-marks : (xs : List (TokenIn Around)) (notes : List Note) → length (fold after notes xs) ≡ length notes
 length-marks [] notes = refl
 length-marks (x ∷ xs) notes = length-marks xs (after notes x) ∙ length-at notes x.spot.at x.shared (is_splitting x.around.region x.word)

@@ -6,7 +6,7 @@ use Rattle.fk_syntax.specs.declared.program.Mode.{Mode}
 use Rattle.fk_syntax.specs.Tree as t
 use Rattle.fk_syntax.specs.Tree.{Tree, Links, Trees, Suffixes}
 use Rattle.fk_syntax.specs.Program as p
-use Rattle.fk_syntax.specs.Program.{DeclaredTree, Statement, Statements, FunctionTree, ItemTree, ProgramTree}
+use Rattle.fk_syntax.specs.Program.{DeclaredTree, Statement, Statements, ItemTree, ProgramTree}
 use Rattle.fk_sharing_class.specs.declared.thing.Thing.{Thing}
 use Rattle.fk_sharing_class.specs.Class.{is_shared, is_call_shared, is_joined_shared}
 use Rattle.fk_regions.specs.declared.around.Region.TheVariants.{Synchronous, Asynchronous}
@@ -14,7 +14,7 @@ use Rattle.fk_regions.specs.Around.{region_by}
 use Rattle.fk_sharing.specs.declared.around.Holder.{Holder}
 use Rattle.fk_sharing.specs.declared.around.Holder.TheVariants as h
 use Rattle.fk_sharing.specs.declared.around.Around.{Around}
-use Rattle.fk_sharing.specs.Tokens.{Standing, tree_tokens, links_tokens, trees_tokens, suffixes_tokens, optional_tokens, is_condition_shared, variables_tokens, variable_tokens, condition_tokens, head_tokens, parts_tokens, statement_tokens, statements_tokens, parameters_tokens, body_tokens, item_tokens, items_tokens, tokens}
+use Rattle.fk_sharing.specs.Tokens.{TokenIn, tree_tokens, links_tokens, trees_tokens, suffixes_tokens, optional_tokens, is_condition_shared, variables_tokens, variable_tokens, condition_tokens, head_tokens, parts_tokens, statement_tokens, statements_tokens, parameters_tokens, body_tokens, item_tokens, items_tokens, tokens}
 use Rattle.fk_sharing.specs.Collected.{within, outside}
 use Rattle.fk_sharing.specs.Retold.{around_of, retold}
 
@@ -28,15 +28,15 @@ within-around (h.Branch shared) holders = refl
 within-around (h.Loop shared) holders = refl
 
 -- two lists one after the other
-both : (xs ys : List (Standing Holders)) (vs ws : List (Standing Around)) → map retold xs ≡ vs → map retold ys ≡ ws → map retold (xs ++ ys) ≡ vs ++ ws
+both : (xs ys : List (TokenIn Holders)) (vs ws : List (TokenIn Around)) → map retold xs ≡ vs → map retold ys ≡ ws → map retold (xs ++ ys) ≡ vs ++ ws
 both xs ys vs ws e f = map-append retold xs ys ∙ ap (λ a. a ++ map retold ys) e ∙ ap (λ b. vs ++ b) f
 
 -- one token more
-more : (y : Standing Around) (vs ws : List (Standing Around)) → vs ≡ ws → (y ∷ vs) ≡ (y ∷ ws)
+more : (y : TokenIn Around) (vs ws : List (TokenIn Around)) → vs ≡ ws → (y ∷ vs) ≡ (y ∷ ws)
 more y vs ws e = ap (λ a. y ∷ a) e
 
 -- a token after a list
-then : (xs : List (Standing Holders)) (y : Standing Holders) (vs : List (Standing Around)) → map retold xs ≡ vs → map retold (xs ++ y ∷ []) ≡ vs ++ retold y ∷ []
+then : (xs : List (TokenIn Holders)) (y : TokenIn Holders) (vs : List (TokenIn Around)) → map retold xs ≡ vs → map retold (xs ++ y ∷ []) ≡ vs ++ retold y ∷ []
 then xs y vs e = both xs (y ∷ []) vs (retold y ∷ []) e refl
 
 module _ (thing : ℕ → Option Thing) where

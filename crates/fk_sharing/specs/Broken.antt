@@ -24,7 +24,7 @@ use Rattle.fk_sharing.specs.declared.token.Form.{Form}
 use Rattle.fk_sharing.specs.declared.token.Form.TheVariants as f
 use Rattle.fk_sharing.specs.declared.token.Word.{Word}
 use Rattle.fk_sharing.specs.declared.token.Word.TheVariants as w
-use Rattle.fk_sharing.specs.Tokens.{Standing, tokens}
+use Rattle.fk_sharing.specs.Tokens.{TokenIn, tokens}
 use Rattle.fk_sharing.specs.Around.{region, splits, is_in_function, is_in_split, is_split_to_loop}
 use Rattle.fk_sharing.specs.Around.{is_split_in_loop}
 
@@ -49,9 +49,9 @@ is_splitting here (w.Decides shared) = splits here shared
 is_splitting here _ = false
 
 -- one of the tokens of the program has this index and passes a test
-abbrev pub HasAt : ProgramTree → (Standing (List Holder) → Bool) → ℕ → Type 0
+abbrev pub HasAt : ProgramTree → (TokenIn (List Holder) → Bool) → ℕ → Type 0
 HasAt program test index = (thing : ℕ → Option Thing) × Tells program thing
-    × (i : ℕ) × (token : Standing (List Holder)) × (slice_get (tokens thing program) i ≡ Some token)
+    × (i : ℕ) × (token : TokenIn (List Holder)) × (slice_get (tokens thing program) i ≡ Some token)
     × (token.spot.at ≡ index) × (test token ≡ true)
 
 -- the token with this index is the main token of a shared expression
@@ -65,7 +65,7 @@ SplitsAt program = HasAt program (λ token. is_splitting (region token.around) t
 -- the rules as a whole: some token of the program breaks the rule at its place
 abbrev pub Broken : ProgramTree → Place → Rule → Type 0
 Broken program place rule = (thing : ℕ → Option Thing) × Tells program thing
-    × (i : ℕ) × (token : Standing (List Holder)) × (slice_get (tokens thing program) i ≡ Some token)
+    × (i : ℕ) × (token : TokenIn (List Holder)) × (slice_get (tokens thing program) i ≡ Some token)
     × (token.spot.place ≡ place) × BreaksRule token.around token.word rule
 
 -- a note tells whether its token is the main token of a shared expression, and whether a group

@@ -6,7 +6,7 @@ use Rattle.fk_sharing.specs.declared.around.Holder.TheVariants.{Body, Branch, Lo
 use Rattle.fk_sharing.specs.declared.around.Around.{Around}
 use Rattle.fk_sharing.specs.declared.token.Token.{Token}
 use Rattle.fk_sharing.specs.Around.{splits}
-use Rattle.fk_sharing.specs.Tokens.{Standing}
+use Rattle.fk_sharing.specs.Tokens.{TokenIn}
 
 -- the surroundings at file scope, where there is no holder
 abbrev pub outside : Around
@@ -33,6 +33,6 @@ within (Loop shared) around = record around {
 }
 
 -- the tokens that the code keeps
-abbrev pub seen : Token → Standing Around
+abbrev pub seen : Token → TokenIn Around
 seen token =
     record { around = token.around; spot = token.spot; shared = token.shared; word = token.word }

@@ -16,7 +16,7 @@ use Rattle.fk_sharing.specs.declared.token.Form.{Form}
 use Rattle.fk_sharing.specs.declared.token.Form.TheVariants as f
 use Rattle.fk_sharing.specs.declared.token.Word.{Word}
 use Rattle.fk_sharing.specs.declared.token.Word.TheVariants as w
-use Rattle.fk_sharing.specs.Tokens.{Standing}
+use Rattle.fk_sharing.specs.Tokens.{TokenIn}
 
 abbrev pub is_private_variable : Option Thing → Bool
 is_private_variable (Some PrivateVariable) = true
@@ -61,5 +61,5 @@ broken_rule around (w.Parameter shared mode) = parameter_rule shared mode
 broken_rule around w.Other = None
 
 -- the rule that one token breaks, at its place
-abbrev pub Breaks : Standing Around → Place → Rule → Type 0
+abbrev pub Breaks : TokenIn Around → Place → Rule → Type 0
 Breaks token at rule = (at ≡ token.spot.place) × (broken_rule token.around token.word ≡ Some rule)

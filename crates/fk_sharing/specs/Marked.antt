@@ -2,7 +2,7 @@
 use Rattle.std.specs.Prelude.{ℕ, zero, suc, Bool, false, ◌||◌, List, [], ◌∷◌}
 use Rattle.fk_syntax.specs.declared.facts.Note.{Note}
 use Rattle.fk_sharing.specs.declared.around.Around.{Around}
-use Rattle.fk_sharing.specs.Tokens.{Standing}
+use Rattle.fk_sharing.specs.Tokens.{TokenIn}
 use Rattle.fk_sharing.specs.Broken.{is_splitting}
 
 abbrev pub cleared : Note → Note
@@ -18,6 +18,6 @@ joined_at [] at shared splits = []
 joined_at (note ∷ notes) zero shared splits = joined note shared splits ∷ notes
 joined_at (note ∷ notes) (suc at) shared splits = note ∷ joined_at notes at shared splits
 
-abbrev pub after : List Note → Standing Around → List Note
+abbrev pub after : List Note → TokenIn Around → List Note
 after notes token =
     joined_at notes token.spot.at token.shared (is_splitting token.around.region token.word)

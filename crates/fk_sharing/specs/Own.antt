@@ -4,11 +4,11 @@ use Rattle.fk_syntax.specs.Program as p
 use Rattle.fk_syntax.specs.Program.{Statement}
 use Rattle.fk_sharing_class.specs.declared.thing.Thing.{Thing}
 use Rattle.fk_sharing_class.specs.Class.{is_shared}
-use Rattle.fk_sharing.specs.Tokens.{Standing, optional_tokens, is_condition_shared}
+use Rattle.fk_sharing.specs.Tokens.{TokenIn, optional_tokens, is_condition_shared}
 use Rattle.fk_sharing.specs.Tokens.{condition_tokens, head_tokens, parts_tokens, simple_tokens}
 
 -- the tokens that decide in a statement whether its parts are run
-abbrev pub decision_tokens : {R : Type 0} → (ℕ → Option Thing) → R → Statement → List (Standing R)
+abbrev pub decision_tokens : {R : Type 0} → (ℕ → Option Thing) → R → Statement → List (TokenIn R)
 decision_tokens thing around (p.If spot condition body) =
     condition_tokens thing around spot condition
 decision_tokens thing around (p.IfElse spot condition body otherwise) =
@@ -32,7 +32,7 @@ is_decision_shared thing (p.For spot before condition after body) =
 is_decision_shared thing _ = true
 
 -- the tokens directly in a statement without a condition
-abbrev pub own_tokens : {R : Type 0} → (ℕ → Option Thing) → R → Statement → List (Standing R)
+abbrev pub own_tokens : {R : Type 0} → (ℕ → Option Thing) → R → Statement → List (TokenIn R)
 own_tokens thing around (p.Start spot count body) = optional_tokens thing around count
 own_tokens thing around (p.Fork spot parts part rank body) =
     parts_tokens thing around parts part rank

@@ -2,7 +2,7 @@
 use Rattle.std.specs.Prelude.{List}
 use Rattle.fk_sharing.specs.declared.around.Holder.{Holder}
 use Rattle.fk_sharing.specs.declared.around.Around.{Around}
-use Rattle.fk_sharing.specs.Tokens.{Standing}
+use Rattle.fk_sharing.specs.Tokens.{TokenIn}
 use Rattle.fk_sharing.specs.Around.{region, is_in_function, is_in_split, is_split_to_loop}
 use Rattle.fk_sharing.specs.Around.{is_split_in_loop}
 
@@ -15,7 +15,7 @@ around_of holders = record {
   continue_leaves = is_split_in_loop holders;
 }
 
-abbrev pub retold : Standing (List Holder) → Standing Around
+abbrev pub retold : TokenIn (List Holder) → TokenIn Around
 retold token = record {
   around = around_of token.around;
   spot = token.spot;

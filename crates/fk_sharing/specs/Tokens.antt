@@ -7,7 +7,7 @@ use Rattle.fk_syntax.specs.declared.program.Mode.{Mode}
 use Rattle.fk_syntax.specs.declared.sign.Sign.{Sign}
 use Rattle.fk_syntax.specs.declared.sign.Sign.TheVariants.{AndAnd, OrOr}
 use Rattle.fk_syntax.specs.Tree as t
-use Rattle.fk_syntax.specs.Tree.{Named, TypeTree, Tree, Links, Trees, Suffixes}
+use Rattle.fk_syntax.specs.Tree.{TypeTree, Tree, Links, Trees, Suffixes}
 use Rattle.fk_syntax.specs.Program as p
 use Rattle.fk_syntax.specs.Program.{DeclaredTree, Statement, Statements, FunctionTree, ItemTree}
 use Rattle.fk_syntax.specs.Program.{ProgramTree}
@@ -25,23 +25,23 @@ use Rattle.fk_sharing.specs.declared.token.Word.TheVariants as w
 
 -- a token, whether it is the main token of a shared expression, its kind, and its surroundings.
 -- These may have any form: the list of all holders of the token, or a summary of that list
-pub record Standing (R : Type 0) : Type 0 where
+pub record TokenIn (R : Type 0) : Type 0 where
   pub around : R
   pub spot : Spot
   pub shared : Bool
   pub word : Word
 
-abbrev pub stands : {R : Type 0} → R → Spot → Bool → Word → Standing R
-stands around spot shared word =
+abbrev pub token_in : {R : Type 0} → R → Spot → Bool → Word → TokenIn R
+token_in around spot shared word =
     record { around = around; spot = spot; shared = shared; word = word }
 
 -- the main token of an expression of which only the class matters
-abbrev pub plain : {R : Type 0} → R → Spot → Bool → Standing R
-plain around spot shared = stands around spot shared w.Other
+abbrev pub plain : {R : Type 0} → R → Spot → Bool → TokenIn R
+plain around spot shared = token_in around spot shared w.Other
 
 -- a token that isn't the main token of an expression
-abbrev pub bare : {R : Type 0} → R → Spot → Word → Standing R
-bare around spot word = stands around spot false word
+abbrev pub bare : {R : Type 0} → R → Spot → Word → TokenIn R
+bare around spot word = token_in around spot false word
 
 -- two signs of a chain decide, by the expression before them, whether the one after them is run
 abbrev pub word_of_sign : Sign → Bool → Word
@@ -74,7 +74,7 @@ form_of variable = form_by variable.length (is_struct variable.kind)
 -- the tokens of an expression, each part before the sign that it belongs to. Signs of a chain and
 -- suffixes group to the left, and each of them is the main token of an expression
 abbrev mutual
-  pub tree_tokens : {R : Type 0} → (ℕ → Option Thing) → R → Tree → List (Standing R)
+  pub tree_tokens : {R : Type 0} → (ℕ → Option Thing) → R → Tree → List (TokenIn R)
   tree_tokens thing around (t.Number spot value unsigned) =
       plain around spot (is_shared thing (t.Number spot value unsigned)) ∷ []
   tree_tokens thing around (t.Puts spot text) =
@@ -88,7 +88,7 @@ abbrev mutual
   tree_tokens thing around (t.GroupRank spot) =
       plain around spot (is_shared thing (t.GroupRank spot)) ∷ []
   tree_tokens thing around (t.Prefix spot sign operand) = tree_tokens thing around operand
-      ++ stands around spot (is_shared thing (t.Prefix spot sign operand))
+      ++ token_in around spot (is_shared thing (t.Prefix spot sign operand))
       (w.Prefix sign (named_thing thing operand)) ∷ []
   tree_tokens thing around (t.Cast spot type operand) = tree_tokens thing around operand
       ++ plain around spot (is_shared thing (t.Cast spot type operand)) ∷ []
@@ -101,18 +101,18 @@ abbrev mutual
       ++ plain around spot (is_shared thing (t.Assign spot sign target value)) ∷ []
   tree_tokens thing around (t.Choose spot condition first second) =
       tree_tokens thing around condition ++ tree_tokens thing around first ++ tree_tokens thing
-      around second ++ stands around spot (is_shared thing (t.Choose spot condition first second))
+      around second ++ token_in around spot (is_shared thing (t.Choose spot condition first second))
       (w.Decides (is_shared thing condition)) ∷ []
 
   -- `before` tells whether the expression before the links is shared
-  pub links_tokens : {R : Type 0} → (ℕ → Option Thing) → R → Bool → Links → List (Standing R)
+  pub links_tokens : {R : Type 0} → (ℕ → Option Thing) → R → Bool → Links → List (TokenIn R)
   links_tokens thing around before t.no_links = []
   links_tokens thing around before (t.link spot sign right others) = tree_tokens thing around right
-      ++ stands around spot (is_joined_shared sign before (is_shared thing right))
+      ++ token_in around spot (is_joined_shared sign before (is_shared thing right))
       (word_of_sign sign before)
       ∷ links_tokens thing around (is_joined_shared sign before (is_shared thing right)) others
 
-  pub trees_tokens : {R : Type 0} → (ℕ → Option Thing) → R → Trees → List (Standing R)
+  pub trees_tokens : {R : Type 0} → (ℕ → Option Thing) → R → Trees → List (TokenIn R)
   trees_tokens thing around t.no_trees = []
   trees_tokens thing around (t.tree first others) =
       tree_tokens thing around first ++ trees_tokens thing around others
@@ -120,7 +120,7 @@ abbrev mutual
   -- `before` tells whether the expression before the suffixes is shared, and `called` whether a
   -- call of it is
   pub suffixes_tokens : {R : Type 0} → (ℕ → Option Thing) → R → Bool → Bool → Suffixes
-      → List (Standing R)
+      → List (TokenIn R)
   suffixes_tokens thing around before called t.no_suffixes = []
   suffixes_tokens thing around before called (t.index spot by others) =
       tree_tokens thing around by ++ plain around spot (before && is_shared thing by)
@@ -137,7 +137,7 @@ abbrev mutual
   suffixes_tokens thing around before called (t.down spot others) =
       plain around spot before ∷ suffixes_tokens thing around before false others
 
-abbrev pub optional_tokens : {R : Type 0} → (ℕ → Option Thing) → R → Option Tree → List (Standing R)
+abbrev pub optional_tokens : {R : Type 0} → (ℕ → Option Thing) → R → Option Tree → List (TokenIn R)
 optional_tokens thing around None = []
 optional_tokens thing around (Some tree) = tree_tokens thing around tree
 
@@ -147,36 +147,36 @@ is_condition_shared thing None = true
 is_condition_shared thing (Some tree) = is_shared thing tree
 
 abbrev pub variable_tokens : {R : Type 0} → (ℕ → Option Thing) → R → DeclaredTree
-    → List (Standing R)
+    → List (TokenIn R)
 variable_tokens thing around variable = optional_tokens thing around variable.first
     ++ bare around (spot_of variable.name) (w.Variable variable.shared (form_of variable)) ∷ []
 
 abbrev pub variables_tokens : {R : Type 0} → (ℕ → Option Thing) → R → List DeclaredTree
-    → List (Standing R)
+    → List (TokenIn R)
 variables_tokens thing around [] = []
 variables_tokens thing around (x ∷ xs) =
     variable_tokens thing around x ++ variables_tokens thing around xs
 
 -- the tokens of a condition, and of the keyword that decides by it
 abbrev pub condition_tokens : {R : Type 0} → (ℕ → Option Thing) → R → Spot → Tree
-    → List (Standing R)
+    → List (TokenIn R)
 condition_tokens thing around spot condition = tree_tokens thing around condition
     ++ bare around spot (w.Decides (is_shared thing condition)) ∷ []
 
 abbrev pub head_tokens : {R : Type 0} → (ℕ → Option Thing) → R → Spot → Option Tree → Option Tree
-    → Option Tree → List (Standing R)
+    → Option Tree → List (TokenIn R)
 head_tokens thing around spot before condition after = optional_tokens thing around before
     ++ optional_tokens thing around condition ++ optional_tokens thing around after
     ++ bare around spot (w.Decides (is_condition_shared thing condition)) ∷ []
 
 -- the tokens of the three expressions of a `fork`
 abbrev pub parts_tokens : {R : Type 0} → (ℕ → Option Thing) → R → Tree → Tree → Option Tree
-    → List (Standing R)
+    → List (TokenIn R)
 parts_tokens thing around parts part rank = tree_tokens thing around parts
     ++ tree_tokens thing around part ++ optional_tokens thing around rank
 
 -- the tokens of a statement that contains no other
-abbrev pub simple_tokens : {R : Type 0} → (ℕ → Option Thing) → R → Statement → List (Standing R)
+abbrev pub simple_tokens : {R : Type 0} → (ℕ → Option Thing) → R → Statement → List (TokenIn R)
 simple_tokens thing around (p.Expression value) = tree_tokens thing around value
 simple_tokens thing around (p.Declare variables) = variables_tokens thing around variables
 simple_tokens thing around (p.Break spot) = bare around spot w.Break ∷ []
@@ -189,7 +189,7 @@ simple_tokens thing around _ = []
 -- holder around them, which `within` adds
 abbrev mutual
   pub statement_tokens : {R : Type 0} → (ℕ → Option Thing) → (Holder → R → R) → R → Statement
-      → List (Standing R)
+      → List (TokenIn R)
   statement_tokens thing within around p.Empty = simple_tokens thing around p.Empty
   statement_tokens thing within around (p.Expression value) =
       simple_tokens thing around (p.Expression value)
@@ -231,29 +231,29 @@ abbrev mutual
       simple_tokens thing around (p.Return spot value)
 
   pub statements_tokens : {R : Type 0} → (ℕ → Option Thing) → (Holder → R → R) → R → Statements
-      → List (Standing R)
+      → List (TokenIn R)
   statements_tokens thing within around p.no_statements = []
   statements_tokens thing within around (p.statement first others) =
       statement_tokens thing within around first ++ statements_tokens thing within around others
 
-abbrev pub parameters_tokens : {R : Type 0} → R → Mode → List DeclaredTree → List (Standing R)
+abbrev pub parameters_tokens : {R : Type 0} → R → Mode → List DeclaredTree → List (TokenIn R)
 parameters_tokens around mode [] = []
 parameters_tokens around mode (x ∷ xs) =
     bare around (spot_of x.name) (w.Parameter x.shared mode) ∷ parameters_tokens around mode xs
 
 abbrev pub body_tokens : {R : Type 0} → (ℕ → Option Thing) → (Holder → R → R) → R
-    → Option Statements → List (Standing R)
+    → Option Statements → List (TokenIn R)
 body_tokens thing within around None = []
 body_tokens thing within around (Some body) = statements_tokens thing within around body
 
 abbrev pub function_tokens : {R : Type 0} → (ℕ → Option Thing) → (Holder → R → R) → R → FunctionTree
-    → List (Standing R)
+    → List (TokenIn R)
 function_tokens thing within around function =
     parameters_tokens around function.mode function.parameters
     ++ body_tokens thing within (within (h.Body (region_by function.mode)) around) function.body
 
 abbrev pub item_tokens : {R : Type 0} → (ℕ → Option Thing) → (Holder → R → R) → R → ItemTree
-    → List (Standing R)
+    → List (TokenIn R)
 item_tokens thing within around (p.StructItem name members) = []
 item_tokens thing within around (p.VariablesItem variables) =
     variables_tokens thing around variables
@@ -261,11 +261,11 @@ item_tokens thing within around (p.FunctionItem function) =
     function_tokens thing within around function
 
 abbrev pub items_tokens : {R : Type 0} → (ℕ → Option Thing) → (Holder → R → R) → R → List ItemTree
-    → List (Standing R)
+    → List (TokenIn R)
 items_tokens thing within around [] = []
 items_tokens thing within around (x ∷ xs) =
     item_tokens thing within around x ++ items_tokens thing within around xs
 
 -- the tokens of a program, each with all its holders, the innermost first
-abbrev pub tokens : (ℕ → Option Thing) → ProgramTree → List (Standing (List Holder))
+abbrev pub tokens : (ℕ → Option Thing) → ProgramTree → List (TokenIn (List Holder))
 tokens thing program = items_tokens thing ◌∷◌ [] program.items

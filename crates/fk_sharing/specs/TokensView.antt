@@ -2,8 +2,8 @@
 use Rattle.std.specs.Prelude.{List, map}
 use Rattle.fk_sharing.specs.declared.around.Around.{Around}
 use Rattle.fk_sharing.specs.declared.collect.Tokens.{Tokens}
-use Rattle.fk_sharing.specs.Tokens.{Standing}
+use Rattle.fk_sharing.specs.Tokens.{TokenIn}
 use Rattle.fk_sharing.specs.Collected.{seen}
 
-abbrev pub seen_in : Tokens → List (Standing Around)
+abbrev pub seen_in : Tokens → List (TokenIn Around)
 seen_in tokens = map seen tokens.list.items

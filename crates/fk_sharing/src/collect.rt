@@ -13,7 +13,7 @@ ghost use Rattle.fk_sharing_class.specs.Class.{is_postfix_shared};
 ghost use Rattle.fk_regions.specs.Tokens.{spot_of};
 ghost use Rattle.fk_sharing.specs.declared.token.Word.TheVariants as w;
 ghost use Rattle.fk_sharing.specs.TokensView.{seen_in};
-ghost use Rattle.fk_sharing.specs.Tokens.{word_of_sign, stands, plain, bare, tree_tokens};
+ghost use Rattle.fk_sharing.specs.Tokens.{word_of_sign, token_in, plain, bare, tree_tokens};
 ghost use Rattle.fk_sharing.specs.Tokens.{links_tokens, trees_tokens, suffixes_tokens};
 ghost use Rattle.fk_sharing.specs.Tokens.{optional_tokens, is_condition_shared, variable_tokens};
 ghost use Rattle.fk_sharing.specs.Tokens.{variables_tokens, condition_tokens, head_tokens};
@@ -67,7 +67,7 @@ impl Tokens {
         word: Word,
     ) -> Result<(), AllocError>
         ensures { OnOk result (seen_in self.new ≡ seen_in self.old
-            ++ stands around spot shared word ∷ []) }
+            ++ token_in around spot shared word ∷ []) }
     {
         self.list.push(Token {
             around,
@@ -234,7 +234,7 @@ impl Tokens {
         shared: bool,
     ) -> Result<bool, AllocError>
         ensures tokens { OnOk result (seen_in self.new ≡ seen_in self.old
-            ++ stands around spot shared (w.Decides condition) ∷ []) }
+            ++ token_in around spot shared (w.Decides condition) ∷ []) }
         ensures class { IfOk result (λ is. is ≡ shared) }
     {
         self.add(around, spot, shared, Word::Decides(condition))?;
@@ -252,7 +252,7 @@ impl Tokens {
         right: bool,
     ) -> Result<bool, AllocError>
         ensures tokens { OnOk result (seen_in self.new ≡ seen_in self.old
-            ++ stands around spot (is_joined_shared sign before right) (word_of_sign sign before)
+            ++ token_in around spot (is_joined_shared sign before right) (word_of_sign sign before)
             ∷ []) }
         ensures class { IfOk result (λ is. is ≡ is_joined_shared sign before right) }
     {

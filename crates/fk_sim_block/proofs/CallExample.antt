@@ -9,7 +9,7 @@ use Rattle.fk_meaning_operation.specs.declared.operation.Variable.TheVariants.{P
 use Rattle.fk_core.specs.declared.op.CoreOp.{CoreOp}
 use Rattle.fk_core.specs.Next.{is_jump, follows}
 use Rattle.fk_core.specs.Numbers.{operation_of}
-use Rattle.fk_sim_block.specs.Next.{StandsOp}
+use Rattle.fk_sim_block.specs.Next.{OpAt}
 use Rattle.fk_sim_block.specs.Stands.{Frames, HasRoom, ahead}
 use Rattle.fk_sim_block.specs.Suits.{Flows, Calls, Fits, Suits, nothing, writes}
 
@@ -65,7 +65,7 @@ room index values few =
 
 -- what is so of each operation is so of the one at an index
 each : (P : ℕ → CoreOp → Operation → Type 0) → P 0 pushes (Push 7) → P 1 enters (Enter 1) → P 2 gets (Get (Value (Private 0))) → P 3 drops DropLast → P 5 drops DropLast → P 6 halts Halt
-    → P 7 gets (Get (Value (Private 0))) → P 8 leaves (Leave true false) → (i : ℕ) (op : CoreOp) (operation : Operation) → StandsOp core i op operation → P i op operation
+    → P 7 gets (Get (Value (Private 0))) → P 8 leaves (Leave true false) → (i : ℕ) (op : CoreOp) (operation : Operation) → OpAt core i op operation → P i op operation
 each P a b c d e f g h zero op operation at =
     let same : pushes ≡ op = cc in
     let reads : operation_of 1 7 ≡ Some operation = ap (λ o. operation_of o.kind o.number) same ∙ at.is_read in

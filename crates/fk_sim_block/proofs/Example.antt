@@ -25,7 +25,7 @@ use Rattle.fk_sim_nodes.specs.Alone.{Holds, IsAt, GoesAlone, IsPrivateIn}
 use Rattle.fk_sim_nodes.proofs.InPlace.{step_at}
 use Rattle.fk_sim_block.specs.Owner.{number_of}
 use Rattle.fk_sim_block.specs.Stands.{Places, HasValues, HasWaiting}
-use Rattle.fk_sim_block.specs.Next.{StandsOp, step_at as step_of}
+use Rattle.fk_sim_block.specs.Next.{OpAt, step_at as step_of}
 use Rattle.fk_sim_block.specs.Ready.{is_alone}
 use Rattle.fk_sim_block.specs.Block.{IsRunning, Begins, BlockDoes, BlockHalts, BlockLaw, beginner}
 use Rattle.fk_sim_block.proofs.Standing.{operations_are_next}
@@ -185,7 +185,7 @@ values_pushed : (m : Memory) (behind v : ℕ) (vs : List ℕ) → length vs ≡ 
 values_pushed m behind v [] e f = (f, tt)
 values_pushed m behind v (w ∷ vs) e f = absurd (omega arith)
 
-push_does : (image : Image) → HasCode image → StandsOp core 0 pushes (Push 5) → BlockDoes core image places 0 pushes (Push 5)
+push_does : (image : Image) → HasCode image → OpAt core 0 pushes (Push 5) → BlockDoes core image places 0 pushes (Push 5)
 push_does image code at setting t p h en =
     let number = number_of p in
     let n = length p.runner.has.callers in
@@ -257,7 +257,7 @@ push_does image code at setting t p h en =
       };
     }
 
-drop_does : (image : Image) → HasCode image → StandsOp core 1 drops DropLast → BlockDoes core image places 1 drops DropLast
+drop_does : (image : Image) → HasCode image → OpAt core 1 drops DropLast → BlockDoes core image places 1 drops DropLast
 drop_does image code at setting t p h en =
     let number = number_of p in
     let stands = en.at.stands in
@@ -315,7 +315,7 @@ drop_does image code at setting t p h en =
       };
     }
 
-halt_does : (image : Image) → HasCode image → StandsOp core 2 halts Halt → BlockHalts core image places 2 halts
+halt_does : (image : Image) → HasCode image → OpAt core 2 halts Halt → BlockHalts core image places 2 halts
 halt_does image code at setting t p h en =
     let number = number_of p in
     let h1 = writes h 5 0x30000000 in
@@ -344,41 +344,41 @@ halt_does image code at setting t p h en =
 
 -- ---- the law
 
-when_push : (operation : Operation) → StandsOp core 0 pushes operation → operation ≡ Push 5
+when_push : (operation : Operation) → OpAt core 0 pushes operation → operation ≡ Push 5
 when_push operation at = let e : Some (Push 5) ≡ Some operation = at.is_read in cc
 
-when_drop : (operation : Operation) → StandsOp core 1 drops operation → operation ≡ DropLast
+when_drop : (operation : Operation) → OpAt core 1 drops operation → operation ≡ DropLast
 when_drop operation at = let e : Some DropLast ≡ Some operation = at.is_read in cc
 
-when_halt : (operation : Operation) → StandsOp core 2 halts operation → operation ≡ Halt
+when_halt : (operation : Operation) → OpAt core 2 halts operation → operation ≡ Halt
 when_halt operation at = let e : Some Halt ≡ Some operation = at.is_read in cc
 
-alone_at : (image : Image) → HasCode image → (i : ℕ) (op : CoreOp) (operation : Operation) → StandsOp core i op operation → is_alone operation ≡ true → BlockDoes core image places i op operation
+alone_at : (image : Image) → HasCode image → (i : ℕ) (op : CoreOp) (operation : Operation) → OpAt core i op operation → is_alone operation ≡ true → BlockDoes core image places i op operation
 alone_at image code zero op operation at e =
     let same : pushes ≡ op = cc in
-    let at' = subst (λ o. StandsOp core 0 o operation) (sym same) at in
+    let at' = subst (λ o. OpAt core 0 o operation) (sym same) at in
     let is = when_push operation at' in
     subst (λ o. BlockDoes core image places 0 o operation) same
-    (subst (BlockDoes core image places 0 pushes) (sym is) (push_does image code (subst (StandsOp core 0 pushes) is at')))
+    (subst (BlockDoes core image places 0 pushes) (sym is) (push_does image code (subst (OpAt core 0 pushes) is at')))
 alone_at image code (suc zero) op operation at e =
     let same : drops ≡ op = cc in
-    let at' = subst (λ o. StandsOp core 1 o operation) (sym same) at in
+    let at' = subst (λ o. OpAt core 1 o operation) (sym same) at in
     let is = when_drop operation at' in
     subst (λ o. BlockDoes core image places 1 o operation) same
-    (subst (BlockDoes core image places 1 drops) (sym is) (drop_does image code (subst (StandsOp core 1 drops) is at')))
+    (subst (BlockDoes core image places 1 drops) (sym is) (drop_does image code (subst (OpAt core 1 drops) is at')))
 alone_at image code (suc (suc zero)) op operation at e =
     let same : halts ≡ op = cc in
-    let at' = subst (λ o. StandsOp core 2 o operation) (sym same) at in
+    let at' = subst (λ o. OpAt core 2 o operation) (sym same) at in
     let is = when_halt operation at' in
     never (sym (ap is_alone is) ∙ e)
 alone_at image code (suc (suc (suc i))) op operation at e = absurd (let f = at.stands in cc)
 
-halts_at : (image : Image) → HasCode image → (i : ℕ) (op : CoreOp) → StandsOp core i op Halt → BlockHalts core image places i op
+halts_at : (image : Image) → HasCode image → (i : ℕ) (op : CoreOp) → OpAt core i op Halt → BlockHalts core image places i op
 halts_at image code zero op at = absurd (let f = at.stands in let g = at.is_read in cc)
 halts_at image code (suc zero) op at = absurd (let f = at.stands in let g = at.is_read in cc)
 halts_at image code (suc (suc zero)) op at =
     let same : halts ≡ op = cc in
-    let at' = subst (λ o. StandsOp core 2 o Halt) (sym same) at in
+    let at' = subst (λ o. OpAt core 2 o Halt) (sym same) at in
     subst (BlockHalts core image places 2) same (halt_does image code at')
 halts_at image code (suc (suc (suc i))) op at = absurd (let f = at.stands in cc)
 

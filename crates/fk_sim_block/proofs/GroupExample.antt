@@ -25,7 +25,7 @@ use Rattle.fk_sim_nodes.specs.Alone.{Holds, IsAt, GoesAlone, IsPrivateIn}
 use Rattle.fk_sim_nodes.proofs.InPlace.{step_at}
 use Rattle.fk_sim_block.specs.Owner.{number_of}
 use Rattle.fk_sim_block.specs.Stands.{Places, HasValues}
-use Rattle.fk_sim_block.specs.Next.{StandsOp, step_at as step_of}
+use Rattle.fk_sim_block.specs.Next.{OpAt, step_at as step_of}
 use Rattle.fk_sim_block.specs.Ready.{is_alone}
 use Rattle.fk_sim_block.specs.Block.{IsRunning, BlockHalts, beginner}
 use Rattle.fk_sim_block.proofs.Spaces.{space_kept}
@@ -160,7 +160,7 @@ values_before : (m : Memory) (behind : ℕ) (vs : List ℕ) → HasValues m behi
 values_before m behind [] held = tt
 values_before m behind (v ∷ vs) held = held.1
 
-drop_does : (image : Image) → HasCode image → StandsOp core 0 drops DropLast → BlockDoesInNode core image places nestings cycles 0 drops DropLast
+drop_does : (image : Image) → HasCode image → OpAt core 0 drops DropLast → BlockDoesInNode core image places nestings cycles 0 drops DropLast
 drop_does image code at setting t runs first m p en member =
     let h = m.hart in
     let stands = en.at.stands in
@@ -215,7 +215,7 @@ drop_does image code at setting t runs first m p en member =
       };
     }
 
-halt_does : (image : Image) → HasCode image → StandsOp core 1 halts Halt → BlockHalts core image places 1 halts
+halt_does : (image : Image) → HasCode image → OpAt core 1 halts Halt → BlockHalts core image places 1 halts
 halt_does image code at setting t p h en =
     let number = number_of p in
     let h1 = writes h 5 0x30000000 in
@@ -245,42 +245,42 @@ halt_does image code at setting t p h en =
 -- ---- the law
 
 -- the list has two operations
-is_drop : (op : CoreOp) (operation : Operation) → StandsOp core 0 op operation → operation ≡ DropLast
+is_drop : (op : CoreOp) (operation : Operation) → OpAt core 0 op operation → operation ≡ DropLast
 is_drop op operation at =
     let same : drops ≡ op = let f = at.stands in cc in
-    let at' = subst (λ o. StandsOp core 0 o operation) (sym same) at in
+    let at' = subst (λ o. OpAt core 0 o operation) (sym same) at in
     let e : Some DropLast ≡ Some operation = at'.is_read in
     cc
 
-is_halt : (op : CoreOp) (operation : Operation) → StandsOp core 1 op operation → operation ≡ Halt
+is_halt : (op : CoreOp) (operation : Operation) → OpAt core 1 op operation → operation ≡ Halt
 is_halt op operation at =
     let same : halts ≡ op = let f = at.stands in cc in
-    let at' = subst (λ o. StandsOp core 1 o operation) (sym same) at in
+    let at' = subst (λ o. OpAt core 1 o operation) (sym same) at in
     let e : Some Halt ≡ Some operation = at'.is_read in
     cc
 
 -- none of these is true of both
-neither : (test : Operation → Bool) → test DropLast ≡ false → test Halt ≡ false → (i : ℕ) (op : CoreOp) (operation : Operation) → StandsOp core i op operation → test operation ≡ true → ⊥
+neither : (test : Operation → Bool) → test DropLast ≡ false → test Halt ≡ false → (i : ℕ) (op : CoreOp) (operation : Operation) → OpAt core i op operation → test operation ≡ true → ⊥
 neither test d h zero op operation at e = never (sym d ∙ sym (ap test (is_drop op operation at)) ∙ e)
 neither test d h (suc zero) op operation at e = never (sym h ∙ sym (ap test (is_halt op operation at)) ∙ e)
 neither test d h (suc (suc i)) op operation at e = absurd (let f = at.stands in cc)
 
-alone_at : (image : Image) → HasCode image → (i : ℕ) (op : CoreOp) (operation : Operation) → StandsOp core i op operation → is_alone operation ≡ true
+alone_at : (image : Image) → HasCode image → (i : ℕ) (op : CoreOp) (operation : Operation) → OpAt core i op operation → is_alone operation ≡ true
     → BlockDoesInNode core image places nestings cycles i op operation
 alone_at image code zero op operation at e =
     let same : drops ≡ op = let f = at.stands in cc in
-    let at' = subst (λ o. StandsOp core 0 o operation) (sym same) at in
+    let at' = subst (λ o. OpAt core 0 o operation) (sym same) at in
     let is = is_drop op operation at in
     subst (λ o. BlockDoesInNode core image places nestings cycles 0 o operation) same
-    (subst (BlockDoesInNode core image places nestings cycles 0 drops) (sym is) (drop_does image code (subst (StandsOp core 0 drops) is at')))
+    (subst (BlockDoesInNode core image places nestings cycles 0 drops) (sym is) (drop_does image code (subst (OpAt core 0 drops) is at')))
 alone_at image code (suc zero) op operation at e = never (sym (ap is_alone (is_halt op operation at)) ∙ e)
 alone_at image code (suc (suc i)) op operation at e = absurd (let f = at.stands in cc)
 
-halts_at : (image : Image) → HasCode image → (i : ℕ) (op : CoreOp) → StandsOp core i op Halt → BlockHalts core image places i op
+halts_at : (image : Image) → HasCode image → (i : ℕ) (op : CoreOp) → OpAt core i op Halt → BlockHalts core image places i op
 halts_at image code zero op at = absurd (let f = is_drop op Halt at in cc)
 halts_at image code (suc zero) op at =
     let same : halts ≡ op = let f = at.stands in cc in
-    let at' = subst (λ o. StandsOp core 1 o Halt) (sym same) at in
+    let at' = subst (λ o. OpAt core 1 o Halt) (sym same) at in
     subst (BlockHalts core image places 1) same (halt_does image code at')
 halts_at image code (suc (suc i)) op at = absurd (let f = at.stands in cc)
 
@@ -289,17 +289,17 @@ no_jump zero op e f = let same : drops ≡ op = cc in never (ap is_jump same ∙
 no_jump (suc zero) op e f = let same : halts ≡ op = cc in never (ap is_jump same ∙ f)
 no_jump (suc (suc i)) op e f = absurd (cc)
 
-no_end : (i : ℕ) (op : CoreOp) → StandsOp core i op End → ⊥
+no_end : (i : ℕ) (op : CoreOp) → OpAt core i op End → ⊥
 no_end zero op at = let f = is_drop op End at in cc
 no_end (suc zero) op at = let f = is_halt op End at in cc
 no_end (suc (suc i)) op at = let f = at.stands in cc
 
-no_agree : (i : ℕ) (op : CoreOp) → StandsOp core i op Agree → ⊥
+no_agree : (i : ℕ) (op : CoreOp) → OpAt core i op Agree → ⊥
 no_agree zero op at = let f = is_drop op Agree at in cc
 no_agree (suc zero) op at = let f = is_halt op Agree at in cc
 no_agree (suc (suc i)) op at = let f = at.stands in cc
 
-no_begin : (i : ℕ) (op : CoreOp) → StandsOp core i op Begin → ⊥
+no_begin : (i : ℕ) (op : CoreOp) → OpAt core i op Begin → ⊥
 no_begin zero op at = let f = is_drop op Begin at in cc
 no_begin (suc zero) op at = let f = is_halt op Begin at in cc
 no_begin (suc (suc i)) op at = let f = at.stands in cc

@@ -6,7 +6,7 @@ use Rattle.fk_meaning.specs.Round.{taking}
 use Rattle.fk_core.specs.declared.op.CoreOp.{CoreOp}
 use Rattle.fk_core.specs.Next.{is_jump, through, led_by, landing_by, landing, step_by, step_of, next, position}
 use Rattle.fk_sim_block.specs.Owner.{number_of, as_part, phases}
-use Rattle.fk_sim_block.specs.Next.{StandsOp, step_at, OperationsAreNext}
+use Rattle.fk_sim_block.specs.Next.{OpAt, step_at, OperationsAreNext}
 
 pub landing_at : (core : List CoreOp) (i : ℕ) (op : CoreOp) (n : ℕ) → slice_get core i ≡ Some op → is_jump op ≡ false → landing_by core n i ≡ i
 landing_at core i op zero e f = refl
@@ -16,7 +16,7 @@ landing_at core i op (suc n) e f =
 pub landing_here : (core : List CoreOp) (i : ℕ) (op : CoreOp) → slice_get core i ≡ Some op → is_jump op ≡ false → landing core i ≡ i
 landing_here core i op e f = landing_at core i op (length core) e f
 
-pub next_here : (core : List CoreOp) (i : ℕ) (op : CoreOp) (operation : Operation) (callers : List ℕ) → StandsOp core i op operation
+pub next_here : (core : List CoreOp) (i : ℕ) (op : CoreOp) (operation : Operation) (callers : List ℕ) → OpAt core i op operation
     → next core (position i callers) ≡ Some (step_at core i op operation callers)
 next_here core i op operation callers at =
     ap (λ j. step_of core j callers (slice_get core j)) (landing_here core i op at.stands at.no_jump)

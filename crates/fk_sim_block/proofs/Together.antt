@@ -10,7 +10,7 @@ use Rattle.fk_sim_nodes.specs.OneHart.{OneDoes, EachDoes}
 use Rattle.fk_sim_nodes.proofs.OneHart.{each_does}
 use Rattle.fk_sim_block.specs.Owner.{Owner, Doing, core_source}
 use Rattle.fk_sim_block.specs.Stands.{Places}
-use Rattle.fk_sim_block.specs.Next.{StandsOp}
+use Rattle.fk_sim_block.specs.Next.{OpAt}
 use Rattle.fk_sim_block.specs.Ready.{is_alone}
 use Rattle.fk_sim_block.specs.Node.{Nestings}
 use Rattle.fk_sim_block.specs.Lockstep.{AllEnter}
@@ -18,7 +18,7 @@ use Rattle.fk_sim_block.specs.Law.{Cycles, GroupLaw, HasDoneInNode}
 use Rattle.fk_sim_block.specs.Laws.{AllGo, MembersDoTogether}
 
 module _ (core : List CoreOp) (image : Image) (places : Places) (nestings : Nestings) (cycles : Cycles) (firsts : List ℕ) (main : ℕ) (law : GroupLaw core image places nestings cycles firsts main)
-    (i : ℕ) (op : CoreOp) (operation : Operation) (onward : Bool) (stands : StandsOp core i op operation) (alone : is_alone operation ≡ true)
+    (i : ℕ) (op : CoreOp) (operation : Operation) (onward : Bool) (stands : OpAt core i op operation) (alone : is_alone operation ≡ true)
     (setting : Setting) (t : MachineSetting) (runs : Option ℕ) (first : ℕ) where
   abbrev Goal : ℕ → Owner → Hart → Doing → Type 0
   Goal number p h d = HasDoneInNode core image places nestings setting runs d h

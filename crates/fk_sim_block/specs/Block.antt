@@ -16,7 +16,7 @@ use Rattle.fk_sim_nodes.specs.Alone.{Holds, IsPrivateIn, RunsPrivately}
 use Rattle.fk_sim_nodes.specs.OneHart.{OneDoes}
 use Rattle.fk_sim_block.specs.Owner.{Owner, Doing, number_of, owner_of, core_source}
 use Rattle.fk_sim_block.specs.Stands.{Places, StandsAt}
-use Rattle.fk_sim_block.specs.Next.{StandsOp}
+use Rattle.fk_sim_block.specs.Next.{OpAt}
 use Rattle.fk_sim_block.specs.Ready.{is_alone, IsReady}
 
 -- The most cycles that a block runs before its commit, and after it. With the one cycle of a jump,
@@ -119,10 +119,10 @@ module _ (core : List CoreOp) (image : Image) (places : Places) where
   -- The law of blocks for operations that a processor does alone. `GroupLaw` has the steps of the
   -- tree of groups and the joint operations.
   pub record BlockLaw (firsts : List ℕ) (main : ℕ) : Type 0 where
-    pub alone : (i : ℕ) (op : CoreOp) (operation : Operation) → StandsOp core i op operation
+    pub alone : (i : ℕ) (op : CoreOp) (operation : Operation) → OpAt core i op operation
         → is_alone operation ≡ true
         → BlockDoes i op operation
-    pub halts : (i : ℕ) (op : CoreOp) → StandsOp core i op Halt → BlockHalts i op
+    pub halts : (i : ℕ) (op : CoreOp) → OpAt core i op Halt → BlockHalts i op
     pub jumps : (i : ℕ) (op : CoreOp) → slice_get core i ≡ Some op → is_jump op ≡ true
         → BlockJumps i op
     pub begins : (setting : Setting) (t : MachineSetting) (number : ℕ) → IsRunning image setting t

@@ -104,21 +104,21 @@ module _ (image : Image) (word number : ℕ) where
         (λ v h'. (v ≡ n → GoesToLeave count (later t) h') × (v ≢ n → GoesToPoll (later t) h'))
 
     -- Where the hart is at the beginning of a cycle, by its phase.
-    abbrev pub StandsByPhase : (count : ℕ) → MachineSetting → Phase → Hart → Type 0
-    StandsByPhase count t Outside h = ⊥
-    StandsByPhase count t Away h = ⊥
-    StandsByPhase count t (Coming d) h =
+    abbrev pub IsInPhaseBy : (count : ℕ) → MachineSetting → Phase → Hart → Type 0
+    IsInPhaseBy count t Outside h = ⊥
+    IsInPhaseBy count t Away h = ⊥
+    IsInPhaseBy count t (Coming d) h =
         ((t.finished + d) % 2 ≡ 0) × ((arriving : Hart) × RunsPrivately image t number d h arriving
         × IsArriving (in_cycles d t) arriving)
-    StandsByPhase count t Waiting h = ((t.finished % 2 ≡ 1) × Polls polling first h)
+    IsInPhaseBy count t Waiting h = ((t.finished % 2 ≡ 1) × Polls polling first h)
         ⊎ ((t.finished % 2 ≡ 0) × GoesToPoll t h)
-    StandsByPhase count t (Leaving zero) h = (t.finished % 2 ≡ 1) × IsLeaving count t h
-    StandsByPhase count t (Leaving (suc zero)) h = (t.finished % 2 ≡ 0) × GoesToLeave count t h
-    StandsByPhase count t (Leaving (suc (suc d))) h = ⊥
+    IsInPhaseBy count t (Leaving zero) h = (t.finished % 2 ≡ 1) × IsLeaving count t h
+    IsInPhaseBy count t (Leaving (suc zero)) h = (t.finished % 2 ≡ 0) × GoesToLeave count t h
+    IsInPhaseBy count t (Leaving (suc (suc d))) h = ⊥
 
     -- Where the hart is by its phase, if leaving is the commit.
-    abbrev pub StandsInPhase : MachineSetting → Phase → Hart → Type 0
-    StandsInPhase t f h = StandsByPhase 1 t f h
+    abbrev pub IsInPhase : MachineSetting → Phase → Hart → Type 0
+    IsInPhase t f h = IsInPhaseBy 1 t f h
 
 -- ---- the block of a joint operation
 
@@ -136,7 +136,7 @@ module _ (image : Image) (places : Places) (nestings : Nestings) (setting : Sett
     pub first : Hart
     pub code : Holds image t
     pub polls : KeepsPolling image word m.number polling first n (StandsBehind p) 1
-    pub stands : StandsInPhase image word m.number polling first n (StandsBehind p) t f m.hart
+    pub stands : IsInPhase image word m.number polling first n (StandsBehind p) t f m.hart
 
 module _ (core : List CoreOp) (image : Image) (places : Places) (nestings : Nestings) (i : ℕ)
     (op : CoreOp) (operation : Operation) where

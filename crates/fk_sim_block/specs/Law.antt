@@ -18,7 +18,7 @@ use Rattle.fk_sim_nodes.specs.Alone.{Holds, IsPrivateIn}
 use Rattle.fk_sim_nodes.specs.OneHart.{OneDoes}
 use Rattle.fk_sim_block.specs.Owner.{Owner, Doing, owner_of, core_source}
 use Rattle.fk_sim_block.specs.Stands.{Places, StandsAt}
-use Rattle.fk_sim_block.specs.Next.{StandsOp}
+use Rattle.fk_sim_block.specs.Next.{OpAt}
 use Rattle.fk_sim_block.specs.Ready.{is_alone}
 use Rattle.fk_sim_block.specs.Block.{most_before, most_behind, IsRunning, Enters, HasDone}
 use Rattle.fk_sim_block.specs.Block.{BlockHalts, Begins, beginner, gone_to}
@@ -116,34 +116,34 @@ module _ (core : List CoreOp) (image : Image) (places : Places) (nestings : Nest
     pub record GroupLaw (firsts : List ℕ) (main : ℕ) : Type 0 where
       pub few_before : (i : ℕ) → cycles.before i ≤ most_before
       pub few_behind : (i : ℕ) (onward : Bool) → cycles.behind i onward ≤ most_behind
-      pub alone : (i : ℕ) (op : CoreOp) (operation : Operation) → StandsOp core i op operation
+      pub alone : (i : ℕ) (op : CoreOp) (operation : Operation) → OpAt core i op operation
           → is_alone operation ≡ true → BlockDoesInNode i op operation
       pub jumps : (i : ℕ) (op : CoreOp) → slice_get core i ≡ Some op → is_jump op ≡ true
           → BlockJumpsInNode i op
-      pub halts : (i : ℕ) (op : CoreOp) → StandsOp core i op Halt
+      pub halts : (i : ℕ) (op : CoreOp) → OpAt core i op Halt
           → BlockHalts core image places i op
       pub begins : (setting : Setting) (t : MachineSetting) (number : ℕ) → IsRunning image setting t
           → number < setting.processors
           → BeginsInNode setting t (beginner setting (slice_index firsts) main number)
       -- Members who come to a step in lockstep do it together. After it they are still in lockstep,
       -- or each goes on by itself.
-      pub agrees : (i : ℕ) (op : CoreOp) (lowest size : ℕ) → StandsOp core i op Agree
+      pub agrees : (i : ℕ) (op : CoreOp) (lowest size : ℕ) → OpAt core i op Agree
           → StepTogether core image places nestings i op Agree (λ ps. Unit {0}) (cycles.before i)
           (cycles.behind i true) None (λ p. None) lowest size
       pub parts : (i : ℕ) (op : CoreOp) (operation : Operation) (lowest size : ℕ)
-          → StandsOp core i op operation → sets_apart operation ≡ true
+          → OpAt core i op operation → sets_apart operation ≡ true
           → PartTogether core image places nestings i op operation (IsAskedOf operation lowest size)
           (cycles.before i) (cycles.behind i true) None
           (runs_behind operation lowest size) lowest size
-      pub ends : (i : ℕ) (op : CoreOp) (lowest size : ℕ) → StandsOp core i op End
+      pub ends : (i : ℕ) (op : CoreOp) (lowest size : ℕ) → OpAt core i op End
           → EndTogether core image places nestings i op (cycles.behind i true) lowest size
       -- Members who meet at an arrival word do so by phases.
-      pub meets : (i : ℕ) (op : CoreOp) (operation : Operation) → StandsOp core i op operation
+      pub meets : (i : ℕ) (op : CoreOp) (operation : Operation) → OpAt core i op operation
           → is_meeting operation ≡ true
           → BlockMeets core image places nestings i op operation most_to_meet
       -- At the beginning of `start` all processors meet in the root, and commit soon after.
-      pub few_to_begin : (i : ℕ) (op : CoreOp) → StandsOp core i op Begin
+      pub few_to_begin : (i : ℕ) (op : CoreOp) → OpAt core i op Begin
           → cycles.before i < most_united
-      pub starts : (i : ℕ) (op : CoreOp) → StandsOp core i op Begin
+      pub starts : (i : ℕ) (op : CoreOp) → OpAt core i op Begin
           → BlockStarts core image places nestings i op (nestings.start.there i)
           (nestings.start.coming i) most_to_start (cycles.before i) (cycles.behind i)

@@ -12,7 +12,7 @@ use Rattle.fk_sim_nodes.specs.OneHart.{AllReach}
 use Rattle.fk_sim_nodes.specs.Together.{Together}
 use Rattle.fk_sim_block.specs.Owner.{Owner, core_source}
 use Rattle.fk_sim_block.specs.Stands.{Places}
-use Rattle.fk_sim_block.specs.Next.{StandsOp}
+use Rattle.fk_sim_block.specs.Next.{OpAt}
 use Rattle.fk_sim_block.specs.Ready.{is_alone}
 use Rattle.fk_sim_block.specs.Node.{Nestings}
 use Rattle.fk_sim_block.specs.Lockstep.{AllEnter}
@@ -34,7 +34,7 @@ MembersDoTogether =
     (i : ℕ) (op : CoreOp) (operation : Operation) (onward : Bool) (setting : Setting)
     (t : MachineSetting) (mine : Words) (runs : Option ℕ) (first : ℕ)
     (ms : List Member) (ps : List Owner) (own : Memory)
-    → GroupLaw core image places nestings cycles firsts main → StandsOp core i op operation
+    → GroupLaw core image places nestings cycles firsts main → OpAt core i op operation
     → is_alone operation ≡ true
     → AllEnter core image places nestings i op operation setting t runs first ms ps
     → AllGo operation onward ps

@@ -9,7 +9,7 @@ use Rattle.fk_core.specs.Next.{Position, is_jump, follows}
 use Rattle.fk_sim_block.specs.Owner.{Commons, Owner, number_of, as_part, phases, part}
 
 -- The list has this operation at index i.
-pub record StandsOp (core : List CoreOp) (i : ℕ) (op : CoreOp)
+pub record OpAt (core : List CoreOp) (i : ℕ) (op : CoreOp)
     (operation : Operation) : Type 0 where
   pub stands : slice_get core i ≡ Some op
   pub no_jump : is_jump op ≡ false
@@ -29,7 +29,7 @@ abbrev pub OperationsAreNext : Type 0
 OperationsAreNext =
     (core : List CoreOp) (i : ℕ) (op : CoreOp) (operation : Operation) (setting : Setting)
     (s : Commons) (p : Owner)
-    → StandsOp core i op operation → p.runner.left.at ≡ i
+    → OpAt core i op operation → p.runner.left.at ≡ i
     → part core setting 1 s p
     ≡ as_part (number_of p)
     (phases core setting s p.heap

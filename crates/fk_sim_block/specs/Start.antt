@@ -19,7 +19,7 @@ use Rattle.fk_sim_block.specs.Block.{IsRunning, Enters}
 use Rattle.fk_sim_block.specs.Node.{Polling, Nestings, IsRoot, OwnsHeader, first_word, root_words}
 use Rattle.fk_sim_block.specs.Node.{closing_word, agreed_word}
 use Rattle.fk_sim_block.specs.Lockstep.{IsMember, NoneSaved, highest_value, is_due, stepped}
-use Rattle.fk_sim_block.specs.Joint.{Polls, KeepsPolling, StandsByPhase}
+use Rattle.fk_sim_block.specs.Joint.{Polls, KeepsPolling, IsInPhaseBy}
 
 -- A processor in the root, whose group space is whole.
 pub record IsInRoot (nestings : Nestings) (setting : Setting) (p : Owner) : Type 0 where
@@ -54,7 +54,7 @@ pub record MeetsUntil (image : Image) (word n count : ℕ) (Left : Hart → Type
   pub first : Hart
   pub code : Holds image t
   pub polls : KeepsPolling image word m.number polling first n Left count
-  pub stands : StandsByPhase image word m.number polling first n Left count t f m.hart
+  pub stands : IsInPhaseBy image word m.number polling first n Left count t f m.hart
 
 module _ (core : List CoreOp) (image : Image) (places : Places) (nestings : Nestings) (i : ℕ)
     (op : CoreOp) where

@@ -17,7 +17,7 @@ use Rattle.fk_meaning_operation.specs.declared.operation.Operation.TheVariants.{
 use Rattle.fk_meaning_operation.specs.declared.operation.Variable.TheVariants.{Private, OfFile}
 use Rattle.fk_core.specs.declared.op.CoreOp.{CoreOp}
 use Rattle.fk_core.specs.Next.{is_jump, behind_jump, follows}
-use Rattle.fk_sim_block.specs.Next.{StandsOp}
+use Rattle.fk_sim_block.specs.Next.{OpAt}
 use Rattle.fk_sim_block.specs.Stands.{Frames, HasRoom, ahead}
 
 -- How many values an operation looks at.
@@ -102,5 +102,5 @@ module _ (core : List CoreOp) (frames : Frames) where
     pub few : frames.of_file ≤ 56
     pub jumps : (i : ℕ) (op : CoreOp) → slice_get core i ≡ Some op → is_jump op ≡ true
         → Flows nothing i op.target
-    pub fits : (i : ℕ) (op : CoreOp) (operation : Operation) → StandsOp core i op operation
+    pub fits : (i : ℕ) (op : CoreOp) (operation : Operation) → OpAt core i op operation
         → Fits i op operation

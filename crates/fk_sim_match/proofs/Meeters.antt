@@ -21,7 +21,7 @@ use Rattle.fk_sim_block.specs.Stands.{Places}
 use Rattle.fk_sim_block.specs.Next.{step_at}
 use Rattle.fk_sim_block.specs.Node.{Nestings, Polling}
 use Rattle.fk_sim_block.specs.Lockstep.{is_due}
-use Rattle.fk_sim_block.specs.Joint.{is_meeting, Polls, StandsByPhase, StandsBehind}
+use Rattle.fk_sim_block.specs.Joint.{is_meeting, Polls, IsInPhaseBy, StandsBehind}
 use Rattle.fk_sim_match.specs.Nodes.{first_of, plan_of}
 use Rattle.fk_sim_match.specs.Behind.{StandsInMeeting, StandsInStart, runs_of, joining_blocks_of}
 use Rattle.fk_sim_match.specs.Laws.{MeetersTurn, CyclesAreRounds, UnownedWordsStay}
@@ -80,7 +80,7 @@ module _ (core : List CoreOp) (image : Image) (places : Places) (nestings : Nest
 
     -- with another hart, in the next cycle
     goes_on : (f f' : Phase) (h : Hart) → (x : Standing g w t f m p)
-        → StandsByPhase image w m.number x.meets.polling x.meets.first (plan.size w) (Behind g x.i m p) 1 (later t) f' h → Standing g w (later t) f' (record m { hart = h }) p
+        → IsInPhaseBy image w m.number x.meets.polling x.meets.first (plan.size w) (Behind g x.i m p) 1 (later t) f' h → Standing g w (later t) f' (record m { hart = h }) p
     goes_on f f' h x stands = record {
       i = x.i;
       op = x.op;
@@ -136,7 +136,7 @@ module _ (core : List CoreOp) (image : Image) (places : Places) (nestings : Nest
     Gathers i came h = Polls (nestings.start.there i) (nestings.start.coming i came) h
 
     waits_on : (f f' : Phase) (h : Hart) → (x : InStart t f m)
-        → StandsByPhase image w m.number x.meets.polling x.meets.first (plan.size w) (Gathers x.i x.first) 0 (later t) f' h → InStart (later t) f' (record m { hart = h })
+        → IsInPhaseBy image w m.number x.meets.polling x.meets.first (plan.size w) (Gathers x.i x.first) 0 (later t) f' h → InStart (later t) f' (record m { hart = h })
     waits_on f f' h x stands = record {
       i = x.i;
       op = x.op;

@@ -19,7 +19,7 @@ use Rattle.fk_sim_match.specs.Plan.{Plan, AllAct, InLockstep}
 use Rattle.fk_sim_match.proofs.Changes.{together_map}
 use Rattle.fk_sim_block.specs.Owner.{Commons, Owner, Doing, commons_of, found, part, core_source}
 use Rattle.fk_sim_block.specs.Stands.{Places}
-use Rattle.fk_sim_block.specs.Next.{StandsOp, step_at}
+use Rattle.fk_sim_block.specs.Next.{OpAt, step_at}
 use Rattle.fk_sim_block.specs.Ready.{MayDo, is_alone}
 use Rattle.fk_sim_block.specs.Block.{most_behind, IsRunning, member_of}
 use Rattle.fk_sim_block.proofs.Standing.{next_here, operations_are_next}
@@ -65,7 +65,7 @@ members_stand_at_stages core image places nestings cycles firsts main setting pl
     )
 
 -- the end of `main` leaves what all share, and its processor is to end
-halt_part : (core : List CoreOp) (setting : Setting) (i : ℕ) (op : CoreOp) (s : Commons) (p : Owner) → StandsOp core i op Halt → p.runner.left.at ≡ i
+halt_part : (core : List CoreOp) (setting : Setting) (i : ℕ) (op : CoreOp) (s : Commons) (p : Owner) → OpAt core i op Halt → p.runner.left.at ≡ i
     → part core setting 1 s p ≡ Passes (commons_of (found s p.heap)) (is_due core i op Halt p)
 halt_part core setting i op s p stands at = operations_are_next core i op Halt setting s p stands at
 
@@ -214,7 +214,7 @@ module _ (core : List CoreOp) (image : Image) (places : Places) (nestings : Nest
   -- ---- to the common commit
 
   module _ (cycles : Cycles) (firsts : List ℕ) (main : ℕ) (t : MachineSetting) (g i : ℕ) (op : CoreOp) (law : GroupLaw core image places nestings cycles firsts main) where
-    pub act_together : (operation : Operation) (onward : Bool) (ms : List Member) (ps : List Owner) (own : Memory) → StandsOp core i op operation → is_alone operation ≡ true
+    pub act_together : (operation : Operation) (onward : Bool) (ms : List Member) (ps : List Owner) (own : Memory) → OpAt core i op operation → is_alone operation ≡ true
         → AllEnter core image places nestings i op operation setting t None (first g) ms ps → AllGo operation onward ps → IsAtRest (first g) own
         → Together (core_source core setting) image (plan.words g) t 1 (cycles.before i) ms ps own (Behind (later (in_cycles (cycles.before i) t)) g)
     act_together operation onward ms ps own stands alone all go rest =
@@ -238,7 +238,7 @@ module _ (core : List CoreOp) (image : Image) (places : Places) (nestings : Nest
         (members_do_together core image places nestings cycles firsts main i op operation onward setting t mine None (first g) ms ps own law stands alone all go)
 
     -- they agree, and are in lockstep still
-    agree_together : (ms : List Member) (ps : List Owner) (own : Memory) → StandsOp core i op Agree
+    agree_together : (ms : List Member) (ps : List Owner) (own : Memory) → OpAt core i op Agree
         → OwnsHeader (plan.words g) (first g) → AllEnter core image places nestings i op Agree setting t None (first g) ms ps → IsAtRest (first g) own
         → Together (core_source core setting) image (plan.words g) t 1 (cycles.before i) ms ps own (Behind (later (in_cycles (cycles.before i) t)) g)
     agree_together ms ps own stands owns all rest =
@@ -262,7 +262,7 @@ module _ (core : List CoreOp) (image : Image) (places : Places) (nestings : Nest
         (law.agrees i op 0 0 stands setting t mine (first g) ms ps own owns all tt)
 
     -- or each goes on by itself
-    part_together : (operation : Operation) (lowest size : ℕ) (ms : List Member) (ps : List Owner) (own : Memory) → StandsOp core i op operation → sets_apart operation ≡ true
+    part_together : (operation : Operation) (lowest size : ℕ) (ms : List Member) (ps : List Owner) (own : Memory) → OpAt core i op operation → sets_apart operation ≡ true
         → OwnsHeader (plan.words g) (first g) → AllEnter core image places nestings i op operation setting t None (first g) ms ps
         → IsAskedOf operation lowest size ps → IsAtRest (first g) own
         → Together (core_source core setting) image (plan.words g) t 1 (cycles.before i) ms ps own (Behind (later (in_cycles (cycles.before i) t)) g)
@@ -299,7 +299,7 @@ module _ (core : List CoreOp) (image : Image) (places : Places) (nestings : Nest
         ))
         (law.parts i op operation lowest size stands parts setting t mine (first g) ms ps own owns all asked)
 
-    pub step_together : (operation : Operation) (lowest size : ℕ) (ms : List Member) (ps : List Owner) (own : Memory) → StandsOp core i op operation → is_shared_step operation ≡ true
+    pub step_together : (operation : Operation) (lowest size : ℕ) (ms : List Member) (ps : List Owner) (own : Memory) → OpAt core i op operation → is_shared_step operation ≡ true
         → OwnsHeader (plan.words g) (first g) → AllEnter core image places nestings i op operation setting t None (first g) ms ps
         → IsAskedOf operation lowest size ps → IsAtRest (first g) own
         → Together (core_source core setting) image (plan.words g) t 1 (cycles.before i) ms ps own (Behind (later (in_cycles (cycles.before i) t)) g)
@@ -308,7 +308,7 @@ module _ (core : List CoreOp) (image : Image) (places : Places) (nestings : Nest
     step_together Seq lowest size ms ps own stands shared owns all asked rest = part_together Seq lowest size ms ps own stands refl owns all asked rest
     step_together operation lowest size ms ps own stands shared owns all asked rest = absurd (cc)
 
-    pub end_together : (ms : List Member) (ps : List Owner) (own : Memory) → StandsOp core i op End → AllEnter core image places nestings i op End setting t None (first g) ms ps
+    pub end_together : (ms : List Member) (ps : List Owner) (own : Memory) → OpAt core i op End → AllEnter core image places nestings i op End setting t None (first g) ms ps
         → AreInStart nestings ps → IsAtRest (first g) own
         → Together (core_source core setting) image (plan.words g) t 1 0 ms ps own (Behind (later t) g)
     end_together ms ps own stands all start rest =
@@ -337,7 +337,7 @@ module _ (core : List CoreOp) (image : Image) (places : Places) (nestings : Nest
   }
 
   pub start_together : (cycles : Cycles) (firsts : List ℕ) (main : ℕ) (t : MachineSetting) (i : ℕ) (op : CoreOp) (law : GroupLaw core image places nestings cycles firsts main) (ms : List Member) (ps : List Owner) (own : Memory)
-      → StandsOp core i op Begin → OwnsHeader (plan.words 0) root_words → IsRunning image setting t
+      → OpAt core i op Begin → OwnsHeader (plan.words 0) root_words → IsRunning image setting t
       → AllHaveMet core image places nestings i op (nestings.start.there i) (nestings.start.coming i) setting ms ps → IsAtRest root_words own
       → InLockstep (core_source core setting) image plan (blocks_of core image places nestings setting plan first) t 0 (all_act (cycles.before i) ms) ms ps own
   start_together cycles firsts main t i op law ms ps own stands owns running met rest =

@@ -11,7 +11,7 @@ use Rattle.fk_sim_nodes.proofs.Runs.{private_stays}
 use Rattle.fk_sim_nodes.specs.Phase.{Phase, Outside, Away, Coming, Waiting, Leaving, polled, word_after, Moves}
 use Rattle.fk_sim_match.specs.Plan.{IsInside}
 use Rattle.fk_sim_block.specs.Node.{Polling}
-use Rattle.fk_sim_block.specs.Joint.{lead, Polls, IsArriving, GoesToPoll, KeepsPolling, StandsByPhase}
+use Rattle.fk_sim_block.specs.Joint.{lead, Polls, IsArriving, GoesToPoll, KeepsPolling, IsInPhaseBy}
 
 -- leaving alone is an instruction of a count
 abbrev pub count_in : (count : ℕ) → Phase → ℕ
@@ -20,7 +20,7 @@ count_in count f = 0
 
 module _ (image : Image) (word number n count : ℕ) (polling : Polling) (first : Hart) (Left : Hart → Type 0) (mine : Words) where
   abbrev pub Standing : MachineSetting → Phase → Hart → Type 0
-  Standing t f h = StandsByPhase image word number polling first n Left count t f h
+  Standing t f h = IsInPhaseBy image word number polling first n Left count t f h
 
   -- it has left, or stands in its next phase
   abbrev pub Follows : MachineSetting → (f f' : Phase) → Hart → Type 0

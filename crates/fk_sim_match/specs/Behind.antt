@@ -18,7 +18,7 @@ use Rattle.fk_sim_match.specs.Stage.{Ending, Commits, Unites}
 use Rattle.fk_sim_match.specs.Plan.{Plan, Blocks}
 use Rattle.fk_sim_block.specs.Owner.{Owner, Doing, idle}
 use Rattle.fk_sim_block.specs.Stands.{Places}
-use Rattle.fk_sim_block.specs.Next.{StandsOp, step_at}
+use Rattle.fk_sim_block.specs.Next.{OpAt, step_at}
 use Rattle.fk_sim_block.specs.Block.{most_behind, Enters}
 use Rattle.fk_sim_block.specs.Node.{Nestings, IsAtRest, first_word, root_words, barrier_word}
 use Rattle.fk_sim_block.specs.Lockstep.{IsMember, is_due, stepped, highest_value, AreMembers}
@@ -45,7 +45,7 @@ module _ (core : List CoreOp) (image : Image) (places : Places) (nestings : Nest
     pub i : ℕ
     pub op : CoreOp
     pub operation : Operation
-    pub stands : StandsOp core i op operation
+    pub stands : OpAt core i op operation
     pub meeting : is_meeting operation ≡ true
     pub next_is : next core p.runner.left ≡ Some (step_at core i op operation p.runner.left.callers)
     pub word_is : word ≡ first_word p.runner.has.level p.runner.has.outer + word_of operation
@@ -59,7 +59,7 @@ module _ (core : List CoreOp) (image : Image) (places : Places) (nestings : Nest
     pub op : CoreOp
     pub cycle : MachineSetting
     pub first : Hart
-    pub stands : StandsOp core i op Begin
+    pub stands : OpAt core i op Begin
     pub enters : Enters core image places setting cycle i op Begin p first
     pub member : IsMember places nestings setting (Some setting.processors) root_words
         (record m { hart = first }) p
@@ -76,7 +76,7 @@ module _ (core : List CoreOp) (image : Image) (places : Places) (nestings : Nest
   pub record HasJoined (m : Member) (p : Owner) : Type 0 where
     pub i : ℕ
     pub op : CoreOp
-    pub stands : StandsOp core i op Begin
+    pub stands : OpAt core i op Begin
     pub met : starts.HasMet core image places nestings i op (nestings.start.there i)
         (nestings.start.coming i) setting m p
 
@@ -98,7 +98,7 @@ module _ (core : List CoreOp) (image : Image) (places : Places) (nestings : Nest
     pub i : ℕ
     pub op : CoreOp
     pub operation : Operation
-    pub stands : StandsOp core i op operation
+    pub stands : OpAt core i op operation
     pub meeting : is_meeting operation ≡ true
     pub due : d ≡ is_due core i op operation p
     pub left : StandsBehind image places nestings setting runs i p m.hart
@@ -122,7 +122,7 @@ module _ (core : List CoreOp) (image : Image) (places : Places) (nestings : Nest
     pub i : ℕ
     pub op : CoreOp
     pub ps : List Owner
-    pub stands : StandsOp core i op Agree
+    pub stands : OpAt core i op Agree
     pub due : ds ≡ map (is_due core i op Agree) ps
     pub members : AreMembers places nestings setting (λ p. None) first ms
         (map (stepped core i op Agree (highest_value ps) 0 0) ps)
@@ -141,7 +141,7 @@ module _ (core : List CoreOp) (image : Image) (places : Places) (nestings : Nest
     pub lowest : ℕ
     pub size : ℕ
     pub ps : List Owner
-    pub stands : StandsOp core i op operation
+    pub stands : OpAt core i op operation
     pub parts : sets_apart operation ≡ true
     pub asked : IsAskedOf operation lowest size ps
     pub due : ds ≡ map (is_due core i op operation) ps
@@ -156,7 +156,7 @@ module _ (core : List CoreOp) (image : Image) (places : Places) (nestings : Nest
     pub i : ℕ
     pub op : CoreOp
     pub ps : List Owner
-    pub stands : StandsOp core i op End
+    pub stands : OpAt core i op End
     pub due : ds ≡ map (is_due core i op End) ps
     pub rest : IsAtRest first own
     pub come : AllComeAlone places nestings setting image t behind
@@ -171,7 +171,7 @@ module _ (core : List CoreOp) (image : Image) (places : Places) (nestings : Nest
     pub ps : List Owner
     pub behind : (onward : Bool) → ℕ
     pub few : (onward : Bool) → behind onward ≤ most_behind
-    pub stands : StandsOp core i op Begin
+    pub stands : OpAt core i op Begin
     pub due : ds ≡ map (is_due core i op Begin) ps
     pub rest : IsAtRest root_words own
     pub parts : AllComeToParts core image places nestings i op setting t behind

@@ -14,7 +14,7 @@ use Rattle.fk_sim_match.specs.Plan.{Plan, IsOpen, StandsAt, InLockstep}
 use Rattle.fk_sim_match.specs.Change.{IsFresh}
 use Rattle.fk_sim_block.specs.Owner.{Owner, number_of, core_source}
 use Rattle.fk_sim_block.specs.Stands.{Places}
-use Rattle.fk_sim_block.specs.Next.{StandsOp}
+use Rattle.fk_sim_block.specs.Next.{OpAt}
 use Rattle.fk_sim_block.specs.Ready.{is_alone}
 use Rattle.fk_sim_block.specs.Block.{most_before, IsRunning, Enters}
 use Rattle.fk_sim_block.specs.Node.{Nestings, OwnsHeader, IsAtRest, root_words, closing_word}
@@ -35,7 +35,7 @@ MembersStandAtStages =
     (core : List CoreOp) (image : Image) (places : Places) (nestings : Nestings) (cycles : Cycles)
     (firsts : List ℕ) (main : ℕ) (setting : Setting) (plan : Plan) (first : ℕ → ℕ)
     (t : MachineSetting) (g i : ℕ) (op : CoreOp) (operation : Operation) (m : Member) (p : Owner)
-    → GroupLaw core image places nestings cycles firsts main → StandsOp core i op operation
+    → GroupLaw core image places nestings cycles firsts main → OpAt core i op operation
     → is_alone operation ≡ true
     → Enters core image places setting t i op operation p m.hart
     → IsMember places nestings setting (runs_of plan (first g) m.number) (first g) m p
@@ -48,7 +48,7 @@ MembersHaltAtStages =
     (core : List CoreOp) (image : Image) (places : Places) (nestings : Nestings) (cycles : Cycles)
     (firsts : List ℕ) (main : ℕ) (setting : Setting) (plan : Plan) (first : ℕ → ℕ)
     (t : MachineSetting) (g i : ℕ) (op : CoreOp) (m : Member) (p : Owner)
-    → GroupLaw core image places nestings cycles firsts main → StandsOp core i op Halt
+    → GroupLaw core image places nestings cycles firsts main → OpAt core i op Halt
     → Enters core image places setting t i op Halt p m.hart → m.number ≡ number_of p
     → (d : ℕ) × (d ≤ most_before) × StandsAt (core_source core setting) image plan
     (blocks_of core image places nestings setting plan first) t g (Acts d) m p
@@ -59,7 +59,7 @@ MeetersSetOut =
     (core : List CoreOp) (image : Image) (places : Places) (nestings : Nestings) (cycles : Cycles)
     (firsts : List ℕ) (main : ℕ) (setting : Setting) (plan : Plan) (first : ℕ → ℕ)
     (t : MachineSetting) (g i w : ℕ) (op : CoreOp) (operation : Operation) (m : Member) (p : Owner)
-    → GroupLaw core image places nestings cycles firsts main → StandsOp core i op operation
+    → GroupLaw core image places nestings cycles firsts main → OpAt core i op operation
     → is_meeting operation ≡ true
     → Enters core image places setting t i op operation p m.hart
     → IsMember places nestings setting (runs_of plan (first g) m.number) (first g) m p
@@ -77,7 +77,7 @@ StartersSetOut =
     (core : List CoreOp) (image : Image) (places : Places) (nestings : Nestings) (cycles : Cycles)
     (firsts : List ℕ) (main : ℕ) (setting : Setting) (plan : Plan) (first : ℕ → ℕ)
     (t : MachineSetting) (i w : ℕ) (op : CoreOp) (m : Member) (p : Owner)
-    → GroupLaw core image places nestings cycles firsts main → StandsOp core i op Begin
+    → GroupLaw core image places nestings cycles firsts main → OpAt core i op Begin
     → Enters core image places setting t i op Begin p m.hart
     → IsMember places nestings setting (Some setting.processors) root_words m p
     → IsInRoot nestings setting p
@@ -95,7 +95,7 @@ GroupsActTogether =
     (firsts : List ℕ) (main : ℕ) (setting : Setting) (plan : Plan) (first : ℕ → ℕ)
     (t : MachineSetting) (g i : ℕ) (op : CoreOp) (operation : Operation) (onward : Bool)
     (ms : List Member) (ps : List Owner) (own : Memory)
-    → GroupLaw core image places nestings cycles firsts main → StandsOp core i op operation
+    → GroupLaw core image places nestings cycles firsts main → OpAt core i op operation
     → is_alone operation ≡ true
     → AllEnter core image places nestings i op operation setting t None (first g) ms ps
     → AllGo operation onward ps → IsAtRest (first g) own
@@ -110,7 +110,7 @@ GroupsStepTogether =
     (firsts : List ℕ) (main : ℕ) (setting : Setting) (plan : Plan) (first : ℕ → ℕ)
     (t : MachineSetting) (g i : ℕ) (op : CoreOp) (operation : Operation) (lowest size : ℕ)
     (ms : List Member) (ps : List Owner) (own : Memory)
-    → GroupLaw core image places nestings cycles firsts main → StandsOp core i op operation
+    → GroupLaw core image places nestings cycles firsts main → OpAt core i op operation
     → is_shared_step operation ≡ true
     → OwnsHeader (plan.words g) (first g)
     → AllEnter core image places nestings i op operation setting t None (first g) ms ps
@@ -125,7 +125,7 @@ GroupsEndTogether =
     (core : List CoreOp) (image : Image) (places : Places) (nestings : Nestings) (cycles : Cycles)
     (firsts : List ℕ) (main : ℕ) (setting : Setting) (plan : Plan) (first : ℕ → ℕ)
     (t : MachineSetting) (g i : ℕ) (op : CoreOp) (ms : List Member) (ps : List Owner) (own : Memory)
-    → GroupLaw core image places nestings cycles firsts main → StandsOp core i op End
+    → GroupLaw core image places nestings cycles firsts main → OpAt core i op End
     → AllEnter core image places nestings i op End setting t None (first g) ms ps
     → AreInStart nestings ps → IsAtRest (first g) own
     → InLockstep (core_source core setting) image plan
@@ -137,7 +137,7 @@ GroupsStartTogether =
     (core : List CoreOp) (image : Image) (places : Places) (nestings : Nestings) (cycles : Cycles)
     (firsts : List ℕ) (main : ℕ) (setting : Setting) (plan : Plan) (first : ℕ → ℕ)
     (t : MachineSetting) (i : ℕ) (op : CoreOp) (ms : List Member) (ps : List Owner) (own : Memory)
-    → GroupLaw core image places nestings cycles firsts main → StandsOp core i op Begin
+    → GroupLaw core image places nestings cycles firsts main → OpAt core i op Begin
     → OwnsHeader (plan.words 0) root_words → IsRunning image setting t
     → AllHaveMet core image places nestings i op (nestings.start.there i)
     (nestings.start.coming i) setting ms ps → IsAtRest root_words own

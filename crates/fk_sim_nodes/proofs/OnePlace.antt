@@ -13,7 +13,7 @@ use Rattle.fk_machine.specs.Run.{count_in}
 use Rattle.fk_machine.proofs.Performs.{lw-control, sw-control}
 use Rattle.fk_sim_nodes.specs.Node.{Member, add, Words, Has}
 use Rattle.fk_sim_nodes.specs.Alone.{Holds, IsAt, GoesWithin, NodeCycle}
-use Rattle.fk_sim_nodes.specs.OnePlace.{AllStandAt, on_each, onward, onward_with, AllAtOwn, values_for, last_or, sum_from, each_finds, AllGoAlone, PrivateOfAll, LoadsOfAll, StoresOfAll, AddsOfAll}
+use Rattle.fk_sim_nodes.specs.OnePlace.{AllAreAt, on_each, onward, onward_with, AllAtOwn, values_for, last_or, sum_from, each_finds, AllGoAlone, PrivateOfAll, LoadsOfAll, StoresOfAll, AddsOfAll}
 use Rattle.fk_sim_nodes.proofs.InPlace.{step_at, amoadd-control}
 
 -- ---- an instruction of all, by what it makes of a member's hart and of the node's words
@@ -34,7 +34,7 @@ module _ (f : Member → Memory → Hart) (g : Member → Memory → Memory) whe
       × AllWithin mine t i ms
 
   pub one_instruction : (image : Image) (mine : Words) (t : Setting) (k c : ℕ) (i : Instruction) (ms : List Member) (own : Memory) (Then : List Member → Memory → Type 0)
-      → Holds image t → IsAt image k i c → AllStandAt k ms → AllWithin mine t i ms → Then (all_after ms own) (words_after ms own)
+      → Holds image t → IsAt image k i c → AllAreAt k ms → AllWithin mine t i ms → Then (all_after ms own) (words_after ms own)
       → NodeCycle image mine t c ms own Then
   one_instruction image mine t k c i [] own Then holds at stand within follows = follows
   one_instruction image mine t k c i (m ∷ ms) own Then holds at stand within follows = (
@@ -52,7 +52,7 @@ module _ (f : Member → Memory → Hart) (g : Member → Memory → Memory) whe
   -- all stand at the next word of the code
   pub stand_next : (k : ℕ) (ms : List Member) (own : Memory) → k < 262144
       → ((m : Member) (own : Memory) → ((f m own).pc ≡ word_sum m.hart.pc 4) × ((f m own).ended ≡ m.hart.ended))
-      → AllStandAt k ms → AllStandAt (suc k) (all_after ms own)
+      → AllAreAt k ms → AllAreAt (suc k) (all_after ms own)
   stand_next k [] own lt next stand = tt
   stand_next k (m ∷ ms) own lt next stand =
       let n = next m own in
@@ -110,7 +110,7 @@ pub loads_of_all : LoadsOfAll
 loads_of_all image mine t k c rd rs imm word ms own holds at stand all =
     let f : Member → Memory → Hart = λ m own. onward_with rd (own (word m)) m.hart in
     one_instruction f (λ m own. own) image mine t k c (Lw rd rs imm) ms own
-    (λ ms' own'. (ms' ≡ on_each (λ m. onward_with rd (own (word m)) m.hart) ms) × (own' ≡ own) × AllStandAt (suc k) ms') holds at stand
+    (λ ms' own'. (ms' ≡ on_each (λ m. onward_with rd (own (word m)) m.hart) ms) × (own' ≡ own) × AllAreAt (suc k) ms') holds at stand
     (load_within mine t rd rs imm word ms all)
     (loaded rd word ms own, same_words f ms own, stand_next f (λ m own. own) k ms own at.within (λ m own. (refl, refl)) stand)
 
@@ -163,7 +163,7 @@ pub stores_of_all : StoresOfAll
 stores_of_all image mine t k c rs rv imm word ms own holds at stand all =
     let f : Member → Memory → Hart = λ m own. onward m.hart in
     one_instruction f (putting word rv) image mine t k c (Sw rs rv imm) ms own
-    (λ ms' own'. (ms' ≡ on_each (λ m. onward m.hart) ms) × ((w : ℕ) → own' w ≡ last_or (own w) (values_for word rv w ms)) × AllStandAt (suc k) ms')
+    (λ ms' own'. (ms' ≡ on_each (λ m. onward m.hart) ms) × ((w : ℕ) → own' w ≡ last_or (own w) (values_for word rv w ms)) × AllAreAt (suc k) ms')
     holds at stand (store_within mine t rs rv imm word ms all)
     (stored_after word rv ms own, λ w. stored word rv w f ms own, stand_next f (putting word rv) k ms own at.within (λ m own. (refl, refl)) stand)
 
@@ -245,6 +245,6 @@ adds_of_all image mine t k c rd rs rv word ms own holds at stand all =
     let f = finding word rd in
     let g = adding word rv in
     one_instruction f g image mine t k c (AmoAddW rd rs rv false false) ms own
-    (λ ms' own'. (ms' ≡ each_finds word rd rv own [] ms) × ((w : ℕ) → own' w ≡ sum_from (own w) (values_for word rv w ms)) × AllStandAt (suc k) ms')
+    (λ ms' own'. (ms' ≡ each_finds word rd rv own [] ms) × ((w : ℕ) → own' w ≡ sum_from (own w) (values_for word rv w ms)) × AllAreAt (suc k) ms')
     holds at stand (add_within mine t rd rs rv word ms all)
     (found word rd rv own own [] ms (λ w. refl), λ w. added word rv w f ms own, stand_next f g k ms own at.within (λ m own. (refl, refl)) stand)

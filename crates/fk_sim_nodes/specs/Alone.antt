@@ -2,6 +2,7 @@
 -- changes except reservations and their node's own words.
 use Rattle.std.specs.Prelude.{◌≡◌, ℕ, zero, suc, ◌+◌, ◌*◌, ◌<◌, List, [], ◌∷◌, Some, Bool, true}
 use Rattle.std.specs.Prelude.{false, map, slice_get}
+use Rattle.fk_num.specs.Limits.{most_code_words}
 use Rattle.fk_num.specs.Word.{Memory}
 use Rattle.fk_image.specs.declared.Image.{Image}
 use Rattle.fk_isa.specs.declared.instruction.Instruction.{Instruction}
@@ -17,7 +18,7 @@ Holds image t = t.code ≡ map row image.code.items
 
 -- Word k of the code is this instruction, and its address has this count.
 pub record IsAt (image : Image) (k : ℕ) (i : Instruction) (count : ℕ) : Type 0 where
-  pub within : k < 262144
+  pub within : k < most_code_words
   pub fetched : slice_get (map row image.code.items) k ≡ Some (Some i)
   pub counted : count_in image.commits.items (4 * k) ≡ count
 

@@ -14,9 +14,9 @@ use Rattle.fk_sim_nodes.specs.Node.{Member, add, Words}
 use Rattle.fk_sim_nodes.specs.Alone.{Holds, IsAt, GoesAlone, NodeCycle}
 
 -- All members are live, and at word k of the code.
-abbrev pub AllStandAt : (k : ℕ) → List Member → Type 0
-AllStandAt k [] = Unit {0}
-AllStandAt k (m ∷ ms) = (m.hart.pc ≡ 4 * k) × (m.hart.ended ≡ false) × AllStandAt k ms
+abbrev pub AllAreAt : (k : ℕ) → List Member → Type 0
+AllAreAt k [] = Unit {0}
+AllAreAt k (m ∷ ms) = (m.hart.pc ≡ 4 * k) × (m.hart.ended ≡ false) × AllAreAt k ms
 
 -- Each member with what a function makes of its hart.
 abbrev pub on_each : (Member → Hart) → List Member → List Member
@@ -76,7 +76,7 @@ abbrev pub PrivateOfAll : Type 0
 PrivateOfAll =
     (image : Image) (mine : Words) (t : Setting) (k c : ℕ) (i : Instruction) (f : Member → Hart)
     (ms : List Member) (own : Memory)
-    → Holds image t → IsAt image k i c → AllStandAt k ms → AllGoAlone t i f ms
+    → Holds image t → IsAt image k i c → AllAreAt k ms → AllGoAlone t i f ms
     → NodeCycle image mine t c ms own (λ ms' own'. (ms' ≡ on_each f ms) × (own' ≡ own))
 
 -- Each member loads its own word.
@@ -84,30 +84,30 @@ abbrev pub LoadsOfAll : Type 0
 LoadsOfAll =
     (image : Image) (mine : Words) (t : Setting) (k c rd rs imm : ℕ) (word : Member → ℕ)
     (ms : List Member) (own : Memory)
-    → Holds image t → IsAt image k (Lw rd rs imm) c → AllStandAt k ms
+    → Holds image t → IsAt image k (Lw rd rs imm) c → AllAreAt k ms
     → AllAtOwn mine (λ h. word_sum (h.registers rs) imm) word ms
     → NodeCycle image mine t c ms own
     (λ ms' own'. (ms' ≡ on_each (λ m. onward_with rd (own (word m)) m.hart) ms) × (own' ≡ own)
-    × AllStandAt (suc k) ms')
+    × AllAreAt (suc k) ms')
 
 -- The last value that is stored to a word stays.
 abbrev pub StoresOfAll : Type 0
 StoresOfAll =
     (image : Image) (mine : Words) (t : Setting) (k c rs rv imm : ℕ) (word : Member → ℕ)
     (ms : List Member) (own : Memory)
-    → Holds image t → IsAt image k (Sw rs rv imm) c → AllStandAt k ms
+    → Holds image t → IsAt image k (Sw rs rv imm) c → AllAreAt k ms
     → AllAtOwn mine (λ h. word_sum (h.registers rs) imm) word ms
     → NodeCycle image mine t c ms own
     (λ ms' own'. (ms' ≡ on_each (λ m. onward m.hart) ms)
-    × ((w : ℕ) → own' w ≡ last_or (own w) (values_for word rv w ms)) × AllStandAt (suc k) ms')
+    × ((w : ℕ) → own' w ≡ last_or (own w) (values_for word rv w ms)) × AllAreAt (suc k) ms')
 
 -- A word becomes the sum of what is added to it, and each member finds the sum of those before it.
 abbrev pub AddsOfAll : Type 0
 AddsOfAll =
     (image : Image) (mine : Words) (t : Setting) (k c rd rs rv : ℕ) (word : Member → ℕ)
     (ms : List Member) (own : Memory)
-    → Holds image t → IsAt image k (AmoAddW rd rs rv false false) c → AllStandAt k ms
+    → Holds image t → IsAt image k (AmoAddW rd rs rv false false) c → AllAreAt k ms
     → AllAtOwn mine (λ h. h.registers rs) word ms
     → NodeCycle image mine t c ms own
     (λ ms' own'. (ms' ≡ each_finds word rd rv own [] ms)
-    × ((w : ℕ) → own' w ≡ sum_from (own w) (values_for word rv w ms)) × AllStandAt (suc k) ms')
+    × ((w : ℕ) → own' w ≡ sum_from (own w) (values_for word rv w ms)) × AllAreAt (suc k) ms')

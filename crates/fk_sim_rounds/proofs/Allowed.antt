@@ -18,13 +18,13 @@ use Rattle.fk_sim_nodes.specs.Node.{Member}
 use Rattle.fk_sim_match.specs.Stage.{Stage, Acts, count_of_stage, counts_for}
 use Rattle.fk_sim_match.specs.Plan.{Plan, Blocks, AllAct}
 use Rattle.fk_sim_block.specs.Owner.{Owner, Doing, core_source}
-use Rattle.fk_sim_block.specs.Next.{StandsOp, step_at}
+use Rattle.fk_sim_block.specs.Next.{OpAt, step_at}
 use Rattle.fk_sim_block.proofs.Standing.{next_here}
 use Rattle.fk_sim_match.proofs.Rounds.{all_true, all_fit_by}
 use Rattle.fk_sim_rounds.specs.Next.{AllAbout}
 use Rattle.fk_sim_rounds.specs.After.{runners_of}
 
-module _ (core : List CoreOp) (image : Image) (setting : Setting) (plan : Plan) (blocks : Blocks Owner Doing) (i : ℕ) (op : CoreOp) (stands : StandsOp core i op Begin) where
+module _ (core : List CoreOp) (image : Image) (setting : Setting) (plan : Plan) (blocks : Blocks Owner Doing) (i : ℕ) (op : CoreOp) (stands : OpAt core i op Begin) where
   abbrev All : (d : ℕ) → List Stage → List Member → List Owner → Type 0
   All d stages ms ps = AllAct (core_source core setting) image plan blocks d stages ms ps
 

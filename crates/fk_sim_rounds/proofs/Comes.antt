@@ -27,13 +27,13 @@ use Rattle.fk_sim_match.proofs.Changes.{does_later}
 use Rattle.fk_sim_block.specs.Owner.{Owner, Doing, core_source}
 use Rattle.fk_sim_block.specs.Stands as law
 use Rattle.fk_sim_block.specs.Stands.{Places}
-use Rattle.fk_sim_block.specs.Next.{StandsOp, step_at}
+use Rattle.fk_sim_block.specs.Next.{OpAt, step_at}
 use Rattle.fk_sim_block.specs.Ready.{is_alone, IsReady}
 use Rattle.fk_sim_block.specs.Block.{most_before, most_behind, IsRunning, Enters, gone_to}
 use Rattle.fk_sim_block.proofs.Standing.{next_here}
 use Rattle.fk_sim_block.specs.Node.{Nestings, Polling, StandsInNode, OwnsHeader, IsAtRest, root_words, barrier_word, closing_word}
 use Rattle.fk_sim_block.specs.Lockstep.{IsMember, AreMembers, AllEnter, AreInStart}
-use Rattle.fk_sim_block.specs.Joint.{is_meeting, word_of, AreSoMany, Polls, IsArriving, StandsByPhase, StandsBehind}
+use Rattle.fk_sim_block.specs.Joint.{is_meeting, word_of, AreSoMany, Polls, IsArriving, IsInPhaseBy, StandsBehind}
 use Rattle.fk_sim_block.specs.Law.{Cycles, GroupLaw}
 use Rattle.fk_sim_match.specs.Nodes.{first_of, HaveSpaces, body_at, meeters_at, is_arrival, is_lockstep, plan_of}
 use Rattle.fk_sim_match.specs.Behind.{runs_of, blocks_of}
@@ -146,7 +146,7 @@ module _ (core : List CoreOp) (image : Image) (places : Places) (nestings : Nest
 
   -- who is on its way to a word was so before
   comes_earlier : (polling : Polling) (first : Hart) (size count : ℕ) (Left : Hart → Type 0) (t : MachineSetting) (n d w : ℕ) (m : Member) (hart : Hart) → RunsPrivately image t m.number n m.hart hart
-      → StandsByPhase image w m.number polling first size Left count (in_cycles n t) (Coming d) hart → StandsByPhase image w m.number polling first size Left count t (Coming (n + d)) m.hart
+      → IsInPhaseBy image w m.number polling first size Left count (in_cycles n t) (Coming d) hart → IsInPhaseBy image w m.number polling first size Left count t (Coming (n + d)) m.hart
   comes_earlier polling first size count Left t n d w m hart private s =
       let even = s.0 in
       let at = finished_in n t in (
@@ -217,7 +217,7 @@ module _ (core : List CoreOp) (image : Image) (places : Places) (nestings : Nest
   -- ---- to a stage
 
   module _ (t : MachineSetting) (m : Member) (p : Owner) (node : IsNode tree spaces (tree.places m.number)) (running : IsRunning image setting t) (lt : m.number < setting.processors)
-      (home : IsHome tree spaces m.number p) (op : CoreOp) (operation : Operation) (stands : StandsOp core p.runner.left.at op operation)
+      (home : IsHome tree spaces m.number p) (op : CoreOp) (operation : Operation) (stands : OpAt core p.runner.left.at op operation)
       (ready : IsReady op operation p.runner)
       (a : Arrives t (runs_of (plan_of tree spaces nodes) (first_of spaces (tree.places m.number)) m.number) m p) where
     abbrev g : ℕ
@@ -265,7 +265,7 @@ module _ (core : List CoreOp) (image : Image) (places : Places) (nestings : Nest
     comes_to_halt : operation ≡ Halt → Comes
     comes_to_halt e =
         let i = p.runner.left.at in
-        let halts = members_halt_at_stages core image places nestings cycles firsts main setting plan (first_of spaces) u g i op here p the_law (subst (λ o. StandsOp core i op o) e stands)
+        let halts = members_halt_at_stages core image places nestings cycles firsts main setting plan (first_of spaces) u g i op here p the_law (subst (λ o. OpAt core i op o) e stands)
         (subst (λ o. Enters core image places setting u i op o p a.hart) e enters) (sym home.number_is) in
         let few = halts.1 in
         let le = a.few in
@@ -331,7 +331,7 @@ module _ (core : List CoreOp) (image : Image) (places : Places) (nestings : Nest
           node = subst (λ r. StandsInNode places nestings setting r p a.hart) runs a.node;
           words = home.words ∙ ap (first_of spaces) e;
         } in
-        let sets = starters_set_out core image places nestings cycles firsts main setting plan (first_of spaces) u i w op here p the_law (subst (λ o. StandsOp core i op o) may.begins stands)
+        let sets = starters_set_out core image places nestings cycles firsts main setting plan (first_of spaces) u i w op here p the_law (subst (λ o. OpAt core i op o) may.begins stands)
         (subst (λ o. Enters core image places setting u i op o p a.hart) may.begins enters) here_root may.in_root (owns_header tree spaces nodes 0 root) refl (tell.own, tell.arrival)
         (tell.member m.number ∙ may.member) (tell.size ∙ processors) in
         let joint : joint_at_word g (trees.kind tree g) closing_word ≡ Starting
@@ -513,7 +513,7 @@ module _ (core : List CoreOp) (image : Image) (places : Places) (nestings : Nest
     come_ending e start =
         come 0 (omega arith)
         (λ ms' own' x. end_together core image places nestings setting plan (first_of spaces) cycles firsts main there g index has.op the_law ms' (all_landed core ps) own'
-        (subst (λ o. StandsOp core index has.op o) e has.stands) (enter End e ms' x.1) start x.0)
+        (subst (λ o. OpAt core index has.op o) e has.stands) (enter End e ms' x.1) start x.0)
 
 pub members_come_to_stages : MembersComeToStages
 members_come_to_stages core image places nestings cycles firsts main setting tree spaces nodes t b m hart p the_law leads node free running lt few private at stands home has =

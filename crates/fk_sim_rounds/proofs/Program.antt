@@ -20,7 +20,7 @@ use Rattle.fk_core.specs.Numbers.{operation_of}
 use Rattle.fk_sim_nodes.specs.Node.{add, of_node}
 use Rattle.fk_lockstep.specs.OneProgram.{HaveOneProgram, AreTogether}
 use Rattle.fk_sim_block.specs.Owner.{Owner, number_of}
-use Rattle.fk_sim_block.specs.Next.{StandsOp, step_at}
+use Rattle.fk_sim_block.specs.Next.{OpAt, step_at}
 use Rattle.fk_sim_block.specs.Ready.{is_alone, IsReady}
 use Rattle.fk_sim_block.specs.Node.{Nestings}
 use Rattle.fk_sim_block.specs.Lockstep.{IsInStart, AreInStart, AreOfSize, NoneIs, IsLowest}
@@ -160,7 +160,7 @@ landed_length core [] = refl
 landed_length core (p ∷ ps) = ap suc (landed_length core ps)
 
 -- at one index stands one operation
-one_op : (core : List CoreOp) (i j : ℕ) (op op' : CoreOp) (x y : Operation) → i ≡ j → StandsOp core i op x → StandsOp core j op' y → op' ≡ op
+one_op : (core : List CoreOp) (i j : ℕ) (op op' : CoreOp) (x y : Operation) → i ≡ j → OpAt core i op x → OpAt core j op' y → op' ≡ op
 one_op core i j op op' x y e a b = let same = sym b.stands ∙ ap (slice_get core) (sym e) ∙ a.stands in cc
 
 one_operation : (op op' : CoreOp) (x y : Operation) → op' ≡ op → operation_of op.kind op.number ≡ Some x → operation_of op'.kind op'.number ≡ Some y → y ≡ x

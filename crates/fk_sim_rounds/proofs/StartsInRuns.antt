@@ -23,7 +23,7 @@ use Rattle.fk_sim_match.specs.Cycle.{AllHaveCommitted}
 use Rattle.fk_sim_match.proofs.Left.{first_alike, second_alike, both_alike}
 use Rattle.fk_sim_block.specs.Owner.{Commons, Owner, Doing, number_of, as_part, phases, part, core_source}
 use Rattle.fk_sim_block.specs.Stands.{Places}
-use Rattle.fk_sim_block.specs.Next.{StandsOp, step_at}
+use Rattle.fk_sim_block.specs.Next.{OpAt, step_at}
 use Rattle.fk_sim_block.specs.Node.{Nestings}
 use Rattle.fk_sim_block.specs.Lockstep.{is_due}
 use Rattle.fk_sim_match.specs.Nodes as plans
@@ -56,7 +56,7 @@ takes_begin : (core : List CoreOp) (setting : Setting) (i : ℕ) (op : CoreOp) (
     → as_part (number_of p) (phases core setting s p.heap (taking p.runner (Some (step_at core i op Begin p.runner.left.callers)))) ≡ Passes s (is_due core i op Begin p)
 takes_begin core setting i op s p = refl
 
-module _ (core : List CoreOp) (image : Image) (setting : Setting) (plan : Plan) (blocks : Blocks Owner Doing) (i : ℕ) (op : CoreOp) (stands : StandsOp core i op Begin) where
+module _ (core : List CoreOp) (image : Image) (setting : Setting) (plan : Plan) (blocks : Blocks Owner Doing) (i : ℕ) (op : CoreOp) (stands : OpAt core i op Begin) where
   -- all have committed
   now : (d : ℕ) (stages : List Stage) (ms : List Member) (ps : List Owner) (afters : List (Option Stage)) → (length ps ≡ 0 → ⊥) → AllAct (core_source core setting) image plan blocks d stages ms ps
       → Pairwise Remains stages afters → AllHaveCommitted afters → d ≡ 0

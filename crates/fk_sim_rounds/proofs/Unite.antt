@@ -32,7 +32,7 @@ use Rattle.fk_sim_match.proofs.Changes.{plan_goes_on}
 use Rattle.fk_sim_match.proofs.Left.{first_alike, second_alike, both_alike, what_is_left, meeting_is_kept}
 use Rattle.fk_sim_block.specs.Owner.{Commons, Owner, Doing, idle, core_source}
 use Rattle.fk_sim_block.specs.Stands.{Places}
-use Rattle.fk_sim_block.specs.Next.{StandsOp}
+use Rattle.fk_sim_block.specs.Next.{OpAt}
 use Rattle.fk_sim_block.specs.Ready.{IsReady}
 use Rattle.fk_sim_block.specs.Node.{Nestings, IsAtRest, root_words, closing_word}
 use Rattle.fk_sim_block.specs.Start as law
@@ -364,14 +364,14 @@ module _ (core : List CoreOp) (image : Image) (places : Places) (nestings : Nest
 
       pub record Starts : Type 0 where
         pub op : CoreOp
-        pub stands : StandsOp core i op Begin
+        pub stands : OpAt core i op Begin
 
       starts_of : (ns : List Member) (qs : List Owner) → (length qs ≡ 0 → ⊥) → AllJoined ns qs → AllAt i qs → Starts
       starts_of [] [] ne joined at' = absurd (ne refl)
       starts_of (m ∷ ns) (q ∷ qs) ne joined at' =
           let j = joined.0 in
           let e : j.i ≡ i = sym j.met.enters.index ∙ at'.0 in
-          record { op = j.op; stands = subst (λ k. StandsOp core k j.op Begin) e j.stands }
+          record { op = j.op; stands = subst (λ k. OpAt core k j.op Begin) e j.stands }
       starts_of ns qs ne joined at' = absurd (assumption joined)
 
       some_owners : length ps ≡ 0 → ⊥
@@ -384,7 +384,7 @@ module _ (core : List CoreOp) (image : Image) (places : Places) (nestings : Nest
       pub start : Starts
       start = starts_of ms ps some_owners all_joined.1 at
 
-      same_op : (a b : CoreOp) (j : ℕ) → j ≡ i → StandsOp core j a Begin → StandsOp core i b Begin → a ≡ b
+      same_op : (a b : CoreOp) (j : ℕ) → j ≡ i → OpAt core j a Begin → OpAt core i b Begin → a ≡ b
       same_op a b j e x y = let p = x.stands in let q = y.stands in cc
 
       all_met : (ns : List Member) (qs : List Owner) → AllJoined ns qs → AllAt i qs

@@ -13,7 +13,7 @@ use Rattle.fk_core.specs.declared.op.CoreOp.{CoreOp}
 use Rattle.fk_core.specs.Next.{is_jump, landing}
 use Rattle.fk_core.specs.WellFormed.{IsOperation}
 use Rattle.fk_sim_block.specs.Owner.{Owner, number_of}
-use Rattle.fk_sim_block.specs.Next.{StandsOp}
+use Rattle.fk_sim_block.specs.Next.{OpAt}
 use Rattle.fk_sim_block.specs.Ready.{is_alone, IsReady}
 use Rattle.fk_sim_block.specs.Block.{gone_to}
 use Rattle.fk_sim_block.specs.Node.{Nestings, first_word}
@@ -74,7 +74,7 @@ pub record HasNext (core : List CoreOp) (nestings : Nestings) (setting : Setting
     (number : ℕ) (p : Owner) : Type 0 where
   pub op : CoreOp
   pub operation : Operation
-  pub stands : StandsOp core p.runner.left.at op operation
+  pub stands : OpAt core p.runner.left.at op operation
   pub ready : IsReady op operation p.runner
   pub may : is_lockstep (trees.kind tree (tree.places number)) ≡ false
       → MayByItself nestings setting tree (tree.places number) number operation p
@@ -115,6 +115,6 @@ pub record HaveNext (core : List CoreOp) (nestings : Nestings) (ps : List Owner)
   pub all_at : AllAt at ps
   pub op : CoreOp
   pub operation : Operation
-  pub stands : StandsOp core (landing core at) op operation
+  pub stands : OpAt core (landing core at) op operation
   pub about : AllAbout (landing core at) op operation (all_landed core ps)
   pub may : MayInGroup nestings operation (all_landed core ps)

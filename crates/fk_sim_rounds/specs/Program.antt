@@ -11,7 +11,7 @@ use Rattle.fk_core.specs.Next.{Position, next}
 use Rattle.fk_sim_nodes.specs.Node.{of_node}
 use Rattle.fk_lockstep.specs.OneProgram.{HaveOneProgram}
 use Rattle.fk_sim_block.specs.Owner.{Owner, number_of}
-use Rattle.fk_sim_block.specs.Next.{StandsOp}
+use Rattle.fk_sim_block.specs.Next.{OpAt}
 use Rattle.fk_sim_block.specs.Ready.{is_alone, IsReady}
 use Rattle.fk_sim_block.specs.Node.{Nestings}
 use Rattle.fk_sim_block.specs.Lockstep.{IsInStart}
@@ -30,7 +30,7 @@ pub record IsInStep (core : List CoreOp) (nestings : Nestings) (number : ℕ)
   pub number_is : number_of p ≡ number
   pub op : CoreOp
   pub operation : Operation
-  pub stands : StandsOp core p.runner.left.at op operation
+  pub stands : OpAt core p.runner.left.at op operation
   pub ready : IsReady op operation p.runner
   pub may : MayInStep nestings operation p
 

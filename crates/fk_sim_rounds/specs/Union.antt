@@ -13,7 +13,7 @@ use Rattle.fk_sim_match.specs.Stage.{Stage, Acts}
 use Rattle.fk_sim_match.specs.Plan.{IsBound}
 use Rattle.fk_sim_block.specs.Owner.{Commons, Owner, core_source}
 use Rattle.fk_sim_block.specs.Stands.{Places}
-use Rattle.fk_sim_block.specs.Next.{StandsOp}
+use Rattle.fk_sim_block.specs.Next.{OpAt}
 use Rattle.fk_sim_block.specs.Node.{Nestings}
 use Rattle.fk_sim_block.specs.Start.{most_united}
 use Rattle.fk_sim_match.specs.Nodes.{first_of, plan_of, united}
@@ -51,7 +51,7 @@ pub record IsUnited (core : List CoreOp) (image : Image) (places : Places)
   pub landed : AllLanded core ps
   pub i : ℕ
   pub op : CoreOp
-  pub stands : StandsOp core i op Begin
+  pub stands : OpAt core i op Begin
   pub about : AllAbout i op Begin ps
   pub order : AreInOrder 0 s.runners
   pub beside : IsBeside core s ps shared

@@ -19,7 +19,7 @@ use Rattle.fk_sim_match.specs.Plan.{IsBound}
 use Rattle.fk_sim_match.specs.Cycle.{DoneIn}
 use Rattle.fk_sim_block.specs.Owner.{Commons, Owner, idle, core_source}
 use Rattle.fk_sim_block.specs.Stands.{Places}
-use Rattle.fk_sim_block.specs.Next.{StandsOp}
+use Rattle.fk_sim_block.specs.Next.{OpAt}
 use Rattle.fk_sim_block.specs.Node.{Nestings}
 use Rattle.fk_sim_block.specs.Start.{most_united, IsInRoot}
 use Rattle.fk_sim_block.specs.Law.{Cycles, GroupLaw}
@@ -50,7 +50,7 @@ module _ (core : List CoreOp) (image : Image) (places : Places) (nestings : Nest
   -- in lockstep, at this distance from their commit.
   pub record AreInLockstep (i : ℕ) : Type 0 where
     pub op : CoreOp
-    pub stands : StandsOp core i op Begin
+    pub stands : OpAt core i op Begin
     pub about : AllAbout i op Begin ps
     pub distance : ℕ
     pub few : distance < most_united

@@ -20,7 +20,7 @@ use Rattle.fk_sim_match.specs.Stage.{Commits, Unites, Stage, Ended, Acts, Meets,
 use Rattle.fk_lockstep.proofs.Round.{first_is, some_at}
 use Rattle.fk_lockstep_one_group.proofs.Acts.{acts, counts_as}
 use Rattle.fk_sim_block.specs.Owner.{Owner, Doing}
-use Rattle.fk_sim_block.specs.Next.{StandsOp, step_at}
+use Rattle.fk_sim_block.specs.Next.{OpAt, step_at}
 use Rattle.fk_sim_block.specs.Node.{Nestings}
 use Rattle.fk_sim_match.specs.Nodes.{is_lockstep}
 use Rattle.fk_sim_match.specs.Rounds.{joint_at_word, ending_of, IsDueAt, AllDue}
@@ -159,7 +159,7 @@ united_had_next core s ps shared i op afters leads beside stands about as_many =
         let first : q.runner ≡ landed_runner core r = cc in
         let rest : runners_of qs ≡ map (landed_runner core) rs = cc in
         let at : landing core r.left.at ≡ i = sym (ap (λ (x : Runner Position). x.left.at) first) ∙ all.0 in
-        let next_is = next_at core r.left op o.Begin (subst (λ (j : ℕ). StandsOp core j op o.Begin) (sym at) stands) in (
+        let next_is = next_at core r.left op o.Begin (subst (λ (j : ℕ). OpAt core j op o.Begin) (sym at) stands) in (
           (λ gone none. let clash : None ≡ Some (step_at core (landing core r.left.at) op o.Begin r.left.callers) = sym none ∙ next_is in cc),
           by rs qs as' rest all.2 (omega (arith, long)),
         )

@@ -23,7 +23,7 @@ use Rattle.fk_sim_nodes.specs.Node.{AreAsMany}
 use Rattle.fk_sim_nodes.specs.Source.{Shows}
 use Rattle.fk_sim_block.specs.Owner.{Commons, commons_of, Owner, core_source}
 use Rattle.fk_sim_block.specs.Stands.{Places}
-use Rattle.fk_sim_block.specs.Next.{StandsOp}
+use Rattle.fk_sim_block.specs.Next.{OpAt}
 use Rattle.fk_sim_block.proofs.Standing.{next_here}
 use Rattle.fk_sim_block.specs.Node.{Nestings}
 use Rattle.fk_sim_block.specs.Law.{Cycles, GroupLaw}
@@ -78,7 +78,7 @@ module _ (core : List CoreOp) (image : Image) (places : Places) (nestings : Nest
       }
 
   -- who is at the beginning of `start` has something left to do
-  not_done : (i : ℕ) (op : CoreOp) (ps : List Owner) (rs : List (Runner Position)) → StandsOp core i op Begin → AllAbout i op Begin ps → runners_of ps ≡ map (landed_runner core) rs → 1 ≤ length ps
+  not_done : (i : ℕ) (op : CoreOp) (ps : List Owner) (rs : List (Runner Position)) → OpAt core i op Begin → AllAbout i op Begin ps → runners_of ps ≡ map (landed_runner core) rs → 1 ≤ length ps
       → all_done (next core) setting rs ≡ false
   not_done i op [] rs stands about same some = absurd (omega (arith, some))
   not_done i op (p ∷ ps) [] stands about same some = absurd (cc)

@@ -13,7 +13,7 @@ use Rattle.fk_meaning.specs.Round.{Runner}
 use Rattle.fk_core.specs.declared.op.CoreOp.{CoreOp}
 use Rattle.fk_core.specs.Next.{Position, position, behind_jump, landing, returned, follows, step_by, step_of, next}
 use Rattle.fk_core.specs.WellFormed.{LeadsOn}
-use Rattle.fk_sim_block.specs.Next.{StandsOp, step_at}
+use Rattle.fk_sim_block.specs.Next.{OpAt, step_at}
 use Rattle.fk_sim_block.specs.Ready.{is_no_step, MayDo}
 use Rattle.fk_sim_block.specs.Lists.{StaysInList}
 use Rattle.fk_sim_block.specs.Node.{Nestings}
@@ -119,16 +119,16 @@ behind_body (suc g) (Some (Asynchronous alone)) false e = ((λ zero_is. omega (a
 pub record Leading (core : List CoreOp) (w : Position) : Type 0 where
   pub op : CoreOp
   pub operation : Operation
-  pub at : StandsOp core (landing core w.at) op operation
+  pub at : OpAt core (landing core w.at) op operation
   pub is_next : next core w ≡ Some (step_at core (landing core w.at) op operation w.callers)
 
-pub next_at : (core : List CoreOp) (w : Position) (op : CoreOp) (operation : Operation) → StandsOp core (landing core w.at) op operation → next core w ≡ Some (step_at core (landing core w.at) op operation w.callers)
+pub next_at : (core : List CoreOp) (w : Position) (op : CoreOp) (operation : Operation) → OpAt core (landing core w.at) op operation → next core w ≡ Some (step_at core (landing core w.at) op operation w.callers)
 next_at core w op operation at = ap (step_of core (landing core w.at) w.callers) at.stands ∙ ap (step_by core (landing core w.at) w.callers op) at.is_read
 
 pub leading : (core : List CoreOp) → LeadsOn core → (w : Position) → w.at < length core → Leading core w
 leading core leads w lt =
     let is = leads w.at lt in
-    let at : StandsOp core (landing core w.at) is.op is.operation = record { stands = is.stands; no_jump = no_jump is.op is.operation is.is_read; is_read = is.is_read } in
+    let at : OpAt core (landing core w.at) is.op is.operation = record { stands = is.stands; no_jump = no_jump is.op is.operation is.is_read; is_read = is.is_read } in
     record { op = is.op; operation = is.operation; at = at; is_next = next_at core w is.op is.operation at }
 
 -- ---- where it goes on
@@ -160,7 +160,7 @@ within_return core (i ∷ callers) lt all = record { at = All-head (λ j. j < le
 
 -- in the list, but behind a halt
 pub stays_within : (core : List CoreOp) (nestings : Nestings) (main : ℕ) → IsOfOneGroup core nestings main → (i : ℕ) (op : CoreOp) (operation : Operation) (r : Runner Position) (onward : Bool)
-    → StandsOp core i op operation → MayDo operation r → Below core r.left.callers → operation ≢ o.Halt → StaysInList core (follows core operation i op.target r.left.callers onward)
+    → OpAt core i op operation → MayDo operation r → Below core r.left.callers → operation ≢ o.Halt → StaysInList core (follows core operation i op.target r.left.callers onward)
 stays_within core nestings main list i op (o.Leave gives framed) r onward at may all ne = within_return core r.left.callers may all
 stays_within core nestings main list i op o.Halt r onward at may all ne = absurd (ne refl)
 stays_within core nestings main list i op operation r onward at may all ne =
@@ -168,7 +168,7 @@ stays_within core nestings main list i op operation r onward at may all ne =
 
 -- or at the end behind that
 pub goes_within : (core : List CoreOp) (nestings : Nestings) (main : ℕ) → IsOfOneGroup core nestings main → (i : ℕ) (op : CoreOp) (operation : Operation) (r : Runner Position) (onward : Bool)
-    → StandsOp core i op operation → MayDo operation r → Below core r.left.callers
+    → OpAt core i op operation → MayDo operation r → Below core r.left.callers
     → StaysInList core (follows core operation i op.target r.left.callers onward) ⊎ (follows core operation i op.target r.left.callers onward ≡ the_end core)
 goes_within core nestings main list i op o.Halt r onward at may all = inr (ap (returned core) may)
 goes_within core nestings main list i op operation r onward at may all = inl (stays_within core nestings main list i op operation r onward at may all (λ e. cc))

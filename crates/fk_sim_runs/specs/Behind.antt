@@ -13,7 +13,7 @@ use Rattle.fk_lockstep_one_group.specs.Runs.{AreSingle}
 use Rattle.fk_sim_nodes.specs.Source.{AllPass}
 use Rattle.fk_sim_match.specs.Stage.{Stage, counts_for, Pairwise, Remains}
 use Rattle.fk_sim_block.specs.Owner.{Commons, Owner, Doing, core_source}
-use Rattle.fk_sim_block.specs.Next.{StandsOp}
+use Rattle.fk_sim_block.specs.Next.{OpAt}
 use Rattle.fk_sim_rounds.specs.InRange.{AreGiven}
 use Rattle.fk_sim_block.specs.Node.{Nestings}
 use Rattle.fk_sim_match.specs.Rounds.{AllDue}
@@ -37,7 +37,7 @@ abbrev pub UnitedHadNext : Type 0
 UnitedHadNext =
     (core : List CoreOp) (s : State Position) (ps : List Owner) (shared : Commons) (i : ℕ)
     (op : CoreOp) (afters : List (Option Stage))
-    → JumpsLead core → IsBeside core s ps shared → StandsOp core i op Begin → AllAbout i op Begin ps
+    → JumpsLead core → IsBeside core s ps shared → OpAt core i op Begin → AllAbout i op Begin ps
     → length afters ≡ length s.runners → HadNext core afters s.runners
 
 module _ (core : List CoreOp) (setting : Setting) (s : State Position) (stages : List Stage) where

@@ -4,9 +4,10 @@ use Rattle.std.specs.Prelude.{nat_lt, vec_len}
 use Rattle.std.proofs.lemmas.Bool.{ltb-false}
 use Rattle.std.proofs.lemmas.List.{length-map}
 use Rattle.std.proofs.lemmas.List.Elements.{All-nil, All-cons}
+use Rattle.fk_num.specs.Limits.{most_text_bytes}
 use Rattle.fk_num.specs.Op.{residue}
 use Rattle.fk_top_input.specs.declared.fault.InputFault.{InputFault}
-use Rattle.fk_top_input.specs.Input.{words, number_of, value_of, number_fault, faults_from, most_bytes, input_of}
+use Rattle.fk_top_input.specs.Input.{words, number_of, value_of, number_fault, faults_from, input_of}
 use Rattle.fk_image.specs.declared.Image.{Image}
 use Rattle.fk_image.specs.Limits.{IsWithinLimits}
 use Rattle.fk_sim_rounds.specs.Follows.{IsInput}
@@ -40,9 +41,9 @@ pub record GivesNumbers (limit : ℕ) (text numbers : List ℕ) : Type 0 where
   pub none : faults_from limit 1 (words text) ≡ []
 
 gives : (limit : ℕ) (text numbers : List ℕ) → input_of limit text ≡ Ok numbers → GivesNumbers limit text numbers
-gives limit text numbers e = by (nat_lt most_bytes (length text)) refl (faults_from limit 1 (words text)) refl
+gives limit text numbers e = by (nat_lt most_text_bytes (length text)) refl (faults_from limit 1 (words text)) refl
   where
-    by : (b : Bool) → nat_lt most_bytes (length text) ≡ b → (fs : List InputFault) → faults_from limit 1 (words text) ≡ fs → GivesNumbers limit text numbers
+    by : (b : Bool) → nat_lt most_text_bytes (length text) ≡ b → (fs : List InputFault) → faults_from limit 1 (words text) ≡ fs → GivesNumbers limit text numbers
     by true long fs is = absurd (let bad = rw long at e in cc)
     by false short (f ∷ fs) is = absurd (let bad = rw (short, is) at e in cc)
     by false short [] is =

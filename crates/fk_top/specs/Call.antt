@@ -1,7 +1,9 @@
 -- Whole calls: why each ends as it does, and what the store and the sinks have after it.
+use Rattle.std.specs.Prelude.{◌+◌}
 use Rattle.std.specs.Prelude.{◌≡◌, ◌≢◌, ℕ, ◌≤◌, ◌⊎◌, List, [], length, vec_len, Option, Some, None}
 use Rattle.std.specs.Prelude.{IsSome, Ok}
 use Rattle.std.specs.Io.KnownBytes.{append_known}
+use Rattle.fk_num.specs.Limits.{most_text_bytes}
 use Rattle.fk_ports.specs.Faults.{HasRisen}
 use Rattle.fk_ports.specs.Known.{TakesPrefix, GivesAtMost, MovesFirst}
 use Rattle.fk_ports.specs.Files.{Files, file, with_file_known, AppendsFile, FetchFaults, LacksFile}
@@ -189,7 +191,8 @@ pub record IsCut (call : Call) : Type 0 where
 -- there was no memory: at most so much was taken from the input as an input text may have, and one
 -- byte more; nothing was put and nothing given
 pub record IsOutOfMemory (call : Call) : Type 0 where
-  pub took : GivesAtMost 1048577 call.request.input.left.before call.request.input.left.after
+  pub took : GivesAtMost
+      (most_text_bytes + 1) call.request.input.left.before call.request.input.left.after
   pub put : HasPut call.store None
   pub out_took : Took call.out []
   pub err_took : Took call.err []
@@ -253,7 +256,7 @@ pub record IsInOrder (call : Call) (command : Command) (bytes text : List ℕ) :
 -- A text of at most 1,048,576 bytes, which keeps the rules of the language, has a layout and is
 -- built.
 pub record IsText (source : List ℕ) : Type 0 where
-  pub short : length source ≤ 1048576
+  pub short : length source ≤ most_text_bytes
   pub built : IsBuilt source
 
 -- The bytes of an image.

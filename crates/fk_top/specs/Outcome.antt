@@ -2,6 +2,7 @@
 use Rattle.std.specs.Prelude.{◌≡◌, ℕ, ◌+◌, ◌-◌, ◌≤◌, ◌⊎◌, List, [], ◌∷◌, ◌++◌, length, map, min}
 use Rattle.std.specs.Prelude.{vec_len, slice_get, Option, Some, None, Result, Ok, Err}
 use Rattle.std.specs.List.{range_with_len}
+use Rattle.fk_num.specs.Limits.{most_data_words, most_text_bytes}
 use Rattle.fk_image.specs.declared.Image.{Image}
 use Rattle.fk_image.specs.Spelling.{IsImageOf}
 use Rattle.fk_asm.specs.Listing as lines
@@ -132,7 +133,7 @@ pub record RefusesImage (bytes : List ℕ) (outcome : Outcome) : Type 0 where
 pub record LacksGlobal (source : List ℕ) (show : Option Text) (outcome : Outcome) : Type 0 where
   pub name : Text
   pub asked : show ≡ Some name
-  pub short : length source ≤ 1048576
+  pub short : length source ≤ most_text_bytes
   pub none : HasGlobal source name None
   pub is : outcome ≡ silent Refused (no_global_line name)
 
@@ -144,7 +145,7 @@ IsShown source _ _ = ⊥
 
 -- The most numbers of an input, beside this many globals: 65,536, and with the globals 524,288.
 abbrev pub most_numbers : ℕ → ℕ
-most_numbers globals = min 65536 (524288 - globals)
+most_numbers globals = min 65536 (most_data_words - globals)
 
 -- The numbers that an input text gives to the machine of an image, or why it is refused.
 abbrev pub numbers_for : Image → List ℕ → Result (List ℕ) InputFault

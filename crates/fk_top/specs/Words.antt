@@ -1,5 +1,6 @@
 -- What the commands read, and which of them run something, put a file or run an image.
-use Rattle.std.specs.Prelude.{ℕ, List}
+use Rattle.std.specs.Prelude.{◌+◌, ℕ, List}
+use Rattle.fk_num.specs.Limits.{most_text_bytes}
 use Rattle.fk_top_words.specs.Arguments.{Text}
 use Rattle.fk_top_words.specs.Command.{Command, Run, Build, Exec, ListCode, Reads}
 
@@ -31,15 +32,15 @@ file_of (ListCode image) = image
 -- The most bytes of its file that a command reads: one more than a source may have, or than an
 -- image can have.
 abbrev pub most_bytes : Command → ℕ
-most_bytes (Run file harts cycles show) = 1048577
-most_bytes (Build file image) = 1048577
+most_bytes (Run file harts cycles show) = most_text_bytes + 1
+most_bytes (Build file image) = most_text_bytes + 1
 most_bytes (Exec image harts cycles) = 5434905
 most_bytes (ListCode image) = 5434905
 
 -- The most bytes of the input that a command takes: one more than an input text may have if it
 -- runs, else none.
 abbrev pub most_input : Command → ℕ
-most_input (Run file harts cycles show) = 1048577
+most_input (Run file harts cycles show) = most_text_bytes + 1
 most_input (Build file image) = 0
-most_input (Exec image harts cycles) = 1048577
+most_input (Exec image harts cycles) = most_text_bytes + 1
 most_input (ListCode image) = 0

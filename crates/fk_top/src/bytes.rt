@@ -1,6 +1,7 @@
 //! The outcome of a command for the bytes of an image.
 
 ghost use Rattle.std.specs.Prelude.{◌≡◌, ◌⊎◌, ◌≤◌, length, IfOk};
+ghost use Rattle.fk_num.specs.Limits.{most_code_words};
 ghost use Rattle.fk_top.specs.Outcome.{ListsImage, RefusesImage, RunsImage, listing};
 ghost use Rattle.fk_top.specs.Ending.{outcome_of};
 
@@ -52,7 +53,7 @@ const LINE_SIZE: usize = 68;
 
 // The lines of code, one for each word.
 fn list_code(alloc: Global, code: &[u32]) -> Result<Vec<u8>, AllocError>
-    requires { length code.now ≤ 262144 }
+    requires { length code.now ≤ most_code_words }
     ensures { IfOk result (λ lines. lines.items ≡ listing 0 code.now) }
 {
     let mut lines = Vec::with_capacity(alloc, LINE_SIZE * code.len())?;

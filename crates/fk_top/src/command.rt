@@ -4,16 +4,11 @@ ghost use Rattle.std.specs.Prelude.{◌≡◌};
 ghost use Rattle.fk_top_words.specs.Command.{command_of};
 ghost use Rattle.fk_top.specs.Words.{file_of, most_bytes, most_input};
 
+use fk_num::MOST_TEXT_BYTES;
 use fk_top_words::CommandWords;
-
-/// The most bytes of a source. One more is fetched, to recognize a longer one.
-const SOURCE_LIMIT: usize = 1_048_576;
 
 /// The most bytes of an image. One more is fetched, to recognize a longer one.
 const IMAGE_LIMIT: usize = 5_434_904;
-
-/// The most bytes of an input text. One more is taken, to recognize a longer one.
-const INPUT_LIMIT: usize = 1_048_576;
 
 /// The name of the file that a command reads.
 pub fn file_of<'a>(command: CommandWords<'a>) -> &'a str
@@ -31,7 +26,7 @@ pub fn most_bytes(command: CommandWords) -> usize
     ensures { result ≡ most_bytes (command_of command.entry) }
 {
     match command {
-        CommandWords::Run(_, _) | CommandWords::Build(_, _) => SOURCE_LIMIT + 1,
+        CommandWords::Run(_, _) | CommandWords::Build(_, _) => MOST_TEXT_BYTES + 1,
         CommandWords::Exec(_) | CommandWords::List(_) => IMAGE_LIMIT + 1,
     }
 }
@@ -41,7 +36,7 @@ pub fn most_input(command: CommandWords) -> usize
     ensures { result ≡ most_input (command_of command.entry) }
 {
     match command {
-        CommandWords::Run(_, _) | CommandWords::Exec(_) => INPUT_LIMIT + 1,
+        CommandWords::Run(_, _) | CommandWords::Exec(_) => MOST_TEXT_BYTES + 1,
         CommandWords::Build(_, _) | CommandWords::List(_) => 0,
     }
 }

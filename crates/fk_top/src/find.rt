@@ -1,6 +1,7 @@
 //! The ending of a call, before anything is put or given.
 
-ghost use Rattle.std.specs.Prelude.{◌≡◌, ◌⊎◌, map, string_bytes, IfOk, IsErr, IsOkAnd, OnErr};
+ghost use Rattle.std.specs.Prelude.{◌+◌, ◌≡◌, ◌⊎◌, map, string_bytes, IfOk, IsErr, IsOkAnd, OnErr};
+ghost use Rattle.fk_num.specs.Limits.{most_text_bytes};
 ghost use Rattle.fk_ports.specs.Known.{GivesAtMost};
 ghost use Rattle.fk_top_words.specs.Command.{command_of};
 ghost use Rattle.fk_top.specs.Words.{IsRun};
@@ -38,7 +39,8 @@ pub fn find_ending<'a, F: Store, S: Source>(
         × (S.faults input.new ≡ S.faults input.old))) }
     ensures unread { OnErr result ((F.fetch_faults files.new ≡ F.fetch_faults files.old)
         × (S.faults input.new ≡ S.faults input.old)) }
-    ensures lost { OnErr result (GivesAtMost 1048577 (S.left input.old) (S.left input.new)) }
+    ensures lost { OnErr result
+        (GivesAtMost (most_text_bytes + 1) (S.left input.old) (S.left input.new)) }
     ensures files { F.files files.new ≡ F.files files.old }
     ensures put_faults { F.put_faults files.new ≡ F.put_faults files.old }
     ensures left { ¬ IsRun (map string_bytes words.now) → S.left input.new ≡ S.left input.old }

@@ -1,6 +1,7 @@
 //! Whole runs of an image.
 
 ghost use Rattle.std.specs.Prelude.{◌≡◌, ◌≤◌, ◌+◌, ℕ, List, length, vec_len, option_map, IfOk};
+ghost use Rattle.fk_num.specs.Limits.{most_data_words};
 ghost use Rattle.fk_image.specs.Limits.{IsWithinLimits};
 ghost use Rattle.fk_machine.specs.Run.{machine, output_of};
 ghost use Rattle.fk_machine.specs.View.{machine_of};
@@ -14,6 +15,7 @@ use crate::status::Status;
 use crate::variable::Variable;
 use fk_image::Image;
 use fk_machine::{Machine, Stand};
+use fk_num::MOST_DATA_WORDS;
 use fk_top_input::read_input;
 use fk_top_words::RunWords;
 use std::alloc::{AllocError, Global};
@@ -69,15 +71,12 @@ pub fn run_ending<'a>(
 /// input they have at most 524,288 words.
 const MOST_NUMBERS: usize = 65_536;
 
-/// The most words of the globals and the input together.
-const MOST_WORDS: usize = 524_288;
-
 // The most numbers of an input beside this many globals.
 fn most_numbers(globals: usize) -> u32
-    requires { globals ≤ 524288 }
+    requires { globals ≤ most_data_words }
     ensures { result ≡ most_numbers globals }
 {
-    MOST_NUMBERS.min(MOST_WORDS - globals) as u32
+    MOST_NUMBERS.min(MOST_DATA_WORDS as usize - globals) as u32
 }
 
 // Runs an image on input numbers, with this many harts, until it ends or the bound on the cycles is
@@ -94,7 +93,7 @@ fn run_image<'a>(
     requires some_harts { 1 ≤ harts }
     requires few_harts { harts ≤ 1024 }
     requires few_inputs { length input.now ≤ 65536 }
-    requires room { vec_len image.now.globals + length input.now ≤ 524288 }
+    requires room { vec_len image.now.globals + length input.now ≤ most_data_words }
     ensures output { IfOk result (λ ran. with_line ran.output.items ran.shown
         ≡ with_shown (output_of image.now input.now harts bound)
         (option_map variable_of variable.entry) (machine image.now input.now harts bound)) }

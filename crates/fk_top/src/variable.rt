@@ -1,6 +1,7 @@
 //! A variable that is to be shown.
 
 ghost use Rattle.std.specs.Prelude.{◌≤◌, ◌+◌};
+ghost use Rattle.fk_num.specs.Limits.{most_data_words};
 
 /// A variable to be shown: its words in shared data are those from `first` on.
 #[derive(Clone, Copy)]
@@ -10,5 +11,5 @@ pub struct Variable<'a> {
     pub words: u32,
     /// Whether the words are shown as signed numbers.
     pub signed: bool,
-    ghost few: { first + words ≤ 524288 },
+    ghost few: { first + words ≤ most_data_words },
 }

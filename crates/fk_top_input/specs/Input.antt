@@ -4,6 +4,7 @@ use Rattle.std.specs.Prelude.{int_le, int_lt, nat_lt, List, [], ◌∷◌, Optio
 use Rattle.std.specs.Prelude.{Err, drop, filter, length, map, if◌then◌else◌}
 use Rattle.std.specs.List.{enumerate_from, filter_map, slice_split}
 use Rattle.std.specs.Str.Parse.{digits_value}
+use Rattle.fk_num.specs.Limits.{most_text_bytes}
 use Rattle.fk_num.specs.Numeral.{is_numeral}
 use Rattle.fk_num.specs.Op.{word_of}
 use Rattle.fk_top_input.specs.declared.fault.InputFault.{InputFault}
@@ -74,12 +75,8 @@ abbrev pub unless_fault : List ℕ → List InputFault → Result (List ℕ) Inp
 unless_fault numbers [] = Ok numbers
 unless_fault numbers (fault ∷ later) = Err fault
 
--- The most bytes of a text.
-abbrev pub most_bytes : ℕ
-most_bytes = 1048576
-
 -- The numbers of a text, of which there may be `limit`, or its first fault.
 abbrev pub input_of : ℕ → List ℕ → Result (List ℕ) InputFault
 input_of limit text =
-    if nat_lt most_bytes (length text) then Err (TooMany 0)
+    if nat_lt most_text_bytes (length text) then Err (TooMany 0)
     else unless_fault (map number_of (words text)) (faults_from limit 1 (words text))

@@ -1,15 +1,14 @@
 //! Reading an input text.
 
 ghost use Rattle.std.specs.Prelude.{◌≡◌, ◌≤◌, ◌⊎◌, ℕ, Ok, Err, IfOk, IfErr, OnOk, length};
-ghost use Rattle.fk_top_input.specs.Input.{input_of, most_bytes};
+ghost use Rattle.fk_num.specs.Limits.{most_text_bytes};
+ghost use Rattle.fk_top_input.specs.Input.{input_of};
 
 use crate::fault::{InputFault, out_of_memory};
 use crate::number::number_within;
 use crate::words::first_word;
+use fk_num::MOST_TEXT_BYTES;
 use std::alloc::Global;
-
-/// The most bytes of a text.
-const MOST_BYTES: usize = 1_048_576;
 
 /// The numbers of a text, of which there may be `limit`, modulo 2^32.
 ///
@@ -38,10 +37,10 @@ pub fn read_input(alloc: Global, bytes: &[u8], limit: u32) -> Result<Vec<u32>, I
 
 /// Tests that a text isn't too long, whatever its limit of words.
 fn check_length(bytes: &[u8]) -> Result<(), InputFault>
-    ensures short { OnOk result (length bytes.now ≤ most_bytes) }
+    ensures short { OnOk result (length bytes.now ≤ most_text_bytes) }
     ensures long { IfErr result (λ fault. (limit : ℕ) → input_of limit bytes.now ≡ Err fault) }
 {
-    if bytes.len() > MOST_BYTES {
+    if bytes.len() > MOST_TEXT_BYTES {
         return Err(InputFault::TooMany(0));
     }
     Ok(())

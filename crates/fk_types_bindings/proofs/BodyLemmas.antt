@@ -7,7 +7,7 @@ use Rattle.std.proofs.lemmas.Option.{slice_get-map, slice_get_read}
 use Rattle.fk_types_names.specs.declared.outline.Declaration.{Declaration}
 use Rattle.fk_types_names.specs.Outline.{DeclarationTree, MarkTree, Variable, Header, Opens, Closes, Declares, Uses, declared_in, name_of}
 use Rattle.fk_types_names.specs.View.{declaration_of}
-use Rattle.fk_types_names.specs.Means.{HasBodyAt, IsDefinition, StandsFor, binding}
+use Rattle.fk_types_names.specs.Means.{HasBodyAt, IsDefinition, Denotes, binding}
 use Rattle.fk_types_names.specs.Locals.{IsFirstOf}
 use Rattle.fk_types_bindings.specs.Bodies.{AreBodies, meant_by}
 
@@ -84,7 +84,7 @@ module _ (marks : List MarkTree) (name : List ℕ) (here meant : ℕ) where
   undefined None first same none = ap (binding marks) (sym same)
   undefined (Some number) first same none = let mark = from_number marks name number first.0 in absurd (none mark.0 mark.1)
 
-pub meant-stands : (marks : List MarkTree) (bodies : List ℕ → Option ℕ) → AreBodies (declared_in marks) bodies → (here meant : ℕ) (d : DeclarationTree) → StandsFor marks (name_of d).bytes here d meant
+pub meant-stands : (marks : List MarkTree) (bodies : List ℕ → Option ℕ) → AreBodies (declared_in marks) bodies → (here meant : ℕ) (d : DeclarationTree) → Denotes marks (name_of d).bytes here d meant
     → meant_by bodies (binding marks here) d ≡ binding marks meant
 meant-stands marks bodies are here meant (Variable v) stands = ap (binding marks) (sym stands)
 meant-stands marks bodies are here meant (Header f) (inl is) = defined marks f.name.bytes here meant (bodies f.name.bytes) (are f.name.bytes) is
@@ -125,6 +125,6 @@ stands-first marks name here (Some number) first =
     omega (arith, above, grows, mark.2) in
     (mark.0, inl (record { body = mark.1; first = least }))
 
-pub stands : (marks : List MarkTree) (bodies : List ℕ → Option ℕ) → AreBodies (declared_in marks) bodies → (here : ℕ) (d : DeclarationTree) → (meant : ℕ) × StandsFor marks (name_of d).bytes here d meant
+pub stands : (marks : List MarkTree) (bodies : List ℕ → Option ℕ) → AreBodies (declared_in marks) bodies → (here : ℕ) (d : DeclarationTree) → (meant : ℕ) × Denotes marks (name_of d).bytes here d meant
 stands marks bodies are here (Variable v) = (here, refl)
 stands marks bodies are here (Header f) = stands-first marks f.name.bytes here (bodies f.name.bytes) (are f.name.bytes)

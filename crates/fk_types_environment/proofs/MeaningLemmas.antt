@@ -13,7 +13,7 @@ use Rattle.fk_types_names.specs.declared.names.Meaning.TheVariants as m
 use Rattle.fk_types_names.specs.declared.names.Names.{Names}
 use Rattle.fk_types_names.specs.Outline.{DeclarationTree, MarkTree, Variable, Header, Opens, Closes, Declares, Uses, declared_in, outline}
 use Rattle.fk_types_names.specs.View.{declaration_of}
-use Rattle.fk_types_names.specs.Means.{Means, MeansAt, StandsFor, HasBodyAt, binding}
+use Rattle.fk_types_names.specs.Means.{Means, MeansAt, Denotes, HasBodyAt, binding}
 use Rattle.fk_types_names.specs.Names.{AreNames, meaning_in}
 use Rattle.fk_types_judgments.specs.Names.{Env, IsEnv, IsMeant, IsDeclared}
 use Rattle.fk_types_forms.specs.declared.names.Entity.{Entity}
@@ -45,7 +45,7 @@ defines (Declares (Header function) ∷ marks) bytes zero h = (Header function, 
 defines (Uses name ∷ marks) bytes zero h = absurd h
 defines (mark ∷ marks) bytes (suc at) h = defines marks bytes at h
 
-stands : (marks : List MarkTree) (bytes : List ℕ) (at : ℕ) (d : DeclarationTree) (meant : ℕ) → slice_get marks at ≡ Some (Declares d) → StandsFor marks bytes at d meant
+stands : (marks : List MarkTree) (bytes : List ℕ) (at : ℕ) (d : DeclarationTree) (meant : ℕ) → slice_get marks at ≡ Some (Declares d) → Denotes marks bytes at d meant
     → (e : DeclarationTree) × (slice_get marks meant ≡ Some (Declares e))
 stands marks bytes at (Variable variable) meant here same = (Variable variable, ap (slice_get marks) same ∙ here)
 stands marks bytes at (Header function) meant here (inl defined) = defines marks bytes meant defined.body

@@ -1,6 +1,7 @@
 //! Types, as far as code generation depends on them.
 
-ghost use Rattle.std.specs.Prelude.{◌≡◌, ◌≤◌, false};
+ghost use Rattle.std.specs.Prelude.{◌+◌, ◌≡◌, ◌≤◌, false};
+ghost use Rattle.fk_num.specs.Limits.{most_data_words};
 ghost use Rattle.fk_types_structs.specs.Whole.{structs_in, IsSound};
 ghost use Rattle.fk_types_rules.specs.Kinds.{IsWords, IsStep, IsValueKind, IsArrayKind};
 ghost use Rattle.fk_types_rules.specs.Kinds.{IsPlainKind, IsStoredKind, IsKind};
@@ -13,7 +14,7 @@ use fk_types_structs::{DataType, Structs};
 fn words(structs: &Structs, kind: &DataType) -> u32
     requires { IsSound structs.now }
     ensures words { IsWords (structs_in structs.now) kind.now result }
-    ensures few { result ≤ 524289 }
+    ensures few { result ≤ most_data_words + 1 }
 {
     match structs.words(kind) {
         Some(words) => words,

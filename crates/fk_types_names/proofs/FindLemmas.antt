@@ -15,7 +15,7 @@ use Rattle.fk_syntax.specs.declared.place.Name.{Name}
 use Rattle.fk_types_names.specs.View.{mark_of}
 use Rattle.fk_types_names.specs.Outline.{MarkTree, DeclarationTree, Variable, Header, Declares, Uses}
 use Rattle.fk_types_names.specs.Visible.{depth, IsInnermost}
-use Rattle.fk_types_names.specs.Means.{HasBodyAt, StandsFor, MeansAt, MeansIn, UsesAt, binding}
+use Rattle.fk_types_names.specs.Means.{HasBodyAt, Denotes, MeansAt, MeansIn, UsesAt, binding}
 use Rattle.fk_types_names.specs.Filling.{AreApart, AreFound}
 
 -- ---- a list after a write
@@ -137,7 +137,7 @@ module _ (marks : List MarkTree) (bytes : List ℕ) where
       by m n (inr l) (inl g) = let e : n ≡ m = l.0 in absurd (omega arith)
       by m n (inr l) (inr g) = let x : i ≤ j = l.1 in let y : j ≤ i = g.1 in omega arith
 
-  stands_once : (at : ℕ) (d : DeclarationTree) (m n : ℕ) → StandsFor marks bytes at d m → StandsFor marks bytes at d n → m ≡ n
+  stands_once : (at : ℕ) (d : DeclarationTree) (m n : ℕ) → Denotes marks bytes at d m → Denotes marks bytes at d n → m ≡ n
   stands_once at (Variable d) m n a b = a ∙ sym b
   stands_once at (Header f) m n (inl a) (inl b) = first_once (HasBodyAt marks bytes) m n a.body b.body a.first b.first
   stands_once at (Header f) m n (inl a) (inr b) = absurd (b.1 m a.body)
@@ -148,7 +148,7 @@ module _ (marks : List MarkTree) (bytes : List ℕ) where
   means_once from (v.Declared m) (v.Declared n) a b =
       let at_same : a.0 ≡ b.0 = innermost_once from a.0 b.0 a.3 b.3 in
       let d_same : a.1 ≡ b.1 = same_declaration a.1 b.1 (sym a.4 ∙ subst (λ i. slice_get marks i ≡ Some (Declares b.1)) (sym at_same) b.4) in
-      let other = subst (λ i. StandsFor marks bytes i a.1 b.2) (sym at_same) (subst (λ d. StandsFor marks bytes b.0 d b.2) (sym d_same) b.5) in
+      let other = subst (λ i. Denotes marks bytes i a.1 b.2) (sym at_same) (subst (λ d. Denotes marks bytes b.0 d b.2) (sym d_same) b.5) in
       let meant_same : a.2 ≡ b.2 = stands_once a.0 a.1 a.2 b.2 a.5 other in
       ap v.Declared (a.6 ∙ (ap (binding marks) meant_same ∙ sym b.6))
   means_once from (v.Declared m) v.Predeclared a b = absurd (b.0 a.0 a.3.declares a.3.visible)

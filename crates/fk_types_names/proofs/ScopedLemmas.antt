@@ -1,7 +1,6 @@
 -- What is visible at the marks of a program, from mark to mark.
 use Rattle.std.proofs.Common.{◌≡◌, ◌⊎◌, inl, inr, ℕ, zero, suc, ◌+◌, ◌<◌, List, [], ◌∷◌, ◌++◌, length, Option, Some, None, refl, sym, subst, ap, ◌∙◌, arith, length-append}
 use Rattle.std.specs.Prelude.{MatchOption, IsSomeAnd, slice_get}
-use Rattle.std.specs.Option.{option_and_then}
 use Rattle.fk_syntax.specs.Tree.{Named}
 use Rattle.fk_types_names.specs.Outline.{MarkTree, Uses}
 use Rattle.fk_types_names.specs.Visible.{IsHidden, IsInnermost}

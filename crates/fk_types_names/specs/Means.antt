@@ -44,16 +44,16 @@ pub record IsDefinition (marks : List MarkTree) (bytes : List ℕ) (at : ℕ) : 
 
 -- the declaration that a name denotes, whose innermost declaration is this one: for a function the
 -- header that has the body, if there is one
-abbrev pub StandsFor : List MarkTree → List ℕ → ℕ → DeclarationTree → ℕ → Type 0
-StandsFor marks bytes at (Variable variable) meant = meant ≡ at
-StandsFor marks bytes at (Header function) meant = IsDefinition marks bytes meant
+abbrev pub Denotes : List MarkTree → List ℕ → ℕ → DeclarationTree → ℕ → Type 0
+Denotes marks bytes at (Variable variable) meant = meant ≡ at
+Denotes marks bytes at (Header function) meant = IsDefinition marks bytes meant
     ⊎ ((meant ≡ at) × ((k : ℕ) → ¬ HasBodyAt marks bytes k))
 
 -- what a name that is used at an index denotes
 abbrev pub MeansAt : List MarkTree → List ℕ → ℕ → Meaning → Type 0
 MeansAt marks bytes from (m.Declared number) = (at : ℕ) × (d : DeclarationTree) × (meant : ℕ)
     × IsInnermost marks bytes from at × (slice_get marks at ≡ Some (Declares d))
-    × StandsFor marks bytes at d meant × (number ≡ binding marks meant)
+    × Denotes marks bytes at d meant × (number ≡ binding marks meant)
 MeansAt marks bytes from m.Predeclared = IsHidden marks bytes from × Contains predeclared bytes
 MeansAt marks bytes from m.Undeclared = IsHidden marks bytes from × (¬ Contains predeclared bytes)
 

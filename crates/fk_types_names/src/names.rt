@@ -8,7 +8,7 @@ ghost use Rattle.fk_types_names.specs.Names.{AreNames};
 ghost use Rattle.fk_types_names.specs.Outline.{DeclarationTree, Declares};
 ghost use Rattle.fk_types_names.specs.View.{mark_of};
 ghost use Rattle.fk_types_names.specs.Visible.{IsHidden, IsInnermost};
-ghost use Rattle.fk_types_names.specs.Means.{is_initial, predeclared, StandsFor, MeansAt};
+ghost use Rattle.fk_types_names.specs.Means.{is_initial, predeclared, Denotes, MeansAt};
 ghost use Rattle.fk_types_names.specs.Filling.{AreApart, AreFound, IsSurvey};
 ghost use Rattle.fk_types_names.specs.Scoped.{AreScoped, AreSound, all_marks};
 
@@ -113,7 +113,7 @@ impl<'a> Survey<'a> {
         ensures within { result < length (all_marks scoped.now) }
         ensures stands { (d : DeclarationTree)
             → slice_get (all_marks scoped.now) at ≡ Some (Declares d)
-            → StandsFor (all_marks scoped.now) name.now at d result }
+            → Denotes (all_marks scoped.now) name.now at d result }
     {
         if !scoped.mark(at).is_header() {
             return at;

@@ -11,7 +11,7 @@ use Rattle.fk_types_names.specs.declared.names.Meaning.{Meaning}
 use Rattle.fk_types_names.specs.declared.names.Meaning.TheVariants as m
 use Rattle.fk_types_names.specs.Outline.{DeclarationTree, MarkTree, Variable, Header, Opens, Closes, Declares, Uses, name_of}
 use Rattle.fk_types_names.specs.Visible.{depth, DeclaresHere, DeclaresAt, IsVisible, IsInnermost, IsHidden}
-use Rattle.fk_types_names.specs.Means.{predeclared, binding, DefinesHere, HasBodyAt, StandsFor, MeansAt}
+use Rattle.fk_types_names.specs.Means.{predeclared, binding, DefinesHere, HasBodyAt, Denotes, MeansAt}
 
 -- a fact is so or not
 abbrev Known : Type 0 → Type 0
@@ -199,7 +199,7 @@ module _ (marks : List MarkTree) where
       by (Some (Declares d)) p = (d, refl)
       by (Some (Uses name)) p = absurd p
 
-  stands_for : (bytes : List ℕ) (at : ℕ) (d : DeclarationTree) → (meant : ℕ) × StandsFor marks bytes at d meant
+  stands_for : (bytes : List ℕ) (at : ℕ) (d : DeclarationTree) → (meant : ℕ) × Denotes marks bytes at d meant
   stands_for bytes at (Variable variable) = (at, refl)
   stands_for bytes at (Header function) = elim (least (HasBodyAt marks bytes) (λ k. known_defined bytes (slice_get marks k)) (length marks)) [
     | inl found ↦ (found.0, inl (record { body = found.2; first = found.3 }))

@@ -11,7 +11,7 @@ use Rattle.fk_types_structs.specs.Words.{capped}
 use Rattle.fk_types_structs.specs.Sizes.{HasTypeWords, HasOffset}
 use Rattle.fk_types_names.specs.declared.names.Meaning.TheVariants as m
 use Rattle.fk_types_names.specs.Outline.{DeclarationTree, Declares, outline, name_of}
-use Rattle.fk_types_names.specs.Means.{Means, StandsFor, binding}
+use Rattle.fk_types_names.specs.Means.{Means, Denotes, binding}
 use Rattle.fk_types_operators.specs.declared.values.ExpressionType.{ExpressionType}
 use Rattle.fk_types_operators.specs.Values.{value_of}
 use Rattle.fk_types_judgments.specs.Names.{Env}
@@ -70,7 +70,7 @@ pub data IsBound (env : Env) (program : ProgramTree) (at : ℕ) : ℕ → Type 0
       → token_of r ≡ at → Refers env program r number → IsBound env program at number
   declares : (d : DeclarationTree) (here meant : ℕ)
       → slice_get (outline program) here ≡ Some (Declares d) → (name_of d).at ≡ at
-      → StandsFor (outline program) (name_of d).bytes here d meant
+      → Denotes (outline program) (name_of d).bytes here d meant
       → IsBound env program at (binding (outline program) meant)
 
 -- each token that has a binding has its number

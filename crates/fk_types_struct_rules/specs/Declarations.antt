@@ -1,5 +1,6 @@
 -- The rules about declarations of a variable, a member or a parameter.
 use Rattle.std.specs.Prelude.{◌≡◌, ℕ, ◌<◌, ◌⊎◌, List, Some, None}
+use Rattle.fk_num.specs.Limits.{most_data_words}
 use Rattle.fk_syntax.specs.declared.place.Place.{Place}
 use Rattle.fk_syntax.specs.Tree.{Named, TypeTree}
 use Rattle.fk_syntax.specs.Tree as t
@@ -26,11 +27,11 @@ IsStruct type = (name : Named) × (type.base ≡ t.Struct name) × (type.stars �
 -- the length of an array is 0 or above the limit
 abbrev pub HasWrongLength : DeclaredTree → Type 0
 HasWrongLength declared = (length : ℕ) × (declared.length ≡ Some length)
-    × ((length ≡ 0) ⊎ (524288 < length))
+    × ((length ≡ 0) ⊎ (most_data_words < length))
 
 -- a type has more words than the limit
 abbrev pub IsTooLarge : List StructTree → DataType → Type 0
-IsTooLarge structs type = (words : ℕ) × HasTypeWords structs type words × (524288 < words)
+IsTooLarge structs type = (words : ℕ) × HasTypeWords structs type words × (most_data_words < words)
 
 -- a declaration has such a type
 abbrev pub HasLargeType : List StructTree → DeclaredTree → Type 0

@@ -14,11 +14,9 @@ ghost use Rattle.fk_types_struct_rules.specs.Declarations.{DeclarationBreaks, Pa
 ghost use Rattle.fk_types_struct_rules.specs.Declarations.{ResultBreaks, SizeofBreaks};
 
 use fk_check_rules::{Fault, Rule, first_of};
+use fk_num::MOST_DATA_WORDS;
 use fk_syntax::{Base, Declared, Place, TypeName};
 use fk_types_structs::{DataType, Structs};
-
-/// The greatest number of elements and of words.
-const LIMIT: u32 = 524_288;
 
 /// The fault that a type names an undeclared struct, at its name.
 pub fn no_struct(structs: &Structs, kind: &TypeName) -> Option<Fault>
@@ -63,7 +61,7 @@ fn has_wrong_length(declared: &Declared) -> bool
     ensures { IsTrue result ↔ HasWrongLength (declared_of declared.now) }
 {
     match declared.length {
-        Some(length) => length == 0 || length > LIMIT,
+        Some(length) => length == 0 || length > MOST_DATA_WORDS,
         None => false,
     }
 }
@@ -74,7 +72,7 @@ pub(crate) fn is_too_large(structs: &Structs, kind: &DataType) -> bool
     ensures { IsTrue result ↔ IsTooLarge (structs_in structs.now) kind.now }
 {
     match structs.words(kind) {
-        Some(words) => words > LIMIT,
+        Some(words) => words > MOST_DATA_WORDS,
         None => false,
     }
 }

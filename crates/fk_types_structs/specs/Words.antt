@@ -2,6 +2,7 @@
 use Rattle.std.specs.Prelude.{◌≡◌, ℕ, zero, suc, ◌+◌, ◌*◌, List, [], ◌∷◌, Option, Some, None}
 use Rattle.std.specs.Prelude.{unwrap_or, slice_get, min}
 use Rattle.std.specs.Option.{option_map, option_and_then}
+use Rattle.fk_num.specs.Limits.{most_data_words}
 use Rattle.fk_types_structs.specs.declared.types.Root.{Root}
 use Rattle.fk_types_structs.specs.declared.types.Root.TheVariants as r
 use Rattle.fk_types_structs.specs.declared.types.DataType.{DataType}
@@ -51,4 +52,4 @@ HasWords structs index words = (depth : ℕ) × (words_within depth structs inde
 
 -- all sizes above the limit of 524,288 count as the same
 abbrev pub capped : ℕ → ℕ
-capped words = min words 524289
+capped words = min words (most_data_words + 1)

@@ -10,13 +10,11 @@ ghost use Rattle.fk_types_structs.specs.Table.{AreOffsets, Settles};
 
 use crate::order::order;
 use crate::types::{DataType, Root};
+use fk_num::MOST_DATA_WORDS;
 use std::alloc::{AllocError, Global};
 
-/// The greatest number of words of a type.
-pub const MOST_WORDS: u32 = 524_288;
-
 // The number that stands for all sizes above the limit.
-const TOO_MANY: u32 = MOST_WORDS + 1;
+const TOO_MANY: u32 = MOST_DATA_WORDS + 1;
 
 // The number of words of a root under some pointers, given those of the structs.
 fn element_words(sizes: &[Option<u32>], root: Root, stars: u32) -> Option<u32>

@@ -11,7 +11,7 @@ pub parse-requires-clause-narrow : goal.parse-requires-clause-narrow
 parse-requires-clause-narrow c =
     let far = narrow c.args.source.now (map spelled c.in-Ok.tokens.items) c.in-Ok.ensures.tokens in
     let same = ap (λ (ts : List Token). (end_of beginning (map spelled ts)).column) c.as_slice.ensures.value in
-    omega (arith, c.if-source-gt-MOST_BYTES.false)
+    omega (arith, c.if-source-gt-MOST_TEXT_BYTES.false)
 
 pub returns-in-Err : goal.returns-in-Err
 returns-in-Err c = c.without_tokens.ensures c.args.asked c.args.source.now c.in-Err.ensures.fault

@@ -2,7 +2,7 @@ use Rattle.std.proofs.Common.{◌≡◌, ◌≤◌, length, map, Some, vec_len, 
 use Rattle.fk_isa.specs.Find.{row}
 use Rattle.fk_asm.specs.declared.code.Code.{Code}
 use Rattle.fk_asm.specs.Assembly.{instructions}
-use Rattle.fk_gen_list.specs.Generable.{DoesTheList, CodeStands}
+use Rattle.fk_gen_list.specs.Generable.{DoesTheList, GivesWholeCode}
 use Rattle.fk_gen_list.proofs.Done.{does_the_list, stands}
 use Rattle.fk_gen_list.proofs.Steps.{if_ok_two}
 use Rattle.fk_gen_list.proofs.Whole.{few_words, lines_bound, lines_near, count_lines}
@@ -31,7 +31,7 @@ returns-clause-stands c =
     let laid = c.in_ok-laid.laid in
     if_ok_two c.finish.result (λ (code : Code). map row code.words.items ≡ map Some (instructions laid.bound laid.lines))
     (λ (code : Code). code.commits.items ≡ laid.commits)
-    (CodeStands c.args.ops.now c.args.kept.now c.args.main c.args.firsts.now c.args.globals)
+    (GivesWholeCode c.args.ops.now c.args.kept.now c.args.main c.args.firsts.now c.args.globals)
     (λ code rows commits. stands c.args.ops.now c.args.kept.now c.args.main c.args.firsts.now c.args.globals c.requires.list c.requires.globals
     c.requires.small laid c.in_ok-laid.ensures.laid code rows commits)
     c.finish.ensures.rows c.finish.ensures.commits

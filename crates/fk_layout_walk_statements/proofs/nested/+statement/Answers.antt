@@ -12,7 +12,7 @@ use Rattle.fk_meaning_forms.specs.Code.{done, choose}
 use Rattle.fk_meaning_forms.specs.Expressions.{plain}
 use Rattle.fk_meaning_forms.specs.Statements.{executed}
 use Rattle.fk_layout_walk.specs.Known.{tables_of, functions_of}
-use Rattle.fk_layout_walk.specs.Standing.{behind_value}
+use Rattle.fk_layout_walk.specs.Location.{behind_value}
 use Rattle.fk_layout_walk.specs.Through.{through}
 use Rattle.fk_layout_walk_statements.specs.Inside.{inside_of}
 use Rattle.fk_layout_walk_statements.specs.Nested.{part_of_group}

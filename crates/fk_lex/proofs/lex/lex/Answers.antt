@@ -6,10 +6,10 @@ use Rattle.std.proofs.ResultArms.{chosen}
 use Rattle.fk_lex.specs.Moves.{after, place_of}
 use Rattle.fk_lex.specs.Positions.{in_line}
 use Rattle.fk_lex.specs.Sizes.{size_of}
-use Rattle.fk_lex.specs.Steps.{Stands}
+use Rattle.fk_lex.specs.Steps.{NextStep}
 use Rattle.fk_lex.specs.View.{spelled}
 use Rattle.fk_lex.proofs.Lines.{token_in_line}
-use Rattle.fk_lex.proofs.Reached.{Reached, reached_start, reached_gap, reached_token, reached_end, reached_on, some_left, nearer, reached_own_fault, reached_blank, reached_bounded, stands_size, fault_bounded, has_place, gap_is_piece, token_is_piece, gives_none, gives_kind, gives_fault}
+use Rattle.fk_lex.proofs.Reached.{Reached, reached_start, reached_gap, reached_token, reached_end, reached_on, some_left, nearer, reached_own_fault, reached_blank, reached_bounded, step_size, fault_bounded, has_place, gap_is_piece, token_is_piece, gives_none, gives_kind, gives_fault}
 use Rattle.fk_lex.proofs.lex.lex.Goals as goal
 
 pub step_at-step-requires-clause-line : goal.step_at-step-requires-clause-line
@@ -31,14 +31,14 @@ pub split_at-requires-in-loop-at : goal.split_at-requires-in-loop-at
 split_at-requires-in-loop-at c =
     let some = some_left c.args.source.now c.split_at.result.1.now c.loop-at.at.offset (omega arith) c.split_at.ensures.back in
     let reached = subst (Reached c.args.source.now _ c.loop-at.at) (sym c.split_at.ensures.back) c.loop-at.invariant in
-    let size = stands_size reached.before c.split_at.result.1.now c.step_at-step.result some (c.step_at-step.ensures reached.before reached.split reached.here) in
+    let size = step_size reached.before c.split_at.result.1.now c.step_at-step.result some (c.step_at-step.ensures reached.before reached.split reached.here) in
     omega arith
 
 pub past-behind-requires-clause-lines : goal.past-behind-requires-clause-lines
 past-behind-requires-clause-lines c =
     let some = some_left c.args.source.now c.split_at.result.1.now c.loop-at.at.offset (omega arith) c.split_at.ensures.back in
     let reached = subst (Reached c.args.source.now _ c.loop-at.at) (sym c.split_at.ensures.back) c.loop-at.invariant in
-    let size = stands_size reached.before c.split_at.result.1.now c.step_at-step.result some (c.step_at-step.ensures reached.before reached.split reached.here) in
+    let size = step_size reached.before c.split_at.result.1.now c.step_at-step.result some (c.step_at-step.ensures reached.before reached.split reached.here) in
     let known = reached_bounded c.args.source.now _ c.loop-at.at c.split_at.result.1.now reached in
     let lines = known.lines in
     let offset = known.offset in
@@ -50,7 +50,7 @@ pub past-behind-requires-clause-offset : goal.past-behind-requires-clause-offset
 past-behind-requires-clause-offset c =
     let some = some_left c.args.source.now c.split_at.result.1.now c.loop-at.at.offset (omega arith) c.split_at.ensures.back in
     let reached = subst (Reached c.args.source.now _ c.loop-at.at) (sym c.split_at.ensures.back) c.loop-at.invariant in
-    let size = stands_size reached.before c.split_at.result.1.now c.step_at-step.result some (c.step_at-step.ensures reached.before reached.split reached.here) in
+    let size = step_size reached.before c.split_at.result.1.now c.step_at-step.result some (c.step_at-step.ensures reached.before reached.split reached.here) in
     let known = reached_bounded c.args.source.now _ c.loop-at.at c.split_at.result.1.now reached in
     let lines = known.lines in
     let offset = known.offset in
@@ -64,7 +64,7 @@ past-behind-requires-clause-in_line c = λ n kind is.
     let reached = subst (Reached c.args.source.now _ c.loop-at.at) (sym c.split_at.ensures.back) c.loop-at.invariant in
     let bytes = c.split_at-in-loop-at.ensures.front ∙ ap (λ n. take n c.split_at.result.1.now) (c.size.ensures ∙ ap size_of is) in
     subst (λ bytes. list_all in_line bytes ≡ true) (sym bytes)
-    (token_in_line reached.before c.split_at.result.1.now n kind some (subst (Stands reached.before c.split_at.result.1.now) is (c.step_at-step.ensures reached.before reached.split reached.here)))
+    (token_in_line reached.before c.split_at.result.1.now n kind some (subst (NextStep reached.before c.split_at.result.1.now) is (c.step_at-step.ensures reached.before reached.split reached.here)))
 
 pub place-place-requires-clause-lines : goal.place-place-requires-clause-lines
 place-place-requires-clause-lines c =

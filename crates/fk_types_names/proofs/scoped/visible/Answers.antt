@@ -4,7 +4,7 @@ use Rattle.std.proofs.lemmas.List.{length-map}
 use Rattle.fk_types_names.specs.Outline.{MarkTree}
 use Rattle.fk_types_names.specs.View.{mark_of}
 use Rattle.fk_types_names.specs.Visible.{IsHidden, IsInnermost}
-use Rattle.fk_types_names.specs.Reading.{AreDepths, marks_of}
+use Rattle.fk_types_names.specs.Reading.{AreDepths}
 use Rattle.fk_types_names.specs.Scoped.{AreInnermost, NamesAt}
 use Rattle.fk_types_names.proofs.ScopedLemmas.{innermost_none, innermost_more}
 use Rattle.fk_types_names.proofs.scoped.visible.Goals as goal

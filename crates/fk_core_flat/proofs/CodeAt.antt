@@ -6,7 +6,7 @@ use Rattle.fk_meaning_operation.specs.declared.operation.Operation.{Operation}
 use Rattle.fk_meaning_forms.specs.Code.{Code, done, perform, choose, while, until, turn, again, quit, break, continue, call, ends}
 use Rattle.fk_core.specs.declared.op.CoreOp.{CoreOp}
 use Rattle.fk_core.specs.Next.{position, is_jump, past_jump, behind_jump}
-use Rattle.fk_core.specs.Stands.{Loop, Around, is_first, is_start, Leads, Stay, Go, OpFrom, GoesOn, Enters, Stands}
+use Rattle.fk_core.specs.CodeAt.{Loop, Around, is_first, is_start, Leads, Stay, Go, OpFrom, GoesOn, Enters, CodeAt}
 use Rattle.fk_core.proofs.Leading.{onto, op_stops}
 use Rattle.fk_core_flat.specs.Items as w
 use Rattle.fk_core_flat.specs.Items.{Item, act, IsItem, Has, way_of, goes_away, aim}
@@ -46,7 +46,7 @@ module _ (core : List CoreOp) (entry : ℕ → ℕ) where
   earlier l o = record { at = o.at; op = o.op; leads = onto core entry l o.leads; stands = o.stands; is_read = o.is_read; has_site = o.has_site }
 
   -- code stands where jumps lead to it
-  led : (code : Code ℕ) (c : Around) (i j k : ℕ) → Leads core entry i j → Stands core entry code c j k → Stands core entry code c i k
+  led : (code : Code ℕ) (c : Around) (i j k : ℕ) → Leads core entry i j → CodeAt core entry code c j k → CodeAt core entry code c i k
   led done c i j k l h = onto core entry l h
   led (perform n op rest) c i j k l h = (earlier l h.0, h.1, h.2, h.3, h.4)
   led (choose n op x y rest) c i j k l h = (earlier l h.0, h.1, h.2, h.3, h.4, h.5, h.6, h.7, h.8)
@@ -159,9 +159,9 @@ module _ (core : List CoreOp) (entry : ℕ → ℕ) where
   -- the code stands wherever its list is written
   abbrev Written : Code ℕ → (near : Bool) → Around → (k : ℕ) → Type 0
   Written code near c k =
-      (i : ℕ) → Has core i (flat entry near c i k code) → (near ≡ true → k ≡ i + extent near code) → Stands core entry code c (label c i k code) k
+      (i : ℕ) → Has core i (flat entry near c i k code) → (near ≡ true → k ≡ i + extent near code) → CodeAt core entry code c (label c i k code) k
 
-  done_stands : (rest : Code ℕ) (c : Around) (k : ℕ) → is_done rest ≡ true → Stands core entry rest c k k
+  done_stands : (rest : Code ℕ) (c : Around) (k : ℕ) → is_done rest ≡ true → CodeAt core entry rest c k k
   done_stands done c k e = Stay
   done_stands (perform n op rest) c k e = absurd (cc)
   done_stands (choose n op x y rest) c k e = absurd (cc)
@@ -177,7 +177,7 @@ module _ (core : List CoreOp) (entry : ℕ → ℕ) where
 
   -- what follows an operation that falls into it
   followed : (rest : Code ℕ) (near : Bool) (c : Around) (j k : ℕ) → Followed (begins_here near rest) near c j k rest
-      → (near ≡ true → k ≡ j + gap (begins_here near rest) + extent near rest) → Written rest near c k → Stands core entry rest c j k
+      → (near ≡ true → k ≡ j + gap (begins_here near rest) + extent near rest) → Written rest near c k → CodeAt core entry rest c j k
   followed rest near c j k h end written =
       let here = begins_here near rest in
       let r = j + gap here in
@@ -187,7 +187,7 @@ module _ (core : List CoreOp) (entry : ℕ → ℕ) where
   performed : (n : ℕ) (op : Operation) (rest : Code ℕ) (near : Bool) (c : Around) (i k : ℕ)
       → (way_of op ≡ w.straight) ⊎ ((way_of op ≡ w.onto) × (is_done rest ≡ true))
       → Has core i (flat entry near c i k (perform n op rest)) → (near ≡ true → k ≡ i + extent near (perform n op rest))
-      → Written rest near c k → Stands core entry (perform n op rest) c i k
+      → Written rest near c k → CodeAt core entry (perform n op rest) c i k
   performed n op rest near c i k (inr e) h is written =
       let t = aim (way_of op) k in
       let a : t ≡ k = ap (λ w. aim w k) e.0 in (
@@ -209,7 +209,7 @@ module _ (core : List CoreOp) (entry : ℕ → ℕ) where
       → way_of op ≡ w.either
       → Has core i (flat entry near c i k (choose n op x y rest)) → (near ≡ true → k ≡ i + extent near (choose n op x y rest))
       → ((near : Bool) (k : ℕ) → Written x near c k) → ((near : Bool) (k : ℕ) → Written y near c k) → Written rest near c k
-      → Stands core entry (choose n op x y rest) c i k
+      → CodeAt core entry (choose n op x y rest) c i k
   chosen n op x y rest near c i k e h is wx wy written =
       let q = choice_at entry x y rest near c i k in
       let has = has_choice entry core x y rest near c i k h.1 in
@@ -233,7 +233,7 @@ module _ (core : List CoreOp) (entry : ℕ → ℕ) where
       → Has core i (flat entry near c i k (while test body step rest)) → (near ≡ true → k ≡ i + extent near (while test body step rest))
       → ((near : Bool) (loop : Loop) (k : ℕ) → Written test near (Some loop) k) → ((near : Bool) (loop : Loop) (k : ℕ) → Written body near (Some loop) k)
       → ((near : Bool) (loop : Loop) (k : ℕ) → Written step near (Some loop) k) → Written rest near c k
-      → Stands core entry (while test body step rest) c i k
+      → CodeAt core entry (while test body step rest) c i k
   whiled test body step rest near c i k first start h is wt wb ws written =
       let q = turns_at entry test body step rest near c i k in
       let has = has_turns entry core test body step rest near c i k h in
@@ -242,8 +242,8 @@ module _ (core : List CoreOp) (entry : ℕ → ℕ) where
       let end_b : q.steps ≡ true → o ≡ q.body + extent q.steps body = λ t'. ap (λ (s : Bool). if s then q.step else i) t' in
       let end_t : q.enters ≡ true → q.enter ≡ i + extent q.enters test = λ t'. begins_at body q.steps (Some q.loop) q.body o t' end_b in
       let end_s : false ≡ true → i ≡ q.step + extent false step = λ t'. absurd (true≢false (sym t')) in
-      let st = subst (λ j. Stands core entry test (Some q.loop) j q.enter) (first_at test (Some q.loop) i q.enter first) (wt q.enters q.loop q.enter i has.test end_t) in
-      let ss = subst (λ j. Stands core entry step (Some q.loop) j i) (start_at step (Some q.loop) q.step i start) (ws false q.loop i q.step has.step end_s) in
+      let st = subst (λ j. CodeAt core entry test (Some q.loop) j q.enter) (first_at test (Some q.loop) i q.enter first) (wt q.enters q.loop q.enter i has.test end_t) in
+      let ss = subst (λ j. CodeAt core entry step (Some q.loop) j i) (start_at step (Some q.loop) q.step i start) (ws false q.loop i q.step has.step end_s) in
       (i, q.enter, q.loop, Stay, first, start, st, wb q.steps q.loop o q.body has.body end_b, ss, written q.behind has.others end)
 
   untiled : (body test rest : Code ℕ) (near : Bool) (c : Around) (i k : ℕ)
@@ -251,19 +251,19 @@ module _ (core : List CoreOp) (entry : ℕ → ℕ) where
       → Has core i (flat entry near c i k (until body test rest)) → (near ≡ true → k ≡ i + extent near (until body test rest))
       → ((near : Bool) (loop : Loop) (k : ℕ) → Written body near (Some loop) k) → ((near : Bool) (loop : Loop) (k : ℕ) → Written test near (Some loop) k)
       → Written rest near c k
-      → Stands core entry (until body test rest) c (label c i k (until body test rest)) k
+      → CodeAt core entry (until body test rest) c (label c i k (until body test rest)) k
   untiled body test rest near c i k first h is wb wt written =
       let q = rounds_at entry body test rest near c i k in
       let has = has_rounds entry core body test rest near c i k h in
       let end : near ≡ true → k ≡ q.behind + extent near rest = λ t. (let f = is t in omega arith) in
       let end_t : false ≡ true → q.enter ≡ q.test + extent false test = λ t'. absurd (true≢false (sym t')) in
-      let st = subst (λ j. Stands core entry test (Some q.loop) j q.enter) (first_at test (Some q.loop) q.test q.enter first) (wt false q.loop q.enter q.test has.test end_t) in
+      let st = subst (λ j. CodeAt core entry test (Some q.loop) j q.enter) (first_at test (Some q.loop) q.test q.enter first) (wt false q.loop q.enter q.test has.test end_t) in
       (q.test, q.enter, q.loop, Stay, first, st, wb true q.loop q.test i has.body (λ t'. refl), Stay, written q.behind has.others end)
 
   quits : (n : ℕ) (op : Operation) (rest : Code ℕ) (near : Bool) (loop : Loop) (i k : ℕ)
       → way_of op ≡ w.either → let c : Around = Some loop in
       Has core i (flat entry near c i k (quit n op rest)) → (near ≡ true → k ≡ i + extent near (quit n op rest))
-      → Written rest near c k → Stands core entry (quit n op rest) c i k
+      → Written rest near c k → CodeAt core entry (quit n op rest) c i k
   quits n op rest near loop i k e h is written =
       let c : Around = Some loop in
       let end : near ≡ true → k ≡ suc i + gap (begins_here near rest) + extent near rest = λ t. (let a = is t in omega arith) in (
@@ -279,7 +279,7 @@ module _ (core : List CoreOp) (entry : ℕ → ℕ) where
   calls : (n : ℕ) (op : Operation) (f : ℕ) (opening rest : Code ℕ) (near : Bool) (c : Around) (i k : ℕ)
       → way_of op ≡ w.into → IsOpening opening
       → Has core i (flat entry near c i k (call n op f opening rest)) → (near ≡ true → k ≡ i + extent near (call n op f opening rest))
-      → ((k : ℕ) → Written opening true None k) → Written rest near c k → Stands core entry (call n op f opening rest) c i k
+      → ((k : ℕ) → Written opening true None k) → Written rest near c k → CodeAt core entry (call n op f opening rest) c i k
   calls n op f opening rest near c i k e o h is wo written =
       let q = entering_at entry f opening rest near c i k in
       let has = has_entering entry core f opening rest near c i k h.1 in
@@ -289,40 +289,40 @@ module _ (core : List CoreOp) (entry : ℕ → ℕ) where
       let back : behind_jump core (suc i) ≡ suc a = behind_opening opening (suc i) a o has.opening ∙ behind_jump_at core a j.0 j.1 j.2.0 in
       let enters : Enters core entry (op_at i n op (entry f) h.0) (suc i) (suc a) =
       λ callers onward. goes_by core op w.into e i h.0.0.target callers onward ∙ ap (λ b. position (suc i) (b ∷ callers)) back in
-      let so = subst (λ j. Stands core entry opening None j a) (begins_at opening true None (suc i) a (opening_begins opening o) (λ t. refl)) (wo a (suc i) has.opening (λ t. refl)) in
+      let so = subst (λ j. CodeAt core entry opening None j a) (begins_at opening true None (suc i) a (opening_begins opening o) (λ t. refl)) (wo a (suc i) has.opening (λ t. refl)) in
       let leads : Leads core entry a (entry f) = Go j.0 j.1 j.2.0 (subst (λ j. Leads core entry j (entry f)) (sym j.2.1) Stay) in
       let comes : Leads core entry (suc a) q.next = skipped core entry q.here (suc a) q.next [] (alone q.here (suc a) q.next has.jumps.1) (λ t. begins_at rest near c q.behind k t end ∙ at_gap q.here (suc a) t) in
       (op_at i n op (entry f) h.0, suc i, a, suc a, enters, so, leads, led rest c (suc a) q.next k comes (written q.behind has.others end))
 
   module _ (has_body : ℕ → Bool) where
-    pub stands : (code : Code ℕ) (near : Bool) (c : Around) (i k : ℕ)
+    pub code_at : (code : Code ℕ) (near : Bool) (c : Around) (i k : ℕ)
         → IsShaped has_body (is_some c) code
         → Has core i (flat entry near c i k code)
         → (near ≡ true → k ≡ i + extent near code)
-        → Stands core entry code c (label c i k code) k
-    stands done near c i k p h is = Stay
-    stands (perform n op rest) near c i k p h is = performed n op rest near c i k p.0 h is (λ r. stands rest near c r k p.1)
-    stands (choose n op x y rest) near c i k p h is =
-        chosen n op x y rest near c i k p.0 h is (λ near k r. stands x near c r k p.1) (λ near k r. stands y near c r k p.2) (λ r. stands rest near c r k p.3)
-    stands (while test body step rest) near c i k p h is =
-        whiled test body step rest near c i k p.0 p.1 h is (λ near loop k r. stands test near (Some loop) r k p.2) (λ near loop k r. stands body near (Some loop) r k p.3)
-        (λ near loop k r. stands step near (Some loop) r k p.4) (λ r. stands rest near c r k p.5)
-    stands (until body test rest) near c i k p h is =
-        untiled body test rest near c i k p.0 h is (λ near loop k r. stands body near (Some loop) r k p.1) (λ near loop k r. stands test near (Some loop) r k p.2)
-        (λ r. stands rest near c r k p.3)
-    stands (turn test body step rest) near c i k p h is = absurd p
-    stands (again test body step rest) near c i k p h is = absurd p
-    stands (quit n op rest) near None i k p h is = absurd (true≢false (sym p.0))
-    stands (quit n op rest) near (Some loop) i k p h is = quits n op rest near loop i k p.1 h is (λ r. stands rest near (Some loop) r k p.2)
-    stands (break rest) near None i k p h is = absurd (true≢false (sym p.0))
-    stands (break rest) near (Some loop) i k p h is = (label (Some loop) i k rest, loop, refl, Stay, stands rest near (Some loop) i k p.1 h is)
-    stands (continue rest) near None i k p h is = absurd (true≢false (sym p.0))
-    stands (continue rest) near (Some loop) i k p h is = (label (Some loop) i k rest, loop, refl, Stay, stands rest near (Some loop) i k p.1 h is)
-    stands (call n op f opening rest) near c i k p h is =
-        calls n op f opening rest near c i k p.0 p.2 h is (λ k r. stands opening true None r k (opening_is_shaped has_body opening p.2)) (λ r. stands rest near c r k p.3)
-    stands (ends n op rest) near c i k p h is = (
+        → CodeAt core entry code c (label c i k code) k
+    code_at done near c i k p h is = Stay
+    code_at (perform n op rest) near c i k p h is = performed n op rest near c i k p.0 h is (λ r. code_at rest near c r k p.1)
+    code_at (choose n op x y rest) near c i k p h is =
+        chosen n op x y rest near c i k p.0 h is (λ near k r. code_at x near c r k p.1) (λ near k r. code_at y near c r k p.2) (λ r. code_at rest near c r k p.3)
+    code_at (while test body step rest) near c i k p h is =
+        whiled test body step rest near c i k p.0 p.1 h is (λ near loop k r. code_at test near (Some loop) r k p.2) (λ near loop k r. code_at body near (Some loop) r k p.3)
+        (λ near loop k r. code_at step near (Some loop) r k p.4) (λ r. code_at rest near c r k p.5)
+    code_at (until body test rest) near c i k p h is =
+        untiled body test rest near c i k p.0 h is (λ near loop k r. code_at body near (Some loop) r k p.1) (λ near loop k r. code_at test near (Some loop) r k p.2)
+        (λ r. code_at rest near c r k p.3)
+    code_at (turn test body step rest) near c i k p h is = absurd p
+    code_at (again test body step rest) near c i k p h is = absurd p
+    code_at (quit n op rest) near None i k p h is = absurd (true≢false (sym p.0))
+    code_at (quit n op rest) near (Some loop) i k p h is = quits n op rest near loop i k p.1 h is (λ r. code_at rest near (Some loop) r k p.2)
+    code_at (break rest) near None i k p h is = absurd (true≢false (sym p.0))
+    code_at (break rest) near (Some loop) i k p h is = (label (Some loop) i k rest, loop, refl, Stay, code_at rest near (Some loop) i k p.1 h is)
+    code_at (continue rest) near None i k p h is = absurd (true≢false (sym p.0))
+    code_at (continue rest) near (Some loop) i k p h is = (label (Some loop) i k rest, loop, refl, Stay, code_at rest near (Some loop) i k p.1 h is)
+    code_at (call n op f opening rest) near c i k p h is =
+        calls n op f opening rest near c i k p.0 p.2 h is (λ k r. code_at opening true None r k (opening_is_shaped has_body opening p.2)) (λ r. code_at rest near c r k p.3)
+    code_at (ends n op rest) near c i k p h is = (
       op_at i n op 0 h.0,
       label c (suc i) k rest,
       λ callers onward. goes_by core op w.out p.0 i h.0.0.target callers onward,
-      stands rest near c (suc i) k p.1 h.1 (λ t. (let e = is t in omega arith)),
+      code_at rest near c (suc i) k p.1 h.1 (λ t. (let e = is t in omega arith)),
     )

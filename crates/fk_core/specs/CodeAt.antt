@@ -1,7 +1,7 @@
 -- Where the code of functions is in a flat list.
 use Rattle.std.specs.Prelude.{◌≡◌, ℕ, Bool, true, false, List, ◌∷◌, slice_get, Option, Some, None}
 use Rattle.fk_meaning_operation.specs.declared.operation.Operation.{Operation}
-use Rattle.fk_meaning_forms.specs.Code.{Code, done, perform, choose, while, until, turn, again}
+use Rattle.fk_meaning_forms.specs.Code.{Code, done, perform, choose, while, until}
 use Rattle.fk_meaning_forms.specs.Code.{quit, break, continue, call, ends}
 use Rattle.fk_core.specs.declared.op.CoreOp.{CoreOp}
 use Rattle.fk_core.specs.Numbers.{operation_of}
@@ -72,33 +72,33 @@ module _ (core : List CoreOp) (entry : (binding : ℕ) → ℕ) where
 
   -- The list has code from one index to another. The code after a `break`, a `continue` or the end
   -- of a function may be anywhere. A loop under way is in no list.
-  abbrev pub Stands : Code ℕ → Around → (i k : ℕ) → Type 0
-  Stands done c i k = Leads i k
-  Stands (perform n op rest) c i k =
-      (o : OpFrom i n op) × (a : ℕ) × GoesOn o true a × GoesOn o false a × Stands rest c a k
-  Stands (choose n op x y rest) c i k =
+  abbrev pub CodeAt : Code ℕ → Around → (i k : ℕ) → Type 0
+  CodeAt done c i k = Leads i k
+  CodeAt (perform n op rest) c i k =
+      (o : OpFrom i n op) × (a : ℕ) × GoesOn o true a × GoesOn o false a × CodeAt rest c a k
+  CodeAt (choose n op x y rest) c i k =
       (o : OpFrom i n op) × (a b m : ℕ) × GoesOn o true a × GoesOn o false b
-      × Stands x c a m × Stands y c b m × Stands rest c m k
-  Stands (while test body step rest) c i k =
+      × CodeAt x c a m × CodeAt y c b m × CodeAt rest c m k
+  CodeAt (while test body step rest) c i k =
       (s e : ℕ) × (loop : Loop) × Leads i s × (is_first test ≡ true) × (is_start step ≡ true)
-      × Stands test (Some loop) s e × Stands body (Some loop) e loop.onward
-      × Stands step (Some loop) loop.onward s
-      × Stands rest c loop.behind k
-  Stands (until body test rest) c i k =
+      × CodeAt test (Some loop) s e × CodeAt body (Some loop) e loop.onward
+      × CodeAt step (Some loop) loop.onward s
+      × CodeAt rest c loop.behind k
+  CodeAt (until body test rest) c i k =
       (s e : ℕ) × (loop : Loop) × Leads i e × (is_first test ≡ true)
-      × Stands test (Some loop) s e × Stands body (Some loop) e loop.onward × Leads loop.onward s
-      × Stands rest c loop.behind k
-  Stands (quit n op rest) c i k =
+      × CodeAt test (Some loop) s e × CodeAt body (Some loop) e loop.onward × Leads loop.onward s
+      × CodeAt rest c loop.behind k
+  CodeAt (quit n op rest) c i k =
       (o : OpFrom i n op) × (a : ℕ) × (loop : Loop) × (c ≡ Some loop) × GoesOn o true a
       × GoesOn o false loop.behind
-      × Stands rest c a k
-  Stands (break rest) c i k = (a : ℕ) × (loop : Loop) × (c ≡ Some loop) × Leads i loop.behind
-      × Stands rest c a k
-  Stands (continue rest) c i k = (a : ℕ) × (loop : Loop) × (c ≡ Some loop) × Leads i loop.onward
-      × Stands rest c a k
-  Stands (call n op f opening rest) c i k =
-      (o : OpFrom i n op) × (a e back : ℕ) × Enters o a back × Stands opening None a e
+      × CodeAt rest c a k
+  CodeAt (break rest) c i k = (a : ℕ) × (loop : Loop) × (c ≡ Some loop) × Leads i loop.behind
+      × CodeAt rest c a k
+  CodeAt (continue rest) c i k = (a : ℕ) × (loop : Loop) × (c ≡ Some loop) × Leads i loop.onward
+      × CodeAt rest c a k
+  CodeAt (call n op f opening rest) c i k =
+      (o : OpFrom i n op) × (a e back : ℕ) × Enters o a back × CodeAt opening None a e
       × Leads e (entry f)
-      × Stands rest c back k
-  Stands (ends n op rest) c i k = (o : OpFrom i n op) × (a : ℕ) × Returns o × Stands rest c a k
-  Stands code c i k = ⊥
+      × CodeAt rest c back k
+  CodeAt (ends n op rest) c i k = (o : OpFrom i n op) × (a : ℕ) × Returns o × CodeAt rest c a k
+  CodeAt code c i k = ⊥

@@ -1,10 +1,10 @@
 -- A loop that is left by `break`, and the list in which it stands: while (__PROC_NR__) break;
-use Rattle.std.proofs.Common.{ℕ, true, List, [], ◌∷◌, Some, None, refl}
+use Rattle.std.proofs.Common.{ℕ, true, List, [], ◌∷◌, None, refl}
 use Rattle.fk_meaning_operation.specs.declared.operation.OwnValue.TheVariants.{ProcessorNumber}
 use Rattle.fk_meaning_operation.specs.declared.operation.Operation.TheVariants.{Get, Branch, Halt}
 use Rattle.fk_meaning_forms.specs.Code.{Code, done, perform, while, quit, break, ends}
 use Rattle.fk_core.specs.declared.op.CoreOp.{CoreOp}
-use Rattle.fk_core.specs.Stands.{Loop, Stay, Go, OpFrom, Stands}
+use Rattle.fk_core.specs.CodeAt.{Loop, Stay, Go, OpFrom, CodeAt}
 use Rattle.fk_core.proofs.Examples.{op}
 
 abbrev loop_code : Code ℕ
@@ -28,7 +28,7 @@ halt_at = record { at = 4; op = op 34 2 0 0 0; leads = Stay; stands = refl; is_r
 abbrev loop : Loop
 loop = record { behind = 4; onward = 3 }
 
-loop_stands : Stands loop_core no_entry loop_code None 0 5
+loop_stands : CodeAt loop_core no_entry loop_code None 0 5
 loop_stands = (
   0,
   2,

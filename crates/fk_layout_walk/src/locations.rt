@@ -7,12 +7,12 @@ ghost use Rattle.fk_meaning_forms.specs.Signs.{operator_of as operator_by, is_sh
 ghost use Rattle.fk_meaning_forms.specs.Tables as t;
 ghost use Rattle.fk_layout_walk.specs.Known.{tables_of, functions_of};
 ghost use Rattle.fk_layout_walk.specs.Shown.{as_word};
-ghost use Rattle.fk_layout_walk.specs.Standing.{standing_of, ending};
+ghost use Rattle.fk_layout_walk.specs.Location.{location_of, ending};
 ghost use Rattle.fk_meaning_forms.specs.Tables.{Tables};
 ghost use Rattle.fk_layout_walk.specs.Through.{through, Leads, Passes};
 
 use crate::known::{PREDECLARED, ProgramTables};
-use crate::standing::Standing;
+use crate::location::ResultLocation;
 use crate::visitor::{Event, NOWHERE, Visitor, plain};
 use fk_meaning_forms::{Home, Move, is_shift, move_of, operator_of};
 use fk_meaning_operation::{Operation, OwnValue as Value, Unary, Variable};
@@ -30,57 +30,61 @@ pub(crate) fn check<V: Visitor>(known: &ProgramTables, visitor: &mut V, deep: bo
 }
 
 // Makes the result of an expression a value.
-pub(crate) fn give_value<V: Visitor>(known: &ProgramTables, visitor: &mut V, standing: Standing)
+pub(crate) fn give_value<V: Visitor>(
+    known: &ProgramTables,
+    visitor: &mut V,
+    location: ResultLocation,
+)
     ensures { Passes V.after V.counts (functions_of known.now) visitor.old visitor.new
-        (e.valued (tables_of known.now) (functions_of known.now) (standing_of standing.entry)) }
+        (e.valued (tables_of known.now) (functions_of known.now) (location_of location.entry)) }
 {
-    match standing {
-        Standing::AtAddress(deep, spot) => {
+    match location {
+        ResultLocation::AtAddress(deep, spot) => {
             if !known.is_array(spot.at) {
                 check(known, visitor, deep, spot);
                 plain(visitor, Operation::Read);
             }
         }
-        Standing::InWord(variable) => plain(visitor, Operation::Get(Value::Value(variable))),
-        Standing::OnList | Standing::ToCall(_) => {}
+        ResultLocation::InWord(variable) => plain(visitor, Operation::Get(Value::Value(variable))),
+        ResultLocation::OnList | ResultLocation::ToCall(_) => {}
     }
 }
 
 /// Makes the result of an expression an address.
-pub fn give_address<V: Visitor>(known: &ProgramTables, visitor: &mut V, standing: Standing)
+pub fn give_address<V: Visitor>(known: &ProgramTables, visitor: &mut V, location: ResultLocation)
     ensures { Passes V.after V.counts (functions_of known.now) visitor.old visitor.new
-        (e.addressed (tables_of known.now) (functions_of known.now) (standing_of standing.entry)) }
+        (e.addressed (tables_of known.now) (functions_of known.now) (location_of location.entry)) }
 {
-    if let Standing::AtAddress(deep, spot) = standing {
+    if let ResultLocation::AtAddress(deep, spot) = location {
         check(known, visitor, deep, spot);
     }
 }
 
 // Gets the old value of the target of a compound assignment.
-pub(crate) fn fetch<V: Visitor>(known: &ProgramTables, visitor: &mut V, standing: Standing)
+pub(crate) fn fetch<V: Visitor>(known: &ProgramTables, visitor: &mut V, location: ResultLocation)
     ensures { Passes V.after V.counts (functions_of known.now) visitor.old visitor.new
-        (e.fetched (tables_of known.now) (functions_of known.now) (standing_of standing.entry)) }
+        (e.fetched (tables_of known.now) (functions_of known.now) (location_of location.entry)) }
 {
-    match standing {
-        Standing::AtAddress(deep, spot) => {
+    match location {
+        ResultLocation::AtAddress(deep, spot) => {
             check(known, visitor, deep, spot);
             plain(visitor, Operation::CopyLast);
             plain(visitor, Operation::Read);
         }
-        Standing::InWord(variable) => plain(visitor, Operation::Get(Value::Value(variable))),
-        Standing::OnList | Standing::ToCall(_) => {}
+        ResultLocation::InWord(variable) => plain(visitor, Operation::Get(Value::Value(variable))),
+        ResultLocation::OnList | ResultLocation::ToCall(_) => {}
     }
 }
 
 /// Stores the new value of an assignment's target.
-pub fn put<V: Visitor>(known: &ProgramTables, visitor: &mut V, standing: Standing)
+pub fn put<V: Visitor>(known: &ProgramTables, visitor: &mut V, location: ResultLocation)
     ensures { Passes V.after V.counts (functions_of known.now) visitor.old visitor.new
-        (e.assigned (tables_of known.now) (functions_of known.now) (standing_of standing.entry)) }
+        (e.assigned (tables_of known.now) (functions_of known.now) (location_of location.entry)) }
 {
-    match standing {
-        Standing::AtAddress(_, _) => plain(visitor, Operation::Write),
-        Standing::InWord(variable) => plain(visitor, Operation::Set(variable)),
-        Standing::OnList | Standing::ToCall(_) => {}
+    match location {
+        ResultLocation::AtAddress(_, _) => plain(visitor, Operation::Write),
+        ResultLocation::InWord(variable) => plain(visitor, Operation::Set(variable)),
+        ResultLocation::OnList | ResultLocation::ToCall(_) => {}
     }
 }
 
@@ -157,7 +161,7 @@ pub fn name<'t, V: Visitor>(
     known: &ProgramTables,
     visitor: &mut V,
     name: Name<'t>,
-) -> Option<Standing<'t>>
+) -> Option<ResultLocation<'t>>
     ensures { Leads V.after V.counts (functions_of known.now) visitor.old visitor.new result
         (e.variable (tables_of known.now) (functions_of known.now) (named name.entry)) }
 {
@@ -171,19 +175,19 @@ pub fn name<'t, V: Visitor>(
         Home::Global => {
             let address = Operation::Push(global_address(slot.index));
             visitor.meet(Event::Perform(address, NOWHERE));
-            Standing::AtAddress(false, spot)
+            ResultLocation::AtAddress(false, spot)
         }
-        Home::FilePrivate => Standing::InWord(Variable::OfFile(slot.index)),
-        Home::Private => Standing::InWord(Variable::Private(slot.index)),
+        Home::FilePrivate => ResultLocation::InWord(Variable::OfFile(slot.index)),
+        Home::Private => ResultLocation::InWord(Variable::Private(slot.index)),
         Home::Group(number) => {
             let level = known.region(number).level;
             plain(
                 visitor,
                 Operation::Get(Value::FrameAddress(level, slot.index)),
             );
-            Standing::AtAddress(false, spot)
+            ResultLocation::AtAddress(false, spot)
         }
-        Home::NoWord => Standing::ToCall(name),
+        Home::NoWord => ResultLocation::ToCall(name),
     })
 }
 
@@ -192,24 +196,24 @@ pub(crate) fn predeclared<'t, V: Visitor>(
     known: &ProgramTables,
     visitor: &mut V,
     name: Name<'t>,
-) -> Standing<'t>
+) -> ResultLocation<'t>
     ensures { Leads V.after V.counts (functions_of known.now) visitor.old visitor.new (Some result)
         (e.predeclared (tables_of known.now) (functions_of known.now) (named name.entry)) }
 {
     if name.bytes == b"__PROC_NR__".as_slice() {
         plain(visitor, Operation::Get(Value::ProcessorNumber));
-        Standing::OnList
+        ResultLocation::OnList
     } else if name.bytes == b"__STARTED_PROCS__".as_slice() {
         plain(visitor, Operation::Get(Value::Processors));
-        Standing::OnList
+        ResultLocation::OnList
     } else if name.bytes == b"__inputs".as_slice() {
         plain(visitor, Operation::Get(Value::InputLength));
-        Standing::OnList
+        ResultLocation::OnList
     } else if name.bytes == b"__input".as_slice() {
         plain(visitor, Operation::Get(Value::InputAddress));
-        Standing::AtAddress(false, spot_of(name))
+        ResultLocation::AtAddress(false, spot_of(name))
     } else {
-        Standing::ToCall(name)
+        ResultLocation::ToCall(name)
     }
 }
 
@@ -228,19 +232,19 @@ pub(crate) fn raise<V: Visitor>(
     known: &ProgramTables,
     visitor: &mut V,
     sign: Sign,
-    standing: Standing,
+    location: ResultLocation,
     at: u32,
     right: u32,
 )
     ensures { Passes V.after V.counts (functions_of known.now) visitor.old visitor.new
         (λ rest. e.updated (tables_of known.now) (functions_of known.now) sign
-        (λ j. j (standing_of standing.entry)) at right
+        (λ j. j (location_of location.entry)) at right
         (e.one (tables_of known.now) (functions_of known.now)) (λ j. rest)) }
 {
-    fetch(known, visitor, standing);
+    fetch(known, visitor, location);
     plain(visitor, Operation::Push(1));
     operate(known, visitor, sign, at, right);
-    put(known, visitor, standing);
+    put(known, visitor, location);
 }
 
 // The amount by which a postfix `++` or `--` is undone: 1, or for a pointer the bytes of its step.
@@ -259,14 +263,14 @@ pub(crate) fn raise_and_undo<V: Visitor>(
     visitor: &mut V,
     sign: Sign,
     back: Sign,
-    standing: Standing,
+    location: ResultLocation,
     at: u32,
 )
     ensures { Passes V.after V.counts (functions_of known.now) visitor.old visitor.new
         (λ rest. e.raised (tables_of known.now) (functions_of known.now) sign back
-        (λ j. j (standing_of standing.entry)) at (λ j. rest)) }
+        (λ j. j (location_of location.entry)) at (λ j. rest)) }
 {
-    raise(known, visitor, sign, standing, at, 0);
+    raise(known, visitor, sign, location, at, 0);
     plain(visitor, Operation::Push(step_back(known, at)));
     plain(visitor, operator_of(back, false));
 }
@@ -302,12 +306,12 @@ pub fn end<V: Visitor>(visitor: &mut V, ends: bool)
 }
 
 /// Whether an expression is at an address that comes from a dereference or an index.
-pub(crate) fn is_deep(standing: Standing) -> bool
+pub(crate) fn is_deep(location: ResultLocation) -> bool
     ensures { (tables : Tables) (functions : (binding : ℕ) → e.Signature)
-        → result ≡ e.is_deep tables functions (standing_of standing.entry) }
+        → result ≡ e.is_deep tables functions (location_of location.entry) }
 {
-    match standing {
-        Standing::AtAddress(deep, _) => deep,
-        Standing::OnList | Standing::InWord(_) | Standing::ToCall(_) => false,
+    match location {
+        ResultLocation::AtAddress(deep, _) => deep,
+        ResultLocation::OnList | ResultLocation::InWord(_) | ResultLocation::ToCall(_) => false,
     }
 }

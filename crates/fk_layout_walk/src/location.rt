@@ -5,7 +5,7 @@ use fk_syntax::{Name, Spot};
 
 /// Where the result of an expression is when its operations are done.
 #[derive(Clone, Copy)]
-pub enum Standing<'a> {
+pub enum ResultLocation<'a> {
     /// It is the last value.
     OnList,
     /// At an address that isn't checked yet. The flag tells whether the address comes from a

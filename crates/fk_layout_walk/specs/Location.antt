@@ -5,20 +5,20 @@ use Rattle.fk_meaning_forms.specs.Code.{done}
 use Rattle.fk_meaning_forms.specs.Expressions as e
 use Rattle.fk_meaning_forms.specs.Expressions.{Coded, plain}
 use Rattle.fk_meaning_operation.specs.declared.operation.Operation.TheVariants.{End}
-use Rattle.fk_layout_walk.specs.declared.standing.Standing.{Standing}
-use Rattle.fk_layout_walk.specs.declared.standing.Standing.TheVariants as s
+use Rattle.fk_layout_walk.specs.declared.location.ResultLocation.{ResultLocation}
+use Rattle.fk_layout_walk.specs.declared.location.ResultLocation.TheVariants as s
 
-abbrev pub standing_of : Standing → e.Standing
-standing_of s.OnList = e.OnList
-standing_of (s.AtAddress deep spot) = e.AtAddress deep spot
-standing_of (s.InWord variable) = e.InWord variable
-standing_of (s.ToCall name) = e.ToCall (named name)
+abbrev pub location_of : ResultLocation → e.ResultLocation
+location_of s.OnList = e.OnList
+location_of (s.AtAddress deep spot) = e.AtAddress deep spot
+location_of (s.InWord variable) = e.InWord variable
+location_of (s.ToCall name) = e.ToCall (named name)
 
 -- the code after an expression; there is none after a call of something that isn't a function, or
 -- with too few arguments for a predeclared one
-abbrev pub behind : Option Standing → (e.Standing → Coded) → Coded
+abbrev pub behind : Option ResultLocation → (e.ResultLocation → Coded) → Coded
 behind None k = done
-behind (Some standing) k = k (standing_of standing)
+behind (Some location) k = k (location_of location)
 
 abbrev pub behind_value : Option Unit → Coded → Coded
 behind_value None rest = done
