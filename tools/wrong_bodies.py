@@ -4,15 +4,16 @@
     tools/wrong_bodies.py [--apply | --alone] [CRATE..]
 
 A wrong body is an edit in tools/wrong_bodies/CRATE, in the form of those in crates/CRATE/must-fail, which the gate tries.
-The edits of the crates named, or of all crates, are tried in temporary copies of the checkout, over the proofs that
-earlier runs kept on this machine. A wrong body passes only if it is refused at a goal of a contract, and not for a name
-that a proof misses or for a limit of the prover. The last line counts those that passed and failed.
+Each crate named, or each crate that has edits, is first proved here with `rt check`, which keeps its work in the crate's
+folder out/. Its edits are then tried in a temporary copy, over that work. A wrong body passes only if it is refused at a
+goal of a contract, and not for a name that a proof misses or for a limit of the prover. The last line counts those that
+passed and failed.
 
 What is to be proved of a function rests on its own body and on the contracts of what it calls. Edits of a crate that
-change different functions are therefore tried together: a copy of the crate has them all, and `rt ci CRATE` tells of each
-function whether it is proved. Further edits of a function are tried in further rounds. All other edits are tried alone, as
-the gate does it: those of definitions, and those of which the first way doesn't tell. With --alone all edits are. With
---apply nothing is proved: each edit is only applied.
+change different functions are therefore tried together: a copy of the crate has them all, and `rt check` tells of each
+function whether it is proved. Further edits of a function are tried in further rounds. All other edits are tried alone:
+those of definitions, and those of which the first way doesn't tell. With --alone all edits are. With --apply nothing is
+proved: each edit is only applied.
 """
 import argparse
 import os
@@ -26,10 +27,11 @@ from pathlib import Path
 
 TOP = Path(__file__).resolve().parent.parent
 KEPT = TOP / "tools" / "wrong_bodies"
-RESULT = re.compile(r"(?:rt: )?must-fail (\S+)/(\S+\.edit): (.*)")
-REFUSED = "refused, as it must be"
 FUNCTION = re.compile(r"\s*(?:pub(?:\([^)]*\))? )?(?:const )?fn (\w+)")
 VERDICT = re.compile(r"fn (\S+?): (proved|not proved|no proof)(.*)")
+ERROR = re.compile(r"(?:\./)?(\S+?):\d+:\d+: error: (?:(`[^`]*`): )?(.*)")
+# What the prover says of a text that it can't read.
+UNREAD = re.compile(r"is not in scope|has no field|is no name|operand is missing|expected the end|cannot continue")
 # What a proof file says that misses a name, or cites what wasn't proved.
 NAMES = re.compile(r"has no field|is not in scope|has no `|was not admitted|was not checked|were not checked")
 
@@ -71,12 +73,57 @@ def apply_all(edits):
     return {key: fault for key, fault in faults.items() if fault}
 
 
-def copy_checkout(room):
-    """Copies what `rt ci` reads, without wrong bodies and what earlier runs left in out/."""
-    for name in ("crates.txt", "HANDLES"):
-        shutil.copy(TOP / name, room)
-    shutil.copytree(TOP / "crates", room / "crates", ignore=shutil.ignore_patterns("out", "must-fail"))
+def link_or_copy(old, new):
+    """Links a file where the file system can, and copies it elsewhere."""
+    try:
+        os.link(old, new)
+    except OSError:
+        shutil.copy2(old, new)
+
+
+def needed(crate):
+    """The lines of crates.txt of the crate and of those that it stands on, in their order there."""
+    lines = [line for line in (TOP / "crates.txt").read_text(encoding="utf-8").split("\n") if ":" in line]
+    wanted, found = {crate}, []
+    for line in reversed(lines):
+        name, _, below = line.partition(":")
+        if name in wanted:
+            wanted.update(below.split())
+            found.insert(0, line)
+    return found
+
+
+def copy_checkout(room, crate):
+    """Copies the crate and those below it with their libraries, and of the crate also what its check kept."""
+    lines = needed(crate)
     (room / ".git").mkdir()
+    (room / "crates.txt").write_text("\n".join(lines) + "\n", encoding="utf-8")
+    shutil.copy(TOP / "HANDLES", room)
+    for folder in (Path("crates") / line.partition(":")[0] for line in lines):
+        shutil.copytree(TOP / folder, room / folder, ignore=shutil.ignore_patterns("out", "must-fail"))
+        library = folder / "out" / "rlib"
+        if (TOP / library).is_dir():
+            shutil.copytree(TOP / library, room / library, copy_function=link_or_copy)
+    kept = Path("crates") / crate / "out" / "incremental"
+    if (TOP / kept).is_dir():
+        shutil.copytree(TOP / kept, room / kept)
+
+
+def lines_of(words, folder):
+    """Runs a command in this folder, and returns the lines of what it says."""
+    how = {"stdin": subprocess.DEVNULL, "stdout": subprocess.PIPE, "stderr": subprocess.STDOUT, "text": True}
+    return subprocess.run(words, cwd=folder, errors="replace", **how).stdout.split("\n")
+
+
+def checked(folder):
+    """Checks the crate in this folder, over what earlier checks kept, and returns the lines of what is said."""
+    return lines_of(["rt", "check", "--jobs", "1"], folder)
+
+
+def is_proved(lines):
+    """Whether a check has proved its crate; None if it has come to no verdict."""
+    told = [it for it in lines if it.startswith("logic=")]
+    return told[-1].startswith("logic=proved") if told else None
 
 
 def functions_of(edit, crate):
@@ -134,51 +181,62 @@ def is_refused(lines, crate, path, name):
     return any(proof.match(it) and not NAMES.search(it) for it in lines)
 
 
-def try_together(room, crate, together, edits):
-    """Tries these edits of a crate in one check, and returns those that are seen refused."""
+def check_edited(room, crate, edits):
+    """Checks the crate with these edits, and returns what is said and which files they change."""
     changed = {}
-    for key in together:
-        for path, old, new in pairs_of(edits[key], crate):
+    for edit in edits:
+        for path, old, new in pairs_of(edit, crate):
             text = changed.setdefault(path, (TOP / path).read_text(encoding="utf-8"))
             changed[path] = text.replace(old, new)
     for path, text in changed.items():
         (room / path).write_text(text, encoding="utf-8")
-    quiet = {"stdin": subprocess.DEVNULL, "stderr": subprocess.STDOUT, "text": True, "errors": "replace"}
-    subprocess.run(["rt", "fmt"], cwd=room / "crates" / crate, stdout=subprocess.DEVNULL, **quiet)
-    lines = subprocess.run(["rt", "ci", crate], cwd=room, stdout=subprocess.PIPE, **quiet).stdout.split("\n")
+    lines_of(["rt", "fmt"], room / "crates" / crate)
+    lines = checked(room / "crates" / crate)
     for path in changed:
         shutil.copy(TOP / path, room / path)
+    return lines, {path.relative_to(Path("crates") / crate).as_posix() for path in changed}
+
+
+def try_together(room, crate, together, edits):
+    """Tries these edits of a crate in one check, and returns those that are seen refused."""
+    lines, _ = check_edited(room, crate, [edits[key] for key in together])
     return {key for key, functions in together.items() if all(is_refused(lines, crate, *it) for it in functions)}
 
 
-def try_alone(room, edits):
-    """Has `rt ci` try each edit by itself, and returns what it says of each."""
-    for (crate, name), edit in edits.items():
-        folder = room / "crates" / crate / "must-fail"
-        folder.mkdir(exist_ok=True)
-        shutil.copy(edit, folder / name)
-    told = {}
-    crates = sorted({crate for crate, _ in edits})
-    words = {"stdin": subprocess.DEVNULL, "stdout": subprocess.PIPE, "stderr": subprocess.STDOUT, "text": True}
-    with subprocess.Popen(["rt", "ci", *crates], cwd=room, **words) as run:
-        for line in run.stdout:
-            found = RESULT.match(line)
-            if found:
-                told[found[1], found[2]] = found[3].strip()
-    says = {key: told.get(key, "it was not tried") for key in edits}
-    return {key: text for key, text in says.items() if not text.startswith(REFUSED) or text.startswith(f"{REFUSED} (only")}
+def is_unread(error, changed):
+    """Whether the prover can't read a text of the crate, where an edit that turns a meaning reads well."""
+    path, name, said = error
+    is_text = path.startswith(("src/", "specs/")) or path in changed
+    return is_text and (not name or bool(UNREAD.search(re.sub(r"`[^`]*`", "", said))))
+
+
+def try_alone(room, crate, edit):
+    """Tries an edit by itself, and returns why it doesn't pass, or None."""
+    lines, changed = check_edited(room, crate, [edit])
+    if is_proved(lines) is not False:
+        return "the crate is still proved" if is_proved(lines) else "the prover came to no verdict"
+    errors = [it.groups() for it in map(ERROR.match, lines) if it]
+    unread = next((error for error in errors if is_unread(error, changed)), None)
+    if unread:
+        return f"the prover can't read it: {unread[2][:160]}"
+    goals = [error for error in errors if not (error[0].startswith("proofs/") and NAMES.search(error[2]))]
+    seen = goals or any("did not prove `" in line for line in lines)
+    return None if seen else "it is refused only for a name that a proof misses"
 
 
 def try_crate(crate, edits, alone):
-    """Tries the edits of a crate, says how it went, and returns those that aren't refused, each with what was said."""
+    """Tries the edits of a crate, says how it went, and returns those that aren't refused, each with the reason."""
+    if not is_proved(checked(TOP / "crates" / crate)):
+        print(f"{crate}: it isn't proved, so its edits aren't tried", flush=True)
+        return {key: "its crate isn't proved" for key in edits}
     with tempfile.TemporaryDirectory(prefix="wrong-bodies-") as name:
         room = Path(name)
-        copy_checkout(room)
+        copy_checkout(room, crate)
         seen = set()
         for together in [] if alone else rounds_of(edits):
             seen |= try_together(room, crate, together, edits)
-        rest = {key: edit for key, edit in edits.items() if key not in seen}
-        failed = try_alone(room, rest) if rest else {}
+        rest = {key: try_alone(room, crate, edit) for key, edit in edits.items() if key not in seen}
+    failed = {key: reason for key, reason in rest.items() if reason}
     print(f"{crate}: {len(seen)} refused together, {len(rest) - len(failed)} alone, {len(failed)} not", flush=True)
     return failed
 
