@@ -1,0 +1,3 @@
+pub mod Nests
+pub mod Taken
+pub mod Lists

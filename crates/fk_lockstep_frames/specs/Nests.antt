@@ -1,0 +1,126 @@
+-- The functions and the parts that a processor is in, with the group frames that it took there.
+use Rattle.std.specs.Prelude.{◌≡◌, ℕ, zero, suc, ◌+◌, ◌^◌, ◌==◌, ◌||◌, nat_lt, Bool, true, false, List}
+use Rattle.std.specs.Prelude.{[], ◌∷◌, Option, Some, None, is_some, if◌then◌else◌}
+use Rattle.fk_meaning_operation.specs.declared.operation.SplitKind.TheVariants.{IfElse}
+use Rattle.fk_meaning_operation.specs.declared.operation.Operation.{Operation}
+use Rattle.fk_meaning_operation.specs.declared.operation.Operation.TheVariants as o
+use Rattle.fk_meaning.specs.Behind.{tail}
+use Rattle.fk_meaning.specs.Round.{Step}
+
+-- a function or a part that a processor is in, and the words of the group frame that it took there,
+-- if it took one. The group of a `start` is a part too
+pub data Nest : Type 0 where
+  OfFunction : (frame : Option ℕ) → Nest
+  OfPart : (frame : Option ℕ) → Nest
+
+abbrev pub frame_of : Nest → Option ℕ
+frame_of (OfFunction frame) = frame
+frame_of (OfPart frame) = frame
+
+abbrev pub with_frame : (words : ℕ) → Nest → Nest
+with_frame words (OfFunction frame) = OfFunction (Some words)
+with_frame words (OfPart frame) = OfPart (Some words)
+
+abbrev pub words_in : (frame : Option ℕ) → ℕ
+words_in None = 0
+words_in (Some words) = words
+
+-- The nests of a processor are in a list, the innermost one first. The running function is the
+-- first function in it, and `main` is its last element.
+
+-- the number of the innermost nest among those of its function, which itself has number 0
+abbrev pub nesting : List Nest → ℕ
+nesting [] = 0
+nesting (OfFunction frame ∷ nests) = 0
+nesting (OfPart frame ∷ nests) = suc (nesting nests)
+
+-- the frame of the nest with a number in the running function
+abbrev pub frame_at : List Nest → (number : ℕ) → Option ℕ
+frame_at [] number = None
+frame_at (OfFunction frame ∷ nests) number = if number == 0 then frame else None
+frame_at (OfPart frame ∷ nests) number =
+    if number == suc (nesting nests) then frame else frame_at nests number
+
+-- whether a frame has a word, and whether that of the nest with a number has it. A frame of more
+-- than 2^20 words, which no space has, has each: it is never taken
+abbrev pub frame_has : (frame : Option ℕ) → (word : ℕ) → Bool
+frame_has None word = false
+frame_has (Some words) word = nat_lt word words || nat_lt (2 ^ 20) words
+
+abbrev pub has_word : List Nest → (number word : ℕ) → Bool
+has_word nests number word = frame_has (frame_at nests number) word
+
+-- the words of all frames that were taken in the innermost group
+abbrev pub taken : List Nest → ℕ
+taken [] = 0
+taken (OfFunction frame ∷ nests) = taken nests + words_in frame
+taken (OfPart frame ∷ nests) = words_in frame
+
+-- the nests without those in the innermost group
+abbrev pub outward : List Nest → List Nest
+outward [] = []
+outward (OfFunction frame ∷ nests) = outward nests
+outward (OfPart frame ∷ nests) = nests
+
+-- the nests after an operation, on the branch that it takes
+abbrev pub take_frame : (words : ℕ) → List Nest → List Nest
+take_frame words [] = []
+take_frame words (nest ∷ nests) = with_frame words nest ∷ nests
+
+abbrev pub behind : Operation → (onward : Bool) → List Nest → List Nest
+behind (o.Enter arguments) onward nests = OfFunction None ∷ nests
+behind (o.Leave gives framed) onward nests = tail nests
+behind (o.Frame number words) onward nests = take_frame words nests
+behind o.Begin true nests = OfPart None ∷ nests
+behind o.Begin false nests = nests
+behind (o.Split IfElse) onward nests = OfPart None ∷ nests
+behind (o.Split by) true nests = OfPart None ∷ nests
+behind (o.Split by) false nests = nests
+behind o.Shrink true nests = nests
+behind o.Shrink false nests = tail nests
+behind o.End onward nests = tail nests
+behind operation onward nests = nests
+
+-- where an operation may be done. A function leaves the call that it was entered by, and gives its
+-- frame back if it has one. A frame is taken in the innermost nest, which has none yet. A `start`
+-- is in `main`, and a part is left in the function that is in it
+abbrev pub MayLeave : (framed : Bool) → List Nest → Type 0
+MayLeave framed (OfFunction frame ∷ nest ∷ nests) = is_some frame ≡ framed
+MayLeave framed nests = ⊥
+
+abbrev pub MayTake : (number : ℕ) → List Nest → Type 0
+MayTake number [] = ⊥
+MayTake number (nest ∷ nests) = (number ≡ nesting (nest ∷ nests)) × (frame_of nest ≡ None)
+
+abbrev pub IsInPart : List Nest → Type 0
+IsInPart (OfPart frame ∷ nest ∷ nests) = Unit {0}
+IsInPart nests = ⊥
+
+abbrev pub May : Operation → List Nest → Type 0
+May (o.Leave gives framed) nests = MayLeave framed nests
+May (o.Frame number words) nests = MayTake number nests
+May o.Begin nests = nests ≡ OfFunction None ∷ []
+May o.Shrink nests = IsInPart nests
+May o.End nests = IsInPart nests
+May operation nests = Unit {0}
+
+-- `told` gives the nests that a piece of work tells
+module _ {W : Type 0} (next : W → Option (Step W)) (told : W → List Nest) where
+  -- the nests allow an operation, and the work after it tells what it makes of them
+  pub record TellsOn (here : W) (step : Step W) : Type 0 where
+    pub may : May step.operation (told here)
+    pub on : (onward : Bool)
+        → told (step.rest onward) ≡ behind step.operation onward (told here)
+
+  abbrev pub ToldNext : (IsTold : W → Type 0) → (here : W) → Option (Step W) → Type 0
+  ToldNext IsTold here None = Unit {0}
+  ToldNext IsTold here (Some step) = TellsOn here step
+      × ((onward : Bool) → IsTold (step.rest onward))
+
+  -- for this many operations, whichever branches are taken
+  abbrev pub ToldFor : (operations : ℕ) → W → Type 0
+  ToldFor zero here = Unit {0}
+  ToldFor (suc n) here = ToldNext (ToldFor n) here (next here)
+
+  abbrev pub IsTold : W → Type 0
+  IsTold here = (operations : ℕ) → ToldFor operations here
