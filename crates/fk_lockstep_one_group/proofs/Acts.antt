@@ -7,7 +7,6 @@ use Rattle.fk_meaning_operation.specs.Kinds.{class_of}
 use Rattle.fk_meaning_operation.specs.declared.kinds.Class.{Class}
 use Rattle.fk_meaning_operation.specs.declared.kinds.Class.TheVariants as class
 use Rattle.fk_meaning_operation.specs.declared.kinds.Joint.{Joint}
-use Rattle.fk_tree.specs.Tree.{Tree}
 use Rattle.fk_meaning.specs.Processor.{Setting}
 use Rattle.fk_meaning.specs.Local.{is_onward}
 use Rattle.fk_meaning.specs.Round.{Step, Runner, Fault, State, Round, Acting, Phases, taking, joint_due, joint_at, fits, all_fit, all_requests, do_local, local_phase, begin, begin_all, asking, all_may_act, tree_phase, result, is_allowed, is_possible}
@@ -27,7 +26,7 @@ module _ {W : Type 0} (next : W → Option (Step W)) (set : Setting) where
     pub plain : class_of step.operation ≡ class.Tree → ⊥
     pub due : b.due ≡ None
     pub left : b.runner.left ≡ step.rest onward
-    pub levels : (place : Where) (way : Bool) (to : Where) → goes place step.operation way ≡ Some to → SameLevels r.has b.runner.has
+    pub levels : (place : Where) (way : Bool) (to : Where) → goes place step.operation way ≡ Some to → SameLevels place r.has b.runner.has
 
   pub record IsDue (r : Runner W) (b : Acting W) : Type 0 where
     pub step : Step W
@@ -58,7 +57,7 @@ module _ {W : Type 0} (next : W → Option (Step W)) (set : Setting) where
               due = ap (λ (x : Acting W). x.due) o';
               left = ap (λ (x : Acting W). x.runner.left) o';
               levels = λ place way to is.
-                  subst (SameLevels r.has) (sym (ap (λ (x : Acting W). x.runner.has) o')) (local_same set place step.operation way to r.has is);
+                  subst (SameLevels place r.has) (sym (ap (λ (x : Acting W). x.runner.has) o')) (local_same set place step.operation way to r.has is);
             }),
           )
       by class.Request f o' =
@@ -72,7 +71,7 @@ module _ {W : Type 0} (next : W → Option (Step W)) (set : Setting) where
               plain = λ t. let clash : class.Request ≡ class.Tree = sym f ∙ t in cc;
               due = ap (λ (a : Acting W). a.due) x.1;
               left = ap (λ (a : Acting W). a.runner.left) x.1;
-              levels = λ place way to is. subst (SameLevels r.has) (sym (ap (λ (a : Acting W). a.runner.has) x.1)) (answer_same step.operation x.0 r.has);
+              levels = λ place way to is. subst (SameLevels place r.has) (sym (ap (λ (a : Acting W). a.runner.has) x.1)) (answer_same place step.operation x.0 r.has);
             }),
           )
       by class.Tree f o' =

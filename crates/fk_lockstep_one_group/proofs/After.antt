@@ -28,7 +28,7 @@ use Rattle.fk_lockstep_one_group.specs.Placed.{where_in, where_at, HasNoGroup, H
 use Rattle.fk_lockstep_nodes.specs.Steps.{Keeps, Does}
 use Rattle.fk_lockstep_one_group.specs.Steps.{AllKeep, StepsAt, MayStep}
 use Rattle.fk_lockstep_one_group.specs.Rounds.{stepping, IsRound, RoundsKeepOneGroup}
-use Rattle.fk_lockstep_one_group.proofs.Moves.{keeps_place, keeps_tree, does_same, levels_stay, goes_on, goes_to}
+use Rattle.fk_lockstep_one_group.proofs.Moves.{keeps_place, keeps_tree, same_range, does_same, levels_stay, goes_on, goes_to}
 use Rattle.fk_lockstep_one_group.proofs.Acts.{IsDue, result_is}
 use Rattle.fk_lockstep_one_group.proofs.Known.{At, Act, act, many, placed, member_at, there_at, known, at_root, at_waiting, in_lockstep, at_group, at_body}
 use Rattle.fk_lockstep_nodes.proofs.One.{none_changes, step_is_brought}
@@ -74,7 +74,8 @@ abbrev taken_by : (b : Bool) → (size : ℕ) → Processor → Processor
 taken_by b size p = if b then enter_level (start_level p size) (drop_last 1 p) else drop_last 1 p
 
 begins_levels : (set : Setting) (b : Bool) (size : ℕ) (p : Processor) → HasLevels set InRoot p → HasLevels set (if b then InGroup else Waits) (taken_by b size p)
-begins_levels set true size p has = (ap (λ (ls : List Level). p.level ∷ ls) has.0 ∙ ap (λ (l : Level). l ∷ []) has.1, ap (λ (l : Level). l.space) has.1)
+begins_levels set true size p has =
+    (ap (λ (ls : List Level). p.level ∷ ls) has.0 ∙ ap (λ (l : Level). l ∷ []) has.1, same_range (first_level set p.number) p.level has.1)
 begins_levels set false size p has = has
 
 begins_number : (b : Bool) (size : ℕ) (p : Processor) → (taken_by b size p).number ≡ p.number
@@ -124,7 +125,7 @@ module _ {W : Type 0} (next : W → Option (Step W)) (set : Setting) (round : Ro
       let levels = moved.levels p.place moved.onward to.0 to.1 in
       subst (λ (due : Option (Step W)). IsPlaced next set new h (settled_by actors old new a.acting.runner due)) (sym moved.due)
       (record {
-        number_is = levels.0 ∙ p.number_is;
+        number_is = levels.0.0 ∙ p.number_is;
         place = p.place;
         there = same ∙ p.there;
         goes = subst (Goes next p.place) (sym moved.left) (subst (λ (q : Where). Goes next q (moved.step.rest moved.onward)) stays to.2);
@@ -141,7 +142,7 @@ module _ {W : Type 0} (next : W → Option (Step W)) (set : Setting) (round : Ro
       let levels = does_same p.place d.step.operation onward to.0 value size a.runner.has keep to.1 in
       subst (λ (x : Acting W). IsPlaced next set new h (settled_by actors old new x.runner x.due)) (sym d.is)
       (record {
-        number_is = levels.0 ∙ p.number_is;
+        number_is = levels.0.0 ∙ p.number_is;
         place = p.place;
         there = same ∙ p.there;
         goes = subst (λ (q : Where). Goes next q (d.step.rest onward)) stays to.2;

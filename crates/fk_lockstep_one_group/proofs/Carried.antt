@@ -44,22 +44,16 @@ no_shrink place to e = absurd (cc)
 
 -- who waits resumes, and who is behind a body meets the others
 waits_joint : (op : Operation) (to : Where) → goes w.Waits op true ≡ Some to → is_joint op ≡ true
-waits_joint (o.Leave gives true) to e = absurd (cc)
-waits_joint (o.Leave gives false) to e = absurd (cc)
 waits_joint o.Resume to e = refl
 waits_joint op to e = absurd (cc)
 
 behind_joint : (op : Operation) (to : Where) → goes w.BehindBody op true ≡ Some to → is_joint op ≡ true
-behind_joint (o.Leave gives true) to e = absurd (cc)
-behind_joint (o.Leave gives false) to e = absurd (cc)
 behind_joint (o.Meet true) to e = refl
 behind_joint (o.Meet false) to e = absurd (cc)
 behind_joint op to e = absurd (cc)
 
 -- a group in lockstep does neither
 pub group_plain : (op : Operation) (to : Where) → goes w.InGroup op true ≡ Some to → is_joint op ≡ false
-group_plain (o.Leave gives true) to e = absurd (cc)
-group_plain (o.Leave gives false) to e = refl
 group_plain o.Begin to e = absurd (cc)
 group_plain o.Resume to e = absurd (cc)
 group_plain (o.Meet true) to e = absurd (cc)

@@ -282,7 +282,7 @@ module _ {W : Type 0} (next : W → Option (Step W)) (set : Setting) (round : Ro
       (λ moved.
       let p = placed h a in
       let to = goes_on next p.place a.runner.left moved.step p.goes moved.next_is true in
-      (moved.levels p.place true to.0 to.1).0 ∙ p.number_is)
+      (moved.levels p.place true to.0 to.1).0.0 ∙ p.number_is)
       (λ d. ap (λ (x : Acting W). x.runner.has.number) d.is ∙ (placed h a).number_is)
       busy.1)
       a.comes

@@ -1,5 +1,5 @@
 -- Operations, by where a processor stands: where they may, and what they leave of its levels.
-use Rattle.std.proofs.Common.{◌≡◌, ◌≢◌, ◌⊎◌, inl, inr, ℕ, suc, ◌==◌, ◌-◌, Bool, true, false, List, [], ◌∷◌, Option, Some, None, refl, sym, ap, ◌∙◌, subst, if◌then◌else◌}
+use Rattle.std.proofs.Common.{◌≡◌, ◌≢◌, ◌⊎◌, inl, inr, ℕ, suc, ◌==◌, ◌+◌, ◌-◌, Bool, true, false, List, [], ◌∷◌, Option, Some, None, refl, sym, ap, ◌∙◌, subst, if◌then◌else◌}
 use Rattle.std.specs.Prelude.{nat_lt}
 use Rattle.fk_meaning_operation.specs.Kinds.{class_of, joint_of}
 use Rattle.fk_meaning_operation.specs.declared.kinds.Class.{Class}
@@ -10,18 +10,19 @@ use Rattle.fk_meaning_operation.specs.declared.operation.Operation.{Operation}
 use Rattle.fk_meaning_operation.specs.declared.operation.Operation.TheVariants as o
 use Rattle.fk_meaning_operation.specs.declared.operation.Variable.{Variable}
 use Rattle.fk_meaning_operation.specs.declared.operation.Variable.TheVariants.{Private, OfFile}
+use Rattle.fk_space.specs.Space.{Space, free, frame}
 use Rattle.fk_meaning_store.specs.Store.{private_words}
 use Rattle.fk_meaning_store.specs.Serve.{words_of}
-use Rattle.fk_meaning.specs.Processor.{Call, Processor, Setting, values, last}
+use Rattle.fk_meaning.specs.Processor.{Level, Call, Processor, Setting, group_space, values, last, in_place}
 use Rattle.fk_meaning.specs.Schedule.{first_level}
-use Rattle.fk_meaning.specs.Local.{stored, taken, to_caller, local}
+use Rattle.fk_meaning.specs.Local.{stored, taken, unframed, to_caller, local}
 use Rattle.fk_meaning.specs.Request.{with_answer}
-use Rattle.fk_meaning.specs.Group.{does}
+use Rattle.fk_meaning.specs.Group.{framed, allotted, with_block, does}
 use Rattle.fk_meaning.specs.Round.{Step, same_joint}
 use Rattle.fk_lockstep.specs.Untouched.{changes_tree}
 use Rattle.fk_lockstep.proofs.Round.{first_is}
 use Rattle.fk_lockstep_one_group.specs.Where.{Where, InRoot, Waits, InGroup, InBody, BehindBody, stays, goes, GoesNext, GoesFor, Goes}
-use Rattle.fk_lockstep_one_group.specs.Placed.{HasLevels}
+use Rattle.fk_lockstep_one_group.specs.Placed.{HasRange, HasLevels}
 
 -- ---- where they may stand
 
@@ -32,7 +33,7 @@ stays_is class.Tree place to e = absurd (cc)
 
 -- who doesn't change the tree stays where it is
 pub keeps_place : (place : Where) (op : Operation) (onward : Bool) (to : Where) → changes_tree op ≡ false → goes place op onward ≡ Some to → to ≡ place
-keeps_place place (o.Leave gives true) onward to keep e = absurd (cc)
+keeps_place InRoot (o.Leave gives true) onward to keep e = absurd (cc)
 keeps_place InRoot o.Begin onward to keep e = absurd (cc)
 keeps_place InRoot (o.Meet false) onward to keep e = sym (first_is InRoot to e)
 keeps_place InRoot o.Halt onward to keep e = sym (first_is InRoot to e)
@@ -40,10 +41,13 @@ keeps_place InRoot op onward to keep e = stays_is (class_of op) InRoot to e
 keeps_place Waits o.Resume onward to keep e = absurd (cc)
 keeps_place Waits op onward to keep e = absurd (cc)
 keeps_place InGroup o.Agree onward to keep e = sym (first_is InGroup to e)
+keeps_place InGroup (o.Frame nesting words) onward to keep e = sym (first_is InGroup to e)
+keeps_place InGroup o.Block onward to keep e = sym (first_is InGroup to e)
 keeps_place InGroup o.Farm onward to keep e = absurd (cc)
 keeps_place InGroup o.Seq onward to keep e = absurd (cc)
 keeps_place InGroup o.End onward to keep e = absurd (cc)
 keeps_place InGroup op onward to keep e = stays_is (class_of op) InGroup to e
+keeps_place InBody (o.Leave gives true) onward to keep e = absurd (cc)
 keeps_place InBody (o.Meet true) onward to keep e = absurd (cc)
 keeps_place InBody (o.Meet false) onward to keep e = sym (first_is InBody to e)
 keeps_place InBody op onward to keep e = stays_is (class_of op) InBody to e
@@ -76,7 +80,6 @@ root_begins o.Resume onward to changes e = absurd (cc)
 root_begins op onward to changes e = absurd (cc)
 
 pub waiters_resume : (op : Operation) (onward : Bool) (to : Where) → goes Waits op onward ≡ Some to → op ≡ o.Resume
-waiters_resume (o.Leave gives true) onward to e = absurd (cc)
 waiters_resume o.Resume onward to e = refl
 waiters_resume op onward to e = absurd (cc)
 
@@ -105,7 +108,6 @@ bodies_meet o.Resume onward to changes e = absurd (cc)
 bodies_meet op onward to changes e = absurd (cc)
 
 pub others_meet : (op : Operation) (onward : Bool) (to : Where) → goes BehindBody op onward ≡ Some to → op ≡ o.Meet true
-others_meet (o.Leave gives true) onward to e = absurd (cc)
 others_meet (o.Meet true) onward to e = refl
 others_meet op onward to e = absurd (cc)
 
@@ -141,64 +143,127 @@ joint_is_step op alone = absurd (alone refl)
 
 -- ---- levels
 
-abbrev pub SameLevels : Processor → Processor → Type 0
-SameLevels p q = (q.number ≡ p.number) × (q.level ≡ p.level) × (q.outer ≡ p.outer)
+-- an operation leaves a processor its number and the levels around its own
+abbrev SameAround : Processor → Processor → Type 0
+SameAround p q = (q.number ≡ p.number) × (q.outer ≡ p.outer)
 
-either_same : (b : Bool) (p x y : Processor) → SameLevels p x → SameLevels p y → SameLevels p (if b then x else y)
+-- and its own level, of which a group may take words
+abbrev SameLevel : Where → Level → Level → Type 0
+SameLevel InGroup l m = HasRange l.space m.space
+SameLevel place l m = m ≡ l
+
+abbrev pub SameLevels : Where → Processor → Processor → Type 0
+SameLevels place p q = SameAround p q × SameLevel place p.level q.level
+
+abbrev Unchanged : Processor → Processor → Type 0
+Unchanged p q = SameAround p q × (q.level ≡ p.level)
+
+pub same_range : (l m : Level) → m ≡ l → HasRange l.space m.space
+same_range l m e = (ap (λ (n : Level). n.space.low) e, ap (λ (n : Level). n.space.high) e)
+
+same_level : (place : Where) (l m : Level) → m ≡ l → SameLevel place l m
+same_level InRoot l m e = e
+same_level Waits l m e = e
+same_level InGroup l m e = same_range l m e
+same_level InBody l m e = e
+same_level BehindBody l m e = e
+
+unchanged : (place : Where) (p q : Processor) → Unchanged p q → SameLevels place p q
+unchanged place p q e = (e.0, same_level place p.level q.level e.1)
+
+either_same : (b : Bool) (p x y : Processor) → Unchanged p x → Unchanged p y → Unchanged p (if b then x else y)
 either_same true p x y one other = one
 either_same false p x y one other = other
 
-stored_same : (v : ℕ) (variable : Variable) (p : Processor) → SameLevels p (stored v variable p)
-stored_same v (Private i) p = (refl, refl, refl)
-stored_same v (OfFile i) p = (refl, refl, refl)
+stored_same : (v : ℕ) (variable : Variable) (p : Processor) → Unchanged p (stored v variable p)
+stored_same v (Private i) p = ((refl, refl), refl)
+stored_same v (OfFile i) p = ((refl, refl), refl)
 
-taken_same : (words : ℕ) (p : Processor) → SameLevels p (taken words p)
+taken_same : (words : ℕ) (p : Processor) → Unchanged p (taken words p)
 taken_same words p =
-    either_same (words == 0) p _ _ (refl, refl, refl) (either_same (nat_lt (private_words - p.top) words) p _ _ (refl, refl, refl) (refl, refl, refl))
+    either_same (words == 0) p _ _ ((refl, refl), refl) (either_same (nat_lt (private_words - p.top) words) p _ _ ((refl, refl), refl) ((refl, refl), refl))
 
-caller_same : (gives : Bool) (v : ℕ) (p : Processor) (calls : List Call) → SameLevels p (to_caller gives v p calls)
-caller_same gives v p [] = (refl, refl, refl)
-caller_same gives v p (c ∷ calls) = (refl, refl, refl)
+caller_same : (gives : Bool) (v : ℕ) (p : Processor) (calls : List Call) → Unchanged p (to_caller gives v p calls)
+caller_same gives v p [] = ((refl, refl), refl)
+caller_same gives v p (c ∷ calls) = ((refl, refl), refl)
 
-pub local_same : (set : Setting) (place : Where) (op : Operation) (onward : Bool) (to : Where) (p : Processor) → goes place op onward ≡ Some to → SameLevels p (local set op p)
-local_same set place (o.Leave gives true) onward to p e = absurd (cc)
-local_same set place (o.Leave gives false) onward to p e = caller_same gives (last (values p)) p p.callers
-local_same set place (o.Set v) onward to p e = stored_same (last (values p)) v p
-local_same set place o.Take onward to p e = taken_same (words_of (last (values p))) p
-local_same set place op onward to p e = (refl, refl, refl)
+-- a function that gives its frame back
+unframed_same : (gives : Bool) (v : ℕ) (p : Processor) (calls : List Call) → SameLevels InGroup p (to_caller gives v (unframed true p) calls)
+unframed_same gives v p calls =
+    let q = unframed true p in unchanged InGroup q (to_caller gives v q calls) (caller_same gives v q calls)
 
-pub answer_same : (op : Operation) (v : ℕ) (p : Processor) → SameLevels p (with_answer op v p)
-answer_same o.Read v p = (refl, refl, refl)
-answer_same op v p = (refl, refl, refl)
+pub local_same : (set : Setting) (place : Where) (op : Operation) (onward : Bool) (to : Where) (p : Processor) → goes place op onward ≡ Some to → SameLevels place p (local set op p)
+local_same set InRoot (o.Leave gives true) onward to p e = absurd (cc)
+local_same set Waits (o.Leave gives true) onward to p e = absurd (cc)
+local_same set InGroup (o.Leave gives true) onward to p e = unframed_same gives (last (values p)) p p.callers
+local_same set InBody (o.Leave gives true) onward to p e = absurd (cc)
+local_same set BehindBody (o.Leave gives true) onward to p e = absurd (cc)
+local_same set place (o.Leave gives false) onward to p e = unchanged place p (to_caller gives (last (values p)) p p.callers) (caller_same gives (last (values p)) p p.callers)
+local_same set place (o.Set v) onward to p e = unchanged place p (stored (last (values p)) v p) (stored_same (last (values p)) v p)
+local_same set place o.Take onward to p e = unchanged place p (taken (words_of (last (values p))) p) (taken_same (words_of (last (values p))) p)
+local_same set place op onward to p e = unchanged place p (local set op p) ((refl, refl), refl)
 
-frames_nowhere : (place : Where) (nesting words : ℕ) (onward : Bool) (to : Where) → goes place (o.Frame nesting words) onward ≡ Some to → ⊥
-frames_nowhere InRoot nesting words onward to e = absurd (cc)
-frames_nowhere Waits nesting words onward to e = absurd (cc)
-frames_nowhere InGroup nesting words onward to e = absurd (cc)
-frames_nowhere InBody nesting words onward to e = absurd (cc)
-frames_nowhere BehindBody nesting words onward to e = absurd (cc)
+pub answer_same : (place : Where) (op : Operation) (v : ℕ) (p : Processor) → SameLevels place p (with_answer op v p)
+answer_same place o.Read v p = unchanged place p (with_answer o.Read v p) ((refl, refl), refl)
+answer_same place op v p = unchanged place p (with_answer op v p) ((refl, refl), refl)
 
-blocks_nowhere : (place : Where) (onward : Bool) (to : Where) → goes place o.Block onward ≡ Some to → ⊥
-blocks_nowhere InRoot onward to e = absurd (cc)
-blocks_nowhere Waits onward to e = absurd (cc)
-blocks_nowhere InGroup onward to e = absurd (cc)
-blocks_nowhere InBody onward to e = absurd (cc)
-blocks_nowhere BehindBody onward to e = absurd (cc)
+-- a frame and a block are words of the space
+framed_same : (nesting words : ℕ) (p : Processor) → SameLevels InGroup p (framed nesting p (frame p.level.space words))
+framed_same nesting words p = by (nat_lt (free p.level.space) words)
+  where
+    by : (full : Bool) → SameLevels InGroup p (framed nesting p (if full then None else Some (record (p.level.space) { frames = p.level.space.frames + words })))
+    by true = ((refl, refl), (refl, refl))
+    by false = ((refl, refl), (refl, refl))
+
+allotted_same : (words : ℕ) (p : Processor) → SameLevels InGroup p (with_block words p)
+allotted_same words p = by (words == 0) (nat_lt (free p.level.space) words)
+  where
+    by : (none full : Bool) → SameLevels InGroup p (
+        if none then in_place 0 p
+        else allotted p (if full then None else Some (p.level.space.blocks - words, record (p.level.space) { blocks = p.level.space.blocks - words })))
+    by true full = ((refl, refl), (refl, refl))
+    by false true = ((refl, refl), (refl, refl))
+    by false false = ((refl, refl), (refl, refl))
+
+frames_in : (place : Where) (nesting words : ℕ) (onward : Bool) (to : Where) (p : Processor) → goes place (o.Frame nesting words) onward ≡ Some to
+    → SameLevels place p (framed nesting p (frame p.level.space words))
+frames_in InRoot nesting words onward to p e = absurd (cc)
+frames_in Waits nesting words onward to p e = absurd (cc)
+frames_in InGroup nesting words onward to p e = framed_same nesting words p
+frames_in InBody nesting words onward to p e = absurd (cc)
+frames_in BehindBody nesting words onward to p e = absurd (cc)
+
+blocks_in : (place : Where) (words : ℕ) (onward : Bool) (to : Where) (p : Processor) → goes place o.Block onward ≡ Some to → SameLevels place p (with_block words p)
+blocks_in InRoot words onward to p e = absurd (cc)
+blocks_in Waits words onward to p e = absurd (cc)
+blocks_in InGroup words onward to p e = allotted_same words p
+blocks_in InBody words onward to p e = absurd (cc)
+blocks_in BehindBody words onward to p e = absurd (cc)
 
 pub does_same : (place : Where) (op : Operation) (onward : Bool) (to : Where) (highest size : ℕ) (p : Processor) → changes_tree op ≡ false → goes place op onward ≡ Some to
-    → SameLevels p (does op highest size p)
-does_same place (o.Frame nesting words) onward to highest size p keep e = absurd (frames_nowhere place nesting words onward to e)
-does_same place o.Block onward to highest size p keep e = absurd (blocks_nowhere place onward to e)
+    → SameLevels place p (does op highest size p)
+does_same place (o.Frame nesting words) onward to highest size p keep e = frames_in place nesting words onward to p e
+does_same place o.Block onward to highest size p keep e = blocks_in place (words_of (last (values p))) onward to p e
 does_same place o.Begin onward to highest size p keep e = absurd (cc)
 does_same place (o.Split by) onward to highest size p keep e = absurd (cc)
 does_same place o.Shrink onward to highest size p keep e = absurd (cc)
 does_same place o.End onward to highest size p keep e = absurd (cc)
-does_same place op onward to highest size p keep e = (refl, refl, refl)
+does_same place op onward to highest size p keep e = unchanged place p (does op highest size p) ((refl, refl), refl)
 
-pub levels_stay : (set : Setting) (place : Where) (p q : Processor) → SameLevels p q → HasLevels set place p → HasLevels set place q
-levels_stay set InRoot p q same has = (same.2 ∙ has.0, same.1 ∙ has.1 ∙ ap (λ n. first_level set n) (sym same.0))
-levels_stay set Waits p q same has = (same.2 ∙ has.0, same.1 ∙ has.1 ∙ ap (λ n. first_level set n) (sym same.0))
-levels_stay set place p q same has = (same.2 ∙ has.0 ∙ ap (λ n. first_level set n ∷ []) (sym same.0), ap (λ l. l.space) same.1 ∙ has.1)
+outer_stays : (set : Setting) (p q : Processor) → SameAround p q → p.outer ≡ first_level set p.number ∷ [] → q.outer ≡ first_level set q.number ∷ []
+outer_stays set p q around e = around.1 ∙ e ∙ ap (λ n. first_level set n ∷ []) (sym around.0)
+
+range_stays : (whole s s' : Space) → HasRange s s' → HasRange whole s → HasRange whole s'
+range_stays whole s s' more has = (more.0 ∙ has.0, more.1 ∙ has.1)
+
+pub levels_stay : (set : Setting) (place : Where) (p q : Processor) → SameLevels place p q → HasLevels set place p → HasLevels set place q
+levels_stay set InRoot p q same has = (same.0.1 ∙ has.0, same.1 ∙ has.1 ∙ ap (λ n. first_level set n) (sym same.0.0))
+levels_stay set Waits p q same has = (same.0.1 ∙ has.0, same.1 ∙ has.1 ∙ ap (λ n. first_level set n) (sym same.0.0))
+levels_stay set InGroup p q same has = (outer_stays set p q same.0 has.0, range_stays (group_space set) p.level.space q.level.space same.1 has.1)
+levels_stay set InBody p q same has =
+    (outer_stays set p q same.0 has.0, range_stays (group_space set) p.level.space q.level.space (same_range p.level q.level same.1) has.1)
+levels_stay set BehindBody p q same has =
+    (outer_stays set p q same.0 has.0, range_stays (group_space set) p.level.space q.level.space (same_range p.level q.level same.1) has.1)
 
 -- ---- on one of its ways
 

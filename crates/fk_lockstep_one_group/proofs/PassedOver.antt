@@ -1,7 +1,7 @@
 -- A schedule of possible rounds that isn't lawful, since it passes a processor over. After it, too, a program with one group at
 -- a time has at most one group.
-use Rattle.std.proofs.Common.{◌≡◌, ℕ, zero, suc, ◌+◌, ◌<◌, ◌≤◌, Bool, false, List, [], ◌∷◌, length, take, Option, Some, None, ap, ◌∙◌, sym, refl, subst, arith}
-use Rattle.std.specs.Prelude.{slice_get, slice_index}
+use Rattle.std.proofs.Common.{◌≡◌, ℕ, zero, suc, ◌+◌, ◌<◌, false, [], ◌∷◌, length, take, Option, Some, ap, ◌∙◌, sym, refl, subst, arith}
+use Rattle.std.specs.Prelude.{slice_get}
 use Rattle.fk_meaning_operation.specs.declared.operation.Operation.TheVariants.{DropLast}
 use Rattle.fk_meaning.specs.Processor.{Setting, setting_of}
 use Rattle.fk_meaning.specs.Round.{Step, State, Round, result}

@@ -17,14 +17,10 @@ use Rattle.fk_lockstep_one_group.proofs.Whole.{Part, Led, joined, nothing_left, 
 
 -- who waits, and who is behind a body, doesn't stay there
 waits_not : (op : Operation) → goes Waits op true ≡ Some Waits → ⊥
-waits_not (o.Leave gives true) e = absurd (cc)
-waits_not (o.Leave gives false) e = absurd (cc)
 waits_not o.Resume e = absurd (cc)
 waits_not op e = absurd (cc)
 
 behind_not : (op : Operation) → goes BehindBody op true ≡ Some BehindBody → ⊥
-behind_not (o.Leave gives true) e = absurd (cc)
-behind_not (o.Leave gives false) e = absurd (cc)
 behind_not (o.Meet true) e = absurd (cc)
 behind_not (o.Meet false) e = absurd (cc)
 behind_not op e = absurd (cc)

@@ -2,6 +2,7 @@
 use Rattle.std.specs.Prelude.{◌≡◌, ◌≢◌, ℕ, zero, suc, ◌≤◌, Bool, true, false, List, [], ◌∷◌, length}
 use Rattle.std.specs.Prelude.{Option, Some, None, slice_get, ◌⊎◌}
 use Rattle.fk_num.specs.Word.{Memory}
+use Rattle.fk_space.specs.Space.{Space}
 use Rattle.fk_tree.specs.declared.node.Kind.{Kind}
 use Rattle.fk_tree.specs.declared.node.Kind.TheVariants.{Lockstep, Waiting, Asynchronous}
 use Rattle.fk_meaning_operation.specs.declared.operation.Operation.TheVariants.{Resume}
@@ -40,12 +41,16 @@ pub record HasGroup (tree : Tree) (group : ℕ) : Type 0 where
 abbrev pub IsOfOneGroup : Tree → Type 0
 IsOfOneGroup tree = HasNoGroup tree ⊎ ((group : ℕ) × HasGroup tree group)
 
--- the level in the root is the first one, and the group of a `start` has the whole group space
+-- a space that lies in the same words as another, whatever is taken of it
+abbrev pub HasRange : (whole s : Space) → Type 0
+HasRange whole s = (s.low ≡ whole.low) × (s.high ≡ whole.high)
+
+-- the level in the root is the first one, and the group of a `start` has all words for groups
 abbrev pub HasLevels : Setting → Where → Processor → Type 0
 HasLevels set InRoot p = (p.outer ≡ []) × (p.level ≡ first_level set p.number)
 HasLevels set Waits p = (p.outer ≡ []) × (p.level ≡ first_level set p.number)
 HasLevels set place p = (p.outer ≡ first_level set p.number ∷ [])
-    × (p.level.space ≡ group_space set)
+    × HasRange (group_space set) p.level.space
 
 module _ {W : Type 0} (next : W → Option (Step W)) where
   -- a processor is at one place by the tree, by the work that it has left, and by its levels

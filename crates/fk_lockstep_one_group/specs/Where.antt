@@ -25,10 +25,10 @@ stays class.Local place = Some place
 stays class.Request place = Some place
 stays class.Tree place = None
 
--- where a processor is after an operation; `None` if the operation may not occur there. Splits,
--- group frames and blocks may occur nowhere
+-- where a processor is after an operation; `None` if the operation may not occur there. Only a group
+-- takes frames and blocks of its space and gives frames back. Splits may occur nowhere
 abbrev pub goes : Where → Operation → (onward : Bool) → Option Where
-goes place (o.Leave gives true) onward = None
+goes InRoot (o.Leave gives true) onward = None
 goes InRoot o.Begin onward = Some (if onward then InGroup else Waits)
 goes InRoot (o.Meet false) onward = Some InRoot
 goes InRoot o.Halt onward = Some InRoot
@@ -36,10 +36,13 @@ goes InRoot operation onward = stays (class_of operation) InRoot
 goes Waits o.Resume onward = Some InRoot
 goes Waits operation onward = None
 goes InGroup o.Agree onward = Some InGroup
+goes InGroup (o.Frame nesting words) onward = Some InGroup
+goes InGroup o.Block onward = Some InGroup
 goes InGroup o.Farm onward = Some (if onward then InBody else BehindBody)
 goes InGroup o.Seq onward = Some (if onward then InBody else BehindBody)
 goes InGroup o.End onward = Some Waits
 goes InGroup operation onward = stays (class_of operation) InGroup
+goes InBody (o.Leave gives true) onward = None
 goes InBody (o.Meet true) onward = Some InGroup
 goes InBody (o.Meet false) onward = Some InBody
 goes InBody operation onward = stays (class_of operation) InBody
