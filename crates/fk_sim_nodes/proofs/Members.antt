@@ -108,6 +108,42 @@ module _ {S P D : Type 0} (source : Source S P D) (image : Image) (mine : Words)
       (λ ms' own'. Together source image mine (later t) c (b + a) ms' ps own' Then)
       (λ ms' own' y. run_leads (later t) c b a ms' ps own' Then y) x)
 
+  -- ---- what a chain or a common commit comes to may be weakened
+
+  pub chain_map : (t : Setting) (ms : List Member) (ps : List P) (own : Memory) (Then Then' : List Member → List D → Memory → Type 0)
+      → ((ms' : List Member) (ds : List D) (own' : Memory) → Then ms' ds own' → Then' ms' ds own')
+      → Chain source image mine t ms ps own Then → Chain source image mine t ms ps own Then'
+  chain_map t [] [] own Then Then' f x = f [] [] own x
+  chain_map t (m ∷ ms) (p ∷ ps) own Then Then' f x =
+      λ earlier sh s shows has.
+      ⊎_elim
+      (λ one. inl (record {
+        hart = one.hart;
+        shared = one.shared;
+        own = one.own;
+        store = one.store;
+        done = one.done;
+        part = one.part;
+        turned = one.turned;
+        shows = one.shows;
+        has = one.has;
+        keeps = one.keeps;
+        follows =
+            chain_map t ms ps one.own (λ ms' ds. Then (record m { hart = one.hart } ∷ ms') (one.done ∷ ds)) (λ ms' ds. Then' (record m { hart = one.hart } ∷ ms') (one.done ∷ ds))
+            (λ ms' ds own' y. f (record m { hart = one.hart } ∷ ms') (one.done ∷ ds) own' y) one.follows;
+      }))
+      (λ one. inr one)
+      (x earlier sh s shows has)
+  chain_map t ms ps own Then Then' f x = absurd (assumption x)
+
+  pub together_map : (t : Setting) (c d : ℕ) (ms : List Member) (ps : List P) (own : Memory) (Then Then' : List Member → List D → Memory → Type 0)
+      → ((ms' : List Member) (ds : List D) (own' : Memory) → Then ms' ds own' → Then' ms' ds own')
+      → Together source image mine t c d ms ps own Then → Together source image mine t c d ms ps own Then'
+  together_map t c zero ms ps own Then Then' f x = record { counted = x.counted; chain = chain_map t ms ps own Then Then' f x.chain }
+  together_map t c (suc d) ms ps own Then Then' f x =
+      cycle_map image mine t 0 ms own (λ ms' own'. Together source image mine (later t) c d ms' ps own' Then) (λ ms' own'. Together source image mine (later t) c d ms' ps own' Then')
+      (λ ms' own' y. together_map (later t) c d ms' ps own' Then Then' f y) x
+
   -- ---- the node's own words alone
 
   has_same : (control own own2 : Memory) → Has mine own own2 → Has mine control own2 → Has mine control own
