@@ -46,7 +46,7 @@ abbrev pub places : Places
 places = record {
   block = λ i. if i == 0 then 12 else if i == 1 then 14 else 15;
   returns = λ i. None;
-  frames = record { keeps = λ i word. false; is_main = λ i. true; of_file = 0 };
+  frames = record { keeps = λ i word. false; is_main = λ i. true; group = λ i. None; of_file = 0 };
 }
 
 never : {A : Type 0} → false ≡ true → A
@@ -134,10 +134,11 @@ begins image code setting t number running =
           shared_mask = refl;
           devices = refl;
           heap_mask = refl;
-          running = record { home = refl; values = tt; privates = λ i e. never e };
+          running = record { home = refl; values = tt; privates = λ i e. never e; group = λ number told. absurd (cc) };
           waiting = tt;
           own = λ i lt. absurd (omega arith);
           heap = λ i lt. refl;
+          full = refl;
         };
       };
     }
@@ -172,6 +173,7 @@ waiting_kept m m' (i ∷ backs) (c ∷ calls) same held = (
     home = held.1.home;
     values = values_kept m m' (64 * suc (length calls)) c.values (omega arith) (λ j lt. same j (omega arith)) held.1.values;
     privates = λ w e. never e;
+    group = λ number told. absurd (cc);
   },
   waiting_kept m m' backs calls (λ j lt. same j (omega arith)) held.2,
 )
@@ -244,10 +246,11 @@ push_does image code at setting t p h en =
                     shared_mask = stands.shared_mask;
                     devices = stands.devices;
                     heap_mask = stands.heap_mask;
-                    running = record { home = stands.running.home; values = values_pushed m' (64 * suc n) 5 (values p.runner.has) en.ready.depth (same_word h.local word _ ∙ five); privates = λ w e. never e };
+                    running = record { home = stands.running.home; values = values_pushed m' (64 * suc n) 5 (values p.runner.has) en.ready.depth (same_word h.local word _ ∙ five); privates = λ w e. never e; group = λ number told. absurd (cc) };
                     waiting = waiting_kept h.local m' p.runner.left.callers p.runner.has.callers (λ j l. lower_word h.local word _ j (ne_eqb j word (λ e. omega arith))) stands.waiting;
                     own = λ j l. absurd (omega arith);
                     heap = λ j l. lower_word h.local word _ (16384 + j) (ne_eqb (16384 + j) word (λ e. omega arith)) ∙ stands.heap j l;
+                    full = lower_word h.local word _ 2 (ne_eqb 2 word (λ e. omega arith)) ∙ stands.full;
                   };
                 };
               },
@@ -302,10 +305,11 @@ drop_does image code at setting t p h en =
                     shared_mask = stands.shared_mask;
                     devices = stands.devices;
                     heap_mask = stands.heap_mask;
-                    running = record { home = stands.running.home; values = values_before h.local _ (values p.runner.has) stands.running.values; privates = λ w e. never e };
+                    running = record { home = stands.running.home; values = values_before h.local _ (values p.runner.has) stands.running.values; privates = λ w e. never e; group = λ number told. absurd (cc) };
                     waiting = stands.waiting;
                     own = stands.own;
                     heap = stands.heap;
+                    full = stands.full;
                   };
                 };
               },

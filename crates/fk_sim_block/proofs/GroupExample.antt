@@ -4,7 +4,7 @@ use Rattle.std.proofs.Common.{◌≡◌, ℕ, zero, suc, ◌*◌, ◌%◌, List,
 use Rattle.std.specs.Prelude.{◌==◌, if◌then◌else◌, slice_get}
 use Rattle.fk_num.specs.Word.{Memory, word_sum}
 use Rattle.fk_meaning_operation.specs.declared.operation.Operation.{Operation}
-use Rattle.fk_meaning_operation.specs.declared.operation.Operation.TheVariants.{Agree, DropLast, Begin, Halt, End}
+use Rattle.fk_meaning_operation.specs.declared.operation.Operation.TheVariants.{DropLast, Begin, Halt, End}
 use Rattle.fk_meaning.specs.Processor.{Setting, values, drop_last, before}
 use Rattle.fk_meaning.specs.Round.{done, taking}
 use Rattle.fk_core.specs.declared.op.CoreOp.{CoreOp}
@@ -33,7 +33,7 @@ use Rattle.fk_sim_block.proofs.Standing.{operations_are_next}
 use Rattle.fk_sim_block.proofs.Example.{drops, halts}
 use Rattle.fk_sim_block.specs.Node.{Nestings}
 use Rattle.fk_sim_block.specs.Joint.{is_meeting}
-use Rattle.fk_sim_block.specs.Law.{Cycles, GroupLaw, BeginsInNode, BlockDoesInNode, sets_apart}
+use Rattle.fk_sim_block.specs.Law.{Cycles, GroupLaw, BeginsInNode, BlockDoesInNode, sets_apart, stays_in_step}
 
 abbrev core : List CoreOp
 core = drops ∷ halts ∷ []
@@ -42,7 +42,7 @@ abbrev places : Places
 places = record {
   block = λ i. if i == 0 then 14 else 15;
   returns = λ i. None;
-  frames = record { keeps = λ i word. false; is_main = λ i. true; of_file = 0 };
+  frames = record { keeps = λ i word. false; is_main = λ i. true; group = λ i. None; of_file = 0 };
 }
 
 -- no levels in frames, and nobody begins a group
@@ -146,10 +146,11 @@ begins image code setting t number running =
             shared_mask = refl;
             devices = refl;
             heap_mask = refl;
-            running = record { home = refl; values = tt; privates = λ i e. never e };
+            running = record { home = refl; values = tt; privates = λ i e. never e; group = λ number told. absurd (cc) };
             waiting = tt;
             own = λ i lt. absurd (omega arith);
             heap = λ i lt. refl;
+            full = refl;
           };
         };
       };
@@ -201,10 +202,11 @@ drop_does image code at setting t runs first m p en member =
                     shared_mask = stands.shared_mask;
                     devices = stands.devices;
                     heap_mask = stands.heap_mask;
-                    running = record { home = stands.running.home; values = values_before h.local _ (values p.runner.has) stands.running.values; privates = λ w e. never e };
+                    running = record { home = stands.running.home; values = values_before h.local _ (values p.runner.has) stands.running.values; privates = λ w e. never e; group = λ number told. absurd (cc) };
                     waiting = stands.waiting;
                     own = stands.own;
                     heap = stands.heap;
+                    full = stands.full;
                   };
                 };
               };
@@ -294,11 +296,6 @@ no_end zero op at = let f = is_drop op End at in cc
 no_end (suc zero) op at = let f = is_halt op End at in cc
 no_end (suc (suc i)) op at = let f = at.stands in cc
 
-no_agree : (i : ℕ) (op : CoreOp) → OpAt core i op Agree → ⊥
-no_agree zero op at = let f = is_drop op Agree at in cc
-no_agree (suc zero) op at = let f = is_halt op Agree at in cc
-no_agree (suc (suc i)) op at = let f = at.stands in cc
-
 no_begin : (i : ℕ) (op : CoreOp) → OpAt core i op Begin → ⊥
 no_begin zero op at = let f = is_drop op Begin at in cc
 no_begin (suc zero) op at = let f = is_halt op Begin at in cc
@@ -312,7 +309,7 @@ law_of image code = record {
   jumps = λ i op e f. absurd (no_jump i op e f);
   halts = halts_at image code;
   begins = λ setting t number running lt. begins image code setting t number running;
-  agrees = λ i op lowest size at. absurd (no_agree i op at);
+  steps = λ i op operation lowest size at e. absurd (neither stays_in_step refl refl i op operation at e);
   parts = λ i op operation lowest size at e. absurd (neither sets_apart refl refl i op operation at e);
   ends = λ i op lowest size at. absurd (no_end i op at);
   meets = λ i op operation at e. absurd (neither is_meeting refl refl i op operation at e);

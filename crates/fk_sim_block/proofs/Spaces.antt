@@ -1,5 +1,5 @@
 -- What a hart knows of the space of its group stays as long as its registers do.
-use Rattle.std.proofs.Common.{◌≡◌, ℕ, List, [], ◌∷◌, ◌∙◌}
+use Rattle.std.proofs.Common.{◌≡◌, List, [], ◌∷◌, ◌∙◌}
 use Rattle.fk_meaning.specs.Processor.{Level}
 use Rattle.fk_machine.specs.Hart.{Hart}
 use Rattle.fk_sim_block.specs.Node.{KnowsSpace, frames_register, blocks_register}

@@ -5,7 +5,7 @@ use Rattle.fk_meaning_operation.specs.declared.operation.Operation.{Operation}
 use Rattle.fk_meaning.specs.Round.{taking}
 use Rattle.fk_core.specs.declared.op.CoreOp.{CoreOp}
 use Rattle.fk_core.specs.Next.{is_jump, through, led_by, landing_by, landing, step_by, step_of, next, position}
-use Rattle.fk_sim_block.specs.Owner.{number_of, as_part, phases}
+use Rattle.fk_sim_block.specs.Owner.{phases}
 use Rattle.fk_sim_block.specs.Next.{OpAt, step_at, OperationsAreNext}
 
 pub landing_at : (core : List CoreOp) (i : ℕ) (op : CoreOp) (n : ℕ) → slice_get core i ≡ Some op → is_jump op ≡ false → landing_by core n i ≡ i
@@ -25,6 +25,6 @@ next_here core i op operation callers at =
 
 pub operations_are_next : OperationsAreNext
 operations_are_next core i op operation setting s p at e =
-    ap (λ n. as_part (number_of p) (phases core setting s p.heap (taking p.runner n)))
+    ap (λ n. phases core setting s p (taking p.runner n))
     (subst (λ j. next core (position j p.runner.left.callers) ≡ Some (step_at core i op operation p.runner.left.callers)) (sym e)
     (next_here core i op operation p.runner.left.callers at))

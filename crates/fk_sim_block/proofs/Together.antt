@@ -1,5 +1,5 @@
 -- Members of a group in lockstep do what each does by itself.
-use Rattle.std.proofs.Common.{◌≡◌, ℕ, List, [], ◌∷◌, Bool, true, Option, subst, refl}
+use Rattle.std.proofs.Common.{◌≡◌, ℕ, List, [], ◌∷◌, Bool, true, Option, subst}
 use Rattle.fk_meaning_operation.specs.declared.operation.Operation.{Operation}
 use Rattle.fk_meaning.specs.Processor.{Setting}
 use Rattle.fk_core.specs.declared.op.CoreOp.{CoreOp}
@@ -34,7 +34,7 @@ module _ (core : List CoreOp) (image : Image) (places : Places) (nestings : Nest
   each ms ps all go = absurd (assumption all)
 
 pub members_do_together : MembersDoTogether
-members_do_together core image places nestings cycles firsts main i op operation onward setting t mine runs first ms ps own law stands alone all go =
+members_do_together core image places nestings cycles firsts main i op operation onward setting t mine runs first ms ps own law stands alone owns all go =
     each_does (core_source core setting) image mine t 1 (cycles.before i) (cycles.behind i onward)
-    (Goal core image places nestings cycles firsts main law i op operation onward stands alone setting t runs first) ms ps own (λ j is. refl)
+    (Goal core image places nestings cycles firsts main law i op operation onward stands alone setting t runs first) ms ps own owns.apart
     (each core image places nestings cycles firsts main law i op operation onward stands alone setting t runs first ms ps all go)

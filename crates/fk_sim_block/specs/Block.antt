@@ -1,6 +1,6 @@
 -- The law of blocks of single processors.
-use Rattle.std.specs.Prelude.{◌≡◌, ℕ, ◌<◌, ◌≤◌, List, [], length, true, Some, None, slice_get}
-use Rattle.std.specs.Prelude.{slice_index}
+use Rattle.std.specs.Prelude.{◌≡◌, ℕ, ◌<◌, ◌≤◌, List, [], length, true, false, Some, None}
+use Rattle.std.specs.Prelude.{slice_get, slice_index}
 use Rattle.fk_num.specs.Word.{Memory}
 use Rattle.fk_meaning_operation.specs.declared.operation.Operation.{Operation}
 use Rattle.fk_meaning_operation.specs.declared.operation.Operation.TheVariants.{Halt}
@@ -48,7 +48,7 @@ abbrev pub beginner : Setting → (firsts : Memory) → (main number : ℕ) → 
 beginner setting firsts main number =
     record {
       runner = record { left = position main []; has = first_processor setting firsts number };
-      heap = λ i. 0;
+      heap = record { words = λ i. 0; full = false };
     }
 
 module _ (core : List CoreOp) (image : Image) (places : Places) where

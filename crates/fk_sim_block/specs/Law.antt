@@ -7,6 +7,7 @@ use Rattle.fk_meaning_operation.specs.declared.kinds.Class.TheVariants.{Local, R
 use Rattle.fk_meaning_operation.specs.declared.operation.Operation.{Operation}
 use Rattle.fk_meaning_operation.specs.declared.operation.Operation.TheVariants.{Agree, Begin, Farm}
 use Rattle.fk_meaning_operation.specs.declared.operation.Operation.TheVariants.{Seq, End, Halt}
+use Rattle.fk_meaning_operation.specs.declared.operation.Operation.TheVariants.{Frame, Block}
 use Rattle.fk_meaning.specs.Processor.{Processor, Setting}
 use Rattle.fk_meaning.specs.Local.{is_onward}
 use Rattle.fk_core.specs.declared.op.CoreOp.{CoreOp}
@@ -24,7 +25,7 @@ use Rattle.fk_sim_block.specs.Block.{most_before, most_behind, IsRunning, Enters
 use Rattle.fk_sim_block.specs.Block.{BlockHalts, Begins, beginner, gone_to}
 use Rattle.fk_sim_block.specs.Node.{Nestings, StandsInNode}
 use Rattle.fk_sim_block.specs.Lockstep.{IsMember, StepTogether, PartTogether, EndTogether}
-use Rattle.fk_sim_block.specs.Lockstep.{AreOfSize, IsLowest, one_runs}
+use Rattle.fk_sim_block.specs.Lockstep.{AreInGroup, AreOfSize, IsLowest, one_runs}
 use Rattle.fk_sim_block.specs.Joint.{most_to_meet, is_meeting, BlockMeets}
 use Rattle.fk_sim_block.specs.Start.{most_united, most_to_start, BlockStarts}
 
@@ -37,13 +38,23 @@ way_by Tree operation p = true
 abbrev pub way_of : Operation → Processor → Bool
 way_of operation p = way_by (class_of operation) operation p
 
+-- The steps that take words of the group's space: a group frame, and a block of `shalloc`.
+abbrev pub takes_words : Operation → Bool
+takes_words (Frame number words) = true
+takes_words Block = true
+takes_words operation = false
+
+-- The steps after which the members of a group are in lockstep still, in their node.
+abbrev pub stays_in_step : Operation → Bool
+stays_in_step Agree = true
+stays_in_step operation = takes_words operation
+
 -- The steps of the tree that the members of a group in lockstep do together, and in which they keep
 -- their node.
 abbrev pub is_shared_step : Operation → Bool
-is_shared_step Agree = true
 is_shared_step Farm = true
 is_shared_step Seq = true
-is_shared_step operation = false
+is_shared_step operation = stays_in_step operation
 
 -- The steps after which each member goes on by itself.
 abbrev pub sets_apart : Operation → Bool
@@ -55,6 +66,8 @@ sets_apart operation = false
 abbrev pub IsAskedOf : Operation → (lowest size : ℕ) → List Owner → Type 0
 IsAskedOf Farm lowest size ps = (size ≤ 1024) × AreOfSize size ps
 IsAskedOf Seq lowest size ps = (length ps ≤ 1024) × IsLowest lowest ps
+IsAskedOf (Frame number words) lowest size ps = AreInGroup ps
+IsAskedOf Block lowest size ps = AreInGroup ps
 IsAskedOf operation lowest size ps = Unit {0}
 
 -- How many members run a body after a step, as a member sees it: after a `farm` all, after a `seq`
@@ -111,8 +124,7 @@ module _ (core : List CoreOp) (image : Image) (places : Places) (nestings : Nest
         (cycles.behind i (way_of operation p.runner.has)) m p
         (λ h d. HasDoneInNode setting runs d h)
 
-    -- The law of blocks for groups. It doesn't cover splits, nor the frames and memory blocks of
-    -- groups.
+    -- The law of blocks for groups. It doesn't cover splits.
     pub record GroupLaw (firsts : List ℕ) (main : ℕ) : Type 0 where
       pub few_before : (i : ℕ) → cycles.before i ≤ most_before
       pub few_behind : (i : ℕ) (onward : Bool) → cycles.behind i onward ≤ most_behind
@@ -126,10 +138,11 @@ module _ (core : List CoreOp) (image : Image) (places : Places) (nestings : Nest
           → number < setting.processors
           → BeginsInNode setting t (beginner setting (slice_index firsts) main number)
       -- Members who come to a step in lockstep do it together. After it they are still in lockstep,
-      -- or each goes on by itself.
-      pub agrees : (i : ℕ) (op : CoreOp) (lowest size : ℕ) → OpAt core i op Agree
-          → StepTogether core image places nestings i op Agree (λ ps. Unit {0}) (cycles.before i)
-          (cycles.behind i true) None (λ p. None) lowest size
+      -- or each goes on by itself. A frame without room is the fault of the lowest.
+      pub steps : (i : ℕ) (op : CoreOp) (operation : Operation) (lowest size : ℕ)
+          → OpAt core i op operation → stays_in_step operation ≡ true
+          → StepTogether core image places nestings i op operation (IsAskedOf operation lowest size)
+          (cycles.before i) (cycles.behind i true) None (λ p. None) lowest size
       pub parts : (i : ℕ) (op : CoreOp) (operation : Operation) (lowest size : ℕ)
           → OpAt core i op operation → sets_apart operation ≡ true
           → PartTogether core image places nestings i op operation (IsAskedOf operation lowest size)

@@ -14,7 +14,7 @@ use Rattle.fk_sim_block.specs.Owner.{Owner, core_source}
 use Rattle.fk_sim_block.specs.Stands.{Places}
 use Rattle.fk_sim_block.specs.Next.{OpAt}
 use Rattle.fk_sim_block.specs.Ready.{is_alone}
-use Rattle.fk_sim_block.specs.Node.{Nestings}
+use Rattle.fk_sim_block.specs.Node.{Nestings, OwnsHeader}
 use Rattle.fk_sim_block.specs.Lockstep.{AllEnter}
 use Rattle.fk_sim_block.specs.Law.{Cycles, GroupLaw, way_of, HasDoneInNode}
 
@@ -35,7 +35,7 @@ MembersDoTogether =
     (t : MachineSetting) (mine : Words) (runs : Option ℕ) (first : ℕ)
     (ms : List Member) (ps : List Owner) (own : Memory)
     → GroupLaw core image places nestings cycles firsts main → OpAt core i op operation
-    → is_alone operation ≡ true
+    → is_alone operation ≡ true → OwnsHeader mine first
     → AllEnter core image places nestings i op operation setting t runs first ms ps
     → AllGo operation onward ps
     → Together (core_source core setting) image mine t 1 (cycles.before i) ms ps own

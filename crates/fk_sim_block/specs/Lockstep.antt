@@ -51,6 +51,16 @@ abbrev pub IsLowest : (number : ℕ) → List Owner → Type 0
 IsLowest n [] = Unit {0}
 IsLowest n (p ∷ ps) = ((number_of p == n) ≡ true) × NoneIs n ps
 
+-- A processor is in a group: some level is around its own.
+pub record IsInGroup (p : Owner) : Type 0 where
+  pub around : Level
+  pub further : List Level
+  pub outer : p.runner.has.outer ≡ around ∷ further
+
+abbrev pub AreInGroup : List Owner → Type 0
+AreInGroup [] = Unit {0}
+AreInGroup (p ∷ ps) = IsInGroup p × AreInGroup ps
+
 -- The lowest member alone runs the body.
 abbrev pub one_runs : (lowest : ℕ) → Owner → Option ℕ
 one_runs lowest p = if number_of p == lowest then Some 1 else None
@@ -181,6 +191,7 @@ module _ (core : List CoreOp) (image : Image) (places : Places) (nestings : Nest
   EndTogether behind lowest size =
       (setting : Setting) (t : MachineSetting) (mine : Words) (first : ℕ) (ms : List Member)
       (ps : List Owner) (own : Memory)
+      → OwnsHeader mine first
       → AllEnter core image places nestings i op End setting t None first ms ps
       → AreInStart nestings ps
       → Together (core_source core setting) image mine t 1 0 ms ps own

@@ -6,7 +6,7 @@ use Rattle.fk_meaning.specs.Round.{Step, taking}
 use Rattle.fk_core.specs.declared.op.CoreOp.{CoreOp}
 use Rattle.fk_core.specs.Numbers.{operation_of}
 use Rattle.fk_core.specs.Next.{Position, is_jump, follows}
-use Rattle.fk_sim_block.specs.Owner.{Commons, Owner, number_of, as_part, phases, part}
+use Rattle.fk_sim_block.specs.Owner.{Commons, Owner, phases, part}
 
 -- The list has this operation at index i.
 pub record OpAt (core : List CoreOp) (i : ℕ) (op : CoreOp)
@@ -31,6 +31,5 @@ OperationsAreNext =
     (s : Commons) (p : Owner)
     → OpAt core i op operation → p.runner.left.at ≡ i
     → part core setting 1 s p
-    ≡ as_part (number_of p)
-    (phases core setting s p.heap
-    (taking p.runner (Some (step_at core i op operation p.runner.left.callers))))
+    ≡ phases core setting s p
+    (taking p.runner (Some (step_at core i op operation p.runner.left.callers)))

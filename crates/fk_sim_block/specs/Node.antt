@@ -1,10 +1,11 @@
 -- Where a hart finds the control words of its node, and what it keeps of the groups around it.
-use Rattle.std.specs.Prelude.{◌≡◌, ℕ, zero, suc, ◌+◌, ◌*◌, ◌^◌, ◌<◌, ◌≤◌, List, [], ◌∷◌, length}
-use Rattle.std.specs.Prelude.{Bool, true, Option, IfSome}
+use Rattle.std.specs.Prelude.{◌≡◌, ℕ, zero, suc, ◌+◌, ◌*◌, ◌^◌, ◌<◌, ◌≤◌, ◌==◌, List, [], ◌∷◌}
+use Rattle.std.specs.Prelude.{length, Bool, true, Option, IfSome}
 use Rattle.fk_num.specs.Word.{Memory}
 use Rattle.fk_meaning.specs.Processor.{Call, Level, Setting}
 use Rattle.fk_machine.specs.Hart.{Hart}
-use Rattle.fk_sim_nodes.specs.Node.{Words}
+use Rattle.fk_sim_nodes.specs.Node.{Words, AreApart}
+use Rattle.fk_sim_heap.specs.Count.{asked_word}
 use Rattle.fk_sim_block.specs.Owner.{Owner, number_of}
 use Rattle.fk_sim_block.specs.Stands.{Frames, Places, ahead, frame_start, frame_end}
 
@@ -35,10 +36,11 @@ agreed_word = 2
 abbrev pub control_address : (word : ℕ) → ℕ
 control_address word = 0x18000000 + 4 * word
 
--- A node owns its header of 8 words.
+-- A node owns its header of 8 words. The word that counts the words asked for is nobody's own.
 pub record OwnsHeader (mine : Words) (first : ℕ) : Type 0 where
   pub within : first + 8 ≤ root_words + 64
   pub own : (word : ℕ) → word < 8 → mine (first + word) ≡ true
+  pub apart : AreApart mine (λ word. word == asked_word)
 
 -- Nobody has arrived at an arrival word of the node.
 pub record IsAtRest (first : ℕ) (own : Memory) : Type 0 where

@@ -3,11 +3,12 @@ use Rattle.std.specs.Prelude.{◌≡◌, ℕ, ◌<◌, ◌≤◌, ◌^◌, [], l
 use Rattle.fk_meaning_operation.specs.Kinds.{class_of}
 use Rattle.fk_meaning_operation.specs.declared.kinds.Class.{Class}
 use Rattle.fk_meaning_operation.specs.declared.kinds.Class.TheVariants.{Local, Request, Tree}
-use Rattle.fk_meaning_operation.specs.declared.operation.OwnValue.TheVariants.{FrameAddress}
 use Rattle.fk_meaning_operation.specs.declared.operation.Operation.{Operation}
-use Rattle.fk_meaning_operation.specs.declared.operation.Operation.TheVariants.{Get, Leave, Read}
+use Rattle.fk_meaning_operation.specs.declared.operation.Operation.TheVariants.{Leave, Read}
 use Rattle.fk_meaning_operation.specs.declared.operation.Operation.TheVariants.{Write, Combine}
-use Rattle.fk_meaning_operation.specs.declared.operation.Operation.TheVariants.{Heap, Halt}
+use Rattle.fk_meaning_operation.specs.declared.operation.Operation.TheVariants.{Halt, Frame}
+use Rattle.fk_meaning_operation.specs.declared.operation.Operation.TheVariants.{Block}
+use Rattle.fk_space.specs.Space.{IsSpace}
 use Rattle.fk_meaning_store.specs.Store.{private_words}
 use Rattle.fk_meaning_store.specs.Serve.{may_use}
 use Rattle.fk_meaning.specs.Processor.{Processor, values, last}
@@ -16,27 +17,25 @@ use Rattle.fk_meaning.specs.Round.{Runner}
 use Rattle.fk_core.specs.declared.op.CoreOp.{CoreOp}
 use Rattle.fk_core.specs.Next.{Position}
 
--- The local operations and requests that processors do without groups: all except those of group
--- frames and `shmalloc`.
+-- Local operations and requests are no steps of the tree. Processors do all of them without groups.
 abbrev pub is_no_step : Class → Bool
 is_no_step Local = true
 is_no_step Request = true
 is_no_step Tree = false
 
 abbrev pub is_alone : Operation → Bool
-is_alone (Get (FrameAddress nesting word)) = false
-is_alone (Leave gives true) = false
-is_alone Heap = false
 is_alone operation = is_no_step (class_of operation)
 
 -- A processor may do an operation: an address was checked before it is used, a return has a call to
--- return to, and only `main` halts.
+-- return to, only `main` halts, and words are taken of a space.
 abbrev pub MayDo : Operation → Runner Position → Type 0
 MayDo Read r = may_use false (last (values r.has)) ≡ true
 MayDo Write r = may_use false (address r.has) ≡ true
 MayDo (Combine by) r = may_use true (address r.has) ≡ true
 MayDo (Leave gives framed) r = 0 < length r.left.callers
 MayDo Halt r = r.left.callers ≡ []
+MayDo (Frame number words) r = IsSpace r.has.level.space
+MayDo Block r = IsSpace r.has.level.space
 MayDo operation r = Unit {0}
 
 -- The values and variables of a processor are words, it has taken no more of its private heap than

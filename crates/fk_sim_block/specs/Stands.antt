@@ -3,10 +3,13 @@
 -- Calls have frames of 64 words on the 16,384 stack words, that of `main` lowest. A frame has a
 -- header of 7 words, then the private words of its call. Its values are at the frame's end, the
 -- first value highest. In the frame of `main` the private variables of file scope lie between the
--- two, and the 7 words of its header are free for any use.
-use Rattle.std.specs.Prelude.{◌≡◌, ℕ, zero, suc, ◌+◌, ◌-◌, ◌*◌, ◌<◌, ◌≤◌, ◌==◌, List, [], ◌∷◌}
-use Rattle.std.specs.Prelude.{length, true, false, Bool, Option, Some}
+-- two. The header of a call may have the address of a group frame that the call took. One word of
+-- the header of `main` has a note about the global heap, and the others are free for any use.
+use Rattle.std.specs.Prelude.{◌≡◌, ℕ, zero, suc, ◌+◌, ◌-◌, ◌*◌, ◌^◌, ◌<◌, ◌≤◌, ◌==◌, List, []}
+use Rattle.std.specs.Prelude.{◌∷◌, length, true, false, Bool, Option, Some}
+use Rattle.std.specs.Int.{from_bool}
 use Rattle.fk_num.specs.Word.{Memory}
+use Rattle.fk_meaning_store.specs.Store.{address_of}
 use Rattle.fk_meaning.specs.Processor.{Call}
 use Rattle.fk_machine.specs.Hart.{Hart}
 use Rattle.fk_sim_block.specs.Owner.{Owner}
@@ -19,6 +22,9 @@ pub record Frames : Type 0 where
   pub keeps : (index word : ℕ) → Bool
   -- Whether an index is in `main`.
   pub is_main : (index : ℕ) → Bool
+  -- The group frame, by its number among those of the running call, whose address the header of the
+  -- call has at an index.
+  pub group : (index : ℕ) → Option ℕ
   -- The number of private variables of file scope.
   pub of_file : ℕ
 
@@ -81,6 +87,11 @@ device_register = 26
 abbrev pub heap_mask_register : ℕ
 heap_mask_register = 27
 
+-- The word of local memory that is 1 once the hart has found the global heap full. It lies in the
+-- header of the frame of `main`.
+abbrev pub full_word : ℕ
+full_word = 2
+
 -- Values lie below the word `behind`, the last value lowest.
 abbrev pub HasValues : Memory → (behind : ℕ) → List ℕ → Type 0
 HasValues memory behind [] = Unit {0}
@@ -103,6 +114,15 @@ pub record HasRoom (frames : Frames) (index values : ℕ) : Type 0 where
   pub kept : (word : ℕ) → frames.keeps index word ≡ true
       → ahead frames (frames.is_main index) + 7 + word + values < 64
 
+-- The word of the header that has the address of a group frame.
+abbrev pub group_word : (waiting : ℕ) → ℕ
+group_word waiting = frame_end waiting - 61
+
+-- The header of a call has the address of a group frame, whose first word has this index.
+pub record HasGroupFrame (memory : Memory) (waiting first : ℕ) : Type 0 where
+  pub within : first ≤ 2 ^ 20
+  pub address : memory (group_word waiting) ≡ address_of first
+
 module _ (places : Places) where
   -- The word 7 words before the private words of a call for which `waiting` other calls wait. It is
   -- the first word of the frame, except in the frame of `main`, which has the private variables of
@@ -117,6 +137,8 @@ module _ (places : Places) where
     pub values : HasValues memory (frame_end waiting) call.values
     pub privates : (i : ℕ) → places.frames.keeps at i ≡ true
         → memory (frame_start waiting + 7 + i) ≡ call.privates i
+    pub group : (number : ℕ) → places.frames.group at ≡ Some number
+        → HasGroupFrame memory waiting (call.frames number)
 
   -- The header of a call: the address to which it returns, the frame of the call that waits for it,
   -- and the word where that call takes the result. The waiting call goes on at the index `back`,
@@ -142,8 +164,7 @@ module _ (places : Places) where
   HasWaiting memory backs calls = ⊥
 
   -- A hart stands for a processor. This says nothing of the pc and of other registers, nor of what
-  -- only steps of the tree give a processor: the space of its group, its group frames, and the
-  -- groups around it.
+  -- only steps of the tree give a processor: the space of its group, and the groups around it.
   pub record StandsFor (p : Owner) (h : Hart) : Type 0 where
     pub nought : h.registers 0 ≡ 0
     pub frame : h.registers frame_register
@@ -162,7 +183,8 @@ module _ (places : Places) where
     pub running : HasFrame h.local (length p.runner.has.callers) p.runner.left.at p.runner.has.call
     pub waiting : HasWaiting h.local p.runner.left.callers p.runner.has.callers
     pub own : (i : ℕ) → i < places.frames.of_file → h.local (7 + i) ≡ p.runner.has.own i
-    pub heap : (i : ℕ) → i < 16384 → h.local (16384 + i) ≡ p.heap i
+    pub heap : (i : ℕ) → i < 16384 → h.local (16384 + i) ≡ p.heap.words i
+    pub full : h.local full_word ≡ from_bool p.heap.full
 
   -- The hart is at the beginning of the block where its processor goes on, and stands for that
   -- processor.

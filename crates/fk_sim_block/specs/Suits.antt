@@ -1,9 +1,9 @@
 -- Lists that suit frames: words that are read were kept or written, and values have room beside the
 -- words that are kept.
-use Rattle.std.specs.Prelude.{◌≡◌, ℕ, suc, ◌+◌, ◌-◌, ◌==◌, ◌<◌, ◌≤◌, List, [], slice_get, Bool}
-use Rattle.std.specs.Prelude.{true, false, Some}
+use Rattle.std.specs.Prelude.{◌≡◌, ℕ, suc, ◌+◌, ◌-◌, ◌^◌, ◌==◌, ◌<◌, ◌≤◌, List, [], slice_get}
+use Rattle.std.specs.Prelude.{Bool, true, false, Some, None}
 use Rattle.fk_meaning_operation.specs.declared.operation.OwnValue.{OwnValue}
-use Rattle.fk_meaning_operation.specs.declared.operation.OwnValue.TheVariants.{Value}
+use Rattle.fk_meaning_operation.specs.declared.operation.OwnValue.TheVariants.{Value, FrameAddress}
 use Rattle.fk_meaning_operation.specs.declared.operation.Operation.{Operation}
 use Rattle.fk_meaning_operation.specs.declared.operation.Operation.TheVariants.{Push, Get, Set}
 use Rattle.fk_meaning_operation.specs.declared.operation.Operation.TheVariants.{DropLast, CopyLast}
@@ -13,6 +13,7 @@ use Rattle.fk_meaning_operation.specs.declared.operation.Operation.TheVariants.{
 use Rattle.fk_meaning_operation.specs.declared.operation.Operation.TheVariants.{Write, Combine}
 use Rattle.fk_meaning_operation.specs.declared.operation.Operation.TheVariants.{PrintNumber}
 use Rattle.fk_meaning_operation.specs.declared.operation.Operation.TheVariants.{PrintByte, Enter}
+use Rattle.fk_meaning_operation.specs.declared.operation.Operation.TheVariants.{Heap, Frame, Block}
 use Rattle.fk_meaning_operation.specs.declared.operation.Operation.TheVariants.{Halt}
 use Rattle.fk_meaning_operation.specs.declared.operation.Variable.TheVariants.{Private, OfFile}
 use Rattle.fk_core.specs.declared.op.CoreOp.{CoreOp}
@@ -38,6 +39,8 @@ looks_at (Combine by) = 2
 looks_at PrintNumber = 1
 looks_at PrintByte = 1
 looks_at (Enter arguments) = arguments
+looks_at Heap = 1
+looks_at Block = 1
 looks_at operation = 0
 
 -- Which private words of the call an operation writes.
@@ -50,11 +53,19 @@ nothing word = false
 
 module _ (core : List CoreOp) (frames : Frames) where
   -- The call goes on from index i at index j. What is kept at j was kept at i, or is written
-  -- meanwhile.
+  -- meanwhile. A group frame whose address the header has at j was there at i.
   pub record Flows (written : (word : ℕ) → Bool) (i j : ℕ) : Type 0 where
     pub main : frames.is_main j ≡ frames.is_main i
     pub kept : (word : ℕ) → frames.keeps j word ≡ true → written word ≡ false
         → frames.keeps i word ≡ true
+    pub group : (number : ℕ) → frames.group j ≡ Some number → frames.group i ≡ Some number
+
+  -- The call takes the group frame with a number at index i, and goes on at index j. The header has
+  -- the address of that frame afterwards, and of no other.
+  pub record TakesFrame (number i j : ℕ) : Type 0 where
+    pub main : frames.is_main j ≡ frames.is_main i
+    pub kept : (word : ℕ) → frames.keeps j word ≡ true → frames.keeps i word ≡ true
+    pub group : (told : ℕ) → frames.group j ≡ Some told → told ≡ number
 
   -- A call begins at the next index. Its frame has room for the private words that are kept there:
   -- its arguments, and others, which begin as 0. The caller goes on after the first jump from there
@@ -62,6 +73,7 @@ module _ (core : List CoreOp) (frames : Frames) where
   pub record Calls (arguments i depth : ℕ) : Type 0 where
     pub few : arguments ≤ 56
     pub inside : frames.is_main (suc i) ≡ false
+    pub none : frames.group (suc i) ≡ None
     pub kept : (word : ℕ) → frames.keeps (suc i) word ≡ true → word < 56
     pub back : Flows nothing i (behind_jump core (suc i))
     pub room : HasRoom frames (behind_jump core (suc i)) (suc (depth - arguments))
@@ -71,14 +83,17 @@ module _ (core : List CoreOp) (frames : Frames) where
   GoesOn (Enter arguments) i target depth = Calls arguments i depth
   GoesOn (Leave gives framed) i target depth = frames.is_main i ≡ false
   GoesOn Halt i target depth = frames.is_main i ≡ true
+  GoesOn (Frame number words) i target depth = TakesFrame number i (suc i)
   GoesOn operation i target depth = (onward : Bool)
       → Flows (writes operation) i (follows core operation i target [] onward).at
 
-  -- A word that is read is there. A word that is written lies below the values, and there is room
-  -- for a value that is pushed (`HasPlace`).
+  -- A word that is read is there, and so is the address of a group frame that is used or given
+  -- back. A word that is written lies below the values, and there is room for a value that is
+  -- pushed (`HasPlace`). The words of frames have numbers in lists.
   abbrev pub IsThere : OwnValue → (i : ℕ) → Type 0
   IsThere (Value (Private word)) i = frames.keeps i word ≡ true
   IsThere (Value (OfFile word)) i = word < frames.of_file
+  IsThere (FrameAddress number word) i = (frames.group i ≡ Some number) × (word < 2 ^ 21)
   IsThere known i = Unit {0}
 
   abbrev pub HasPlace : Operation → (i depth : ℕ) → Type 0
@@ -87,6 +102,8 @@ module _ (core : List CoreOp) (frames : Frames) where
   HasPlace (Get known) i depth = IsThere known i × HasRoom frames i (suc depth)
   HasPlace (Set (Private word)) i depth = ahead frames (frames.is_main i) + 7 + word + depth < 64
   HasPlace (Set (OfFile word)) i depth = word < frames.of_file
+  HasPlace (Leave gives true) i depth = frames.group i ≡ Some 0
+  HasPlace (Frame number words) i depth = words < 2 ^ 21
   HasPlace operation i depth = Unit {0}
 
   pub record Fits (i : ℕ) (op : CoreOp) (operation : Operation) : Type 0 where
@@ -99,6 +116,7 @@ module _ (core : List CoreOp) (frames : Frames) where
   -- The list suits its frames: all its jumps and operations do, and `main` begins at this index.
   pub record Suits (main : ℕ) : Type 0 where
     pub begins : frames.is_main main ≡ true
+    pub none : frames.group main ≡ None
     pub few : frames.of_file ≤ 56
     pub jumps : (i : ℕ) (op : CoreOp) → slice_get core i ≡ Some op → is_jump op ≡ true
         → Flows nothing i op.target
