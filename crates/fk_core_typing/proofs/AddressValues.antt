@@ -1,14 +1,19 @@
 -- What is known of values, and what operations make of it.
-use Rattle.std.proofs.Common.{None, Option, Bool, List, Some, [], ap, arith, false, if◌then◌else◌, length, nat_lt, not, refl, slice_get, subst, suc, true, zero, ℕ, ◌+◌, ◌-◌, ◌==◌, ◌||◌, ◌∙◌, ◌∷◌, ◌≡◌, ◌≤◌}
-use Rattle.fk_meaning_store.specs.Store.{private_words, private_address}
+use Rattle.std.proofs.Common.{None, Option, Bool, List, Some, [], ap, arith, eqb-true, false, if◌then◌else◌, length, nat_lt, not, refl, slice_get, subst, suc, sym, true, zero, ℕ, ◌+◌, ◌-◌, ◌/◌, ◌%◌, ◌^◌, ◌==◌, ◌||◌, ◌∙◌, ◌∷◌, ◌≡◌, ◌≤◌}
+use Rattle.fk_meaning_store.specs.Store.{address_of, private_words, private_address}
 use Rattle.fk_meaning_store.specs.Serve.{may_use}
 use Rattle.fk_meaning.specs.Processor.{Level, Processor, values, last, before, in_place, to_outer}
 use Rattle.fk_meaning.specs.Group.{taken_by, divided, enters}
 use Rattle.fk_meaning_operation.specs.declared.operation.SplitKind.{SplitKind}
 use Rattle.fk_meaning_operation.specs.declared.operation.SplitKind.TheVariants as s
+use Rattle.fk_num.specs.Word.{Memory, word}
 use Rattle.fk_num.specs.Op.{applied}
 use Rattle.fk_num.specs.declared.operator.Op.{Op}
+use Rattle.fk_num.specs.declared.operator.Op.TheVariants.{Add}
 use Rattle.fk_meaning.specs.Local.{joined, taken, in_order}
+use Rattle.fk_lockstep_frames.specs.Nests.{Nest, has_word}
+use Rattle.fk_core_typing.specs.declared.constants.Constant.{Constant}
+use Rattle.fk_core_typing.specs.declared.constants.Constant.TheVariants.{Number, FrameWord}
 use Rattle.fk_core_typing.specs.declared.constants.Constants.{Constants}
 use Rattle.fk_core_typing.specs.AddressValues as ch
 use Rattle.fk_core_typing.specs.AddressValues.{pushed, after, pushed_by, constants, no_constants, joined_constant, is_address}
@@ -98,72 +103,150 @@ pub any_joined : (shared_alone : Bool) (known : ℕ → Bool) (f : ℕ → ℕ �
 any_joined shared_alone known f vs knows =
     two_joined shared_alone known false f vs (λ v w a b e. never (may_use shared_alone (f v w) ≡ true) e) (λ e. never (2 ≤ length vs) e) knows
 
+-- an address that a check passes may be used as one that it asks for, and for less
+pub weaker : (asked checked : Bool) (address : ℕ) → checked || not asked ≡ true → may_use checked address ≡ true → may_use asked address ≡ true
+weaker true true address e may = may
+weaker false false address e may = may
+weaker false true address e may = grind arith
+weaker true false address e may = absurd (cc)
+
+-- what a constant is, by the first words of the frames of its call
+abbrev pub value_of : (frames : Memory) → Constant → ℕ
+value_of frames (Number n) = n
+value_of frames (FrameWord nesting offset) = word (address_of (frames nesting + offset))
+
 -- the constants among the last values
-pub record HasConstants (known : Constants) (vs : List ℕ) : Type 0 where
-  pub last : (n : ℕ) → known.last ≡ Some n → slice_get vs 0 ≡ Some n
-  pub second : (n : ℕ) → known.second ≡ Some n → slice_get vs 1 ≡ Some n
+pub record HasConstants (frames : Memory) (known : Constants) (vs : List ℕ) : Type 0 where
+  pub last : (c : Constant) → known.last ≡ Some c → slice_get vs 0 ≡ Some (value_of frames c)
+  pub second : (c : Constant) → known.second ≡ Some c → slice_get vs 1 ≡ Some (value_of frames c)
 
-never_some : (A : Type 0) (n : ℕ) → None ≡ Some n → A
-never_some A n e = absurd (cc)
+never_some : (A : Type 0) (c : Constant) → None ≡ Some c → A
+never_some A c e = absurd (cc)
 
-pub no_constant : (vs : List ℕ) → HasConstants no_constants vs
-no_constant vs = record { last = λ n e. never_some (slice_get vs 0 ≡ Some n) n e; second = λ n e. never_some (slice_get vs 1 ≡ Some n) n e }
+pub no_constant : (frames : Memory) (vs : List ℕ) → HasConstants frames no_constants vs
+no_constant frames vs = record {
+  last = λ c e. never_some (slice_get vs 0 ≡ Some (value_of frames c)) c e;
+  second = λ c e. never_some (slice_get vs 1 ≡ Some (value_of frames c)) c e;
+}
 
-pub fewer_constants : (here elsewhere : Constants) (vs : List ℕ) → AreSameIn here elsewhere → HasConstants elsewhere vs → HasConstants here vs
-fewer_constants here elsewhere vs same has = record { last = λ n e. has.last n (same.last n e); second = λ n e. has.second n (same.second n e) }
+pub fewer_constants : (frames : Memory) (here elsewhere : Constants) (vs : List ℕ) → AreSameIn here elsewhere → HasConstants frames elsewhere vs → HasConstants frames here vs
+fewer_constants frames here elsewhere vs same has = record { last = λ c e. has.last c (same.last c e); second = λ c e. has.second c (same.second c e) }
 
-pub constant_pushed : (n : ℕ) (known : Constants) (vs : List ℕ) → HasConstants known vs → HasConstants (constants (Some n) known.last) (n ∷ vs)
-constant_pushed n known vs has = record { last = λ m e. e; second = λ m e. has.last m e }
+same_constant : (c d : Constant) → Some c ≡ Some d → c ≡ d
+same_constant c d e = cc
+
+pub constant_pushed : (frames : Memory) (c : Constant) (known : Constants) (vs : List ℕ) → HasConstants frames known vs
+    → HasConstants frames (constants (Some c) known.last) (value_of frames c ∷ vs)
+constant_pushed frames c known vs has = record { last = λ d e. ap (λ b. Some (value_of frames b)) (same_constant c d e); second = λ d e. has.last d e }
 
 -- what an operator gives of two constants
-pub constant_joined : (op : Op) (turned : Bool) (known : Constants) (vs : List ℕ) → HasConstants known vs
-    → HasConstants (constants (joined_constant op turned known.second known.last) None) (joined (in_order turned (applied op)) vs)
-constant_joined op turned known vs has = record {
-  last = by known.second known.last vs has.second has.last;
-  second = λ n e. never_some (slice_get (joined (in_order turned (applied op)) vs) 1 ≡ Some n) n e;
-}
-  where
-    by : (second last : Option ℕ) (vs : List ℕ) → ((n : ℕ) → second ≡ Some n → slice_get vs 1 ≡ Some n) → ((n : ℕ) → last ≡ Some n → slice_get vs 0 ≡ Some n)
-        → (n : ℕ) → joined_constant op turned second last ≡ Some n → slice_get (joined (in_order turned (applied op)) vs) 0 ≡ Some n
-    by None last vs s l n e = absurd (cc)
-    by (Some a) None vs s l n e = absurd (cc)
-    by (Some a) (Some b) [] s l n e = let none = l b refl in absurd (cc)
-    by (Some a) (Some b) (x ∷ []) s l n e = let none = s a refl in absurd (cc)
-    by (Some a) (Some b) (x ∷ y ∷ vs) s l n e =
-        let second = s a refl in
-        let last = l b refl in
-        let v : y ≡ a = cc in
-        let w : x ≡ b = cc in
-        ap (λ y. Some (in_order turned (applied op) y x)) v ∙ ap (λ x. Some (in_order turned (applied op) a x)) w ∙ e
+bytes_on : (first offset bytes : ℕ) → bytes % 4 ≡ 0
+    → (word (address_of (first + offset)) + bytes) % 2 ^ 32 ≡ word (address_of (first + (offset + bytes / 4)))
+bytes_on first offset bytes e = omega (arith, e)
 
-pub joined_may : (shared_alone : Bool) (op : Op) (turned : Bool) (known : Constants) (vs : List ℕ) → HasConstants known vs
-    → (v w : ℕ) → slice_get vs 0 ≡ Some w → slice_get vs 1 ≡ Some v
-    → is_address shared_alone (joined_constant op turned known.second known.last) ≡ true → may_use shared_alone (in_order turned (applied op) v w) ≡ true
-joined_may shared_alone op turned known vs has v w l s e = by known.second known.last has.second has.last e
-  where
-    by : (second last : Option ℕ) → ((n : ℕ) → second ≡ Some n → slice_get vs 1 ≡ Some n) → ((n : ℕ) → last ≡ Some n → slice_get vs 0 ≡ Some n)
-        → is_address shared_alone (joined_constant op turned second last) ≡ true → may_use shared_alone (in_order turned (applied op) v w) ≡ true
-    by None last s' l' e = absurd (cc)
-    by (Some a) None s' l' e = absurd (cc)
-    by (Some a) (Some b) s' l' e =
-        let second = s' a refl in
-        let last = l' b refl in
-        let x : a ≡ v = cc in
-        let y : b ≡ w = cc in
+bytes_before : (first offset bytes : ℕ) → bytes % 4 ≡ 0
+    → (bytes + word (address_of (first + offset))) % 2 ^ 32 ≡ word (address_of (first + (offset + bytes / 4)))
+bytes_before first offset bytes e = omega (arith, e)
+
+module _ (frames : Memory) where
+  word_behind : (turned : Bool) (nesting offset bytes : ℕ) (c : Constant) (whole : Bool) → (bytes % 4 == 0) ≡ whole
+      → (if whole then Some (FrameWord nesting (offset + bytes / 4)) else None) ≡ Some c
+      → in_order turned (applied Add) (value_of frames (FrameWord nesting offset)) bytes ≡ value_of frames c
+  word_behind turned nesting offset bytes c false is e = absurd (cc)
+  word_behind true nesting offset bytes c true is e =
+      bytes_before (frames nesting) offset bytes (eqb-true (bytes % 4) 0 is) ∙ ap (value_of frames) (same_constant (FrameWord nesting (offset + bytes / 4)) c e)
+  word_behind false nesting offset bytes c true is e =
+      bytes_on (frames nesting) offset bytes (eqb-true (bytes % 4) 0 is) ∙ ap (value_of frames) (same_constant (FrameWord nesting (offset + bytes / 4)) c e)
+
+  joined_is : (op : Op) (turned : Bool) (a b c : Constant) → joined_constant op turned (Some a) (Some b) ≡ Some c
+      → in_order turned (applied op) (value_of frames a) (value_of frames b) ≡ value_of frames c
+  joined_is op turned (Number a) (Number b) c e = ap (value_of frames) (same_constant (Number (in_order turned (applied op) a b)) c e)
+  joined_is Add turned (FrameWord nesting offset) (Number bytes) c e = word_behind turned nesting offset bytes c (bytes % 4 == 0) refl e
+  joined_is op turned a b c e = absurd (cc)
+
+  no_last : (op : Op) (turned : Bool) (a c : Constant) → joined_constant op turned (Some a) None ≡ Some c → ⊥
+  no_last op turned (Number n) c e = absurd (cc)
+  no_last Add turned (FrameWord nesting offset) c e = absurd (cc)
+  no_last op turned (FrameWord nesting offset) c e = absurd (cc)
+
+  -- the values of two constants stand last, and their join is one
+  record Joined (op : Op) (turned : Bool) (vs : List ℕ) (c : Constant) : Type 0 where
+    a : ℕ
+    b : ℕ
+    rest : List ℕ
+    two : vs ≡ b ∷ a ∷ rest
+    is : in_order turned (applied op) a b ≡ value_of frames c
+
+  two_last : (op : Op) (turned : Bool) (a b c : Constant) (vs : List ℕ) → slice_get vs 1 ≡ Some (value_of frames a) → slice_get vs 0 ≡ Some (value_of frames b)
+      → joined_constant op turned (Some a) (Some b) ≡ Some c → Joined op turned vs c
+  two_last op turned a b c [] s l e = absurd (cc)
+  two_last op turned a b c (x ∷ []) s l e = absurd (cc)
+  two_last op turned a b c (x ∷ y ∷ vs) s l e =
+      let v : y ≡ value_of frames a = cc in
+      let w : x ≡ value_of frames b = cc in
+      record {
+        a = y;
+        b = x;
+        rest = vs;
+        two = refl;
+        is = ap (λ y. in_order turned (applied op) y x) v ∙ ap (λ x. in_order turned (applied op) (value_of frames a) x) w ∙ joined_is op turned a b c e;
+      }
+
+  joined_last : (op : Op) (turned : Bool) (known : Constants) (vs : List ℕ) → HasConstants frames known vs
+      → (c : Constant) → joined_constant op turned known.second known.last ≡ Some c → Joined op turned vs c
+  joined_last op turned known vs has c e = by known.second known.last has.second has.last e
+    where
+      by : (second last : Option Constant) → ((c : Constant) → second ≡ Some c → slice_get vs 1 ≡ Some (value_of frames c))
+          → ((c : Constant) → last ≡ Some c → slice_get vs 0 ≡ Some (value_of frames c)) → joined_constant op turned second last ≡ Some c → Joined op turned vs c
+      by None last s l e = absurd (cc)
+      by (Some a) None s l e = absurd (no_last op turned a c e)
+      by (Some a) (Some b) s l e = two_last op turned a b c vs (s a refl) (l b refl) e
+
+  pub constant_joined : (op : Op) (turned : Bool) (known : Constants) (vs : List ℕ) → HasConstants frames known vs
+      → HasConstants frames (constants (joined_constant op turned known.second known.last) None) (joined (in_order turned (applied op)) vs)
+  constant_joined op turned known vs has = record {
+    last = λ c e.
+        let j = joined_last op turned known vs has c e in
+        subst (λ (ws : List ℕ). slice_get (joined (in_order turned (applied op)) ws) 0 ≡ Some (value_of frames c)) (sym j.two) (ap (λ v. Some v) j.is);
+    second = λ c e. never_some (slice_get (joined (in_order turned (applied op)) vs) 1 ≡ Some (value_of frames c)) c e;
+  }
+
+  -- the words of the frames may be used
+  module _ (nests : List Nest) (usable : (nesting offset : ℕ) → has_word nests nesting offset ≡ true → may_use true (value_of frames (FrameWord nesting offset)) ≡ true) where
+    pub constant_may : (shared_alone : Bool) (c : Constant) → is_address shared_alone nests (Some c) ≡ true → may_use shared_alone (value_of frames c) ≡ true
+    constant_may shared_alone (Number n) e = e
+    constant_may shared_alone (FrameWord nesting offset) e = weaker shared_alone true (value_of frames (FrameWord nesting offset)) refl (usable nesting offset e)
+
+    joined_address : (shared_alone : Bool) (op : Op) (turned : Bool) (known : Constants) (vs : List ℕ) → HasConstants frames known vs
+        → is_address shared_alone nests (joined_constant op turned known.second known.last) ≡ true
+        → (c : Constant) × Joined op turned vs c × (may_use shared_alone (value_of frames c) ≡ true)
+    joined_address shared_alone op turned known vs has e = by (joined_constant op turned known.second known.last) refl e
+      where
+        by : (made : Option Constant) → joined_constant op turned known.second known.last ≡ made → is_address shared_alone nests made ≡ true
+            → (c : Constant) × Joined op turned vs c × (may_use shared_alone (value_of frames c) ≡ true)
+        by None is e = absurd (cc)
+        by (Some c) is e = (c, joined_last op turned known vs has c is, constant_may shared_alone c e)
+
+    pub joined_may : (shared_alone : Bool) (op : Op) (turned : Bool) (known : Constants) (vs : List ℕ) → HasConstants frames known vs
+        → (v w : ℕ) → slice_get vs 0 ≡ Some w → slice_get vs 1 ≡ Some v
+        → is_address shared_alone nests (joined_constant op turned known.second known.last) ≡ true → may_use shared_alone (in_order turned (applied op) v w) ≡ true
+    joined_may shared_alone op turned known vs has v w l s e =
+        let h = joined_address shared_alone op turned known vs has e in
+        let j = h.1 in
+        let last : Some j.b ≡ Some w = ap (λ (ws : List ℕ). slice_get ws 0) (sym j.two) ∙ l in
+        let second : Some j.a ≡ Some v = ap (λ (ws : List ℕ). slice_get ws 1) (sym j.two) ∙ s in
+        let x : j.a ≡ v = cc in
+        let y : j.b ≡ w = cc in
         subst (λ v. may_use shared_alone (in_order turned (applied op) v w) ≡ true) x
-        (subst (λ w. may_use shared_alone (in_order turned (applied op) a w) ≡ true) y e)
+        (subst (λ w. may_use shared_alone (in_order turned (applied op) j.a w) ≡ true) y
+        (subst (λ n. may_use shared_alone n ≡ true) (sym j.is) h.2))
 
-pub joined_two : (shared_alone : Bool) (op : Op) (turned : Bool) (known : Constants) (vs : List ℕ) → HasConstants known vs
-    → is_address shared_alone (joined_constant op turned known.second known.last) ≡ true → 2 ≤ length vs
-joined_two shared_alone op turned known vs has e = by known.second known.last vs has.second e
-  where
-    by : (second last : Option ℕ) (vs : List ℕ) → ((n : ℕ) → second ≡ Some n → slice_get vs 1 ≡ Some n)
-        → is_address shared_alone (joined_constant op turned second last) ≡ true → 2 ≤ length vs
-    by None last vs s e = absurd (cc)
-    by (Some a) None vs s e = absurd (cc)
-    by (Some a) (Some b) [] s e = let none = s a refl in absurd (cc)
-    by (Some a) (Some b) (x ∷ []) s e = let none = s a refl in absurd (cc)
-    by (Some a) (Some b) (x ∷ y ∷ vs) s e = omega arith
+    pub joined_two : (shared_alone : Bool) (op : Op) (turned : Bool) (known : Constants) (vs : List ℕ) → HasConstants frames known vs
+        → is_address shared_alone nests (joined_constant op turned known.second known.last) ≡ true → 2 ≤ length vs
+    joined_two shared_alone op turned known vs has e =
+        let h = joined_address shared_alone op turned known vs has e in
+        let j = h.1 in
+        subst (λ (ws : List ℕ). 2 ≤ length ws) (sym j.two) (omega arith)
 
 pub words_taken : (shared_alone : Bool) (known : ℕ → Bool) (words : ℕ) (p : Processor) → Knows shared_alone known (values p)
     → Knows shared_alone (pushed (Some false) (λ k. known (1 + k))) (values (taken words p))
@@ -174,13 +257,6 @@ words_taken shared_alone known words p knows = by (words == 0) (nat_lt (private_
     by true large = one_replaced shared_alone known 0 (values p) knows
     by false true = one_replaced shared_alone known 0 (values p) knows
     by false false = one_replaced shared_alone known (private_address p.top) (values p) knows
-
--- an address that a check passes may be used as one that it asks for, and for less
-weaker : (asked checked : Bool) (address : ℕ) → checked || not asked ≡ true → may_use checked address ≡ true → may_use asked address ≡ true
-weaker true true address e may = may
-weaker false false address e may = may
-weaker false true address e may = grind arith
-weaker true false address e may = absurd (cc)
 
 pub passed : (asked checked : Bool) (known : ℕ → Bool) (vs : List ℕ) → may_use checked (last vs) ≡ true → Knows asked known vs
     → Knows asked (pushed (Some (known 0 || (checked || not asked))) (λ k. known (1 + k))) vs

@@ -1,10 +1,10 @@
 -- What a list is asked tells where it leads to.
-use Rattle.std.proofs.Common.{◌≡◌, ℕ, zero, suc, ◌+◌, ◌-◌, ◌<◌, ◌≤◌, Bool, true, false, List, [], ◌∷◌, length, slice_get, Option, Some, None, IsTrue, if◌then◌else◌, refl, sym, ap, ◌∙◌, subst, arith}
+use Rattle.std.proofs.Common.{◌≡◌, ℕ, zero, suc, ◌+◌, ◌-◌, ◌<◌, Bool, true, false, List, [], ◌∷◌, length, slice_get, Option, Some, None, refl, ap, ◌∙◌, arith}
 use Rattle.fk_meaning_operation.specs.declared.operation.Operation.{Operation}
 use Rattle.fk_meaning_operation.specs.declared.operation.Operation.TheVariants as o
 use Rattle.fk_layout_sizes.specs.Operations.{takes}
 use Rattle.fk_core.specs.declared.op.CoreOp.{CoreOp}
-use Rattle.fk_core.specs.Next.{is_jump, through, led_by, landing_by, landing, follows, past_jump, behind_jump}
+use Rattle.fk_core.specs.Next.{is_jump, through, led_by, landing_by, landing, follows}
 use Rattle.fk_core_typing.specs.declared.places.Within.{Within}
 use Rattle.fk_core_typing.specs.LocalDepths.{leaves, is_ordinary, Comes, GoesOn}
 

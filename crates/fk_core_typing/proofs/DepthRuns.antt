@@ -8,7 +8,7 @@ use Rattle.fk_meaning_store.specs.Serve.{Served, serve}
 use Rattle.fk_meaning.specs.Processor.{Processor, Setting, setting_of}
 use Rattle.fk_meaning.specs.Local.{local, is_onward}
 use Rattle.fk_meaning.specs.Request.{request, with_answer}
-use Rattle.fk_meaning.specs.Group.{does, goes_onward}
+use Rattle.fk_meaning.specs.Group.{does, goes_onward, has_room}
 use Rattle.fk_meaning.specs.Round.{Step, Runner}
 use Rattle.fk_meaning.specs.Schedule.{beginners}
 use Rattle.fk_core.specs.declared.op.CoreOp.{CoreOp}
@@ -17,7 +17,8 @@ use Rattle.fk_core_typing.specs.declared.places.Within.{Within}
 use Rattle.fk_core_typing.specs.declared.places.Within.TheVariants.{Main}
 use Rattle.fk_core_typing.specs.LocalDepths.{GoesOn, HasLocalDepths, LocalDepthsAreDepths}
 use Rattle.fk_core_typing.proofs.DepthSteps.{Fits, Ready, by_local, by_request, by_tree}
-use Rattle.fk_core_typing.proofs.Runs.{AllAre, all_at, Found, found, RunnerFits, runs}
+use Rattle.fk_lockstep_frames.proofs.Found.{Found, found}
+use Rattle.fk_lockstep_frames.proofs.Rounds.{AllAre, all_at, RunnerFits, runs}
 
 module _ (core : List CoreOp) (main : ℕ) (local_depths : HasLocalDepths core main) where
   abbrev FitsAt : Position → Processor → Type 0
@@ -54,15 +55,15 @@ module _ (core : List CoreOp) (main : ℕ) (local_depths : HasLocalDepths core m
       (sym (ap (λ (t : Step Position). class_of t.operation) x.is) ∙ e))
 
   after_tree : (highest lowest size : ℕ) (left : Position) (p : Processor) (step : Step Position) → FitsAt left p → next core left ≡ Some step
-      → class_of step.operation ≡ Tree → FitsAt (step.rest (goes_onward step.operation highest lowest p)) (does step.operation highest size p)
-  after_tree highest lowest size left p step fits due e =
+      → class_of step.operation ≡ Tree → has_room step.operation p ≡ true → FitsAt (step.rest (goes_onward step.operation highest lowest p)) (does step.operation highest size p)
+  after_tree highest lowest size left p step fits due e room =
       let x = found core left step due in
       subst (λ (s : Step Position). FitsAt (s.rest (goes_onward s.operation highest lowest p)) (does s.operation highest size p)) (sym x.is)
       (by_tree core local_depths.within (landing core left.at) x.op.target left.callers p highest lowest size x.operation (ready left step x p fits)
       (sym (ap (λ (s : Step Position). class_of s.operation) x.is) ∙ e))
 
   abbrev AllFit : List (Runner Position) → Type 0
-  AllFit rs = AllAre (RunnerFits core FitsAt after_local after_request after_tree) rs
+  AllFit rs = AllAre (RunnerFits (next core) FitsAt after_local after_request after_tree) rs
 
   first : (set : Setting) (firsts : Memory) (h count : ℕ) → AllFit (beginners set firsts (position main []) h count)
   first set firsts h zero = tt
@@ -76,7 +77,7 @@ local_depths_are_depths core main local_depths words firsts input p schedule pos
     let local' = after_local core main local_depths in
     let request' = after_request core main local_depths in
     let tree' = after_tree core main local_depths in
-    let all = runs core at local' request' tree' set schedule start (first core main local_depths set _ 0 p) in
-    let fits = all_at (RunnerFits core at local' request' tree') _ h r all here in
+    let all = runs (next core) at local' request' tree' set schedule start (first core main local_depths set _ 0 p) in
+    let fits = all_at (RunnerFits (next core) at local' request' tree') _ h r all here in
     let comes = fits.comes op stands in
     comes.0

@@ -1,16 +1,16 @@
 -- How many values operations leave.
-use Rattle.std.proofs.Common.{◌≡◌, ℕ, zero, suc, ◌+◌, ◌-◌, ◌≤◌, ◌==◌, nat_lt, Bool, true, false, if◌then◌else◌, List, [], ◌∷◌, length, Option, Some, None, refl, ap, ◌∙◌, arith}
+use Rattle.std.proofs.Common.{◌≡◌, ℕ, zero, suc, ◌+◌, ◌-◌, ◌≤◌, ◌==◌, nat_lt, Bool, true, false, if◌then◌else◌, List, [], ◌∷◌, length, Option, Some, None, refl, arith}
 use Rattle.fk_space.specs.Space.{Space, block}
 use Rattle.fk_meaning_store.specs.Store.{private_words, private_address}
 use Rattle.fk_meaning_operation.specs.declared.operation.SplitKind.{SplitKind}
 use Rattle.fk_meaning_operation.specs.declared.operation.SplitKind.TheVariants as s
 use Rattle.fk_meaning_operation.specs.declared.operation.Operation.TheVariants as o
-use Rattle.fk_meaning.specs.Processor.{Level, Call, Processor, values, before, with_values, with_space, drop_last, in_place, push, enter_level, to_outer, leave_level}
-use Rattle.fk_meaning.specs.Local.{joined, stored, taken, unframed}
+use Rattle.fk_meaning.specs.Processor.{Level, Processor, values, before, with_values, drop_last, in_place, push, to_outer}
+use Rattle.fk_meaning.specs.Local.{joined, stored, taken}
 use Rattle.fk_meaning.specs.Group.{divided, enters, framed, allotted, with_block}
 use Rattle.fk_meaning_operation.specs.declared.operation.Variable.{Variable}
 use Rattle.fk_meaning_operation.specs.declared.operation.Variable.TheVariants as v
-use Rattle.fk_layout_sizes.specs.Operations.{takes, pushes}
+use Rattle.fk_layout_sizes.specs.Operations.{takes}
 use Rattle.fk_core_typing.specs.LocalDepths.{leaves}
 
 -- a processor has so many values less and so many more than before, and the same calls wait

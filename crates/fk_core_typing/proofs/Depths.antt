@@ -22,7 +22,7 @@ use Rattle.fk_core_typing.specs.declared.places.Within.TheVariants.{Main, Called
 use Rattle.fk_core_typing.specs.LocalDepths as d
 use Rattle.fk_core_typing.specs.LocalDepths.{results, leaves, is_ordinary}
 use Rattle.fk_core_typing.proofs.Asked.{stays_none, stays_at, leads_to, ordinary}
-use Rattle.fk_core_typing.specs.Values.{State, bare, behind, behind_call, Grants}
+use Rattle.fk_core_typing.specs.Values.{Place, with_frame, entered, State, bare, behind, behind_call, Grants}
 use Rattle.fk_core_typing.specs.Heights.{HasHeights}
 use Rattle.fk_core_typing.specs.Laws.{IsTypedList, HasHeightsOf, TypedListsHaveDepths}
 use Rattle.fk_core_typing.proofs.Granting.{as_long, grants_both}
@@ -31,31 +31,34 @@ use Rattle.fk_core_typing.proofs.Sound.{Comes, SoundAt, IsSound}
 use Rattle.fk_core_typing.proofs.Valued as v
 use Rattle.fk_core_typing.proofs.Valued.{same_ways, values, values_lawful, all_judged}
 use Rattle.fk_core_typing.proofs.Listed.{some_same, entries, Found, found, of_jump, of_operation, goes_on}
-use Rattle.fk_core_typing.proofs.Knowing.{label_done}
+use Rattle.fk_core_typing.proofs.Knowing.{label_done, same_function}
 
-abbrev within_of : FunctionKind → Within
-within_of p.Main = Main
-within_of (p.Called gives) = Called gives
+abbrev within_kind : FunctionKind → Within
+within_kind p.Main = Main
+within_kind (p.Called gives) = Called gives
 
-module _ (bodies : ℕ → Code ℕ) (core : List CoreOp) (entry : ℕ → ℕ) (place_of : ℕ → FunctionKind) (typed : IsTypedList bodies core entry place_of)
+abbrev within_of : Place → Within
+within_of place = within_kind place.function
+
+module _ (bodies : ℕ → Code ℕ) (core : List CoreOp) (entry : ℕ → ℕ) (place_of : ℕ → FunctionKind) (frame_of : ℕ → Option ℕ) (typed : IsTypedList bodies core entry place_of frame_of)
     (tall : HasHeightsOf bodies core place_of) where
   abbrev at : ℕ → State
-  at = v.at bodies core entry place_of typed
+  at = v.at bodies core entry place_of frame_of typed
 
   heights : true ≡ true → (f : ℕ) → HasHeights place_of tall.depth 0 (bodies f)
   heights z = tall.heights
 
   abbrev ComesTo : State → ℕ → Type 0
-  ComesTo = Comes core entry place_of (values place_of) (values_lawful place_of) at true tall.depth
+  ComesTo = Comes core entry place_of (values place_of frame_of) (values_lawful place_of frame_of) at true tall.depth
 
   abbrev within : ℕ → Within
   within i = within_of (at i).place
 
   abbrev Sounds : ℕ → CoreOp → Operation → Type 0
-  Sounds i op operation = IsSound core entry place_of (values place_of) (values_lawful place_of) at true tall.depth (at i) i op.site operation op.target
+  Sounds i op operation = IsSound core entry place_of (values place_of frame_of) (values_lawful place_of frame_of) at true tall.depth (at i) i op.site operation op.target
 
   sounds : (i : ℕ) (op : CoreOp) (operation : Operation) → slice_get core i ≡ Some op → operation_of op.kind op.number ≡ Some operation → Sounds i op operation
-  sounds = of_operation bodies core entry place_of typed (values place_of) (values_lawful place_of) (all_judged bodies core entry place_of typed) (bare p.Main) true tall.depth heights
+  sounds = of_operation bodies core entry place_of frame_of typed (values place_of frame_of) (values_lawful place_of frame_of) (all_judged bodies core entry place_of frame_of typed) (bare (entered p.Main)) true tall.depth heights
 
   -- an operation has as many values as its depth says
   deep : (i : ℕ) (op : CoreOp) (operation : Operation) → slice_get core i ≡ Some op → operation_of op.kind op.number ≡ Some operation
@@ -67,7 +70,7 @@ module _ (bodies : ℕ → Code ℕ) (core : List CoreOp) (entry : ℕ → ℕ) 
 
   -- who comes to an index in a state comes next to an operation with so many values
   comes_to : (s : State) (j : ℕ) → ComesTo s j → d.Comes core within j (length s.values) (within_of s.place)
-  comes_to s j c op e = by (found bodies core entry place_of typed (values place_of) (values_lawful place_of) (all_judged bodies core entry place_of typed) (bare p.Main) true tall.depth heights j c.below)
+  comes_to s j c op e = by (found bodies core entry place_of frame_of typed (values place_of frame_of) (values_lawful place_of frame_of) (all_judged bodies core entry place_of frame_of typed) (bare (entered p.Main)) true tall.depth heights j c.below)
     where
       at_index : (i : ℕ) → landing core j ≡ i → IsOperation core i → Grants s (at i) → (length s.values ≡ op.depth) × (within (landing core j) ≡ within_of s.place)
       at_index i l is g =
@@ -76,7 +79,7 @@ module _ (bodies : ℕ → Code ℕ) (core : List CoreOp) (entry : ℕ → ℕ) 
             ap within l ∙ ap within_of (sym g.place),
           )
 
-      by_item : (item : Item) → Stood core entry j item → SoundAt core entry place_of (values place_of) (values_lawful place_of) at true tall.depth j item
+      by_item : (item : Item) → Stood core entry j item → SoundAt core entry place_of (values place_of frame_of) (values_lawful place_of frame_of) at true tall.depth j item
           → (length s.values ≡ op.depth) × (within (landing core j) ≡ within_of s.place)
       by_item (act n operation target) stood sound =
           let stops = op_stops core entry j stood.0 operation stood.1 stood.2.0 stood.0 stood.1 in
@@ -85,10 +88,10 @@ module _ (bodies : ℕ → Code ℕ) (core : List CoreOp) (entry : ℕ → ℕ) 
           let is = jumps_lead_to_operations bodies core entry typed.shaped typed.flat j stood.0 stood.1 stood.2.0 in
           let stops = op_stops core entry stood.0.target is.op is.operation is.stands is.is_read is.op is.stands in
           let leads = leads_to core j stood.0 is.op stood.1 stood.2.0 is.stands stops in
-          let g = of_jump bodies core entry place_of typed (values place_of) (values_lawful place_of) (all_judged bodies core entry place_of typed) (bare p.Main) true tall.depth heights j stood.0 stood.1 stood.2.0 in
+          let g = of_jump bodies core entry place_of frame_of typed (values place_of frame_of) (values_lawful place_of frame_of) (all_judged bodies core entry place_of frame_of typed) (bare (entered p.Main)) true tall.depth heights j stood.0 stood.1 stood.2.0 in
           at_index stood.0.target leads is (grants_both s (at j) (at stood.0.target) c.grants g.grants)
 
-      by : Found bodies core entry place_of typed (values place_of) (values_lawful place_of) (all_judged bodies core entry place_of typed) (bare p.Main) true tall.depth heights j → (length s.values ≡ op.depth) × (within (landing core j) ≡ within_of s.place)
+      by : Found bodies core entry place_of frame_of typed (values place_of frame_of) (values_lawful place_of frame_of) (all_judged bodies core entry place_of frame_of typed) (bare (entered p.Main)) true tall.depth heights j → (length s.values ≡ op.depth) × (within (landing core j) ≡ within_of s.place)
       by f = by_item f.item f.stood f.sound
 
   -- the same at another number of values and place
@@ -96,27 +99,27 @@ module _ (bodies : ℕ → Code ℕ) (core : List CoreOp) (entry : ℕ → ℕ) 
   comes_with s j count place v w c op e =
       let h = comes_to s j c op e in (sym v ∙ h.0, h.1 ∙ w)
 
-  by_ordinary : (op : Operation) (i n target : ℕ) → is_ordinary op ≡ true → IsSound core entry place_of (values place_of) (values_lawful place_of) at true tall.depth (at i) i n op target
+  by_ordinary : (op : Operation) (i n target : ℕ) → is_ordinary op ≡ true → IsSound core entry place_of (values place_of frame_of) (values_lawful place_of frame_of) at true tall.depth (at i) i n op target
       → d.GoesOn core within op i target (length (at i).values) (within i)
   by_ordinary op i n target r s =
       ordinary core within op i target (length (at i).values) (within i) r
       (λ onward. comes_with (behind op onward (at i)) (follows core op i target [] onward).at (length (at i).values - takes op + leaves op onward) (within i)
-      (rises op onward (at i)) refl
-      (goes_on bodies core entry place_of typed (values place_of) (values_lawful place_of) (all_judged bodies core entry place_of typed) (bare p.Main) true tall.depth heights op (at i) i target (way_of op) refl r (same_ways op (at i)) s.goes onward))
+      (rises op onward (at i)) (ap within_kind (same_function op onward (at i).place))
+      (goes_on bodies core entry place_of frame_of typed (values place_of frame_of) (values_lawful place_of frame_of) (all_judged bodies core entry place_of frame_of typed) (bare (entered p.Main)) true tall.depth heights op (at i) i target (way_of op) refl r (same_ways op (at i)) s.goes onward))
 
-  goes : (op : Operation) (i n target : ℕ) → IsSound core entry place_of (values place_of) (values_lawful place_of) at true tall.depth (at i) i n op target
+  goes : (op : Operation) (i n target : ℕ) → IsSound core entry place_of (values place_of frame_of) (values_lawful place_of frame_of) at true tall.depth (at i) i n op target
       → d.GoesOn core within op i target (length (at i).values) (within i)
   goes (o.Enter arguments) i n target s =
       let next : suc i ≡ i + 1 = omega arith in (
         s.goes.1,
         (
-          subst (λ j. d.Comes core within j 0 (Called s.goes.1)) next (comes_to (bare (p.Called s.goes.1)) (suc i) s.goes.4),
+          subst (λ j. d.Comes core within j 0 (Called s.goes.1)) next (comes_to (bare (entered (p.Called s.goes.1))) (suc i) s.goes.4),
           subst (λ j. d.Comes core within (behind_jump core j) (length (at i).values - arguments + results s.goes.1) (within i)) next
               (comes_with (behind_call arguments s.goes.1 (at i)) (behind_jump core (suc i)) (length (at i).values - arguments + results s.goes.1) (within i)
               (changed_length arguments (results s.goes.1) (at i).values) refl s.goes.5),
         ),
       )
-  goes (o.Leave gives framed) i n target s = ap within_of s.goes
+  goes (o.Leave gives framed) i n target s = ap within_of s.goes.1
   goes o.Halt i n target s = ap within_of s.goes
   goes op i n target s = by_ordinary op i n target refl s
 
@@ -135,11 +138,11 @@ module _ (bodies : ℕ → Code ℕ) (core : List CoreOp) (entry : ℕ → ℕ) 
       let absurdity : ◌≡◌ {A = Option CoreOp} None (Some op) = sym none ∙ sym (ap (slice_get core) stays) ∙ e in
       absurd (cc)
   begins main is (inr closed) op e =
-      comes_with (bare (place_of main)) (entry main) 0 Main refl (ap within_of is) (entries bodies core entry place_of typed (values place_of) (values_lawful place_of) (all_judged bodies core entry place_of typed) (bare p.Main) true tall.depth heights main closed) op e
+      comes_with (bare (with_frame (place_of main) (frame_of main))) (entry main) 0 Main refl (ap within_kind is) (entries bodies core entry place_of frame_of typed (values place_of frame_of) (values_lawful place_of frame_of) (all_judged bodies core entry place_of frame_of typed) (bare (entered p.Main)) true tall.depth heights main closed) op e
 
 pub typed_lists_have_depths : TypedListsHaveDepths
-typed_lists_have_depths bodies core entry place_of typed tall main is = record {
-  within = within bodies core entry place_of typed tall;
-  begins = begins bodies core entry place_of typed tall main is (typed.shaped main).1;
-  fits = fits bodies core entry place_of typed tall;
+typed_lists_have_depths bodies core entry place_of frame_of typed tall main is = record {
+  within = within bodies core entry place_of frame_of typed tall;
+  begins = begins bodies core entry place_of frame_of typed tall main is (typed.shaped main).1;
+  fits = fits bodies core entry place_of frame_of typed tall;
 }

@@ -1,12 +1,13 @@
 -- States that grant what is asked in others.
-use Rattle.std.proofs.Common.{◌≡◌, ℕ, suc, List, [], ◌∷◌, length, Option, None, ap, ◌∙◌, refl}
+use Rattle.std.proofs.Common.{◌≡◌, suc, List, [], ◌∷◌, length, Option, None, ap, ◌∙◌, refl}
+use Rattle.fk_core_typing.specs.declared.constants.Constant.{Constant}
 use Rattle.fk_core_typing.specs.declared.constants.Constants.{Constants}
 use Rattle.fk_core_typing.specs.AddressValues.{no_constants}
 use Rattle.fk_core_typing.specs.LocalAddresses.{IsSameIn, AreSameIn}
 use Rattle.fk_core_typing.specs.Values.{Value, State, AreAsGood, Grants}
 
-pub none_same : (known : Option ℕ) → IsSameIn None known
-none_same known n e = absurd (cc)
+pub none_same : (known : Option Constant) → IsSameIn None known
+none_same known c e = absurd (cc)
 
 pub none_asked : (known : Constants) → AreSameIn no_constants known
 none_asked known = record { last = none_same known.last; second = none_same known.second }

@@ -1,5 +1,5 @@
 -- Flat lists of well typed code stay within themselves.
-use Rattle.std.proofs.Common.{◌≡◌, ℕ, zero, suc, ◌<◌, Bool, true, false, true≢false, List, [], ◌∷◌, length, All, arith, refl, sym, ◌∙◌, subst}
+use Rattle.std.proofs.Common.{◌≡◌, ℕ, zero, suc, ◌<◌, Bool, true, false, true≢false, List, [], ◌∷◌, length, All, Option, arith, refl, sym, ◌∙◌, subst}
 use Rattle.fk_meaning_operation.specs.declared.operation.Operation.{Operation}
 use Rattle.fk_meaning_operation.specs.declared.operation.Operation.TheVariants as o
 use Rattle.fk_core_liveness.specs.declared.places.FunctionKind.{FunctionKind}
@@ -13,7 +13,7 @@ use Rattle.fk_core_flat.proofs.Ways.{goes_by}
 use Rattle.fk_core_flat.proofs.Jumps.{jumps_lead_to_operations}
 use Rattle.fk_sim_block.specs.Lists.{is_end, StaysInList}
 use Rattle.fk_core_liveness.specs.declared.places.FunctionKind.TheVariants.{Main}
-use Rattle.fk_core_typing.specs.Values.{bare}
+use Rattle.fk_core_typing.specs.Values.{entered, bare}
 use Rattle.fk_core_typing.specs.Laws.{IsTypedList, TypedListsLeadWithin}
 use Rattle.fk_core_typing.proofs.Sound.{Goes}
 use Rattle.fk_core_typing.proofs.System.{System, IsLawful}
@@ -44,19 +44,19 @@ module _ (core : List CoreOp) (entry : ℕ → ℕ) (place_of : ℕ → Function
   inside op s i target w.out e n g onward = absurd (true≢false (sym (out_ends op e) ∙ n))
 
 -- a function with code begins in the list
-pub entries_are_within : (bodies : ℕ → Code ℕ) (core : List CoreOp) (entry : ℕ → ℕ) (place_of : ℕ → FunctionKind) → IsTypedList bodies core entry place_of
+pub entries_are_within : (bodies : ℕ → Code ℕ) (core : List CoreOp) (entry : ℕ → ℕ) (place_of : ℕ → FunctionKind) (frame_of : ℕ → Option ℕ) → IsTypedList bodies core entry place_of frame_of
     → (f : ℕ) → is_closed (bodies f) ≡ true → entry f < length core
-entries_are_within bodies core entry place_of typed f closed =
+entries_are_within bodies core entry place_of frame_of typed f closed =
     let none : ℕ → ℕ = λ n. 0 in
-    let comes = entries bodies core entry place_of typed (values place_of) (values_lawful place_of) (all_judged bodies core entry place_of typed) (bare Main) false none (λ z. absurd (true≢false (sym z))) f closed in
+    let comes = entries bodies core entry place_of frame_of typed (values place_of frame_of) (values_lawful place_of frame_of) (all_judged bodies core entry place_of frame_of typed) (bare (entered Main)) false none (λ z. absurd (true≢false (sym z))) f closed in
     comes.below
 
 pub typed_lists_lead_within : TypedListsLeadWithin
-typed_lists_lead_within bodies core entry place_of typed =
+typed_lists_lead_within bodies core entry place_of frame_of typed =
     let none : ℕ → ℕ = λ n. 0 in
     record {
       jumps = λ i op e z. jumps_lead_to_operations bodies core entry typed.shaped typed.flat i op e z;
       within = λ i op operation e is n onward.
-          (let sound = of_operation bodies core entry place_of typed (values place_of) (values_lawful place_of) (all_judged bodies core entry place_of typed) (bare Main) false none (λ z. absurd (true≢false (sym z))) i op operation e is in
-          inside core entry place_of (values place_of) (values_lawful place_of) (at bodies core entry place_of typed) false none operation (at bodies core entry place_of typed i) i op.target (way_of operation) refl n sound.goes onward);
+          (let sound = of_operation bodies core entry place_of frame_of typed (values place_of frame_of) (values_lawful place_of frame_of) (all_judged bodies core entry place_of frame_of typed) (bare (entered Main)) false none (λ z. absurd (true≢false (sym z))) i op operation e is in
+          inside core entry place_of (values place_of frame_of) (values_lawful place_of frame_of) (at bodies core entry place_of frame_of typed) false none operation (at bodies core entry place_of frame_of typed i) i op.target (way_of operation) refl n sound.goes onward);
     }

@@ -1,4 +1,3 @@
-mod Runs
 mod DepthValues
 mod DepthSteps
 pub mod DepthRuns

@@ -1,6 +1,6 @@
 -- A list that another interpreter of the same rules made, of functions that are well typed:
 -- int f(int n) { return n ? 1 + f(n - 1) : 0; } void main(void) { putint(f(3)); }
-use Rattle.std.proofs.Common.{◌≡◌, ℕ, zero, suc, ◌+◌, ◌<◌, ◌≤◌, Bool, true, false, List, [], ◌∷◌, slice_get, get_or, None, Some, inl, inr, refl, sym, ap, ◌∙◌, subst, arith}
+use Rattle.std.proofs.Common.{◌≡◌, ℕ, zero, suc, ◌+◌, ◌<◌, ◌≤◌, Bool, true, false, List, [], ◌∷◌, slice_get, get_or, Option, None, Some, inl, inr, refl, sym, ap, ◌∙◌, subst, arith}
 use Rattle.std.specs.Prelude.{◌==◌, ◌||◌, ◌&&◌, ◌⊎◌}
 use Rattle.std.proofs.lemmas.Bool.{eqb-true}
 use Rattle.fk_meaning_forms.specs.Code.{done}
@@ -13,9 +13,11 @@ use Rattle.fk_core_flat.proofs.ListExamples.{f_code, main_code, of_binding, bodi
 use Rattle.fk_core_typing.specs.LocalDepths.{HasLocalDepths}
 use Rattle.fk_core_liveness.specs.declared.places.FunctionKind.{FunctionKind}
 use Rattle.fk_core_liveness.specs.declared.places.FunctionKind.TheVariants.{Main, Called}
+use Rattle.fk_lockstep_frames.specs.Lists.{HasLocalFrames}
 use Rattle.fk_core_typing.specs.LocalAddresses.{HasKnowledge}
+use Rattle.fk_core_typing.specs.declared.constants.Constant.TheVariants.{Number}
 use Rattle.fk_core_typing.specs.AddressValues.{constants}
-use Rattle.fk_core_typing.specs.Values.{Unknown, State, bare, Grants}
+use Rattle.fk_core_typing.specs.Values.{Unknown, entered, State, bare, Grants}
 use Rattle.fk_core_typing.specs.Typed.{Typed, IsTyped, AreTyped}
 use Rattle.fk_core_typing.specs.Heights.{HasHeights}
 use Rattle.fk_core_typing.specs.Laws.{IsTypedList, LeadsWithin, HasHeightsOf}
@@ -28,6 +30,9 @@ use Rattle.fk_core_typing.proofs.Depths.{typed_lists_have_depths}
 abbrev place_of : ℕ → FunctionKind
 place_of f = of_binding (Called true) Main (Called true) (f == 0) (f == 1)
 
+abbrev frame_of : ℕ → Option ℕ
+frame_of f = None
+
 abbrev none : State
 none = at (Called true) []
 
@@ -35,40 +40,40 @@ abbrev one : State
 one = at (Called true) (Unknown ∷ [])
 
 -- one value of which nothing is asked, whatever constant it is
-any : (place : FunctionKind) (n : ℕ) → Grants (record { place = place; values = Unknown ∷ []; constants = constants (Some n) None }) (at place (Unknown ∷ []))
+any : (place : FunctionKind) (n : ℕ) → Grants (record { place = entered place; values = Unknown ∷ []; constants = constants (Some (Number n)) None }) (at place (Unknown ∷ []))
 any place n = record { place = refl; values = good_as_itself (Unknown ∷ []); constants = none_asked _ }
 
-f_is_typed : IsTyped place_of 0 f_code
+f_is_typed : IsTyped place_of frame_of 0 f_code
 f_is_typed = (
   none,
   (
-    may _ _ (omega arith, omega arith) tt,
+    may _ _ tt (omega arith, omega arith) tt,
     (
-      may _ _ (omega arith, omega arith) tt,
+      may _ _ tt (omega arith, omega arith) tt,
       one,
-      (may _ _ (omega arith, omega arith) tt, (may _ _ (omega arith, omega arith) tt, (may _ _ (omega arith, omega arith) tt, (may _ _ (omega arith, omega arith) tt, (may _ _ (omega arith, omega arith) tt, true, refl, grants_itself none, (may _ _ (omega arith, omega arith) tt, grants_itself one)))))),
-      (may _ _ (omega arith, omega arith) tt, any (Called true) 0),
-      (may _ _ (omega arith, omega arith) tt, refl, (may _ _ (omega arith, omega arith) tt, (may _ _ (omega arith, omega arith) tt, refl, grants_itself none))),
+      (may _ _ tt (omega arith, omega arith) tt, (may _ _ tt (omega arith, omega arith) tt, (may _ _ tt (omega arith, omega arith) tt, (may _ _ tt (omega arith, omega arith) tt, (may _ _ tt (omega arith, omega arith) tt, true, refl, grants_itself none, (may _ _ tt (omega arith, omega arith) tt, grants_itself one)))))),
+      (may _ _ tt (omega arith, omega arith) tt, any (Called true) 0),
+      (may _ _ tt (omega arith, omega arith) tt, (None, refl, refl), (may _ _ tt (omega arith, omega arith) tt, (may _ _ tt (omega arith, omega arith) tt, (None, refl, refl), grants_itself none))),
     ),
   ),
 )
 
-main_is_typed : IsTyped place_of 1 main_code
+main_is_typed : IsTyped place_of frame_of 1 main_code
 main_is_typed = (
   at Main [],
   (
-    may _ _ (omega arith, omega arith) tt,
-    (may _ _ (omega arith, omega arith) tt, true, refl, grants_itself none, (may _ _ (omega arith, omega arith) tt, (may _ _ (omega arith, omega arith) tt, refl, grants_itself (at Main [])))),
+    may _ _ tt (omega arith, omega arith) tt,
+    (may _ _ tt (omega arith, omega arith) tt, true, refl, grants_itself none, (may _ _ tt (omega arith, omega arith) tt, (may _ _ tt (omega arith, omega arith) tt, refl, grants_itself (at Main [])))),
   ),
 )
 
 typed_by : (is_f is_main : Bool)
-    → (end : State) × Typed place_of None (bare (of_binding (Called true) Main (Called true) is_f is_main)) (of_binding f_code main_code done is_f is_main) end
+    → (end : State) × Typed place_of frame_of None (bare (entered (of_binding (Called true) Main (Called true) is_f is_main))) (of_binding f_code main_code done is_f is_main) end
 typed_by true is_main = f_is_typed
 typed_by false true = main_is_typed
 typed_by false false = (none, grants_itself none)
 
-are_typed : AreTyped place_of bodies
+are_typed : AreTyped place_of frame_of bodies
 are_typed f = typed_by (f == 0) (f == 1)
 
 -- which binding an index lies in
@@ -87,7 +92,7 @@ same_owner i f g (inr a) (inr b) = a.1 ∙ sym b.1
 same_owner i f g (inl a) (inr b) = absurd (let x = a.0 in let y = b.0 in let z : ⊥ = omega (arith, x, y) in z)
 same_owner i f g (inr a) (inl b) = absurd (let x = a.0 in let y = b.0 in let z : ⊥ = omega (arith, x, y) in z)
 
-typed_list : IsTypedList bodies core entry place_of
+typed_list : IsTypedList bodies core entry place_of frame_of
 typed_list = record {
   shaped = are_shaped;
   flat = is_flat;
@@ -133,10 +138,10 @@ has_heights = record {
 }
 
 has_depths : HasLocalDepths core 14
-has_depths = typed_lists_have_depths bodies core entry place_of typed_list has_heights 1 refl
+has_depths = typed_lists_have_depths bodies core entry place_of frame_of typed_list has_heights 1 refl
 
-has_knowledge : HasKnowledge core 14
-has_knowledge = typed_lists_know bodies core entry place_of typed_list 1 refl
+has_knowledge : (local : HasLocalFrames core 14) × HasKnowledge core 14 local.nests
+has_knowledge = typed_lists_know bodies core entry place_of frame_of typed_list 1 refl refl
 
 leads_within : LeadsWithin core
-leads_within = typed_lists_lead_within bodies core entry place_of typed_list
+leads_within = typed_lists_lead_within bodies core entry place_of frame_of typed_list

@@ -51,7 +51,7 @@ module _ (core : List CoreOp) (entry : ℕ → ℕ) where
   has_below (item ∷ items) j zero a h = let b = slice_get_within core j h.0.0 h.0.1 in omega arith
   has_below (item ∷ items) j (suc d) a h = let b = has_below items (suc j) d (omega arith) h.1 in omega arith
 
-module _ (bodies : ℕ → Code ℕ) (core : List CoreOp) (entry : ℕ → ℕ) (place_of : ℕ → FunctionKind) (typed : IsTypedList bodies core entry place_of)
+module _ (bodies : ℕ → Code ℕ) (core : List CoreOp) (entry : ℕ → ℕ) (place_of : ℕ → FunctionKind) (frame_of : ℕ → Option ℕ) (typed : IsTypedList bodies core entry place_of frame_of)
     (sys : System) (lawful : IsLawful sys place_of) (judged : (f : ℕ) → (end : sys.State) × Judged sys None (sys.first f) (bodies f) end) (nothing : sys.State) where
   abbrev place : ℕ → ℕ
   place = typed.flat.place
@@ -116,7 +116,7 @@ module _ (bodies : ℕ → Code ℕ) (core : List CoreOp) (entry : ℕ → ℕ) 
         by : (c : (place f + d < length core) ⊎ (length core ≤ place f + d)) → state_by (place f + d) c ≡ s
         by (inl h) =
             let c = typed.flat.covers (place f + d) h in
-            let lies : LiesIn bodies core entry place_of place (place f + d) f = (omega arith, let a = few in omega arith) in
+            let lies : LiesIn bodies core entry place_of frame_of place (place f + d) f = (omega arith, let a = few in omega arith) in
             let same : c.0 ≡ f = typed.apart (place f + d) c.0 f (c.1, c.2) lies in
             ap (λ g. state_in g (place f + d)) same ∙ mine
         by (inr h) = absurd (let a = inside in let z : ⊥ = omega arith in z)

@@ -59,8 +59,9 @@ module _ (sys : System) where
   marks near l s (continue rest) e t = marks near l s rest e t.1
   marks near l s (call n op f opening rest) e t =
       let o = sys.begin op f t.1 in
+      let en = sys.entered op f t.1 in
       let r = sys.behind_call op t.1 s in
-      s ∷ ((marks true None o opening o t.3 ++ (o ∷ skip_mark (begins_here near rest) r)) ++ marks near l r rest e t.4)
+      s ∷ ((marks true None o opening en t.3 ++ (en ∷ skip_mark (begins_here near rest) r)) ++ marks near l r rest e t.4)
   marks near l s (ends n op rest) e t = s ∷ marks near l (sys.behind op true s) rest e t.2
 
   two : (xs ys : List sys.State) → length (xs ++ ys) ≡ length xs + length ys
@@ -132,11 +133,12 @@ module _ (sys : System) where
   mark_length near l s (call n op f opening rest) e t =
       let here = begins_here near rest in
       let o = sys.begin op f t.1 in
+      let en = sys.entered op f t.1 in
       let r = sys.behind_call op t.1 s in
       let a = skip_length here r in
-      let lo = mark_length true None o opening o t.3 in
+      let lo = mark_length true None o opening en t.3 in
       let lr = mark_length near l r rest e t.4 in
-      let c = three (marks true None o opening o t.3) (o ∷ skip_mark here r) (marks near l r rest e t.4) in
-      let m : length ((marks true None o opening o t.3 ++ (o ∷ skip_mark here r)) ++ marks near l r rest e t.4) ≡ suc (extent true opening + gap here + extent near rest) = omega arith in
+      let c = three (marks true None o opening en t.3) (en ∷ skip_mark here r) (marks near l r rest e t.4) in
+      let m : length ((marks true None o opening en t.3 ++ (en ∷ skip_mark here r)) ++ marks near l r rest e t.4) ≡ suc (extent true opening + gap here + extent near rest) = omega arith in
       ap (λ n. suc n) m
   mark_length near l s (ends n op rest) e t = ap (λ n. suc n) (mark_length near l (sys.behind op true s) rest e t.2)

@@ -427,20 +427,21 @@ module _ (core : List CoreOp) (entry : ℕ → ℕ) (place_of : ℕ → Function
       calls : (n : ℕ) (op : Operation) (f' : ℕ) (opening rest : Code ℕ) (near : Bool) (c : Around) (l : Option sys.State) (s e : sys.State) (i k : ℕ)
           → (p : IsShaped has_body (is_some c) (call n op f' opening rest))
           → (t : Judged sys l s (call n op f' opening rest) e) → (is_closed rest ≡ false → Comes e k) → LoopComes l c
-          → ((r k : ℕ) → Comes (sys.begin op f' t.1) k → Written opening true None None (sys.begin op f' t.1) (sys.begin op f' t.1) t.3 r k)
+          → ((r k : ℕ) → Comes (sys.entered op f' t.1) k → Written opening true None None (sys.begin op f' t.1) (sys.entered op f' t.1) t.3 r k)
           → ((r : ℕ) → Written rest near c l (sys.behind_call op t.1 s) e t.4 r k)
           → Written (call n op f' opening rest) near c l s e t i k
       calls n op f' opening rest near c l s e i k p t end ls more_o more h m hh is =
           let q = entering_at entry f' opening rest near c i k in
           let has = has_entering entry core f' opening rest near c i k h.1 in
           let o = sys.begin op f' t.1 in
+          let en = sys.entered op f' t.1 in
           let b = sys.behind_call op t.1 s in
           let a = q.back in
           let j = has.jumps.0 in
-          let os = marks sys true None o opening o t.3 in
-          let js = o ∷ skip_mark q.here b in
+          let os = marks sys true None o opening en t.3 in
+          let js = en ∷ skip_mark q.here b in
           let rs = marks sys near l b rest e t.4 in
-          let lo = mark_length sys true None o opening o t.3 in
+          let lo = mark_length sys true None o opening en t.3 in
           let lj = skip_length q.here b in
           let e1 = length-append os js in
           let whole = noted_front state (suc i) (os ++ js) rs m.1 in
@@ -452,13 +453,13 @@ module _ (core : List CoreOp) (entry : ℕ → ℕ) (place_of : ℕ → Function
           let i1 = length-append q.openings q.jumps in
           let end_r : near ≡ true → k ≡ suc a + gap q.here + extent near rest = λ z. (let g = is z in omega arith) in
           let end_o : true ≡ true → a ≡ suc i + extent true opening = λ z. refl in
-          let ga = at_index o a j.0 mj.0 j.1 in
-          let go = begins opening true None None o o (suc i) a (opening_is_shaped has_body opening p.2) t.3 has.opening mo (λ z. ga) tt in
+          let ga = at_index en a j.0 mj.0 j.1 in
+          let go = begins opening true None None o en (suc i) a (opening_is_shaped has_body opening p.2) t.3 has.opening mo (λ z. ga) tt in
           let first : label None (suc i) a opening ≡ suc i = begins_at opening true None (suc i) a (opening_begins core entry opening p.2) end_o in
           let back : behind_jump core (suc i) ≡ suc a = behind_opening core entry opening (suc i) a p.2 has.opening ∙ behind_jump_at core entry core a j.0 j.1 j.2.0 in
           let fr = followed q.here rest near c l b e (suc a) k refl p.3 t.4 has.jumps.1 has.others mj.1 mr end_r end ls in
           let to = entries f' p.1 in
-          let leads : Comes o (entry f') = comes_as o (sys.first f') (entry f') (lawful.enters op f' t.1 opening t.2) to in
+          let leads : Comes en (entry f') = comes_as en (sys.first f') (entry f') (lawful.enters op f' t.1 opening t.2) to in
           let leads_on : Comes (state a) (entry f') = subst (λ x. Comes x (entry f')) (sym mj.0) leads in
           let tail = tall rest _ (sys.height b) (lawful.called op f' t.1 opening s t.2) (λ z. (hh z).2) in
           let goes : Goes w.into op s i (entry f') = (f', t.1, opening, t.2, subst (Comes o) first go, subst (Comes b) (sym back) fr.0) in (
@@ -507,8 +508,9 @@ module _ (core : List CoreOp) (entry : ℕ → ℕ) (place_of : ℕ → Function
       sound (continue rest) near c l s e i k p t end ls h m hh is = sound rest near c l s e i k p.1 t.1 end ls h m hh is
       sound (call n op f' opening rest) near c l s e i k p t end ls h m hh is =
           let o = sys.begin op f' t.1 in
+          let en = sys.entered op f' t.1 in
           calls n op f' opening rest near c l s e i k p t end ls
-          (λ r k g. sound opening true None None o o r k (opening_is_shaped has_body opening p.2) t.3 (λ z. g) tt)
+          (λ r k g. sound opening true None None o en r k (opening_is_shaped has_body opening p.2) t.3 (λ z. g) tt)
           (λ r. sound rest near c l (sys.behind_call op t.1 s) e r k p.3 t.4 end ls) h m hh is
       sound (ends n op rest) near c l s e i k p t end ls h m hh is =
           let b = sys.behind op true s in

@@ -14,9 +14,10 @@ pub record System : Type 1 where
   pub May : Operation → State → Type 0
   pub Ends : Operation → State → Type 0
   pub behind : Operation → (onward : Bool) → State → State
-  -- a call of a function, with a result or none: where the function begins, and behind the call
+  -- a call of a function, with a result or none: where it begins, where the function is entered, and behind the call
   pub Calls : Operation → (f : ℕ) → (gives : Bool) → (opening : Code ℕ) → Type 0
   pub begin : Operation → (f : ℕ) → (gives : Bool) → State
+  pub entered : Operation → (f : ℕ) → (gives : Bool) → State
   pub behind_call : Operation → (gives : Bool) → State → State
   -- where the code of a function begins
   pub first : (f : ℕ) → State
@@ -47,7 +48,7 @@ module _ (y : System) where
   Judged l s (continue rest) e = GrantsLoop l s × Judged l s rest e
   Judged l s (call n op f opening rest) e =
       y.May op s × (gives : Bool) × y.Calls op f gives opening
-      × Judged None (y.begin op f gives) opening (y.begin op f gives) × Judged l (y.behind_call op gives s) rest e
+      × Judged None (y.begin op f gives) opening (y.entered op f gives) × Judged l (y.behind_call op gives s) rest e
   Judged l s (ends n op rest) e = y.May op s × y.Ends op s × Judged l (y.behind op true s) rest e
   Judged l s code e = ⊥
 
@@ -55,7 +56,7 @@ module _ (y : System) where
   pub record IsLawful (place_of : ℕ → FunctionKind) : Type 0 where
     pub itself : (s : y.State) → y.Grants s s
     pub both : (s t u : y.State) → y.Grants s t → y.Grants t u → y.Grants s u
-    pub enters : (op : Operation) (f : ℕ) (gives : Bool) (opening : Code ℕ) → y.Calls op f gives opening → y.Grants (y.begin op f gives) (y.first f)
+    pub enters : (op : Operation) (f : ℕ) (gives : Bool) (opening : Code ℕ) → y.Calls op f gives opening → y.Grants (y.entered op f gives) (y.first f)
     pub rises : (op : Operation) (onward : Bool) (s : y.State) → y.height (y.behind op onward s) ≡ raised (y.height s) op onward
     pub level : (s t : y.State) → y.Grants s t → y.height s ≡ y.height t
     pub called : (op : Operation) (f : ℕ) (gives : Bool) (opening : Code ℕ) (s : y.State) → y.Calls op f gives opening

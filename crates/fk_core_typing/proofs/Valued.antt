@@ -10,7 +10,7 @@ use Rattle.fk_core_liveness.specs.declared.places.FunctionKind.TheVariants.{Main
 use Rattle.fk_core.specs.declared.op.CoreOp.{CoreOp}
 use Rattle.fk_core_flat.specs.Items as w
 use Rattle.fk_core_flat.specs.Items.{Way, way_of}
-use Rattle.fk_core_typing.specs.Values.{State, bare, behind, behind_call, May, Grants}
+use Rattle.fk_core_typing.specs.Values.{with_frame, entered, State, bare, behind, behind_call, May, Grants}
 use Rattle.fk_core_typing.specs.Typed as t
 use Rattle.fk_core_typing.specs.Typed.{EndsIn, Typed}
 use Rattle.fk_core_typing.specs.Laws.{IsTypedList}
@@ -23,9 +23,13 @@ use Rattle.fk_core_typing.proofs.Listed.{state}
 pub same_ways : (op : Operation) (s : State) (way : Way) → way_of op ≡ way → (way ≡ w.straight) ⊎ (way ≡ w.onto) → behind op false s ≡ behind op true s
 same_ways (o.Split by) s way e (inl f) = let g : w.either ≡ w.straight = e ∙ f in absurd (cc)
 same_ways (o.Split by) s way e (inr f) = let g : w.either ≡ w.onto = e ∙ f in absurd (cc)
+same_ways o.Begin s way e (inl f) = let g : w.either ≡ w.straight = e ∙ f in absurd (cc)
+same_ways o.Begin s way e (inr f) = let g : w.either ≡ w.onto = e ∙ f in absurd (cc)
+same_ways o.Shrink s way e (inl f) = let g : w.either ≡ w.straight = e ∙ f in absurd (cc)
+same_ways o.Shrink s way e (inr f) = let g : w.either ≡ w.onto = e ∙ f in absurd (cc)
 same_ways op s way e f = refl
 
-module _ (place_of : ℕ → FunctionKind) where
+module _ (place_of : ℕ → FunctionKind) (frame_of : ℕ → Option ℕ) where
   abbrev pub values : System
   values = record {
     State = State;
@@ -34,9 +38,10 @@ module _ (place_of : ℕ → FunctionKind) where
     Ends = λ op s. EndsIn op s.place;
     behind = behind;
     Calls = λ op f gives opening. place_of f ≡ Called gives;
-    begin = λ op f gives. bare (Called gives);
+    begin = λ op f gives. bare (entered (Called gives));
+    entered = λ op f gives. bare (with_frame (Called gives) (frame_of f));
     behind_call = λ op gives s. behind_call (takes op) gives s;
-    first = λ f. bare (place_of f);
+    first = λ f. bare (with_frame (place_of f) (frame_of f));
     height = λ s. length s.values;
   }
 
@@ -44,7 +49,8 @@ module _ (place_of : ℕ → FunctionKind) where
   values_lawful = record {
     itself = grants_itself;
     both = grants_both;
-    enters = λ op f gives opening e. subst (λ p. Grants (bare (Called gives)) (bare p)) (sym e) (grants_itself (bare (Called gives)));
+    enters = λ op f gives opening e. subst (λ p. Grants (bare (with_frame (Called gives) (frame_of f))) (bare (with_frame p (frame_of f)))) (sym e)
+        (grants_itself (bare (with_frame (Called gives) (frame_of f))));
     rises = rises;
     level = λ s t g. as_long s.values t.values g.values;
     called = λ op f gives opening s e. called_rises place_of op f gives s e;
@@ -56,7 +62,7 @@ module _ (place_of : ℕ → FunctionKind) where
   looped None s g = absurd g
   looped (Some round) s g = g
 
-  pub judged : (code : Code ℕ) (l : Option State) (s e : State) → Typed place_of l s code e → Judged values l s code e
+  pub judged : (code : Code ℕ) (l : Option State) (s e : State) → Typed place_of frame_of l s code e → Judged values l s code e
   judged done l s e h = h
   judged (perform n op rest) l s e h = (h.0, judged rest l (behind op true s) e h.1)
   judged (choose n op x y rest) l s e h =
@@ -72,13 +78,13 @@ module _ (place_of : ℕ → FunctionKind) where
   judged (break rest) l s e h = (looped l s h.0, judged rest l s e h.1)
   judged (continue rest) l s e h = (looped l s h.0, judged rest l s e h.1)
   judged (call n op f opening rest) l s e h =
-      (h.0, h.1, h.2, judged opening None (bare (Called h.1)) (bare (Called h.1)) h.3, judged rest l (behind_call (takes op) h.1 s) e h.4)
+      (h.0, h.1, h.2, judged opening None (bare (entered (Called h.1))) (bare (with_frame (Called h.1) (frame_of f))) h.3, judged rest l (behind_call (takes op) h.1 s) e h.4)
   judged (ends n op rest) l s e h = (h.0, h.1, judged rest l (behind op true s) e h.2)
 
 -- those of a flat list
-module _ (bodies : ℕ → Code ℕ) (core : List CoreOp) (entry : ℕ → ℕ) (place_of : ℕ → FunctionKind) (typed : IsTypedList bodies core entry place_of) where
-  pub all_judged : (f : ℕ) → (end : State) × Judged (values place_of) None (bare (place_of f)) (bodies f) end
-  all_judged f = ((typed.typed f).0, judged place_of (bodies f) None (bare (place_of f)) (typed.typed f).0 (typed.typed f).1)
+module _ (bodies : ℕ → Code ℕ) (core : List CoreOp) (entry : ℕ → ℕ) (place_of : ℕ → FunctionKind) (frame_of : ℕ → Option ℕ) (typed : IsTypedList bodies core entry place_of frame_of) where
+  pub all_judged : (f : ℕ) → (end : State) × Judged (values place_of frame_of) None (bare (with_frame (place_of f) (frame_of f))) (bodies f) end
+  all_judged f = ((typed.typed f).0, judged place_of frame_of (bodies f) None (bare (with_frame (place_of f) (frame_of f))) (typed.typed f).0 (typed.typed f).1)
 
   abbrev pub at : ℕ → State
-  at = state bodies core entry place_of typed (values place_of) (values_lawful place_of) all_judged (bare Main)
+  at = state bodies core entry place_of frame_of typed (values place_of frame_of) (values_lawful place_of frame_of) all_judged (bare (entered Main))

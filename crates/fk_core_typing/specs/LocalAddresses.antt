@@ -8,25 +8,30 @@ use Rattle.fk_meaning_operation.specs.declared.operation.Operation.TheVariants.{
 use Rattle.fk_core.specs.declared.op.CoreOp.{CoreOp}
 use Rattle.fk_core.specs.Numbers.{operation_of}
 use Rattle.fk_core.specs.Next.{is_jump, behind_jump, follows}
+use Rattle.fk_lockstep_frames.specs.Nests.{Nest}
+use Rattle.fk_lockstep_frames.specs.Lists.{HasLocalFrames}
 use Rattle.fk_sim_block.specs.Lists.{AlwaysMay}
 use Rattle.fk_core_liveness.specs.declared.places.FunctionKind.{FunctionKind}
 use Rattle.fk_core_liveness.specs.declared.places.FunctionKind.TheVariants.{Main, Called}
 use Rattle.fk_core_typing.specs.declared.change.Change.{Change}
+use Rattle.fk_core_typing.specs.declared.constants.Constant.{Constant}
 use Rattle.fk_core_typing.specs.declared.constants.Constants.{Constants}
 use Rattle.fk_core_typing.specs.AddressValues.{after, change, called, unchanged, no_constants}
 use Rattle.fk_core_typing.specs.AddressValues.{constants_behind}
 
 -- A constant that is known here is also known elsewhere.
-abbrev pub IsSameIn : (here elsewhere : Option ℕ) → Type 0
-IsSameIn here elsewhere = (n : ℕ) → here ≡ Some n → elsewhere ≡ Some n
+abbrev pub IsSameIn : (here elsewhere : Option Constant) → Type 0
+IsSameIn here elsewhere = (c : Constant) → here ≡ Some c → elsewhere ≡ Some c
 
 pub record AreSameIn (here elsewhere : Constants) : Type 0 where
   pub last : IsSameIn here.last elsewhere.last
   pub second : IsSameIn here.second elsewhere.second
 
--- For each index: the function in which it is; the values of its call that are addresses which may
--- be used, or also by a multiprefix; and the constants that the last values are.
-module _ (core : List CoreOp) (within : (index : ℕ) → FunctionKind)
+-- For each index: the nests of its call; the function in which it is; the values of its call that
+-- are addresses which may be used, or also by a multiprefix; and the constants that the last values
+-- are.
+module _ (core : List CoreOp) (nests : (index : ℕ) → List Nest)
+    (within : (index : ℕ) → FunctionKind)
     (known : (shared_alone : Bool) (index value : ℕ) → Bool)
     (constants : (index : ℕ) → Constants) where
   -- The call goes on from index i at index j. What is known at j holds after the change.
@@ -55,8 +60,8 @@ module _ (core : List CoreOp) (within : (index : ℕ) → FunctionKind)
   GoesOn Halt i target = within i ≡ Main
   GoesOn operation i target =
       (onward : Bool)
-      → Leads
-      (λ shared_alone. change shared_alone operation onward (known shared_alone i 0) (constants i))
+      → Leads (λ shared_alone.
+      change shared_alone (nests i) operation onward (known shared_alone i 0) (constants i))
       (constants_behind operation (constants i)) i (follows core operation i target [] onward).at
 
   -- The values that an operation uses as addresses are known to be addresses.
@@ -75,19 +80,23 @@ module _ (core : List CoreOp) (within : (index : ℕ) → FunctionKind)
     pub inside : within i ≡ Main
     pub nothing : KnowsNothing i
 
--- Knowledge of addresses for a list. Nothing is known where `main` begins, and at the list's end.
-pub record HasKnowledge (core : List CoreOp) (main : ℕ) : Type 0 where
+-- Knowledge of addresses for a list whose indices tell the nests of their calls. Nothing is known
+-- where `main` begins, and at the list's end.
+pub record HasKnowledge (core : List CoreOp) (main : ℕ) (nests : (index : ℕ) → List Nest)
+    : Type 0 where
   pub within : (index : ℕ) → FunctionKind
   pub known : (shared_alone : Bool) (index value : ℕ) → Bool
   pub constants : (index : ℕ) → Constants
-  pub begins : IsBare core within known constants main
-  pub ends : IsBare core within known constants (length core)
+  pub begins : IsBare core nests within known constants main
+  pub ends : IsBare core nests within known constants (length core)
   pub jumps : (i : ℕ) (op : CoreOp) → slice_get core i ≡ Some op → is_jump op ≡ true
-      → Leads core within known constants (λ shared_alone. unchanged) (constants i) i op.target
+      → Leads core nests within known constants (λ shared_alone. unchanged) (constants i) i
+      op.target
   pub fits : (i : ℕ) (op : CoreOp) (operation : Operation) → slice_get core i ≡ Some op
       → operation_of op.kind op.number ≡ Some operation
-      → Fits core within known constants i op.target operation
+      → Fits core nests within known constants i op.target operation
 
--- The knowledge of a list suffices for each address that is used.
+-- The knowledge of a list suffices for each address that is used. Frames lie in spaces.
 abbrev pub KnowledgeIsEnough : Type 0
-KnowledgeIsEnough = (core : List CoreOp) (main : ℕ) → HasKnowledge core main → AlwaysMay core main
+KnowledgeIsEnough = (core : List CoreOp) (main : ℕ) (local : HasLocalFrames core main)
+    → HasKnowledge core main local.nests → AlwaysMay core main

@@ -1,6 +1,6 @@
 -- The depths of a flat list, given by each operation and those that follow it.
 use Rattle.std.specs.Prelude.{◌≡◌, ℕ, ◌+◌, ◌-◌, ◌≤◌, Bool, true, false, List, [], slice_get}
-use Rattle.std.specs.Prelude.{unwrap_or, Some, if◌then◌else◌}
+use Rattle.std.specs.Prelude.{Some, if◌then◌else◌}
 use Rattle.fk_meaning_operation.specs.declared.operation.Operation.{Operation}
 use Rattle.fk_meaning_operation.specs.declared.operation.Operation.TheVariants as o
 use Rattle.fk_meaning_operation.specs.declared.operation.SplitKind.TheVariants.{AndThen, OrElse}

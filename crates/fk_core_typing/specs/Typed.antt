@@ -4,7 +4,7 @@
 -- Both branches of a choice come together with the same values. A call takes its arguments, and
 -- gives a result or none. The code after a `break`, a `continue` or an end of the function is never
 -- reached. It is typed as if the code before it went on into it.
-use Rattle.std.specs.Prelude.{◌≡◌, ℕ, Bool, true, false, Option, Some, None}
+use Rattle.std.specs.Prelude.{◌≡◌, ℕ, Bool, true, false, Option, Some, None, is_some}
 use Rattle.fk_meaning_operation.specs.declared.operation.Operation.{Operation}
 use Rattle.fk_meaning_operation.specs.declared.operation.Operation.TheVariants.{Leave, Halt}
 use Rattle.fk_layout_sizes.specs.Operations.{takes}
@@ -12,7 +12,8 @@ use Rattle.fk_meaning_forms.specs.Code.{Code, done, perform, choose, while, unti
 use Rattle.fk_meaning_forms.specs.Code.{continue, call, ends}
 use Rattle.fk_core_liveness.specs.declared.places.FunctionKind.{FunctionKind}
 use Rattle.fk_core_liveness.specs.declared.places.FunctionKind.TheVariants.{Main, Called}
-use Rattle.fk_core_typing.specs.Values.{State, bare, behind, behind_call, May, Grants}
+use Rattle.fk_core_typing.specs.Values.{Place, with_frame, entered, State, bare, behind}
+use Rattle.fk_core_typing.specs.Values.{behind_call, May, Grants}
 
 -- The loop around a place grants its state: that in which it begins, goes on and ends. Without a
 -- loop nothing does.
@@ -20,14 +21,17 @@ abbrev pub GrantsLoop : (loop : Option State) → State → Type 0
 GrantsLoop None s = ⊥
 GrantsLoop (Some turn) s = Grants s turn
 
--- `main` halts, and a called function leaves, with its result or without.
-abbrev pub EndsIn : Operation → FunctionKind → Type 0
-EndsIn (Leave gives framed) place = place ≡ Called gives
-EndsIn Halt place = place ≡ Main
+-- `main` halts, and a called function leaves, with its result or without. It gives its group frame
+-- back if it has one, and is in none of its parts then.
+abbrev pub EndsIn : Operation → Place → Type 0
+EndsIn (Leave gives framed) place = (frame : Option ℕ) × (place ≡ with_frame (Called gives) frame)
+    × (is_some frame ≡ framed)
+EndsIn Halt place = place ≡ entered Main
 EndsIn operation place = ⊥
 
--- For each binding: whether its function is `main`, and whether it gives a value.
-module _ (place_of : (binding : ℕ) → FunctionKind) where
+-- For each binding: whether its function is `main`, and whether it gives a value; and the words of
+-- its group frame, if it has one.
+module _ (place_of : (binding : ℕ) → FunctionKind) (frame_of : (binding : ℕ) → Option ℕ) where
   -- Code begins in state s, and state `asked` is required after it.
   abbrev pub Typed : (loop : Option State) → State → Code ℕ → (asked : State) → Type 0
   Typed l s done e = Grants s e
@@ -50,14 +54,16 @@ module _ (place_of : (binding : ℕ) → FunctionKind) where
   Typed l s (continue rest) e = GrantsLoop l s × Typed l s rest e
   Typed l s (call n op f opening rest) e =
       May op s × (gives : Bool) × (place_of f ≡ Called gives)
-      × Typed None (bare (Called gives)) opening (bare (Called gives))
+      × Typed None (bare (entered (Called gives))) opening
+      (bare (with_frame (Called gives) (frame_of f)))
       × Typed l (behind_call (takes op) gives s) rest e
   Typed l s (ends n op rest) e = May op s × EndsIn op s.place × Typed l (behind op true s) rest e
   Typed l s code e = ⊥
 
-  -- The code of a function begins without values.
+  -- The code of a function begins without values, after its frame is taken.
   abbrev pub IsTyped : (binding : ℕ) → Code ℕ → Type 0
-  IsTyped binding code = (end : State) × Typed None (bare (place_of binding)) code end
+  IsTyped binding code = (end : State)
+      × Typed None (bare (with_frame (place_of binding) (frame_of binding))) code end
 
   abbrev pub AreTyped : (bodies : (binding : ℕ) → Code ℕ) → Type 0
   AreTyped bodies = (binding : ℕ) → IsTyped binding (bodies binding)

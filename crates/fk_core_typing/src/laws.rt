@@ -12,8 +12,9 @@ pub fn local_depths_are_depths()
     ensures { LocalDepthsAreDepths }
 {}
 
-/// In every run of a list that has knowledge of addresses, a processor that is about to do an
-/// operation may do it.
+/// In every run of a list that has knowledge of addresses, and whose indices tell the group frames
+/// of their calls, a processor that is about to do an operation may do it, if the words for groups
+/// are a space. An address of a word of a group frame needs no check.
 pub fn knowledge_is_enough()
     ensures { KnowledgeIsEnough }
 {}
@@ -25,7 +26,7 @@ pub fn typed_lists_lead_within()
 {}
 
 /// A flat list of well typed functions has knowledge of each address that it uses, with nothing
-/// known where `main` begins.
+/// known where `main` begins. Its indices tell the group frames of their calls, if `main` has none.
 pub fn typed_lists_know()
     ensures { TypedListsKnow }
 {}

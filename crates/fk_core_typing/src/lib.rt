@@ -10,5 +10,5 @@ pub mod laws;
 mod places;
 
 pub use change::Change;
-pub use constants::Constants;
+pub use constants::{Constant, Constants};
 pub use places::Within;
