@@ -1,12 +1,14 @@
 -- From the hart behind a block, which stands for what has become of its processor, to the law of the block.
 use Rattle.std.proofs.Common.{◌≡◌, ℕ, zero, suc, ◌+◌, ◌*◌, ◌≤◌, List, [], ◌∷◌, ◌++◌, length, Some, true, false, sym, ap, ◌∙◌, arith, refl, ◌⊎◌, inl, inr, ⊎_elim}
+use Rattle.std.specs.Prelude.{if◌then◌else◌}
 use Rattle.std.proofs.lemmas.List.{length-append}
 use Rattle.fk_num.specs.Word.{word_sum}
 use Rattle.fk_meaning_operation.specs.Kinds.{class_of}
-use Rattle.fk_meaning_operation.specs.declared.kinds.Class.TheVariants.{Local, Request}
+use Rattle.fk_meaning_operation.specs.declared.kinds.Class.TheVariants.{Local, Request, Tree}
+use Rattle.fk_meaning_operation.specs.declared.operation.Operation.TheVariants.{Heap}
 use Rattle.fk_meaning_operation.specs.declared.kinds.FaultKind.{FaultKind}
 use Rattle.fk_meaning_operation.specs.declared.operation.Operation.{Operation}
-use Rattle.fk_meaning_store.specs.Store.{Store}
+use Rattle.fk_meaning_store.specs.Store.{Store, heap_start}
 use Rattle.fk_meaning_store.specs.Serve.{Served, Faults as Refused, serve}
 use Rattle.fk_meaning.specs.Processor.{Setting}
 use Rattle.fk_meaning.specs.Local.{local, is_onward}
@@ -23,7 +25,7 @@ use Rattle.fk_machine.specs.Run.{count_in}
 use Rattle.fk_sim_nodes.specs.Source.{Passes, Breaks, Shows}
 use Rattle.fk_sim_nodes.specs.Alone.{Holds, IsAt, RunsPrivately, later, in_cycles}
 use Rattle.fk_sim_nodes.proofs.InPlace.{step_at}
-use Rattle.fk_sim_block.specs.Owner.{Commons, Owner, Doing, number_of, owner_of, commons_of, found, as_part, part, core_source}
+use Rattle.fk_sim_block.specs.Owner.{Commons, Owner, Doing, number_of, owner_of, commons_of, found, as_part, is_hire, hires, asks as phase_of, part, core_source}
 use Rattle.fk_sim_block.specs.Stands.{Places, StandsFor, StandsAt}
 use Rattle.fk_sim_block.specs.Next.{OpAt, step_at as step_of}
 use Rattle.fk_sim_block.specs.Block.{Enters, Does, most_before, most_behind}
@@ -45,6 +47,11 @@ pub holds_in_cycles : (image : Image) (d : ℕ) (t : MachineSetting) → Holds i
 holds_in_cycles image zero t holds = holds
 holds_in_cycles image (suc d) t holds = holds_in_cycles image d (later t) holds
 
+-- steps of the tree ask for no block of the global heap
+pub tree_hires_none : (operation : Operation) → class_of operation ≡ Tree → is_hire operation ≡ false
+tree_hires_none Heap e = absurd (cc)
+tree_hires_none operation e = refl
+
 module _ (core : List CoreOp) (image : Image) (places : Places) where
   -- ---- local operations
 
@@ -60,7 +67,7 @@ module _ (core : List CoreOp) (image : Image) (places : Places) where
   local_part setting i op operation s p stands kind e =
       let step = step_of core i op operation p.runner.left.callers in
       operations_are_next core i op operation setting s p stands e
-      ∙ ap (λ c. as_part (number_of p) (let b = do_local (next core) setting (taking p.runner (Some step)) c step in request_phase (found s p.heap) b b.due)) kind
+      ∙ ap (λ c. let b = do_local (next core) setting (taking p.runner (Some step)) c step in phase_of core setting s p b b.due) kind
 
   -- one that commits with its first instruction, and then runs privately to where its processor goes on
   pub local_does_by : (setting : Setting) (t : MachineSetting) (i : ℕ) (op : CoreOp) (operation : Operation) (p : Owner) (h : Hart)
@@ -140,35 +147,48 @@ module _ (core : List CoreOp) (image : Image) (places : Places) where
   abbrev pub request_doing : (i : ℕ) → CoreOp → Operation → Owner → Store → (answer : ℕ) → Doing
   request_doing i op operation p store answer = record {
     acting = done (step_of core i op operation p.runner.left.callers) true (with_answer operation answer p.runner.has);
-    heap = store.heaps (number_of p);
+    heap = record (p.heap) { words = store.heaps (number_of p) };
   }
 
   pub asks : (setting : Setting) (i : ℕ) (op : CoreOp) (operation : Operation) (s : Commons) (p : Owner) → OpAt core i op operation
-      → class_of operation ≡ Request → p.runner.left.at ≡ i
+      → class_of operation ≡ Request → is_hire operation ≡ false → p.runner.left.at ≡ i
       → part core setting 1 s p
-      ≡ as_part (number_of p) (answered (step_of core i op operation p.runner.left.callers) p.runner.has (serve (request operation p.runner.has) (found s p.heap) (number_of p)))
-  asks setting i op operation s p stands kind e =
+      ≡ as_part s.asked p (answered (step_of core i op operation p.runner.left.callers) p.runner.has (serve (request operation p.runner.has) (found s p.heap) (number_of p)))
+  asks setting i op operation s p stands kind other e =
       let step = step_of core i op operation p.runner.left.callers in
       let a = taking p.runner (Some step) in
       operations_are_next core i op operation setting s p stands e
-      ∙ ap (λ c. as_part (number_of p) (let b = do_local (next core) setting a c step in request_phase (found s p.heap) b b.due)) kind
-      ∙ ap (λ c. as_part (number_of p) (do_request (found s p.heap) a c step)) kind
+      ∙ ap (λ c. let b = do_local (next core) setting a c step in phase_of core setting s p b b.due) kind
+      ∙ ap (λ b. if b then hires (heap_start (setting.globals + setting.inputs)) s p a step else as_part s.asked p (request_phase (found s p.heap) a (Some step))) other
+      ∙ ap (λ c. as_part s.asked p (do_request (found s p.heap) a c step)) kind
+
+  -- a request for a block of the global heap
+  pub hired_part : (setting : Setting) (i : ℕ) (op : CoreOp) (operation : Operation) (s : Commons) (p : Owner) → OpAt core i op operation
+      → class_of operation ≡ Request → is_hire operation ≡ true → p.runner.left.at ≡ i
+      → part core setting 1 s p
+      ≡ hires (heap_start (setting.globals + setting.inputs)) s p (taking p.runner (Some (step_of core i op operation p.runner.left.callers))) (step_of core i op operation p.runner.left.callers)
+  hired_part setting i op operation s p stands kind hire e =
+      let step = step_of core i op operation p.runner.left.callers in
+      let a = taking p.runner (Some step) in
+      operations_are_next core i op operation setting s p stands e
+      ∙ ap (λ c. let b = do_local (next core) setting a c step in phase_of core setting s p b b.due) kind
+      ∙ ap (λ b. if b then hires (heap_start (setting.globals + setting.inputs)) s p a step else as_part s.asked p (request_phase (found s p.heap) a (Some step))) hire
 
   pub served_part : (setting : Setting) (i : ℕ) (op : CoreOp) (operation : Operation) (s : Commons) (p : Owner) → OpAt core i op operation
-      → class_of operation ≡ Request → p.runner.left.at ≡ i → (store : Store) (answer : ℕ)
+      → class_of operation ≡ Request → is_hire operation ≡ false → p.runner.left.at ≡ i → (store : Store) (answer : ℕ)
       → serve (request operation p.runner.has) (found s p.heap) (number_of p) ≡ Served store answer
-      → part core setting 1 s p ≡ Passes (commons_of store) (request_doing i op operation p store answer)
-  served_part setting i op operation s p stands kind e store answer f =
-      asks setting i op operation s p stands kind e
-      ∙ ap (λ a. as_part (number_of p) (answered (step_of core i op operation p.runner.left.callers) p.runner.has a)) f
+      → part core setting 1 s p ≡ Passes (commons_of s.asked store) (request_doing i op operation p store answer)
+  served_part setting i op operation s p stands kind other e store answer f =
+      asks setting i op operation s p stands kind other e
+      ∙ ap (λ a. as_part s.asked p (answered (step_of core i op operation p.runner.left.callers) p.runner.has a)) f
 
   pub refused_part : (setting : Setting) (i : ℕ) (op : CoreOp) (operation : Operation) (s : Commons) (p : Owner) → OpAt core i op operation
-      → class_of operation ≡ Request → p.runner.left.at ≡ i → (kind : FaultKind)
+      → class_of operation ≡ Request → is_hire operation ≡ false → p.runner.left.at ≡ i → (kind : FaultKind)
       → serve (request operation p.runner.has) (found s p.heap) (number_of p) ≡ Refused kind
       → part core setting 1 s p ≡ Breaks op.site
-  refused_part setting i op operation s p stands class e kind f =
-      asks setting i op operation s p stands class e
-      ∙ ap (λ a. as_part (number_of p) (answered (step_of core i op operation p.runner.left.callers) p.runner.has a)) f
+  refused_part setting i op operation s p stands class other e kind f =
+      asks setting i op operation s p stands class other e
+      ∙ ap (λ a. as_part s.asked p (answered (step_of core i op operation p.runner.left.callers) p.runner.has a)) f
 
   -- from hart h1 an instruction serves the request of a processor on a store, and the hart runs privately to where its
   -- processor goes on
@@ -178,7 +198,7 @@ module _ (core : List CoreOp) (image : Image) (places : Places) where
     pub answer : ℕ
     pub served : serve (request operation p.runner.has) (found s p.heap) (number_of p) ≡ Served store answer
     pub goes : (earlier : List ℕ) (sh : Shared) → Shows (core_source core setting) earlier sh s
-        → (sh' : Shared) × (perform t (number_of p) c h1 sh ≡ Goes hart sh') × Shows (core_source core setting) earlier sh' (commons_of store)
+        → (sh' : Shared) × (perform t (number_of p) c h1 sh ≡ Goes hart sh') × Shows (core_source core setting) earlier sh' (commons_of s.asked store)
         × ((j : ℕ) → sh'.control j ≡ sh.control j)
     pub end : Hart
     pub runs : RunsPrivately image (later t) (number_of p) behind hart end
@@ -198,12 +218,12 @@ module _ (core : List CoreOp) (image : Image) (places : Places) where
 
   -- a request that commits after private instructions
   pub request_does_by : (setting : Setting) (t : MachineSetting) (i : ℕ) (op : CoreOp) (operation : Operation) (p : Owner) (h : Hart)
-      → OpAt core i op operation → class_of operation ≡ Request → Enters core image places setting t i op operation p h
+      → OpAt core i op operation → class_of operation ≡ Request → is_hire operation ≡ false → Enters core image places setting t i op operation p h
       → (before behind : ℕ) → before ≤ most_before → behind ≤ most_behind → (h1 : Hart) → RunsPrivately image t (number_of p) before h h1
       → (k : ℕ) (c : Instruction) → IsAt image k c 1 → h1.pc ≡ 4 * k → h1.ended ≡ false
       → (Also : Hart → Type 0) → ((s : Commons) → Answers setting (in_cycles before t) i op operation p c behind h1 Also s)
       → DoesAnd core image places setting t p h before behind Also
-  request_does_by setting t i op operation p h stands kind en before behind few_before few_behind h1 runs k c at pc live Also answers =
+  request_does_by setting t i op operation p h stands kind other en before behind few_before few_behind h1 runs k c at pc live Also answers =
       let number = number_of p in
       let t1 = in_cycles before t in
       let holds = holds_in_cycles image before t en.running.code in
@@ -220,9 +240,9 @@ module _ (core : List CoreOp) (image : Image) (places : Places) where
                 ⊎_elim
                 (λ y. inl (record {
                   hart = y.hart;
-                  store = commons_of y.store;
+                  store = commons_of s.asked y.store;
                   done = request_doing i op operation p y.store y.answer;
-                  part = served_part setting i op operation s p stands kind en.index y.store y.answer y.served;
+                  part = served_part setting i op operation s p stands kind other en.index y.store y.answer y.served;
                   goes = λ earlier sh shows.
                       let g = y.goes earlier sh shows in
                       (g.0, step_at image k 1 c at t1 holds number h1 sh pc ∙ g.1, g.2, λ j e. g.3 j);
@@ -230,7 +250,7 @@ module _ (core : List CoreOp) (image : Image) (places : Places) where
                 }))
                 (λ n. inr (record {
                   site = op.site;
-                  part = refused_part setting i op operation s p stands kind en.index n.kind n.refused;
+                  part = refused_part setting i op operation s p stands kind other en.index n.kind n.refused;
                   stops = λ earlier sh shows. step_at image k 1 c at t1 holds number h1 sh pc ∙ n.stops earlier sh shows;
                 }))
                 (answers s);

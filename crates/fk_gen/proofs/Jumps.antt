@@ -1,9 +1,9 @@
 -- Jumps and branches in their places.
 use Rattle.std.proofs.Common.{◌≡◌, ℕ, ◌*◌, ◌/◌, ◌%◌, ◌≤◌, true, false, ap, ◌∙◌, arith, eq-eqb}
-use Rattle.std.specs.Prelude.{◌==◌}
+use Rattle.std.specs.Prelude.{◌==◌, nat_le}
 use Rattle.fk_num.specs.Word.{word_sum}
 use Rattle.fk_image.specs.declared.Image.{Image}
-use Rattle.fk_isa.specs.declared.instruction.Instruction.TheVariants.{Jal, Jalr, Beq, Bne}
+use Rattle.fk_isa.specs.declared.instruction.Instruction.TheVariants.{Jal, Jalr, Beq, Bne, Bgeu}
 use Rattle.fk_isa.specs.Step.{set_register}
 use Rattle.fk_machine.specs.Hart.{Hart, Shared, Setting, Goes}
 use Rattle.fk_machine.specs.Step.{perform}
@@ -91,3 +91,22 @@ pub beq_on : (image : Image) (t : Setting) (number k a b imm : ℕ) (h : Hart) �
     → (h.registers a == h.registers b) ≡ false → IsPrivateIn image t number h (goes_to_pc h (word_sum h.pc 4))
 beq_on image t number k a b imm h holds at pc live e =
     private image t number k (Beq a b imm) h (goes_to_pc h (word_sum h.pc 4)) holds at pc live (λ s. (s.reserved, beq_on_goes t number a b imm h s e))
+
+bgeu_taken_goes : (t : Setting) (number a b imm : ℕ) (h : Hart) (s : Shared) → nat_le (h.registers b) (h.registers a) ≡ true → (word_sum h.pc imm % 4 == 0) ≡ true
+    → perform t number (Bgeu a b imm) h s ≡ Goes (goes_to_pc h (word_sum h.pc imm)) s
+bgeu_taken_goes t number a b imm h s e f = rw (e, f)
+
+bgeu_on_goes : (t : Setting) (number a b imm : ℕ) (h : Hart) (s : Shared) → nat_le (h.registers b) (h.registers a) ≡ false
+    → perform t number (Bgeu a b imm) h s ≡ Goes (goes_to_pc h (word_sum h.pc 4)) s
+bgeu_on_goes t number a b imm h s e = rw e
+
+pub bgeu_taken : (image : Image) (t : Setting) (number k a b imm : ℕ) (h : Hart) → Holds image t → IsAt image k (Bgeu a b imm) 0 → h.pc ≡ 4 * k → h.ended ≡ false
+    → nat_le (h.registers b) (h.registers a) ≡ true → word_sum h.pc imm % 4 ≡ 0 → IsPrivateIn image t number h (goes_to_pc h (word_sum h.pc imm))
+bgeu_taken image t number k a b imm h holds at pc live e aligned =
+    private image t number k (Bgeu a b imm) h (goes_to_pc h (word_sum h.pc imm)) holds at pc live
+    (λ s. (s.reserved, bgeu_taken_goes t number a b imm h s e (eq-eqb _ 0 aligned)))
+
+pub bgeu_on : (image : Image) (t : Setting) (number k a b imm : ℕ) (h : Hart) → Holds image t → IsAt image k (Bgeu a b imm) 0 → h.pc ≡ 4 * k → h.ended ≡ false
+    → nat_le (h.registers b) (h.registers a) ≡ false → IsPrivateIn image t number h (goes_to_pc h (word_sum h.pc 4))
+bgeu_on image t number k a b imm h holds at pc live e =
+    private image t number k (Bgeu a b imm) h (goes_to_pc h (word_sum h.pc 4)) holds at pc live (λ s. (s.reserved, bgeu_on_goes t number a b imm h s e))

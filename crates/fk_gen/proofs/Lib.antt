@@ -10,3 +10,7 @@ pub mod Values
 pub mod Jumps
 -- what a processor has in memory
 pub mod Standing
+-- the difference of two words
+pub mod Difference
+-- sizes in bytes, and masks of ones
+pub mod Sizes

@@ -1,17 +1,20 @@
 -- What a processor has in local memory stays there, but what is written.
-use Rattle.std.proofs.Common.{◌≡◌, ℕ, zero, suc, ◌+◌, ◌-◌, ◌*◌, ◌<◌, ◌≤◌, List, [], ◌∷◌, length, Bool, true, false, sym, ap, subst, ◌∙◌, arith, refl, eq-eqb}
+use Rattle.std.proofs.Common.{◌≡◌, ℕ, zero, suc, ◌+◌, ◌-◌, ◌*◌, ◌^◌, ◌<◌, ◌≤◌, List, [], ◌∷◌, length, Bool, true, false, sym, ap, subst, ◌∙◌, arith, refl, eq-eqb}
 use Rattle.std.specs.Prelude.{◌==◌}
 use Rattle.std.proofs.lemmas.Bool.{ne_eqb, eqb-true}
+use Rattle.std.specs.Int.{from_bool}
 use Rattle.fk_num.specs.Word.{Memory, put}
 use Rattle.fk_meaning_operation.specs.declared.operation.Variable.TheVariants.{Private, OfFile}
-use Rattle.fk_meaning.specs.Processor.{Call, values, with_values}
+use Rattle.fk_space.specs.Space.{Space}
+use Rattle.fk_meaning_store.specs.Store.{address_of}
+use Rattle.fk_meaning.specs.Processor.{Call, values, with_values, with_space}
 use Rattle.fk_meaning.specs.Local.{stored}
 use Rattle.fk_core.specs.declared.op.CoreOp.{CoreOp}
 use Rattle.fk_core.specs.Next.{position}
 use Rattle.fk_machine.specs.Hart.{Hart}
 use Rattle.fk_sim_block.specs.Owner.{Owner}
-use Rattle.fk_sim_block.specs.Stands.{Places, HasValues, HasRoom, HasFrame, HasWaiting, StandsFor, ahead, frame_end, frame_start}
-use Rattle.fk_sim_block.specs.Suits.{Flows, nothing}
+use Rattle.fk_sim_block.specs.Stands.{Places, HasValues, HasRoom, HasFrame, HasGroupFrame, HasWaiting, StandsFor, ahead, frame_end, frame_start, group_word, full_word}
+use Rattle.fk_sim_block.specs.Suits.{Flows, TakesFrame, nothing}
 use Rattle.fk_gen.proofs.Values.{same_word, other_word, values_kept}
 
 -- ---- where the words of frames lie
@@ -47,10 +50,20 @@ lies_in places (suc n) at count few home room =
 
 -- ---- frames and waiting calls keep what no word of theirs is written to
 
+-- the header's word with the address of a group frame, of which that of `main` lies below all frames
+pub group_kept : (places : Places) (m m' : Memory) (waiting : ℕ) → places.frames.of_file ≤ 56 → m' 3 ≡ m 3
+    → ((j : ℕ) → places.frames.of_file + 7 ≤ j → j < 64 * waiting + 4 → m' j ≡ m j) → m' (group_word waiting) ≡ m (group_word waiting)
+group_kept places m m' zero few low same = low
+group_kept places m m' (suc n) few low same = same (group_word (suc n)) (omega arith) (omega arith)
+
+-- a group frame that the header of one call has the address of, that of another has
+pub frame_stays : (m m' : Memory) (waiting first : ℕ) → m' (group_word waiting) ≡ m (group_word waiting) → HasGroupFrame m waiting first → HasGroupFrame m' waiting first
+frame_stays m m' waiting first same has = record { within = has.within; address = same ∙ has.address }
+
 pub frame_kept : (places : Places) (m m' : Memory) (waiting at count : ℕ) (call : Call) → places.frames.of_file ≤ 56 → HasRoom places.frames at count
-    → length call.values ≤ count → ((j : ℕ) → places.frames.of_file + 7 ≤ j → j < frame_end waiting → m' j ≡ m j)
+    → length call.values ≤ count → m' 3 ≡ m 3 → ((j : ℕ) → places.frames.of_file + 7 ≤ j → j < frame_end waiting → m' j ≡ m j)
     → HasFrame places m waiting at call → HasFrame places m' waiting at call
-frame_kept places m m' waiting at count call few room within same f =
+frame_kept places m m' waiting at count call few room within low same f =
     let l = lies_in places waiting at count few f.home room in
     let start = l.start in
     let vs = l.values in
@@ -58,12 +71,14 @@ frame_kept places m m' waiting at count call few room within same f =
       home = f.home;
       values = values_kept m m' (frame_end waiting) call.values (omega arith) (λ j le lt. same j (omega arith) lt) f.values;
       privates = λ i e. let k = l.kept i e in same (frame_start places waiting + 7 + i) (omega arith) (omega arith) ∙ f.privates i e;
+      group = λ number told.
+          frame_stays m m' waiting (call.frames number) (group_kept places m m' waiting few low (λ j le lt. same j le (omega arith))) (f.group number told);
     }
 
-pub waiting_kept : (places : Places) (m m' : Memory) (backs : List ℕ) (calls : List Call) → places.frames.of_file ≤ 56
+pub waiting_kept : (places : Places) (m m' : Memory) (backs : List ℕ) (calls : List Call) → places.frames.of_file ≤ 56 → m' 3 ≡ m 3
     → ((j : ℕ) → places.frames.of_file + 7 ≤ j → j < 64 * length calls + 3 → m' j ≡ m j) → HasWaiting places m backs calls → HasWaiting places m' backs calls
-waiting_kept places m m' [] [] few same held = tt
-waiting_kept places m m' (i ∷ backs) (c ∷ calls) few same held =
+waiting_kept places m m' [] [] few low same held = tt
+waiting_kept places m m' (i ∷ backs) (c ∷ calls) few low same held =
     let n = length calls in (
       record {
         begun_at = held.0.begun_at;
@@ -74,10 +89,10 @@ waiting_kept places m m' (i ∷ backs) (c ∷ calls) few same held =
         result = same (64 * suc n + 2) (omega arith) (omega arith) ∙ held.0.result;
         room = held.0.room;
       },
-      frame_kept places m m' n i (suc (length c.values)) c few held.0.room (omega arith) (λ j le lt. same j le (omega arith)) held.1,
-      waiting_kept places m m' backs calls few (λ j le lt. same j le (omega arith)) held.2,
+      frame_kept places m m' n i (suc (length c.values)) c few held.0.room (omega arith) low (λ j le lt. same j le (omega arith)) held.1,
+      waiting_kept places m m' backs calls few low (λ j le lt. same j le (omega arith)) held.2,
     )
-waiting_kept places m m' backs calls few same held = absurd (assumption held)
+waiting_kept places m m' backs calls few low same held = absurd (assumption held)
 
 -- one word of many is written, in memory and in what stands there from a word on
 true_false : true ≡ false → ⊥
@@ -105,10 +120,11 @@ pub record InMemory (places : Places) (memory : Memory) (p : Owner) : Type 0 whe
   pub running : HasFrame places memory (length p.runner.has.callers) p.runner.left.at p.runner.has.call
   pub waiting : HasWaiting places memory p.runner.left.callers p.runner.has.callers
   pub own : (i : ℕ) → i < places.frames.of_file → memory (7 + i) ≡ p.runner.has.own i
-  pub heap : (i : ℕ) → i < 16384 → memory (16384 + i) ≡ p.heap i
+  pub heap : (i : ℕ) → i < 16384 → memory (16384 + i) ≡ p.heap.words i
+  pub full : memory full_word ≡ from_bool p.heap.full
 
 pub in_memory : (places : Places) (p : Owner) (h : Hart) → StandsFor places p h → InMemory places h.local p
-in_memory places p h s = record { running = s.running; waiting = s.waiting; own = s.own; heap = s.heap }
+in_memory places p h s = record { running = s.running; waiting = s.waiting; own = s.own; heap = s.heap; full = s.full }
 
 -- the registers that blocks keep. `top` is told by itself
 abbrev pub SameRegisters : Hart → Hart → Type 0
@@ -140,6 +156,33 @@ stands_with places p p' h h' s r level calls top m = record {
   waiting = m.waiting;
   own = m.own;
   heap = m.heap;
+  full = m.full;
+}
+
+-- nothing tells the space of a processor's group
+abbrev pub in_space : Space → Owner → Owner
+in_space space p = record { runner = record { left = p.runner.left; has = with_space p.runner.has space }; heap = p.heap }
+
+pub stands_in_space : (places : Places) (p : Owner) (h : Hart) (space : Space) → StandsFor places p h → StandsFor places (in_space space p) h
+stands_in_space places p h space s = record {
+  nought = s.nought;
+  frame = s.frame;
+  behind = s.behind;
+  number = s.number;
+  rank = s.rank;
+  size = s.size;
+  top = s.top;
+  local = s.local;
+  shared_data = s.shared_data;
+  private_heap = s.private_heap;
+  shared_mask = s.shared_mask;
+  devices = s.devices;
+  heap_mask = s.heap_mask;
+  running = s.running;
+  waiting = s.waiting;
+  own = s.own;
+  heap = s.heap;
+  full = s.full;
 }
 
 -- ---- what is written
@@ -174,10 +217,13 @@ module _ (core : List CoreOp) (places : Places) where
               let kept = flows.kept x e refl in
               let k = l.kept x kept in
               below (frame_start places n + 7 + x) (omega arith) ∙ running.privates x kept;
+          group = λ number told.
+              frame_stays m m' n (p.runner.has.call.frames number) (below (group_word n) (omega arith)) (running.group number (flows.group number told));
         };
-        waiting = waiting_kept places m m' p.runner.left.callers p.runner.has.callers few (λ j le lt. below j (omega arith)) held.waiting;
+        waiting = waiting_kept places m m' p.runner.left.callers p.runner.has.callers few (below 3 (omega arith)) (λ j le lt. below j (omega arith)) held.waiting;
         own = λ x lt. below (7 + x) (omega arith) ∙ held.own x lt;
         heap = λ x lt. above (16384 + x) (omega arith) ∙ held.heap x lt;
+        full = below 2 (omega arith) ∙ held.full;
       }
 
   -- the k-th value is written, so that the frame has these values
@@ -221,10 +267,13 @@ module _ (core : List CoreOp) (places : Places) where
           home = flows.main ∙ running.home;
           values = values_kept m m' (frame_end n) (values p.runner.has) (omega arith) (λ j le lt. other_word m w v j (λ e. omega arith)) running.values;
           privates = λ y e. word_here m (frame_start places n + 7) x v p.runner.has.call.privates y (λ other. running.privates y (flows.kept y e other));
+          group = λ number told.
+              frame_stays m m' n (p.runner.has.call.frames number) (other_word m w v (group_word n) (λ e. omega arith)) (running.group number (flows.group number told));
         };
-        waiting = waiting_kept places m m' p.runner.left.callers p.runner.has.callers few (λ j le lt. other_word m w v j (λ e. omega arith)) held.waiting;
+        waiting = waiting_kept places m m' p.runner.left.callers p.runner.has.callers few (other_word m w v 3 (λ e. omega arith)) (λ j le lt. other_word m w v j (λ e. omega arith)) held.waiting;
         own = λ y lt. other_word m w v (7 + y) (λ e. omega arith) ∙ held.own y lt;
         heap = λ y lt. other_word m w v (16384 + y) (λ e. omega arith) ∙ held.heap y lt;
+        full = other_word m w v 2 (λ e. omega arith) ∙ held.full;
       }
     where
       word_inside : (n i x count : ℕ) → places.frames.is_main i ≡ (n == 0) → ahead places.frames (places.frames.is_main i) + 7 + x + count < 64
@@ -256,23 +305,86 @@ module _ (core : List CoreOp) (places : Places) where
           home = flows.main ∙ running.home;
           values = values_kept m m' (frame_end n) (values p.runner.has) (omega arith) (λ j le lt. other_word m (7 + x) v j (λ e. omega arith)) running.values;
           privates = λ y e. other_word m (7 + x) v (frame_start places n + 7 + y) (λ f. omega arith) ∙ running.privates y (flows.kept y e refl);
+          group = λ number told.
+              frame_stays m m' n (p.runner.has.call.frames number) (other_word m (7 + x) v (group_word n) (λ e. omega arith))
+              (running.group number (flows.group number told));
         };
-        waiting = waiting_kept places m m' p.runner.left.callers p.runner.has.callers few (λ j le lt. other_word m (7 + x) v j (λ e. omega arith)) held.waiting;
+        waiting = waiting_kept places m m' p.runner.left.callers p.runner.has.callers few (other_word m (7 + x) v 3 (λ e. omega arith))
+            (λ j le lt. other_word m (7 + x) v j (λ e. omega arith)) held.waiting;
         own = λ y lt. word_here m 7 x v p.runner.has.own y (λ other. held.own y lt);
         heap = λ y lt. other_word m (7 + x) v (16384 + y) (λ e. omega arith) ∙ held.heap y lt;
+        full = other_word m (7 + x) v 2 (λ e. omega arith) ∙ held.full;
       }
+
+  -- the header gets the address of a group frame that is taken
+  abbrev pub with_frame : (i number first : ℕ) → Owner → Owner
+  with_frame i number first p = record {
+    runner = record {
+      left = position i p.runner.left.callers;
+      has = record (p.runner.has) { call = record (p.runner.has.call) { frames = put p.runner.has.call.frames number first } };
+    };
+    heap = p.heap;
+  }
+
+  -- in `main` no call waits
+  waiting_kept_by : (m : Memory) (w v : ℕ) (backs : List ℕ) (calls : List Call) → places.frames.of_file ≤ 56 → w ≡ group_word (length calls)
+      → HasWaiting places m backs calls → HasWaiting places (put m w v) backs calls
+  waiting_kept_by m w v [] [] few e held = tt
+  waiting_kept_by m w v (b ∷ backs) (c ∷ calls) few e held =
+      waiting_kept places m (put m w v) (b ∷ backs) (c ∷ calls) few (other_word m w v 3 (λ f. omega arith)) (λ j le lt. other_word m w v j (λ f. omega arith)) held
+  waiting_kept_by m w v backs calls few e held = absurd (assumption held)
+
+  pub frame_written : (m : Memory) (p : Owner) (i i' number first count : ℕ) → places.frames.of_file ≤ 56 → length p.runner.has.callers < 256
+      → p.runner.left.at ≡ i → HasRoom places.frames i count → length (values p.runner.has) ≤ count → TakesFrame core places.frames number i i' → first ≤ 2 ^ 20
+      → InMemory places m p
+      → InMemory places (put m (group_word (length p.runner.has.callers)) (address_of first)) (with_frame i' number first p)
+  frame_written m p i i' number first count few waiting at room within takes small held =
+      let n = length p.runner.has.callers in
+      let w = group_word n in
+      let v = address_of first in
+      let m' = put m w v in
+      let running = subst (λ a. HasFrame places m n a p.runner.has.call) at held.running in
+      let l = lies_in places n i count few running.home room in
+      let short = l.few in
+      record {
+        running = record {
+          home = takes.main ∙ running.home;
+          values = values_kept m m' (frame_end n) (values p.runner.has) (omega arith) (λ j le lt. other_word m w v j (λ e. omega arith)) running.values;
+          privates = λ y e.
+              let above = above_group n in
+              other_word m w v (frame_start places n + 7 + y) (λ f. omega arith) ∙ running.privates y (takes.kept y e);
+          group = λ told e.
+              let same : told ≡ number = takes.group told e in
+              record {
+                within = subst (λ x. x ≤ 2 ^ 20) (sym (there told same)) small;
+                address = same_word m w v ∙ ap address_of (sym (there told same));
+              };
+        };
+        waiting = waiting_kept_by m w v p.runner.left.callers p.runner.has.callers few refl held.waiting;
+        own = λ y lt. other_word m w v (7 + y) (λ e. omega arith) ∙ held.own y lt;
+        heap = λ y lt. other_word m w v (16384 + y) (λ e. omega arith) ∙ held.heap y lt;
+        full = other_word m w v 2 (λ e. omega arith) ∙ held.full;
+      }
+    where
+      there : (told : ℕ) → told ≡ number → put p.runner.has.call.frames number first told ≡ first
+      there told same = ap (put p.runner.has.call.frames number first) same ∙ same_word p.runner.has.call.frames number first
+
+      above_group : (n : ℕ) → group_word n < frame_start places n + 7
+      above_group zero = omega arith
+      above_group (suc n) = omega arith
 
   -- a word of the private heap is written
   pub heap_written : (m : Memory) (p : Owner) (i x v count : ℕ) → places.frames.of_file ≤ 56 → length p.runner.has.callers < 256
       → p.runner.left.at ≡ i → HasRoom places.frames i count → length (values p.runner.has) ≤ count → x < 16384 → InMemory places m p
-      → InMemory places (put m (16384 + x) v) (record p { heap = put p.heap x v })
+      → InMemory places (put m (16384 + x) v) (record p { heap = record (p.heap) { words = put p.heap.words x v } })
   heap_written m p i x v count few waiting at room within place held =
       let n = length p.runner.has.callers in
       let m' = put m (16384 + x) v in
       let room' = subst (λ a. HasRoom places.frames a count) (sym at) room in
       record {
-        running = frame_kept places m m' n p.runner.left.at count p.runner.has.call few room' within (λ j le lt. other_word m (16384 + x) v j (λ e. omega arith)) held.running;
-        waiting = waiting_kept places m m' p.runner.left.callers p.runner.has.callers few (λ j le lt. other_word m (16384 + x) v j (λ e. omega arith)) held.waiting;
+        running = frame_kept places m m' n p.runner.left.at count p.runner.has.call few room' within (other_word m (16384 + x) v 3 (λ e. omega arith)) (λ j le lt. other_word m (16384 + x) v j (λ e. omega arith)) held.running;
+        waiting = waiting_kept places m m' p.runner.left.callers p.runner.has.callers few (other_word m (16384 + x) v 3 (λ e. omega arith)) (λ j le lt. other_word m (16384 + x) v j (λ e. omega arith)) held.waiting;
         own = λ y lt. other_word m (16384 + x) v (7 + y) (λ e. omega arith) ∙ held.own y lt;
-        heap = λ y lt. word_here m 16384 x v p.heap y (λ other. held.heap y lt);
+        heap = λ y lt. word_here m 16384 x v p.heap.words y (λ other. held.heap y lt);
+        full = other_word m (16384 + x) v 2 (λ e. omega arith) ∙ held.full;
       }

@@ -94,3 +94,10 @@ number_of_parts n = split n (cases_lt (n % 4096) 2048)
 -- one whose upper part is 0 is the lower one
 pub number_of_low_part : (n : ℕ) → (high_part n == 0) ≡ true → word_sum 0 (low_part n) ≡ word n
 number_of_low_part n e = ap (λ v. word_sum (v * 4096) (low_part n)) (sym (eqb-true (high_part n) 0 e)) ∙ number_of_parts n
+
+-- a number that is added to a register in one part, or in two
+pub sum_of_low : (a b n : ℕ) → word_sum 0 b ≡ word n → word_sum a b ≡ word (a + n)
+sum_of_low a b n e = omega arith
+
+pub sum_of_parts : (a c n : ℕ) → c ≡ word n → word_sum c a ≡ word (a + n)
+sum_of_parts a c n e = omega arith

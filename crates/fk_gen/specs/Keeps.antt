@@ -11,7 +11,7 @@ use Rattle.fk_machine.specs.Hart.{Hart, Setting as MachineSetting}
 use Rattle.fk_sim_nodes.specs.OneHart.{OneDoes}
 use Rattle.fk_asm.specs.Block.{MarkedLine}
 use Rattle.fk_sim_block.specs.Owner.{Owner, core_source}
-use Rattle.fk_sim_block.specs.Stands.{Places, frame_start, frame_end}
+use Rattle.fk_sim_block.specs.Stands.{Places, frame_start, frame_end, full_word}
 use Rattle.fk_sim_block.specs.Suits.{writes}
 use Rattle.fk_sim_block.specs.Block.{Enters, HasDone, member_of, most_before, most_behind}
 use Rattle.fk_gen.specs.Registers.{a0, a1, a2, a3}
@@ -28,15 +28,16 @@ peak (Get known) depth = suc depth
 peak CopyLast depth = suc depth
 peak operation depth = depth
 
--- a hart keeps what it knows of its node, the words below all frames, and in the frames of all
--- calls all words but private ones that are written, and so many values of the running call
+-- a hart keeps what it knows of its node, the words below all frames but its note about the global
+-- heap, and in the frames of all calls all words but private ones that are written, and so many
+-- values of the running call
 pub record Keeps (places : Places) (waiting values : ℕ) (written : (word : ℕ) → Bool)
     (h h' : Hart) : Type 0 where
   pub node : h'.registers a0 ≡ h.registers a0
   pub body : h'.registers a1 ≡ h.registers a1
   pub frames : h'.registers a2 ≡ h.registers a2
   pub blocks : h'.registers a3 ≡ h.registers a3
-  pub header : (j : ℕ) → j < 7 → h'.local j ≡ h.local j
+  pub header : (j : ℕ) → j < 7 → (j ≡ full_word → ⊥) → h'.local j ≡ h.local j
   pub words : (j : ℕ) → places.frames.of_file + 7 ≤ j → j < frame_end waiting - values
       → ((word : ℕ) → written word ≡ true → j ≡ frame_start places waiting + 7 + word → ⊥)
       → h'.local j ≡ h.local j

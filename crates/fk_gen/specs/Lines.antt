@@ -1,8 +1,8 @@
 -- The lines of blocks, and what they are made of.
 use Rattle.std.specs.Prelude.{ℕ, ◌+◌, ◌-◌, ◌*◌, ◌/◌, ◌%◌, ◌^◌, ◌==◌, List, [], ◌∷◌, Bool, true}
-use Rattle.std.specs.Prelude.{false, Option, Some, None, IfSome}
+use Rattle.std.specs.Prelude.{false, Option, Some, None, IfSome, map}
 use Rattle.fk_isa.specs.declared.instruction.Instruction.{Instruction}
-use Rattle.fk_isa.specs.declared.instruction.Instruction.TheVariants.{Lui, Addi}
+use Rattle.fk_isa.specs.declared.instruction.Instruction.TheVariants.{Lui, Addi, Add}
 use Rattle.fk_isa.specs.Bits.{extended}
 use Rattle.fk_isa.specs.Fits.{Fits}
 use Rattle.fk_asm.specs.Jump.{IsJump}
@@ -18,6 +18,11 @@ quiet i = plain (straight i)
 -- The line of an instruction that does an operation: its commit counts 1, and is no event.
 abbrev pub commits : Instruction → MarkedLine
 commits i = committing (straight i) 1
+
+-- Straight lines of which the first does the operation.
+abbrev pub first_commits : List Instruction → List MarkedLine
+first_commits [] = []
+first_commits (i ∷ is) = commits i ∷ map quiet is
 
 -- The line of a jump to a label, which does no operation.
 abbrev pub goes_to : Instruction → (label : ℕ) → MarkedLine
@@ -51,6 +56,18 @@ at_value k = (2 ^ 32 - 4 * k) % 2 ^ 32
 abbrev pub at_private : (i : ℕ) → ℕ
 at_private i = 4 * (7 + i)
 
+-- The offset of the header's word with the address of a group frame, from the word after the frame.
+abbrev pub at_group_frame : ℕ
+at_group_frame = at_value 61
+
+-- Data words have addresses that are 0x08000000 below those of control words with the same index.
+-- The upper 20 bits of the two numbers that lead from one to the other.
+abbrev pub to_control : ℕ
+to_control = 0x08000
+
+abbrev pub to_data : ℕ
+to_data = 0xf8000
+
 -- ---- numbers
 
 -- A number is its upper 20 bits, shifted, plus a signed rest.
@@ -67,6 +84,15 @@ load_by false n = Lui t0 (high_part n) ∷ Addi t0 t0 (low_part n) ∷ []
 
 abbrev pub load_number : ℕ → List Instruction
 load_number n = load_by (high_part n == 0) n
+
+-- Adds a number to a register other than t0, which gets the sum.
+abbrev pub add_by : (short : Bool) (n register : ℕ) → List Instruction
+add_by true n register = Addi t0 register (low_part n) ∷ []
+add_by false n register =
+    Lui t0 (high_part n) ∷ Addi t0 t0 (low_part n) ∷ Add t0 t0 register ∷ []
+
+abbrev pub add_number : (n register : ℕ) → List Instruction
+add_number n register = add_by (high_part n == 0) n register
 
 -- ---- labels
 

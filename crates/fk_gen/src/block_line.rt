@@ -4,7 +4,8 @@ ghost use Rattle.std.specs.Prelude.{◌≡◌, ◌+◌, ◌-◌, ◌^◌, ◌<�
 ghost use Rattle.std.specs.Prelude.{map};
 ghost use Rattle.fk_asm.specs.Assembly.{AreFollowed};
 ghost use Rattle.fk_asm.specs.Block.{GoesToMade, HasBegun, with_block};
-ghost use Rattle.fk_gen.specs.Lines.{marked, quiet, load_number, FitLine, FitLines};
+ghost use Rattle.fk_isa.specs.Fits.{IsRegister};
+ghost use Rattle.fk_gen.specs.Lines.{marked, quiet, load_number, add_number, FitLine, FitLines};
 
 use crate::numbers::{high_part, low_part};
 use crate::registers::{T0, ZERO};
@@ -115,6 +116,37 @@ pub fn emit_number(into: &mut Assembler, number: u32) -> Result<(), AllocError>
             &[
                 BlockLine::quiet(Instruction::Lui(T0, high)),
                 BlockLine::quiet(Instruction::Addi(T0, T0, low)),
+            ],
+        )
+    }
+}
+
+/// Adds the lines that leave the sum of a number and a register other than `t0` in `t0`. None of
+/// them commits. Fails where there isn't enough memory; then only the first of the lines were
+/// added, or none.
+pub fn emit_sum(into: &mut Assembler, number: u32, register: u8) -> Result<(), AllocError>
+    requires register { IsRegister register }
+    requires room { length into.old.lines + 3 < 2 ^ 30 }
+    requires free { AreFollowed into.old }
+    ensures added { OnOk result
+        (into.new ≡ with_block into.old (map quiet (add_number number register))) }
+    ensures begun { OnErr result
+        (HasBegun (map quiet (add_number number register)) into.old into.new) }
+{
+    let high = high_part(number);
+    let low = low_part(number);
+    if high == 0 {
+        emit_lines(
+            into,
+            &[BlockLine::quiet(Instruction::Addi(T0, register, low))],
+        )
+    } else {
+        emit_lines(
+            into,
+            &[
+                BlockLine::quiet(Instruction::Lui(T0, high)),
+                BlockLine::quiet(Instruction::Addi(T0, T0, low)),
+                BlockLine::quiet(Instruction::Add(T0, T0, register)),
             ],
         )
     }

@@ -7,5 +7,5 @@ pub mod numbers;
 mod placed;
 pub mod registers;
 
-pub use block_line::{BlockLine, emit_lines, emit_number};
+pub use block_line::{BlockLine, emit_lines, emit_number, emit_sum};
 pub use placed::Placed;

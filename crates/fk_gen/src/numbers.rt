@@ -23,6 +23,16 @@ pub fn at_private(i: u32) -> u32
     4 * (7 + i)
 }
 
+/// The offset of the header's word with the address of a group frame, from the word after the
+/// frame, in bytes: 61 words back.
+pub const AT_GROUP_FRAME: u32 = 0xffff_ff0c;
+/// The upper 20 bits of what is added to the address of a data word for that of the control word
+/// with the same index.
+pub const TO_CONTROL: u32 = 0x0_8000;
+/// The upper 20 bits of what is added to the address of a control word for that of the data word
+/// with the same index.
+pub const TO_DATA: u32 = 0xf_8000;
+
 /// The upper 20 bits of a number, as `lui` takes them where `addi` adds the lower 12 as a signed
 /// number.
 pub fn high_part(number: u32) -> u32
