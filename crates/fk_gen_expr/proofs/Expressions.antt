@@ -23,18 +23,18 @@ use Rattle.fk_isa.specs.declared.instruction.Instruction.{Instruction}
 use Rattle.fk_isa.specs.declared.instruction.Instruction.TheVariants.{Lui, Addi, Slli, Add, Mul, Lw, Sw}
 use Rattle.fk_machine.specs.Hart.{Hart, Setting as MachineSetting}
 use Rattle.fk_sim_block.specs.Owner.{Owner, number_of, owner_of}
-use Rattle.fk_sim_block.specs.Stands.{Places, HasRoom, frame_end, frame_start, local_address, StandsFor}
+use Rattle.fk_sim_block.specs.Stands.{Places, HasRoom, frame_end, frame_start, group_word, local_address, StandsFor}
 use Rattle.fk_sim_block.specs.Next.{OpAt}
 use Rattle.fk_sim_block.specs.Suits.{Fits, Flows, writes}
 use Rattle.fk_sim_block.specs.Block.{Enters}
 use Rattle.fk_gen.specs.InPlace.{HasBlock}
 use Rattle.fk_gen.specs.Keeps.{Keeps, DoesAnd, past_first, peak}
-use Rattle.fk_gen.specs.Lines.{at_value, at_private, high_part, low_part, load_by, load_number}
+use Rattle.fk_gen.specs.Lines.{first_commits, at_value, at_private, high_part, low_part, load_by, load_number, add_by}
 use Rattle.fk_gen.proofs.Walk.{Told, Quiets, Reached, Plain, LocalAt, TellsNumber, TellsHarts, TellsInputs, walk, CanWalk, told_of, after}
 use Rattle.fk_gen_expr.specs.Operators.{operator_code, sign_instruction}
-use Rattle.fk_gen_expr.specs.Expressions.{IsExpression, expression_block, first_commits, load_value, store_value, times_size}
+use Rattle.fk_gen_expr.specs.Expressions.{IsExpression, expression_block, load_value, store_value, load_frame, frame_word, times_size}
 use Rattle.fk_gen_expr.specs.Law.{ExpressionsDo, ExpressionsKeep}
-use Rattle.fk_gen.proofs.Values.{other_word, values_before, value_at, values_put, joined_is, value_place, private_place, own_place, number_of_parts, number_of_low_part}
+use Rattle.fk_gen.proofs.Values.{other_word, values_before, value_at, values_put, joined_is, value_place, private_place, own_place, number_of_parts, number_of_low_part, sum_of_low, sum_of_parts}
 use Rattle.fk_gen.proofs.Does.{local_doing, does_of}
 use Rattle.fk_gen.proofs.Standing.{InMemory, in_memory, stands_with, with_list, value_written, nothing_written, private_written, own_written}
 use Rattle.fk_gen_expr.proofs.Local.{length-on_registers, IsLocal, code_does, instructions_of, on_registers, instructions_of-append, walk-append, can_walk-append}
@@ -120,7 +120,7 @@ module _ (core : List CoreOp) (image : Image) (places : Places) (bound : ℕ →
         body = gives.same.14;
         frames = gives.same.15;
         blocks = gives.same.16;
-        header = λ j lt. ap (λ m. m j) (sym memory) ∙ other_word h.local (frame_end n - k) v j (λ e. omega arith);
+        header = λ j lt apart. ap (λ m. m j) (sym memory) ∙ other_word h.local (frame_end n - k) v j (λ e. omega arith);
         words = λ j from lt apart. ap (λ m. m j) (sym memory) ∙ other_word h.local (frame_end n - k) v j (λ e. omega arith);
       } in
       subst (λ block. DoesAnd core image places setting t p h 0 (past_first block) (KeepsMost operation)) same
@@ -229,6 +229,64 @@ module _ (core : List CoreOp) (image : Image) (places : Places) (bound : ℕ →
     result = e;
   }
 
+  -- a register and a number
+  sum_gives : (short : Bool) (number a : ℕ) → (high_part number == 0) ≡ short → (g : Hart) → g.registers 6 ≡ a → Gives told (on_registers (add_by short number 6)) g 5 (word (a + number))
+  sum_gives true number a e g is = record {
+    can = (tt, tt);
+    same = itself g;
+    local = refl;
+    result = ap (λ x. word_sum x (low_part number)) is ∙ sum_of_low a (low_part number) number (number_of_low_part number e);
+  }
+  sum_gives false number a e g is = record {
+    can = (tt, (tt, (tt, tt)));
+    same = itself g;
+    local = refl;
+    result =
+        ap (λ x. word_sum (word_sum (high_part number * 4096) (low_part number)) x) is
+        ∙ sum_of_parts a (word_sum (high_part number * 4096) (low_part number)) number (number_of_parts number);
+  }
+
+  few_of_sum : (load : Instruction × Reached) (short : Bool) (number : ℕ) → length (load ∷ on_registers (add_by short number 6)) ≤ 20
+  few_of_sum load true number = omega arith
+  few_of_sum load false number = omega arith
+
+  -- the address of a word of a group frame
+  frame_word_does : (nesting w : ℕ) (is_first : Bool) → (w == 0) ≡ is_first → Here (Get (FrameAddress nesting w)) → IsDone (Get (FrameAddress nesting w))
+  frame_word_does nesting w true e here =
+      let stands = here.enters.at.stands in
+      let place = here.fits.place in
+      let told_at = ap places.frames.group here.enters.index ∙ place.0.0 in
+      let has = stands.running.group nesting told_at in
+      let small = has.within in
+      let address = has.address in
+      let none = eqb-true w 0 e in
+      get_with (FrameAddress nesting w) ((load_frame 5, LocalAt (group_word n)) ∷ []) 5 (word (address_of (p.runner.has.call.frames nesting + w))) here
+      (ap (λ b. first_commits (frame_word b w ++ store_value 5 (d + 1) ∷ [])) (sym e)) (omega arith) refl
+      record {
+        can = (reaches (Get (FrameAddress nesting w)) 61 here (omega arith) (omega arith), tt);
+        same = itself h;
+        local = refl;
+        result = omega arith;
+      }
+  frame_word_does nesting w false e here =
+      let stands = here.enters.at.stands in
+      let place = here.fits.place in
+      let told_at = ap places.frames.group here.enters.index ∙ place.0.0 in
+      let has = stands.running.group nesting told_at in
+      let a = address_of (p.runner.has.call.frames nesting) in
+      let number = 4 * w in
+      let short = high_part number == 0 in
+      let load : Instruction × Reached = (load_frame 6, LocalAt (group_word n)) in
+      let same : word (a + number) ≡ word (address_of (p.runner.has.call.frames nesting + w)) = omega arith in
+      get_with (FrameAddress nesting w) (load ∷ on_registers (add_by short number 6)) 5 (word (address_of (p.runner.has.call.frames nesting + w))) here
+      (ap (λ rest. first_commits (load_frame 6 ∷ rest)) (instructions_of-append (add_by short number 6) ((store_value 5 (d + 1), LocalAt (frame_end n - (d + 1))) ∷ []))
+      ∙ ap (λ b. first_commits (frame_word b w ++ store_value 5 (d + 1) ∷ [])) (sym e))
+      (few_of_sum load short number) refl
+      (subst (Gives told (load ∷ on_registers (add_by short number 6)) h 5) same
+      (gives_behind told (load ∷ []) (on_registers (add_by short number 6)) h 5 (word (a + number))
+      (reaches (Get (FrameAddress nesting w)) 61 here (omega arith) (omega arith), tt) (itself h) refl
+      (sum_gives short number a refl (after told load.0 load.1 h) has.address)))
+
   get_does : (known : OwnValue) → Here (Get known) → IsDone (Get known)
   get_does (Value (Private w)) here =
       let stands = here.enters.at.stands in
@@ -279,7 +337,7 @@ module _ (core : List CoreOp) (image : Image) (places : Places) (bound : ℕ →
         local = gives.local;
         result = gives.result ∙ whole;
       }
-  get_does (FrameAddress nesting w) here = let is = here.is in absurd is.1
+  get_does (FrameAddress nesting w) here = frame_word_does nesting w (w == 0) refl here
 
   -- ---- signs, operators and indices
 
@@ -416,7 +474,7 @@ module _ (core : List CoreOp) (image : Image) (places : Places) (bound : ℕ →
       (nothing_written core places h.local p i (suc i) d new here.few here.enters.ready.in_range.waiting here.enters.index here.fits.room flows
       (in_memory places p h here.enters.at.stands)
       (values_before 1 h.local (frame_end n) vs here.enters.at.stands.running.values)))
-      record { node = refl; body = refl; frames = refl; blocks = refl; header = λ j lt. refl; words = λ j from lt apart. refl }
+      record { node = refl; body = refl; frames = refl; blocks = refl; header = λ j lt apart. refl; words = λ j from lt apart. refl }
 
   set_does : (variable : Variable) → Here (Set variable) → IsDone (Set variable)
   set_does (Private w) here =
@@ -443,7 +501,7 @@ module _ (core : List CoreOp) (image : Image) (places : Places) (bound : ℕ →
         body = refl;
         frames = refl;
         blocks = refl;
-        header = λ j lt. other_word h.local (frame_start places n + 7 + w) (h1.registers 5) j (λ e. omega arith);
+        header = λ j lt apart. other_word h.local (frame_start places n + 7 + w) (h1.registers 5) j (λ e. omega arith);
         words = λ j from lt apart. other_word h.local (frame_start places n + 7 + w) (h1.registers 5) j (apart w (eq-eqb w w refl));
       }
   set_does (OfFile w) here =
@@ -471,7 +529,7 @@ module _ (core : List CoreOp) (image : Image) (places : Places) (bound : ℕ →
         body = refl;
         frames = refl;
         blocks = refl;
-        header = λ j lt. other_word h.local (7 + w) (h1.registers 5) j (λ e. omega arith);
+        header = λ j lt apart. other_word h.local (7 + w) (h1.registers 5) j (λ e. omega arith);
         words = λ j from lt apart. other_word h.local (7 + w) (h1.registers 5) j (λ e. omega arith);
       }
 

@@ -19,7 +19,7 @@ use Rattle.fk_gen.specs.InPlace.{HasBlock}
 use Rattle.fk_gen.specs.Keeps.{DoesAnd, past_first}
 use Rattle.fk_gen.proofs.Walk.{Told, Quiets, Reached, Plain, quiet_lines, walk, CanWalk, told_of, after}
 use Rattle.fk_gen.proofs.Does.{quiet_length, local_does, local_doing}
-use Rattle.fk_gen_expr.specs.Expressions.{first_commits}
+use Rattle.fk_gen.specs.Lines.{first_commits}
 
 abbrev pub instructions_of : Quiets → List Instruction
 instructions_of [] = []

@@ -1,5 +1,5 @@
 -- The shape of the blocks: few lines, none of which goes to a label.
-use Rattle.std.proofs.Common.{◌≡◌, ℕ, ◌+◌, ◌-◌, ◌≤◌, List, [], ◌∷◌, ◌++◌, map, length, Bool, true, false, All, arith, refl}
+use Rattle.std.proofs.Common.{◌≡◌, ℕ, ◌+◌, ◌-◌, ◌*◌, ◌≤◌, List, [], ◌∷◌, ◌++◌, map, length, Bool, true, false, All, arith, refl}
 use Rattle.std.specs.Prelude.{◌==◌}
 use Rattle.std.proofs.lemmas.List.{length-append, length-map}
 use Rattle.std.proofs.lemmas.List.Elements.{All-nil, All-cons}
@@ -10,10 +10,10 @@ use Rattle.fk_meaning_store.specs.Store.{address_of}
 use Rattle.fk_isa.specs.declared.instruction.Instruction.{Instruction}
 use Rattle.fk_isa.specs.declared.instruction.Instruction.TheVariants.{Add}
 use Rattle.fk_asm.proofs.Straight.{IsUnlabeled}
-use Rattle.fk_gen.specs.Lines.{quiet, commits, high_part, load_by}
+use Rattle.fk_gen.specs.Lines.{quiet, commits, high_part, load_by, add_by, first_commits}
 use Rattle.fk_gen.specs.Registers.{t0, t1}
 use Rattle.fk_gen_expr.specs.Operators.{operator_code}
-use Rattle.fk_gen_expr.specs.Expressions.{IsExpression, expression_block, expression_code, first_commits, load_value, store_value, times_size}
+use Rattle.fk_gen_expr.specs.Expressions.{IsExpression, expression_block, expression_code, load_value, store_value, load_frame, frame_word, times_size}
 use Rattle.fk_gen_expr.proofs.Operators.{few_of_operator}
 
 quiet_unlabeled : (is : List Instruction) → All IsUnlabeled (map quiet is)
@@ -52,6 +52,14 @@ index_short : (is_word : Bool) (size : ℕ) (a b c s : Instruction) → IsShortC
 index_short true size a b c s = record { some = omega arith; few = omega arith }
 index_short false size a b c s = record { some = omega arith; few = omega arith }
 
+sum_short : (short : Bool) (n r : ℕ) (l s : Instruction) → IsShortCode (length (first_commits (l ∷ (add_by short n r ++ s ∷ []))))
+sum_short true n r l s = record { some = omega arith; few = omega arith }
+sum_short false n r l s = record { some = omega arith; few = omega arith }
+
+frame_short : (is_first : Bool) (word : ℕ) (s : Instruction) → IsShortCode (length (first_commits (frame_word is_first word ++ s ∷ [])))
+frame_short true word s = record { some = omega arith; few = omega arith }
+frame_short false word s = sum_short (high_part (4 * word) == 0) (4 * word) t1 (load_frame t1) s
+
 pub block_short : (globals d : ℕ) (operation : Operation) → IsExpression globals d operation → IsShortCode (length (expression_block globals d operation))
 block_short globals d (Push n) is = number_short (high_part n == 0) n (store_value t0 (d + 1))
 block_short globals d (Get (Value variable)) is = record { some = omega arith; few = omega arith }
@@ -62,7 +70,7 @@ block_short globals d (Get ProcessorNumber) is = record { some = omega arith; fe
 block_short globals d (Get Processors) is = record { some = omega arith; few = omega arith }
 block_short globals d (Get InputLength) is = record { some = omega arith; few = omega arith }
 block_short globals d (Get InputAddress) is = number_short (high_part (address_of globals) == 0) (address_of globals) (store_value t0 (d + 1))
-block_short globals d (Get (FrameAddress nesting word)) is = absurd is.1
+block_short globals d (Get (FrameAddress nesting word)) is = frame_short (word == 0) word (store_value t0 (d + 1))
 block_short globals d (Set variable) is = record { some = omega arith; few = omega arith }
 block_short globals d DropLast is = record { some = omega arith; few = omega arith }
 block_short globals d CopyLast is = record { some = omega arith; few = omega arith }

@@ -1,13 +1,13 @@
 -- What a few instructions on words come to.
 use Rattle.std.proofs.Common.{◌≡◌, ℕ, ℤ, pos, negsuc, ◌+◌, ◌-◌, ◌%◌, ◌^◌, ◌<◌, Bool, true, false, not, refl, sym, ap, ◌∙◌, arith}
-use Rattle.std.specs.Prelude.{◌==◌, ◌-ℤ◌, nat_lt, nat_le, int_lt, int_le, bit_and, bit_xor, if◌then◌else◌, min, max, unsigned_abs}
+use Rattle.std.specs.Prelude.{◌==◌, nat_lt, nat_le, int_lt, int_le, bit_and, bit_xor, if◌then◌else◌, min, max}
 use Rattle.std.specs.Int.{from_bool}
 use Rattle.std.proofs.lemmas.Bool.Decides.{nat_tests}
-use Rattle.std.proofs.lemmas.Int.{ints, int_rem_euclid_is}
 use Rattle.std.proofs.lemmas.Nat.{and_mask}
 use Rattle.fk_num.specs.Word.{word_sum, signed}
 use Rattle.fk_num.specs.Op.{applied}
 use Rattle.fk_num.specs.declared.operator.Op.TheVariants as op
+use Rattle.fk_gen.proofs.Difference.{difference}
 
 -- ---- tests
 
@@ -34,19 +34,15 @@ not_less-unsigned a b = flipped (nat_lt b a) ∙ ap from_bool (sym (nat_turned a
 
 -- ---- differences
 
-pub difference : (a b : ℕ) → a < 2 ^ 32 → b < 2 ^ 32 → applied op.Sub a b ≡ (a + (2 ^ 32 - b)) % 2 ^ 32
-difference a b p q =
-    ap unsigned_abs (int_rem_euclid_is (pos a -ℤ pos b) (pos (2 ^ 32)) (2 ^ 32) 1 (a + (2 ^ 32 - b)) (omega arith) refl (omega (arith, ints)))
-
 same_of_difference : (a b : ℕ) → a < 2 ^ 32 → b < 2 ^ 32 → nat_lt ((a + (2 ^ 32 - b)) % 2 ^ 32) 1 ≡ (a == b)
 same_of_difference a b p q = grind (arith, nat_tests)
 
 pub equal : (a b : ℕ) → a < 2 ^ 32 → b < 2 ^ 32 → applied op.LtU (applied op.Sub a b) 1 ≡ applied op.Eq a b
-equal a b p q = ap (λ d. from_bool (nat_lt d 1)) (difference a b p q) ∙ ap from_bool (same_of_difference a b p q)
+equal a b p q = ap (λ d. from_bool (nat_lt d 1)) (difference a b (omega arith)) ∙ ap from_bool (same_of_difference a b p q)
 
 pub other : (a b : ℕ) → a < 2 ^ 32 → b < 2 ^ 32 → applied op.LtU 0 (applied op.Sub a b) ≡ applied op.Ne a b
 other a b p q =
-    ap (λ d. from_bool (nat_lt 0 d)) (difference a b p q) ∙ ap from_bool (other_of_difference a b p q)
+    ap (λ d. from_bool (nat_lt 0 d)) (difference a b (omega arith)) ∙ ap from_bool (other_of_difference a b p q)
   where
     other_of_difference : (a b : ℕ) → a < 2 ^ 32 → b < 2 ^ 32 → nat_lt 0 ((a + (2 ^ 32 - b)) % 2 ^ 32) ≡ not (a == b)
     other_of_difference a b p q = grind (arith, nat_tests)
@@ -68,7 +64,7 @@ no_ones n = and_mask n 0 ∙ omega arith
 
 pub chosen_by : (c : Bool) (a b : ℕ) → a < 2 ^ 32 → b < 2 ^ 32 → chosen (from_bool c) a b ≡ if c then a else b
 chosen_by true a b p q =
-    let d = difference a b p q in
+    let d = difference a b (omega arith) in
     let e = all_ones (applied op.Sub a b) (omega arith) in
     let f : word_sum (applied op.Sub a b) b ≡ a = omega arith in
     ap (λ n. word_sum n b) e ∙ f

@@ -2,7 +2,7 @@
 --
 -- The first instruction is the commit: a processor does a local operation at once, and its hart
 -- catches up with it.
-use Rattle.std.specs.Prelude.{ℕ, ◌+◌, ◌-◌, ◌^◌, ◌<◌, ◌≤◌, ◌==◌, List, [], ◌∷◌, ◌++◌, map, Bool}
+use Rattle.std.specs.Prelude.{ℕ, ◌+◌, ◌-◌, ◌*◌, ◌^◌, ◌<◌, ◌≤◌, ◌==◌, List, [], ◌∷◌, ◌++◌, Bool}
 use Rattle.std.specs.Prelude.{true, false, IsSomeAnd}
 use Rattle.std.specs.Option.{option_map_or}
 use Rattle.fk_num.specs.declared.operator.Op.{Op}
@@ -32,8 +32,8 @@ use Rattle.fk_sim_block.specs.Stands.{frame_register, end_register, number_regis
 use Rattle.fk_sim_block.specs.Stands.{size_register, local_register, device_register}
 use Rattle.fk_gen.specs.declared.placed.Placed.{Placed}
 use Rattle.fk_gen.specs.Registers.{zero_register, t0, t1, t2}
-use Rattle.fk_gen.specs.Lines.{quiet, commits, at_value, at_private, high_part, low_part}
-use Rattle.fk_gen.specs.Lines.{load_number}
+use Rattle.fk_gen.specs.Lines.{at_value, at_private, high_part, low_part}
+use Rattle.fk_gen.specs.Lines.{load_number, add_number, at_group_frame, first_commits}
 use Rattle.fk_gen_expr.specs.Operators.{operator_code, sign_instruction}
 
 -- ---- instructions
@@ -71,6 +71,17 @@ push_device d offset = Lw t0 device_register offset ∷ store_value t0 (d + 1) �
 abbrev pub push_number : (depth n : ℕ) → List Instruction
 push_number d n = load_number n ++ store_value t0 (d + 1) ∷ []
 
+-- The address of a word of the call's group frame, in t0. The header has that of the first word.
+abbrev pub load_frame : (register : ℕ) → Instruction
+load_frame register = Lw register end_register at_group_frame
+
+abbrev pub frame_word : (is_first : Bool) (word : ℕ) → List Instruction
+frame_word true word = load_frame t0 ∷ []
+frame_word false word = load_frame t1 ∷ add_number (4 * word) t1
+
+abbrev pub frame_address : (depth word : ℕ) → List Instruction
+frame_address d word = frame_word (word == 0) word ++ store_value t0 (d + 1) ∷ []
+
 abbrev pub get_code : (globals depth : ℕ) → OwnValue → List Instruction
 get_code globals d (Value variable) = load_variable variable ∷ store_value t0 (d + 1) ∷ []
 get_code globals d Rank = store_value rank_register (d + 1) ∷ []
@@ -80,7 +91,7 @@ get_code globals d ProcessorNumber = push_device d 20
 get_code globals d Processors = push_device d 24
 get_code globals d InputLength = push_device d 28
 get_code globals d InputAddress = push_number d (address_of globals)
-get_code globals d (FrameAddress nesting word) = []
+get_code globals d (FrameAddress nesting word) = frame_address d word
 
 -- An operator on the last two values, which come to these registers.
 abbrev pub join_code : (depth : ℕ) → Op → (first second : ℕ) → List Instruction
@@ -114,10 +125,6 @@ expression_code globals d operation = []
 
 -- ---- blocks
 
-abbrev pub first_commits : List Instruction → List MarkedLine
-first_commits [] = []
-first_commits (i ∷ is) = commits i ∷ map quiet is
-
 abbrev pub expression_block : (globals depth : ℕ) → Operation → List MarkedLine
 expression_block globals d operation = first_commits (expression_code globals d operation)
 
@@ -127,7 +134,7 @@ IsReached variable = place_of variable < 64
 
 abbrev pub IsKnown : OwnValue → (globals : ℕ) → Type 0
 IsKnown (Value variable) globals = IsReached variable
-IsKnown (FrameAddress nesting word) globals = ⊥
+IsKnown (FrameAddress nesting word) globals = word < 2 ^ 21
 IsKnown InputAddress globals = globals ≤ 2 ^ 20
 IsKnown known globals = Unit {0}
 

@@ -4,11 +4,12 @@ ghost use Rattle.std.specs.Prelude.{◌≡◌, ◌+◌, ◌^◌, ◌<◌, ◌≤
 ghost use Rattle.fk_isa.specs.Fits.{Fits, IsRegister};
 ghost use Rattle.fk_asm.specs.Assembly.{AreFollowed};
 ghost use Rattle.fk_asm.specs.Block.{HasBegun, with_block};
+ghost use Rattle.fk_gen.specs.Lines.{first_commits};
 ghost use Rattle.fk_gen_expr.specs.Operators as operators;
 ghost use Rattle.fk_gen_expr.specs.Expressions as code;
 
 use fk_asm::{Assembler, Blocks};
-use fk_gen::numbers::{at_private, at_value, high_part, low_part};
+use fk_gen::numbers::{AT_GROUP_FRAME, at_private, at_value, high_part, low_part};
 use fk_gen::registers::{DEVICES, END, FRAME, LOCAL, NUMBER, RANK, SIZE, T0, T1, T2, ZERO};
 use fk_gen::{BlockLine, Placed, emit_lines};
 use fk_isa::Instruction;
@@ -82,12 +83,12 @@ fn emit_expression(
 fn push_number(into: &mut Assembler, depth: u32, number: u32) -> Result<(), AllocError>
     requires depth { depth < 64 }
     requires room { length into.old.lines
-        + length (code.first_commits (code.push_number depth number)) < 2 ^ 30 }
+        + length (first_commits (code.push_number depth number)) < 2 ^ 30 }
     requires free { AreFollowed into.old }
     ensures added { OnOk result
-        (into.new ≡ with_block into.old (code.first_commits (code.push_number depth number))) }
+        (into.new ≡ with_block into.old (first_commits (code.push_number depth number))) }
     ensures begun { OnErr result
-        (HasBegun (code.first_commits (code.push_number depth number)) into.old into.new) }
+        (HasBegun (first_commits (code.push_number depth number)) into.old into.new) }
 {
     let high = high_part(number);
     let low = low_part(number);
@@ -110,12 +111,12 @@ fn get(into: &mut Assembler, globals: u32, depth: u32, known: OwnValue) -> Resul
     requires depth { depth < 64 }
     requires known { code.IsKnown known globals }
     requires room { length into.old.lines
-        + length (code.first_commits (code.get_code globals depth known)) < 2 ^ 30 }
+        + length (first_commits (code.get_code globals depth known)) < 2 ^ 30 }
     requires free { AreFollowed into.old }
     ensures added { OnOk result
-        (into.new ≡ with_block into.old (code.first_commits (code.get_code globals depth known))) }
+        (into.new ≡ with_block into.old (first_commits (code.get_code globals depth known))) }
     ensures begun { OnErr result
-        (HasBegun (code.first_commits (code.get_code globals depth known)) into.old into.new) }
+        (HasBegun (first_commits (code.get_code globals depth known)) into.old into.new) }
 {
     match known {
         OwnValue::Value(variable) => {
@@ -128,7 +129,43 @@ fn get(into: &mut Assembler, globals: u32, depth: u32, known: OwnValue) -> Resul
         OwnValue::Processors => push_device(into, depth, HARTS),
         OwnValue::InputLength => push_device(into, depth, INPUTS),
         OwnValue::InputAddress => push_number(into, depth, 0x1000_0000 + 4 * globals),
-        OwnValue::FrameAddress(_, _) => Ok(()),
+        OwnValue::FrameAddress(_, word) => frame_address(into, depth, word),
+    }
+}
+
+// The address of a word of the call's group frame. The header has that of the first word.
+fn frame_address(into: &mut Assembler, depth: u32, word: u32) -> Result<(), AllocError>
+    requires depth { depth < 64 }
+    requires word { word < 2 ^ 21 }
+    requires room { length into.old.lines
+        + length (first_commits (code.frame_address depth word)) < 2 ^ 30 }
+    requires free { AreFollowed into.old }
+    ensures added { OnOk result
+        (into.new ≡ with_block into.old (first_commits (code.frame_address depth word))) }
+    ensures begun { OnErr result
+        (HasBegun (first_commits (code.frame_address depth word)) into.old into.new) }
+{
+    let store = store_value(T0, depth + 1);
+    if word == 0 {
+        return move_word(into, load_frame(T0), store);
+    }
+    let load = BlockLine::commits(load_frame(T1));
+    let high = high_part(4 * word);
+    let low = low_part(4 * word);
+    if high == 0 {
+        let sum = BlockLine::quiet(Instruction::Addi(T0, T1, low));
+        emit_lines(into, &[load, sum, BlockLine::quiet(store)])
+    } else {
+        emit_lines(
+            into,
+            &[
+                load,
+                BlockLine::quiet(Instruction::Lui(T0, high)),
+                BlockLine::quiet(Instruction::Addi(T0, T0, low)),
+                BlockLine::quiet(Instruction::Add(T0, T0, T1)),
+                BlockLine::quiet(store),
+            ],
+        )
     }
 }
 
@@ -138,9 +175,9 @@ fn alone(into: &mut Assembler, instruction: Instruction) -> Result<(), AllocErro
     requires room { length into.old.lines + 1 < 2 ^ 30 }
     requires free { AreFollowed into.old }
     ensures added { OnOk result
-        (into.new ≡ with_block into.old (code.first_commits (instruction ∷ []))) }
+        (into.new ≡ with_block into.old (first_commits (instruction ∷ []))) }
     ensures begun { OnErr result
-        (HasBegun (code.first_commits (instruction ∷ [])) into.old into.new) }
+        (HasBegun (first_commits (instruction ∷ [])) into.old into.new) }
 {
     emit_lines(into, &[BlockLine::commits(instruction)])
 }
@@ -152,9 +189,9 @@ fn move_word(into: &mut Assembler, load: Instruction, store: Instruction) -> Res
     requires room { length into.old.lines + 2 < 2 ^ 30 }
     requires free { AreFollowed into.old }
     ensures added { OnOk result
-        (into.new ≡ with_block into.old (code.first_commits (load ∷ store ∷ []))) }
+        (into.new ≡ with_block into.old (first_commits (load ∷ store ∷ []))) }
     ensures begun { OnErr result
-        (HasBegun (code.first_commits (load ∷ store ∷ [])) into.old into.new) }
+        (HasBegun (first_commits (load ∷ store ∷ [])) into.old into.new) }
 {
     emit_lines(into, &[BlockLine::commits(load), BlockLine::quiet(store)])
 }
@@ -165,9 +202,9 @@ fn push_device(into: &mut Assembler, depth: u32, offset: u32) -> Result<(), Allo
     requires room { length into.old.lines + 2 < 2 ^ 30 }
     requires free { AreFollowed into.old }
     ensures added { OnOk result
-        (into.new ≡ with_block into.old (code.first_commits (code.push_device depth offset))) }
+        (into.new ≡ with_block into.old (first_commits (code.push_device depth offset))) }
     ensures begun { OnErr result
-        (HasBegun (code.first_commits (code.push_device depth offset)) into.old into.new) }
+        (HasBegun (first_commits (code.push_device depth offset)) into.old into.new) }
 {
     move_word(
         into,
@@ -180,12 +217,12 @@ fn index(into: &mut Assembler, depth: u32, size: u32) -> Result<(), AllocError>
     requires two { 2 ≤ depth }
     requires depth { depth ≤ 64 }
     requires room { length into.old.lines
-        + length (code.first_commits (code.index_code depth size)) < 2 ^ 30 }
+        + length (first_commits (code.index_code depth size)) < 2 ^ 30 }
     requires free { AreFollowed into.old }
     ensures added { OnOk result
-        (into.new ≡ with_block into.old (code.first_commits (code.index_code depth size))) }
+        (into.new ≡ with_block into.old (first_commits (code.index_code depth size))) }
     ensures begun { OnErr result
-        (HasBegun (code.first_commits (code.index_code depth size)) into.old into.new) }
+        (HasBegun (first_commits (code.index_code depth size)) into.old into.new) }
 {
     if size == WORD {
         emit_lines(
@@ -219,9 +256,9 @@ fn apply(into: &mut Assembler, depth: u32, sign: Unary) -> Result<(), AllocError
     requires room { length into.old.lines + 3 < 2 ^ 30 }
     requires free { AreFollowed into.old }
     ensures added { OnOk result
-        (into.new ≡ with_block into.old (code.first_commits (code.load_value T0 depth
+        (into.new ≡ with_block into.old (first_commits (code.load_value T0 depth
         ∷ operators.sign_instruction sign ∷ code.store_value T0 depth ∷ []))) }
-    ensures begun { OnErr result (HasBegun (code.first_commits (code.load_value T0 depth
+    ensures begun { OnErr result (HasBegun (first_commits (code.load_value T0 depth
         ∷ operators.sign_instruction sign ∷ code.store_value T0 depth ∷ [])) into.old into.new) }
 {
     emit_lines(
@@ -253,12 +290,12 @@ fn join(into: &mut Assembler, depth: u32, sign: Op, first: u8, second: u8) -> Re
     requires first { IsRegister first }
     requires second { IsRegister second }
     requires room { length into.old.lines
-        + length (code.first_commits (code.join_code depth sign first second)) < 2 ^ 30 }
+        + length (first_commits (code.join_code depth sign first second)) < 2 ^ 30 }
     requires free { AreFollowed into.old }
     ensures added { OnOk result (into.new
-        ≡ with_block into.old (code.first_commits (code.join_code depth sign first second))) }
+        ≡ with_block into.old (first_commits (code.join_code depth sign first second))) }
     ensures begun { OnErr result
-        (HasBegun (code.first_commits (code.join_code depth sign first second)) into.old into.new) }
+        (HasBegun (first_commits (code.join_code depth sign first second)) into.old into.new) }
 {
     let a = BlockLine::commits(load_value(first, depth - 1));
     let b = BlockLine::quiet(load_value(second, depth));
@@ -342,6 +379,15 @@ fn store_value(register: u8, k: u32) -> Instruction
     ensures fits { Fits result }
 {
     Instruction::Sw(END, register, at_value(k))
+}
+
+// Loads the address of the call's group frame into a register.
+fn load_frame(register: u8) -> Instruction
+    requires register { IsRegister register }
+    ensures exact { result ≡ code.load_frame register }
+    ensures fits { Fits result }
+{
+    Instruction::Lw(register, END, AT_GROUP_FRAME)
 }
 
 fn load_variable(variable: Variable) -> Instruction
