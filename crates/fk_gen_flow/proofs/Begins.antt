@@ -1,5 +1,5 @@
 -- The opening.
-use Rattle.std.proofs.Common.{◌≡◌, ℕ, zero, suc, ◌+◌, ◌*◌, ◌<◌, ◌≤◌, ◌^◌, List, [], ◌∷◌, ◌++◌, length, All, true, false, ap, ◌∙◌, arith, refl, inl, inr}
+use Rattle.std.proofs.Common.{◌≡◌, ℕ, zero, suc, ◌+◌, ◌*◌, ◌<◌, ◌≤◌, ◌^◌, List, [], ◌∷◌, ◌++◌, length, All, Some, None, true, false, sym, ap, ◌∙◌, arith, refl, inl, inr}
 use Rattle.std.specs.Prelude.{◌==◌, slice_index, ◌⊎◌}
 use Rattle.fk_num.specs.Word.{Memory, put, word_sum}
 use Rattle.fk_meaning.specs.Processor.{Setting}
@@ -100,10 +100,10 @@ abbrev pub HasBegun : Places → Setting → (firsts : List ℕ) → (main numbe
 HasBegun places setting firsts main number h h' =
     StandsAt places (beginner setting (slice_index firsts) main number) h' × ((r : ℕ) → (r == 5) ≡ false → h'.registers r ≡ h.registers r)
 
-pub firsts_begin : (image : Image) (bound : ℕ → ℕ) (places : Places) (firsts : List ℕ) (main : ℕ) → HasLabels bound places → AreFirsts places.frames.of_file firsts → places.frames.is_main main ≡ true
+pub firsts_begin : (image : Image) (bound : ℕ → ℕ) (places : Places) (firsts : List ℕ) (main : ℕ) → HasLabels bound places → AreFirsts places.frames.of_file firsts → places.frames.is_main main ≡ true → places.frames.group main ≡ None
     → (setting : Setting) (t : MachineSetting) (number k : ℕ) (h : Hart) → IsAbout image t k h → LinesAt image bound k (first_lines 0 firsts ++ jump_block main) → HasRegisters places setting number h
     → h.local ≡ (λ i. 0) → Comes image t number (cycles_of firsts) h (HasBegun places setting firsts main number h)
-firsts_begin image bound places firsts main labels are is_main setting t number k h about lines has zeros =
+firsts_begin image bound places firsts main labels are is_main none setting t number k h about lines has zeros =
     let of_file = places.frames.of_file in
     let few = are.few in
     let within = are.within in
@@ -131,10 +131,12 @@ firsts_begin image bound places firsts main labels are is_main setting t number 
             home = is_main;
             values = tt;
             privates = λ w e. ap (λ m. m (of_file + 7 + w)) memory ∙ filled_other (λ i. 0) 0 firsts (of_file + 7 + w) (inr (omega arith));
+            group = λ number told. let no : None ≡ Some number = sym none ∙ told in absurd (cc);
           };
           waiting = tt;
           own = λ j lt. ap (λ m. m (7 + j)) memory ∙ filled_at (λ i. 0) 0 firsts j (7 + j) are.words (λ k le. refl) (omega arith);
           heap = λ j lt. ap (λ m. m (16384 + j)) memory ∙ filled_other (λ i. 0) 0 firsts (16384 + j) (inr (omega arith));
+          full = ap (λ m. m 2) memory ∙ filled_other (λ i. 0) 0 firsts 2 (inl (omega arith));
         };
       },
       same,
@@ -190,16 +192,16 @@ pub record BeginsInRoot (core : List CoreOp) (image : Image) (places : Places) (
   pub body : begins.hart.registers 11 ≡ setting.processors
 
 pub begins_in_root : (core : List CoreOp) (image : Image) (bound : ℕ → ℕ) (places : Places) (firsts : List ℕ) (main : ℕ) → HasOpening image bound places firsts main
-    → AreFirsts places.frames.of_file firsts → places.frames.is_main main ≡ true
+    → AreFirsts places.frames.of_file firsts → places.frames.is_main main ≡ true → places.frames.group main ≡ None
     → (setting : Setting) (t : MachineSetting) (number : ℕ) → IsRunning image setting t → BeginsInRoot core image places setting t firsts main number
-begins_in_root core image bound places firsts main opening are is_main setting t number running =
+begins_in_root core image bound places firsts main opening are is_main none setting t number running =
     let of_file = places.frames.of_file in
     let few = are.few in
     let within = are.within in
     let split = lines_split image bound 0 (register_lines of_file) (first_lines 0 firsts ++ jump_block main) opening.lines in
     let h = with_registers of_file t number in
     let sets = registers_come image bound places setting t number few running split.0 in
-    let comes = firsts_begin image bound places firsts main opening.labels are is_main setting (in_cycles 14 t) number 14 h sets.about split.1 sets.has refl in
+    let comes = firsts_begin image bound places firsts main opening.labels are is_main none setting (in_cycles 14 t) number 14 h sets.about split.1 sets.has refl in
     let same = comes.goal.1 in
     record {
       begins = record {

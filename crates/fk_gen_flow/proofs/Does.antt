@@ -92,10 +92,11 @@ jump_goes core image bound places i op block flows t p h holds e at =
         live = at.live;
         at = ap (λ k. 4 * k) (block.labels.blocks op.target);
         stands = stands_with places p _ h _ stands (refl, refl, refl, refl, refl, refl, refl, refl, refl, refl, refl, refl) refl refl stands.top (record {
-          running = flows_on places core nothing h.local _ i op.target p.runner.has.call p.runner.has.call (λ w. refl) flows refl frame.values frame;
+          running = flows_on places core nothing h.local _ i op.target p.runner.has.call p.runner.has.call (λ w. refl) flows refl refl frame.values frame;
           waiting = stands.waiting;
           own = stands.own;
           heap = stands.heap;
+          full = stands.full;
         });
       };
     }
@@ -134,10 +135,11 @@ module _ (core : List CoreOp) (image : Image) (bound : ℕ → ℕ) (places : Pl
       let frame = subst (λ j. HasFrame places h.local (length p.runner.has.callers) j p.runner.has.call) e stands.running in
       stands_with places p (owner_of (branched p way)) h (record (writes h 5 v) { pc = pc }) stands (refl, refl, refl, refl, refl, refl, refl, refl, refl, refl, refl, refl) refl refl stands.top (record {
         running = subst (λ j. HasFrame places h.local (length p.runner.has.callers) j (drop_last 1 p.runner.has).call) (sym f)
-            (flows_on places core nothing h.local _ i j p.runner.has.call (drop_last 1 p.runner.has).call (λ w. refl) flows refl (values_before 1 h.local _ (values p.runner.has) frame.values) frame);
+            (flows_on places core nothing h.local _ i j p.runner.has.call (drop_last 1 p.runner.has).call (λ w. refl) flows refl refl (values_before 1 h.local _ (values p.runner.has) frame.values) frame);
         waiting = rw g stands.waiting;
         own = stands.own;
         heap = stands.heap;
+        full = stands.full;
       })
 
   -- it has branched, and keeps what a block keeps that makes no call
@@ -146,7 +148,7 @@ module _ (core : List CoreOp) (image : Image) (bound : ℕ → ℕ) (places : Pl
       HasDone core image places (branched p way) h' × Keeps places (length p.runner.has.callers) op.depth (changes (Branch onward)) h h'
 
   kept : (p : Owner) (h : Hart) (v pc : ℕ) → Keeps places (length p.runner.has.callers) op.depth (changes (Branch onward)) h (record (writes h 5 v) { pc = pc })
-  kept p h v pc = record { node = refl; body = refl; frames = refl; blocks = refl; header = λ j lt. refl; words = λ j from lt apart. refl }
+  kept p h v pc = record { node = refl; body = refl; frames = refl; blocks = refl; header = λ j lt apart. refl; words = λ j from lt apart. refl }
 
   branch_way : HasBlock image bound places i (branch_block onward op.depth op.target) → OpAt core i op (Branch onward) → Fits core places.frames i op (Branch onward)
       → (setting : Setting) (t : MachineSetting) (p : Owner) (h : Hart) → Holds image t → p.runner.left.at ≡ i → length (values p.runner.has) ≡ op.depth → length p.runner.has.callers < 256

@@ -1,5 +1,5 @@
 -- A call.
-use Rattle.std.proofs.Common.{◌≡◌, ℕ, zero, suc, ◌+◌, ◌-◌, ◌*◌, ◌<◌, ◌≤◌, ◌^◌, List, [], ◌∷◌, ◌++◌, length, eq-eqb, Bool, Some, None, true, false, ap, subst, sym, ◌∙◌, arith, refl, inl, inr}
+use Rattle.std.proofs.Common.{◌≡◌, ℕ, zero, suc, ◌+◌, ◌-◌, ◌*◌, ◌<◌, ◌≤◌, ◌^◌, List, ◌∷◌, ◌++◌, length, eq-eqb, Bool, Some, None, true, false, ap, subst, sym, ◌∙◌, arith, refl, inl, inr}
 use Rattle.std.specs.Prelude.{◌==◌, ◌⊎◌, nat_lt, nat_le, if◌then◌else◌}
 use Rattle.std.proofs.lemmas.List.{length-append}
 use Rattle.std.proofs.lemmas.Bool.{lt-ltb, le-ltb, cases_lt, ne_eqb}
@@ -85,7 +85,7 @@ module _ (core : List CoreOp) (image : Image) (bound : ℕ → ℕ) (places : Pl
       let held = subst (λ j. HasFrame places h.local w j p.runner.has.call) e stands.running in
       let left = length_before n vs in
       let call' : Call = record (p.runner.has.call) { values = before n vs } in
-      let flowed = flows_on places core nothing h.local w i onward p.runner.has.call call' (λ x. refl) calls.back refl (values_before n h.local end vs held.values) held in
+      let flowed = flows_on places core nothing h.local w i onward p.runner.has.call call' (λ x. refl) calls.back refl refl (values_before n h.local end vs held.values) held in
       let many : length (before n vs) ≡ op.depth - n = omega arith in
       let room = subst (λ d. HasRoom places.frames onward (suc d)) (sym many) calls.room in
       let more : (suc w == 0) ≡ false = ne_eqb (suc w) 0 (λ f. omega arith) in
@@ -115,6 +115,7 @@ module _ (core : List CoreOp) (image : Image) (bound : ℕ → ℕ) (places : Pl
                 | inl lt ↦ begun.copies a lt ∙ arguments_at h.local end n vs a (s - suc a) held.values (omega arith) (omega arith) lt (omega arith)
                 | inr le ↦ begun.zeros (enough a k le) a le (calls.kept a k) ∙ sym (arguments_end n vs a le)
               ];
+              group = λ number told. let none : None ≡ Some number = sym calls.none ∙ told in absurd (cc);
             };
             waiting = (
               record {
@@ -126,11 +127,12 @@ module _ (core : List CoreOp) (image : Image) (bound : ℕ → ℕ) (places : Pl
                 result = begun.result ∙ omega arith;
                 room = room;
               },
-              frame_kept places h.local h'.local w onward (length (before n vs)) call' few (room_below places onward (length (before n vs)) (suc (length (before n vs))) (omega arith) room) (omega arith) (λ j a b. begun.below j b) flowed,
-              waiting_kept places h.local h'.local p.runner.left.callers p.runner.has.callers few (λ j a b. begun.below j (omega arith)) stands.waiting,
+              frame_kept places h.local h'.local w onward (length (before n vs)) call' few (room_below places onward (length (before n vs)) (suc (length (before n vs))) (omega arith) room) (omega arith) (begun.below 3 (omega arith)) (λ j a b. begun.below j b) flowed,
+              waiting_kept places h.local h'.local p.runner.left.callers p.runner.has.callers few (begun.below 3 (omega arith)) (λ j a b. begun.below j (omega arith)) stands.waiting,
             );
             own = λ j lt. begun.below (7 + j) (omega arith) ∙ stands.own j lt;
             heap = λ j lt. begun.above (16384 + j) (omega arith) ∙ stands.heap j lt;
+            full = begun.below 2 (omega arith) ∙ stands.full;
           };
         };
       }
@@ -194,7 +196,7 @@ module _ (core : List CoreOp) (image : Image) (bound : ℕ → ℕ) (places : Pl
     (op_at : OpAt core i op (Enter n)) (fits : Fits core places.frames i op (Enter n)) (enough : ClearsEnough places.frames i clears (Enter n)) where
   -- what becomes of the depth
   answer_of : (p : Owner) → Commons → Bool → nodes.Part Commons Doing
-  answer_of p s b = as_part (number_of p) (answered (step_of core i op (Enter n) p.runner.left.callers) p.runner.has (if b then Served (found s p.heap) 0 else Refused CallDepth))
+  answer_of p s b = as_part s.asked p (answered (step_of core i op (Enter n) p.runner.left.callers) p.runner.has (if b then Served (found s p.heap) 0 else Refused CallDepth))
 
   asked : (setting : Setting) (s : Commons) (p : Owner) (b : Bool) → p.runner.left.at ≡ i → nat_lt (suc (length p.runner.has.callers)) 256 ≡ b → part core setting 1 s p ≡ answer_of p s b
   unfolding answer_of
@@ -218,7 +220,7 @@ module _ (core : List CoreOp) (image : Image) (bound : ℕ → ℕ) (places : Pl
     s = end - (op.depth - n)
 
     abbrev Goal : Hart → Type 0
-    Goal h' = HasDone core image places (entering core image bound places i op n clears p) h' × KeepsBelow end h h'
+    Goal h' = HasDone core image places (entering core image bound places i op n clears p) h' × KeepsBelow end (h.registers 12) h h'
 
     record HasStored : Type 0 where
       pub first : h4.registers 7 ≡ local_address (s - 1)
@@ -260,7 +262,7 @@ module _ (core : List CoreOp) (image : Image) (bound : ℕ → ℕ) (places : Pl
           record {
             node = framed.same 10 refl refl refl ∙ same 10 refl refl ∙ stored.same 10 refl;
             body = framed.same 11 refl refl refl ∙ same 11 refl refl ∙ stored.same 11 refl;
-            frames = framed.same 12 refl refl refl ∙ same 12 refl refl ∙ stored.same 12 refl;
+            frames_end = framed.same 12 refl refl refl ∙ same 12 refl refl ∙ stored.same 12 refl;
             blocks = framed.same 13 refl refl refl ∙ same 13 refl refl ∙ stored.same 13 refl;
             words = below;
           },
@@ -379,7 +381,7 @@ module _ (core : List CoreOp) (image : Image) (bound : ℕ → ℕ) (places : Pl
 
   -- 255 calls wait already
   faults : (setting : Setting) (t : MachineSetting) (p : Owner) (h : Hart) → Enters core image places setting t i op (Enter n) p h → 255 ≤ length p.runner.has.callers
-      → DoesAnd core image places setting t p h 3 (call_takes clears n) (KeepsBelow (frame_end (length p.runner.has.callers)) h)
+      → DoesAnd core image places setting t p h 3 (call_takes clears n) (KeepsBelow (frame_end (length p.runner.has.callers)) (h.registers 12) h)
   faults setting t p h enters le =
       let number = number_of p in
       let stands = enters.at.stands in
@@ -435,7 +437,7 @@ module _ (core : List CoreOp) (image : Image) (bound : ℕ → ℕ) (places : Pl
 
   -- else there is room
   begins : (setting : Setting) (t : MachineSetting) (p : Owner) (h : Hart) → Enters core image places setting t i op (Enter n) p h → length p.runner.has.callers < 255
-      → DoesAnd core image places setting t p h 3 (argument_cycles (nat_le n (most_own clears)) n (clearing_cycles clears n 4)) (KeepsBelow (frame_end (length p.runner.has.callers)) h)
+      → DoesAnd core image places setting t p h 3 (argument_cycles (nat_le n (most_own clears)) n (clearing_cycles clears n 4)) (KeepsBelow (frame_end (length p.runner.has.callers)) (h.registers 12) h)
   begins setting t p h enters lt =
       let number = number_of p in
       let stands = enters.at.stands in
@@ -524,6 +526,6 @@ module _ (core : List CoreOp) (image : Image) (bound : ℕ → ℕ) (places : Pl
 
   pub enter_keeps : BlockKeeps core image places 3 (λ way. call_takes clears n) i op (Enter n)
   enter_keeps setting t p h enters = elim (cases_lt (length p.runner.has.callers) 255) [
-    | inl lt ↦ subst (λ c. DoesAnd core image places setting t p h 3 c (KeepsBelow (frame_end (length p.runner.has.callers)) h)) (all_take clears n) (begins setting t p h enters lt)
+    | inl lt ↦ subst (λ c. DoesAnd core image places setting t p h 3 c (KeepsBelow (frame_end (length p.runner.has.callers)) (h.registers 12) h)) (all_take clears n) (begins setting t p h enters lt)
     | inr le ↦ faults setting t p h enters le
   ]

@@ -1,11 +1,11 @@
 -- Frames: where they begin, and the call that waits last.
-use Rattle.std.proofs.Common.{◌≡◌, ℕ, zero, suc, ◌+◌, ◌-◌, ◌*◌, ◌<◌, ◌≤◌, List, [], ◌∷◌, length, Bool, false, ap, sym, ◌∙◌, arith, refl}
+use Rattle.std.proofs.Common.{◌≡◌, ℕ, zero, suc, ◌+◌, ◌-◌, ◌*◌, ◌<◌, ◌≤◌, List, [], ◌∷◌, length, Bool, false, ap, subst, sym, ◌∙◌, arith, refl}
 use Rattle.std.specs.Prelude.{◌==◌}
 use Rattle.std.proofs.lemmas.Bool.{ne_eqb}
 use Rattle.fk_num.specs.Word.{Memory}
 use Rattle.fk_meaning.specs.Processor.{Call, last}
 use Rattle.fk_core.specs.declared.op.CoreOp.{CoreOp}
-use Rattle.fk_sim_block.specs.Stands.{Places, HasValues, HasRoom, HasFrame, HasWaiting, Returns, frame_start, frame_end, ahead}
+use Rattle.fk_sim_block.specs.Stands.{Places, HasValues, HasRoom, HasFrame, HasGroupFrame, HasWaiting, Returns, frame_start, frame_end, ahead}
 use Rattle.fk_sim_block.specs.Suits.{Flows}
 
 pub last_value : (m : Memory) (e d : ℕ) (vs : List ℕ) → HasValues m e vs → length vs ≡ d → 0 < d → m (e - d) ≡ last vs
@@ -25,12 +25,13 @@ module _ (places : Places) where
 
   -- where a call goes on at another index
   pub flows_on : (core : List CoreOp) (written : ℕ → Bool) (m : Memory) (n i j : ℕ) (call call' : Call) → ((w : ℕ) → written w ≡ false)
-      → Flows core places.frames written i j → call'.privates ≡ call.privates → HasValues m (frame_end n) call'.values
+      → Flows core places.frames written i j → call'.privates ≡ call.privates → call'.frames ≡ call.frames → HasValues m (frame_end n) call'.values
       → HasFrame places m n i call → HasFrame places m n j call'
-  flows_on core written m n i j call call' never flows same values held = record {
+  flows_on core written m n i j call call' never flows same frames values held = record {
     home = flows.main ∙ held.home;
     values = values;
     privates = λ w e. held.privates w (flows.kept w e (never w)) ∙ ap (λ f. f w) (sym same);
+    group = λ number told. subst (λ f. HasGroupFrame m n (f number)) (sym frames) (held.group number (flows.group number told));
   }
 
   -- the call that waits last

@@ -42,8 +42,8 @@ halts_end core image places bound i op clears back at block =
     halt_does core image bound places i op (subst (HasBlock image bound places i) (block_of_operation core i op Halt clears back at) block) at
 
 pub harts_begin : HartsBegin
-harts_begin core image places bound firsts main opening are is_main setting t number running =
-    (begins_in_root core image bound places firsts main opening are is_main setting t number running).begins
+harts_begin core image places bound firsts main opening are is_main none setting t number running =
+    (begins_in_root core image bound places firsts main opening are is_main none setting t number running).begins
 
 keeps : (core : List CoreOp) (image : Image) (places : Places) (bound : ℕ → ℕ) (i : ℕ) (op : CoreOp) (operation : Operation) (clears : Bool) (back : ℕ)
     → OpAt core i op operation → is_alone operation ≡ true → is_flow operation ≡ true → op.site < 2 ^ 32
@@ -51,8 +51,8 @@ keeps : (core : List CoreOp) (image : Image) (places : Places) (bound : ℕ → 
     → places.frames.of_file ≤ 56 → Fits core places.frames i op operation → ClearsEnough places.frames i clears operation
     → BlockKeeps core image places (before_commit operation) (behind_commit clears operation) i op operation
 keeps core image places bound i op (Branch onward) clears back at alone flow small block shared calls few fits enough = branch_keeps core image bound places i op onward block at fits
-keeps core image places bound i op (Leave gives false) clears back at alone flow small block shared calls few fits enough = leave_keeps core image bound places i op gives few calls block at fits
-keeps core image places bound i op (Leave gives true) clears back at alone flow small block shared calls few fits enough = never alone
+keeps core image places bound i op (Leave gives framed) clears back at alone flow small block shared calls few fits enough =
+    leave_keeps core image bound places i op gives framed few calls block at fits
 keeps core image places bound i op (Enter arguments) clears back at alone flow small block shared calls few fits enough =
     enter_keeps core image bound places i op arguments clears back few small shared block (calls.points i op arguments at) at fits enough
 keeps core image places bound i op Halt clears back at alone flow small block shared calls few fits enough = never alone

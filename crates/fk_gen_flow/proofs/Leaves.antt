@@ -1,30 +1,34 @@
 -- The end of a call.
-use Rattle.std.proofs.Common.{◌≡◌, ℕ, zero, suc, ◌+◌, ◌-◌, ◌*◌, ◌<◌, ◌≤◌, List, length, Bool, None, true, false, ap, sym, ◌∙◌, arith, refl}
-use Rattle.std.specs.Prelude.{◌==◌, if◌then◌else◌}
+use Rattle.std.proofs.Common.{◌≡◌, ℕ, zero, suc, ◌+◌, ◌-◌, ◌*◌, ◌^◌, ◌<◌, ◌≤◌, List, ◌∷◌, length, map, Bool, Some, None, true, false, ap, subst, sym, ◌∙◌, arith, refl}
+use Rattle.std.specs.Prelude.{◌==◌}
 use Rattle.fk_num.specs.Word.{Memory, put, word_sum}
 use Rattle.fk_meaning_operation.specs.declared.operation.Operation.TheVariants.{Leave}
-use Rattle.fk_meaning.specs.Processor.{Processor, Setting, values, last}
-use Rattle.fk_meaning.specs.Local.{handed, to_caller}
+use Rattle.fk_meaning_store.specs.Store.{address_of}
+use Rattle.fk_meaning.specs.Processor.{Call, Processor, Setting, values, last}
+use Rattle.fk_meaning.specs.Local.{handed, to_caller, unframed}
 use Rattle.fk_core.specs.declared.op.CoreOp.{CoreOp}
 use Rattle.fk_core.specs.Next.{Position, position, returned}
 use Rattle.fk_image.specs.declared.Image.{Image}
+use Rattle.fk_isa.specs.declared.instruction.Instruction.TheVariants.{Lw, Sw}
 use Rattle.fk_machine.specs.Hart.{Hart, Setting as MachineSetting}
 use Rattle.fk_machine.proofs.Performs.{writes, moves}
 use Rattle.fk_sim_nodes.specs.Alone.{later}
 use Rattle.fk_sim_nodes.specs.Source.{Passes}
 use Rattle.fk_sim_block.specs.Owner.{Commons, Owner, Doing, number_of, part}
-use Rattle.fk_sim_block.specs.Stands.{Places, StandsAt, HasRoom, HasValues, frame_end, frame_start, local_address}
+use Rattle.fk_sim_block.specs.Stands.{Places, StandsAt, HasRoom, HasValues, HasGroupFrame, frame_end, frame_start, group_word, local_address}
 use Rattle.fk_sim_block.specs.Next.{OpAt}
 use Rattle.fk_sim_block.specs.Suits.{Fits}
-use Rattle.fk_sim_block.specs.Block.{HasDone}
+use Rattle.fk_sim_block.specs.Node.{control_address}
+use Rattle.fk_sim_block.specs.Block.{HasDone, Enters}
 use Rattle.fk_sim_block.proofs.Standing.{operations_are_next}
-use Rattle.fk_gen.specs.Lines.{label_of}
-use Rattle.fk_gen.specs.InPlace.{HasBlock, LinesAt}
-use Rattle.fk_gen.proofs.Values.{same_word, other_word, values_kept}
-use Rattle.fk_gen.proofs.Standing.{waiting_kept}
+use Rattle.fk_gen.specs.Lines.{quiet, first_commits, label_of, at_value, at_group_frame}
+use Rattle.fk_gen.specs.InPlace.{HasBlock, HasLabels, LinesAt}
+use Rattle.fk_gen.specs.Keeps.{DoesAnd}
+use Rattle.fk_gen.proofs.Values.{same_word, other_word, values_kept, value_place}
+use Rattle.fk_gen.proofs.Standing.{frame_stays, waiting_kept}
 use Rattle.fk_gen.proofs.Jumps.{jumps}
-use Rattle.fk_gen_flow.specs.Flow.{jump_block, leave_block, returning}
-use Rattle.fk_gen_flow.specs.Keeps.{KeepsBelow, BlockKeeps, result_word}
+use Rattle.fk_gen_flow.specs.Flow.{jump_block, leave_block, giving_back, returning}
+use Rattle.fk_gen_flow.specs.Keeps.{KeepsBelow, BlockKeeps, frames_behind, leaving_takes, result_word}
 use Rattle.fk_gen_flow.specs.Laws.{CallsReturn}
 use Rattle.fk_gen_flow.proofs.Walk.{Comes, IsAbout, IsLocal, there, first, writing, storing, value_word, near_word, lw_goes, sw_goes, jal_goes, jalr_goes}
 use Rattle.fk_gen_flow.proofs.Frames.{Last, last_of, last_value, start_of}
@@ -36,7 +40,7 @@ abbrev pub back_to : Hart → (w word target : ℕ) → Hart
 back_to h w word target = jumps (jumps (writes (writes h 9 (word_sum (h.registers 8) 0)) 8 (h.local w)) 0 (4 * word)) 0 (4 * target)
 
 pub returning_comes : (image : Image) (bound : ℕ → ℕ) (t : MachineSetting) (number k w word back : ℕ) (h : Hart) (Goal : Hart → Type 0) → IsAbout image t k h
-    → LinesAt image bound k returning → LinesAt image bound word (jump_block back) → IsLocal (word_sum (h.registers 8) 4) w → h.registers 6 ≡ 4 * word
+    → LinesAt image bound k (map quiet returning) → LinesAt image bound word (jump_block back) → IsLocal (word_sum (h.registers 8) 4) w → h.registers 6 ≡ 4 * word
     → bound (label_of back) ≤ 262144 → Goal (back_to h w word (bound (label_of back))) → Comes image t number 4 h Goal
 returning_comes image bound t number k w word back h Goal about lines jump is link le goal =
     let target = bound (label_of back) in
@@ -59,10 +63,10 @@ returning_comes image bound t number k w word back h Goal about lines jump is li
 
 -- ---- what a processor is then
 
--- all registers but those that are free and those of the frame
+-- all registers but those that are free, those of the frame, and where the frames of the group end
 pub record IsAfter (h h' : Hart) : Type 0 where
   pub live : h'.ended ≡ h.ended
-  pub same : (r : ℕ) → (r == 5) ≡ false → (r == 6) ≡ false → (r == 7) ≡ false → (r == 8) ≡ false → (r == 9) ≡ false → h'.registers r ≡ h.registers r
+  pub same : (r : ℕ) → (r == 5) ≡ false → (r == 6) ≡ false → (r == 7) ≡ false → (r == 8) ≡ false → (r == 9) ≡ false → (r == 12) ≡ false → h'.registers r ≡ h.registers r
 
 -- the word of a result lies in the frame of the call that waits, behind its header and its private words
 record IsResult (places : Places) (m back : ℕ) (r : ℕ) : Type 0 where
@@ -91,162 +95,343 @@ is_result places m back n r home room few is =
       privates = λ w e. let kept = room.kept w e in omega arith;
     }
 
-module _ (core : List CoreOp) (image : Image) (bound : ℕ → ℕ) (places : Places) (i : ℕ) (op : CoreOp) (gives : Bool) where
+-- what the end of a call leaves of its processor, but the space of the group
+record IsUnframed (p q : Processor) : Type 0 where
+  pub number : q.level.number ≡ p.level.number
+  pub rank : q.level.rank ≡ p.level.rank
+  pub size : q.level.size ≡ p.level.size
+  pub top : q.top ≡ p.top
+  pub own : q.own ≡ p.own
+
+is_unframed : (framed : Bool) (p : Processor) → IsUnframed p (unframed framed p)
+is_unframed true p = record { number = refl; rank = refl; size = refl; top = refl; own = refl }
+is_unframed false p = record { number = refl; rank = refl; size = refl; top = refl; own = refl }
+
+handed_privates : (gives : Bool) (v : ℕ) (c : Call) → (handed gives v c).privates ≡ c.privates
+handed_privates true v c = refl
+handed_privates false v c = refl
+
+handed_frames : (gives : Bool) (v : ℕ) (c : Call) → (handed gives v c).frames ≡ c.frames
+handed_frames true v c = refl
+handed_frames false v c = refl
+
+-- where the header has the address of the call's group frame, the frames of the group end there
+end_of_frames : (a first : ℕ) → a ≡ address_of first → first ≤ 2 ^ 20 → word_sum a (0x08000 * 4096) ≡ control_address first
+end_of_frames a first e few = omega arith
+
+module _ (core : List CoreOp) (image : Image) (bound : ℕ → ℕ) (places : Places) (i : ℕ) (op : CoreOp) (gives framed : Bool) where
   abbrev pub left_by : (p : Owner) → Position → Processor → Doing
   left_by p left has = record { acting = record { due = None; runner = record { left = left; has = has } }; heap = p.heap }
 
   -- a processor whose last call has ended
   abbrev pub ended : (p : Owner) (m : Memory) → Last places m p.runner.left.callers p.runner.has.callers → Doing
   ended p m l =
-      left_by p (position l.back l.backs') (record (p.runner.has) { call = handed gives (last (values p.runner.has)) l.call; callers = l.calls' })
+      left_by p (position l.back l.backs') (record (unframed framed p.runner.has) { call = handed gives (last (values p.runner.has)) l.call; callers = l.calls' })
 
-  ended_part : (setting : Setting) (p : Owner) (m : Memory) (l : Last places m p.runner.left.callers p.runner.has.callers) → OpAt core i op (Leave gives false) → p.runner.left.at ≡ i
+  ended_part : (setting : Setting) (p : Owner) (m : Memory) (l : Last places m p.runner.left.callers p.runner.has.callers) → OpAt core i op (Leave gives framed) → p.runner.left.at ≡ i
       → (s : Commons) → part core setting 1 s p ≡ Passes s (ended p m l)
   ended_part setting p m l op_at e s =
-      operations_are_next core i op (Leave gives false) setting s p op_at e
-      ∙ ap (λ backs. Passes s (left_by p (returned core backs) (to_caller gives (last (values p.runner.has)) p.runner.has p.runner.has.callers))) l.are_backs
-      ∙ ap (λ calls. Passes s (left_by p (position l.back l.backs') (to_caller gives (last (values p.runner.has)) p.runner.has calls))) l.are_calls
+      let q = unframed framed p.runner.has in
+      operations_are_next core i op (Leave gives framed) setting s p op_at e
+      ∙ ap (λ backs. Passes s (left_by p (returned core backs) (to_caller gives (last (values p.runner.has)) q p.runner.has.callers))) l.are_backs
+      ∙ ap (λ calls. Passes s (left_by p (position l.back l.backs') (to_caller gives (last (values p.runner.has)) q calls))) l.are_calls
 
   ended_stands : (p : Owner) (h h' : Hart) (l : Last places h.local p.runner.left.callers p.runner.has.callers) (r : ℕ) → StandsAt places p h → IsAfter h h'
       → places.frames.of_file ≤ 56 → length p.runner.has.callers < 256
       → r ≡ 64 * suc (length l.calls') - suc (length l.call.values)
       → ((j : ℕ) → (j ≡ r → ⊥) → h'.local j ≡ h.local j)
       → HasValues h'.local (frame_end (length l.calls')) (handed gives (last (values p.runner.has)) l.call).values
-      → (handed gives (last (values p.runner.has)) l.call).privates ≡ l.call.privates
       → h'.pc ≡ 4 * places.block l.back
       → h'.registers 8 ≡ local_address (frame_start places (length l.calls'))
       → h'.registers 9 ≡ local_address (frame_end (length l.calls'))
       → HasDone core image places (ended p h.local l) h'
-  ended_stands p h h' l r at after few waiting is others values privates pc start end =
+  ended_stands p h h' l r at after few waiting is others held pc start end =
       let m = length l.calls' in
+      let v = last (values p.runner.has) in
       let stands = at.stands in
       let many : length p.runner.has.callers ≡ suc m = ap length l.are_calls in
       let word = is_result places m l.back (length l.call.values) r l.frame.home l.returns.room few is in
       let header = word.header in
       let inside = word.inside in
+      let u = is_unframed framed p.runner.has in
       record {
         done = refl;
         at = record {
           live = after.live ∙ at.live;
           at = pc;
           stands = record {
-            nought = after.same 0 refl refl refl refl refl ∙ stands.nought;
+            nought = after.same 0 refl refl refl refl refl refl ∙ stands.nought;
             frame = start;
             behind = end;
-            number = after.same 18 refl refl refl refl refl ∙ stands.number;
-            rank = after.same 19 refl refl refl refl refl ∙ stands.rank;
-            size = after.same 20 refl refl refl refl refl ∙ stands.size;
-            top = after.same 21 refl refl refl refl refl ∙ stands.top;
-            local = after.same 22 refl refl refl refl refl ∙ stands.local;
-            shared_data = after.same 23 refl refl refl refl refl ∙ stands.shared_data;
-            private_heap = after.same 24 refl refl refl refl refl ∙ stands.private_heap;
-            shared_mask = after.same 25 refl refl refl refl refl ∙ stands.shared_mask;
-            devices = after.same 26 refl refl refl refl refl ∙ stands.devices;
-            heap_mask = after.same 27 refl refl refl refl refl ∙ stands.heap_mask;
+            number = after.same 18 refl refl refl refl refl refl ∙ stands.number ∙ sym u.number;
+            rank = after.same 19 refl refl refl refl refl refl ∙ stands.rank ∙ sym u.rank;
+            size = after.same 20 refl refl refl refl refl refl ∙ stands.size ∙ sym u.size;
+            top = after.same 21 refl refl refl refl refl refl ∙ stands.top ∙ sym u.top;
+            local = after.same 22 refl refl refl refl refl refl ∙ stands.local;
+            shared_data = after.same 23 refl refl refl refl refl refl ∙ stands.shared_data;
+            private_heap = after.same 24 refl refl refl refl refl refl ∙ stands.private_heap;
+            shared_mask = after.same 25 refl refl refl refl refl refl ∙ stands.shared_mask;
+            devices = after.same 26 refl refl refl refl refl refl ∙ stands.devices;
+            heap_mask = after.same 27 refl refl refl refl refl refl ∙ stands.heap_mask;
             running = record {
               home = l.frame.home;
-              values = values;
-              privates = λ w e. let below = word.privates w e in others (frame_start places m + 7 + w) (λ f. omega arith) ∙ l.frame.privates w e ∙ ap (λ f. f w) (sym privates);
+              values = held;
+              privates = λ w e.
+                  let below = word.privates w e in
+                  others (frame_start places m + 7 + w) (λ f. omega arith) ∙ l.frame.privates w e ∙ ap (λ f. f w) (sym (handed_privates gives v l.call));
+              group = λ number told.
+                  subst (λ f. HasGroupFrame h'.local m (f number)) (sym (handed_frames gives v l.call))
+                  (frame_stays h.local h'.local m (l.call.frames number) (others (group_word m) (λ f. omega arith)) (l.frame.group number told));
             };
-            waiting = waiting_kept places h.local h'.local l.backs' l.calls' few (λ j a b. others j (λ f. omega arith)) l.others;
-            own = λ j lt. let below = word.own j lt in others (7 + j) (λ f. omega arith) ∙ stands.own j lt;
+            waiting = waiting_kept places h.local h'.local l.backs' l.calls' few (others 3 (λ f. omega arith)) (λ j a b. others j (λ f. omega arith)) l.others;
+            own = λ j lt. let below = word.own j lt in others (7 + j) (λ f. omega arith) ∙ stands.own j lt ∙ ap (λ f. f j) (sym u.own);
             heap = λ j lt. others (16384 + j) (λ f. omega arith) ∙ stands.heap j lt;
+            full = others 2 (λ f. omega arith) ∙ stands.full;
           };
         };
       }
 
-module _ (core : List CoreOp) (image : Image) (bound : ℕ → ℕ) (places : Places) (i : ℕ) (op : CoreOp) (few : places.frames.of_file ≤ 56) (calls : CallsReturn core image bound places) where
-  -- without a value
-  leave_without : HasBlock image bound places i (leave_block false op.depth) → OpAt core i op (Leave false false)
-      → BlockKeeps core image places 0 (λ way. 4) i op (Leave false false)
-  leave_without block op_at setting t p h enters =
-      let number = number_of p in
-      let at = enters.at in
-      let stands = at.stands in
-      let k = places.block i in
-      let waiting = enters.ready.in_range.waiting in
-      let about = about_block image bound places t p h i enters.running.code enters.index at in
-      let l = last_of places h.local _ _ stands.waiting enters.ready.may in
-      let m = length l.calls' in
-      let many : length p.runner.has.callers ≡ suc m = ap length l.are_calls in
-      let start : h.registers 8 ≡ local_address (64 * suc m) = stands.frame ∙ ap (λ n. local_address (frame_start places n)) many in
-      let w = 64 * suc m in
-      let r = 64 * suc m - suc (length l.call.values) in
-      let h1 = writes h 6 (h.local w) in
-      let about1 = writing image t k h 6 (h.local w) about block.lines.0.within in
-      let jump = calls.jumps l.returns.begun_at _ l.returns.point in
-      let target = bound (label_of l.back) in
-      let Goal : Hart → Type 0 = λ h'. HasDone core image places (ended core image bound places i op false p h.local l) h' × KeepsBelow (result_word p.runner.has.callers) h h' in
-      lw_does core image places setting t p h (ended core image bound places i op false p h.local l) (KeepsBelow (result_word p.runner.has.callers) h) k 6 8 0 w 4 about block.lines.0 (near_word (64 * suc m) 0 w (h.registers 8) 0 start refl (omega arith) (omega arith)) (omega arith)
-      (ended_part core image bound places i op false setting p h.local l op_at enters.index)
-      (returning_comes image bound (later t) number (suc k) (w + 1) l.returns.word l.back h1 Goal about1 block.lines.1 jump (near_word (64 * suc m) 1 (w + 1) (h.registers 8) 4 start refl (omega arith) (omega arith)) l.returns.code
-      (block.labels.within (label_of l.back)) (
-        ended_stands core image bound places i op false p h (back_to h1 (w + 1) l.returns.word target) l r at
-            (record { live = refl; same = λ r' a b c d e. rw (d, e, b) })
-            few waiting refl (λ j ne. refl) l.frame.values refl (ap (λ k. 4 * k) (block.labels.blocks l.back)) l.returns.frame (omega (arith, start)),
-        record { node = refl; body = refl; frames = refl; blocks = refl; words = λ j lt. refl },
-      ))
+-- ---- from where the result and the return address are loaded
 
-  -- with one
-  leave_with : HasBlock image bound places i (leave_block true op.depth) → OpAt core i op (Leave true false) → Fits core places.frames i op (Leave true false)
-      → BlockKeeps core image places 0 (λ way. 7) i op (Leave true false)
-  leave_with block op_at fits setting t p h enters =
-      let number = number_of p in
-      let at = enters.at in
-      let stands = at.stands in
-      let k = places.block i in
-      let n = length p.runner.has.callers in
-      let waiting = enters.ready.in_range.waiting in
-      let about = about_block image bound places t p h i enters.running.code enters.index at in
-      let l = last_of places h.local _ _ stands.waiting enters.ready.may in
+-- a hart like another but in some registers and its memory
+abbrev moved_to : Hart → (registers : ℕ → ℕ) (pc : ℕ) (local : Memory) → Hart
+moved_to h registers pc local = record h { registers = registers; pc = pc; local = local }
+
+abbrev SameButFree : (rs rs' : ℕ → ℕ) → Type 0
+SameButFree rs rs' = (r : ℕ) → (r == 5) ≡ false → (r == 6) ≡ false → (r == 7) ≡ false → (r == 12) ≡ false → rs' r ≡ rs r
+
+module _ (core : List CoreOp) (image : Image) (bound : ℕ → ℕ) (places : Places) (i : ℕ) (op : CoreOp) (gives framed : Bool) (few : places.frames.of_file ≤ 56)
+    (calls : CallsReturn core image bound places) (labels : HasLabels bound places) (p : Owner) (h : Hart) (at : StandsAt places p h)
+    (l : Last places h.local p.runner.left.callers p.runner.has.callers) (waiting : length p.runner.has.callers < 256) where
+  abbrev w : ℕ
+  w = 64 * suc (length l.calls')
+
+  abbrev r : ℕ
+  r = 64 * suc (length l.calls') - suc (length l.call.values)
+
+  abbrev Goal : Hart → Type 0
+  Goal h' = HasDone core image places (ended core image bound places i op gives framed p h.local l) h' × KeepsBelow (result_word p.runner.has.callers) (frames_behind framed p.runner.has h) h h'
+
+  abbrev v : ℕ
+  v = last (values p.runner.has)
+
+  starts : h.registers 8 ≡ local_address w
+  starts = let many : length p.runner.has.callers ≡ suc (length l.calls') = ap length l.are_calls in at.stands.frame ∙ ap (λ n. local_address (frame_start places n)) many
+
+  comes_back : (t : MachineSetting) (k : ℕ) (rs : ℕ → ℕ) (pc : ℕ) (local : Memory) → IsAbout image t k (moved_to h rs pc local)
+      → LinesAt image bound k (map quiet returning) → rs 6 ≡ 4 * l.returns.word → SameButFree h.registers rs → rs 12 ≡ frames_behind framed p.runner.has h
+      → ((j : ℕ) → (j ≡ r → ⊥) → local j ≡ h.local j) → HasValues local (frame_end (length l.calls')) (handed gives v l.call).values
+      → Comes image t (number_of p) 4 (moved_to h rs pc local) Goal
+  comes_back t k rs pc local about lines link same frames others values' =
       let m = length l.calls' in
-      let many : n ≡ suc m = ap length l.are_calls in
-      let start : h.registers 8 ≡ local_address (64 * suc m) = stands.frame ∙ ap (λ n. local_address (frame_start places n)) many in
-      let positive = fits.values in
-      let header = fits.room.header in
-      let w = 64 * suc m in
-      let r = 64 * suc m - suc (length l.call.values) in
-      let word = is_result places m l.back (length l.call.values) r l.frame.home l.returns.room few refl in
-      let low = word.header in
-      let high = word.inside in
-      let taken = frame_end n - op.depth in
-      let v = h.local taken in
-      let value : v ≡ last (values p.runner.has) = last_value h.local (frame_end n) op.depth _ stands.running.values enters.ready.depth (omega arith) in
-      let h1 = writes h 5 v in
-      let h2 = writes h1 6 (h.local w) in
-      let h3 = writes h2 7 (h.local (w + 2)) in
-      let m' = put h.local r v in
-      let h4 : Hart = record (moves h3) { local = m' } in
-      let l1 = block.lines.1.0 in
-      let l2 = block.lines.1.1.0 in
-      let l3 = block.lines.1.1.1.0 in
-      let about1 = writing image t k h 5 v about block.lines.0.within in
-      let about2 = writing image (later t) (suc k) h1 6 (h.local w) about1 l1.within in
-      let about3 = writing image (later (later t)) (suc (suc k)) h2 7 (h.local (w + 2)) about2 l2.within in
-      let about4 = storing image (later (later (later t))) (suc (suc (suc k))) h3 m' about3 l3.within in
+      let g = moved_to h rs pc local in
       let jump = calls.jumps l.returns.begun_at _ l.returns.point in
       let target = bound (label_of l.back) in
       let here : result_word p.runner.has.callers ≡ r = ap result_word l.are_calls in
-      let Goal : Hart → Type 0 = λ h'. HasDone core image places (ended core image bound places i op true p h.local l) h' × KeepsBelow (result_word p.runner.has.callers) h h' in
-      let stored : m' r ≡ last (values p.runner.has) = same_word h.local r v ∙ value in
-      let others : (j : ℕ) → (j ≡ r → ⊥) → m' j ≡ h.local j = λ j ne. other_word h.local r v j ne in
-      lw_does core image places setting t p h (ended core image bound places i op true p h.local l) (KeepsBelow (result_word p.runner.has.callers) h) k 5 9 _ taken 7 about block.lines.0 (value_word (frame_end n) op.depth (h.registers 9) stands.behind (omega arith) (omega arith) (omega arith)) (omega arith)
-      (ended_part core image bound places i op true setting p h.local l op_at enters.index)
-      (first image (later t) number 6 (suc k) _ h1 h2 Goal about1 l1 (lw_goes (later t) number 6 8 0 w h1 (near_word (64 * suc m) 0 w (h.registers 8) 0 start refl (omega arith) (omega arith)))
-      (first image (later (later t)) number 5 (suc (suc k)) _ h2 h3 Goal about2 l2 (lw_goes (later (later t)) number 7 8 8 (w + 2) h2 (near_word (64 * suc m) 2 (w + 2) (h.registers 8) 8 start refl (omega arith) (omega arith)))
-      (first image (later (later (later t))) number 4 (suc (suc (suc k))) _ h3 h4 Goal about3 l3 (sw_goes (later (later (later t))) number 7 5 0 r h3 (near_word r 0 r (h3.registers 7) 0 l.returns.result refl (omega arith) (omega arith)))
-      (returning_comes image bound (later (later (later (later t)))) number (suc (suc (suc (suc k)))) (w + 1) l.returns.word l.back h4 Goal about4 block.lines.1.1.1.1 jump (near_word (64 * suc m) 1 (w + 1) (h.registers 8) 4 start refl (omega arith) (omega arith)) l.returns.code
-      (block.labels.within (label_of l.back)) (
-        ended_stands core image bound places i op true p h (back_to h4 (w + 1) l.returns.word target) l r at
-            (record { live = refl; same = λ r' a b c d e. rw (d, e, c, b, a) })
-            few waiting refl others
-            (stored, values_kept h.local m' (frame_end m) l.call.values (omega arith) (λ j a b. others j (λ f. omega arith)) l.frame.values)
-            refl (ap (λ k. 4 * k) (block.labels.blocks l.back)) (others (w + 1) (λ f. omega arith) ∙ l.returns.frame) (omega (arith, start)),
-        record { node = refl; body = refl; frames = refl; blocks = refl; words = λ j lt. others j (λ f. omega arith) },
-      )))))
+      let word = is_result places m l.back (length l.call.values) r l.frame.home l.returns.room few refl in
+      let header = word.header in
+      let inside = word.inside in
+      let many : length p.runner.has.callers ≡ suc m = ap length l.are_calls in
+      let start : rs 8 ≡ local_address w = same 8 refl refl refl refl ∙ starts in
+      returning_comes image bound t (number_of p) k (w + 1) l.returns.word l.back g Goal about lines jump (near_word w 1 (w + 1) (rs 8) 4 start refl (omega arith) (omega arith)) link
+      (labels.within (label_of l.back)) (
+        ended_stands core image bound places i op gives framed p h (back_to g (w + 1) l.returns.word target) l r at
+            (record { live = refl; same = λ r' a b c d e f. rw (d, e) (same r' a b c f) })
+            few waiting refl others values' (ap (λ k. 4 * k) (labels.blocks l.back)) (others (w + 1) (λ f. omega arith) ∙ l.returns.frame) (omega (arith, start)),
+        record {
+          node = same 10 refl refl refl refl;
+          body = same 11 refl refl refl refl;
+          frames_end = frames;
+          blocks = same 13 refl refl refl refl;
+          words = λ j lt. others j (λ f. omega arith);
+        },
+      )
 
-pub leave_keeps : (core : List CoreOp) (image : Image) (bound : ℕ → ℕ) (places : Places) (i : ℕ) (op : CoreOp) (gives : Bool) → places.frames.of_file ≤ 56
-    → CallsReturn core image bound places → HasBlock image bound places i (leave_block gives op.depth) → OpAt core i op (Leave gives false) → Fits core places.frames i op (Leave gives false)
-    → BlockKeeps core image places 0 (λ way. if gives then 7 else 4) i op (Leave gives false)
-leave_keeps core image bound places i op true few calls block op_at fits = leave_with core image bound places i op few calls block op_at fits
-leave_keeps core image bound places i op false few calls block op_at fits = leave_without core image bound places i op few calls block op_at
+-- ---- without a value
+
+module _ (core : List CoreOp) (image : Image) (bound : ℕ → ℕ) (places : Places) (i : ℕ) (op : CoreOp) (few : places.frames.of_file ≤ 56) (calls : CallsReturn core image bound places)
+    (setting : Setting) (t : MachineSetting) (p : Owner) (h : Hart) where
+  abbrev number : ℕ
+  number = number_of p
+
+  abbrev k : ℕ
+  k = places.block i
+
+  abbrev Keeps : (framed : Bool) → Hart → Type 0
+  Keeps framed h' = KeepsBelow (result_word p.runner.has.callers) (frames_behind framed p.runner.has h) h h'
+
+  abbrev Ends : (gives framed : Bool) → Type 0
+  Ends gives framed = DoesAnd core image places setting t p h 0 (leaving_takes gives framed) (Keeps framed)
+
+  abbrev Entered : (gives framed : Bool) → Type 0
+  Entered gives framed = Enters core image places setting t i op (Leave gives framed) p h
+
+  last_call : (gives framed : Bool) → Entered gives framed → Last places h.local p.runner.left.callers p.runner.has.callers
+  last_call gives framed enters = last_of places h.local _ _ enters.at.stands.waiting enters.ready.may
+
+  leave_without : HasBlock image bound places i (leave_block false false op.depth) → OpAt core i op (Leave false false) → Entered false false → Ends false false
+  leave_without block op_at enters =
+      let at = enters.at in
+      let waiting = enters.ready.in_range.waiting in
+      let about = about_block image bound places t p h i enters.running.code enters.index at in
+      let l = last_call false false enters in
+      let w = 64 * suc (length l.calls') in
+      let start = starts core image bound places i op false false few calls block.labels p h at l waiting in
+      let many : length p.runner.has.callers ≡ suc (length l.calls') = ap length l.are_calls in
+      let h1 = writes h 6 (h.local w) in
+      let about1 = writing image t k h 6 (h.local w) about block.lines.0.within in
+      lw_does core image places setting t p h (ended core image bound places i op false false p h.local l) (Keeps false) k 6 8 0 w 4 about block.lines.0
+      (near_word w 0 w (h.registers 8) 0 start refl (omega arith) (omega arith)) (omega arith)
+      (ended_part core image bound places i op false false setting p h.local l op_at enters.index)
+      (comes_back core image bound places i op false false few calls block.labels p h at l waiting (later t) (suc k) h1.registers h1.pc h.local about1 block.lines.1 l.returns.code
+      (λ r' a b c f. rw b) refl (λ j ne. refl) l.frame.values)
+
+  -- what the header has of the group frame
+  frame_of_call : (gives : Bool) → Entered gives true → places.frames.group i ≡ Some 0 → HasGroupFrame h.local (length p.runner.has.callers) (p.runner.has.call.frames 0)
+  frame_of_call gives enters told = enters.at.stands.running.group 0 (ap places.frames.group enters.index ∙ told)
+
+  -- a hart that has given the frame back
+  abbrev given : Hart
+  given =
+      let h1 = writes h 6 (h.local (group_word (length p.runner.has.callers))) in
+      let h2 = writes h1 7 (0x08000 * 4096) in
+      writes h2 12 (word_sum (h2.registers 6) (h2.registers 7))
+
+  -- the lines that give it back, and what follows them
+  gives_back : (gives : Bool) → OpAt core i op (Leave gives true) → (enters : Entered gives true)
+      → LinesAt image bound k (first_commits giving_back) → (behind : ℕ) → behind ≤ 100
+      → (IsAbout image (later (later (later t))) (suc (suc (suc k))) given
+      → Comes image (later (later (later t))) number behind given (λ h'. HasDone core image places (ended core image bound places i op gives true p h.local (last_call gives true enters)) h' × Keeps true h'))
+      → DoesAnd core image places setting t p h 0 (suc (suc behind)) (Keeps true)
+  gives_back gives op_at enters lines behind small rest =
+      let at = enters.at in
+      let n = length p.runner.has.callers in
+      let waiting = enters.ready.in_range.waiting in
+      let about = about_block image bound places t p h i enters.running.code enters.index at in
+      let l = last_call gives true enters in
+      let place = value_place (h.registers 9) n 61 at.stands.behind waiting (omega arith) (omega arith) in
+      let h1 = writes h 6 (h.local (group_word n)) in
+      let h2 = writes h1 7 (0x08000 * 4096) in
+      let Goal : Hart → Type 0 = λ h'. HasDone core image places (ended core image bound places i op gives true p h.local l) h' × Keeps true h' in
+      let about1 = writing image t k h 6 (h.local (group_word n)) about lines.0.within in
+      let about2 = writing image (later t) (suc k) h1 7 (0x08000 * 4096) about1 lines.1.0.within in
+      let about3 = writing image (later (later t)) (suc (suc k)) h2 12 (word_sum (h2.registers 6) (h2.registers 7)) about2 lines.1.1.0.within in
+      lw_does core image places setting t p h (ended core image bound places i op gives true p h.local l) (Keeps true) k 6 9 at_group_frame (group_word n) (suc (suc behind)) about lines.0
+      (place.1, place.0) (omega arith)
+      (ended_part core image bound places i op gives true setting p h.local l op_at enters.index)
+      (first image (later t) number (suc behind) (suc k) _ h1 h2 Goal about1 lines.1.0 (λ s. (s.reserved, refl))
+      (first image (later (later t)) number behind (suc (suc k)) _ h2 given Goal about2 lines.1.1.0 (λ s. (s.reserved, refl)) (rest about3)))
+
+  leave_framed : HasBlock image bound places i (leave_block false true op.depth) → OpAt core i op (Leave false true) → Fits core places.frames i op (Leave false true) → Entered false true → Ends false true
+  leave_framed block op_at fits enters =
+      let at = enters.at in
+      let waiting = enters.ready.in_range.waiting in
+      let l = last_call false true enters in
+      let w = 64 * suc (length l.calls') in
+      let start = starts core image bound places i op false true few calls block.labels p h at l waiting in
+      let many : length p.runner.has.callers ≡ suc (length l.calls') = ap length l.are_calls in
+      let has = frame_of_call false enters fits.place in
+      let t3 = later (later (later t)) in
+      let k3 = suc (suc (suc k)) in
+      let h4 = writes given 6 (h.local w) in
+      let l3 = block.lines.1.1.1.0 in
+      let Goal : Hart → Type 0 = λ h'. HasDone core image places (ended core image bound places i op false true p h.local l) h' × Keeps true h' in
+      gives_back false op_at enters (block.lines.0, (block.lines.1.0, (block.lines.1.1.0, tt))) 5 (omega arith)
+      (λ about.
+      first image t3 number 4 k3 _ given h4 Goal about l3 (lw_goes t3 number 6 8 0 w given (near_word w 0 w (h.registers 8) 0 start refl (omega arith) (omega arith)))
+      (comes_back core image bound places i op false true few calls block.labels p h at l waiting (later t3) (suc k3) h4.registers h4.pc h.local
+      (writing image t3 k3 given 6 (h.local w) about l3.within) block.lines.1.1.1.1 l.returns.code
+      (λ r' a b c f. rw (b, f, c)) (end_of_frames _ _ has.address has.within) (λ j ne. refl) l.frame.values))
+
+  -- ---- with one
+
+  -- the result is stored where the call that waits takes it
+  result_comes : (framed : Bool) (labels : HasLabels bound places) (enters : Entered true framed) (t' : MachineSetting) (j : ℕ) (rs : ℕ → ℕ) (pc : ℕ)
+      → IsAbout image t' j (moved_to h rs pc h.local)
+      → LinesAt image bound j (map quiet (Lw 6 8 0 ∷ Lw 7 8 8 ∷ Sw 7 5 0 ∷ returning)) → rs 5 ≡ last (values p.runner.has) → SameButFree h.registers rs
+      → rs 12 ≡ frames_behind framed p.runner.has h
+      → Comes image t' number 7 (moved_to h rs pc h.local)
+      (λ h'. HasDone core image places (ended core image bound places i op true framed p h.local (last_call true framed enters)) h' × Keeps framed h')
+  result_comes framed labels enters t' j rs pc about lines value same frames =
+      let at = enters.at in
+      let waiting = enters.ready.in_range.waiting in
+      let l = last_call true framed enters in
+      let m = length l.calls' in
+      let many : length p.runner.has.callers ≡ suc m = ap length l.are_calls in
+      let w = 64 * suc m in
+      let r = 64 * suc m - suc (length l.call.values) in
+      let start : rs 8 ≡ local_address w = same 8 refl refl refl refl ∙ starts core image bound places i op true framed few calls labels p h at l waiting in
+      let word = is_result places m l.back (length l.call.values) r l.frame.home l.returns.room few refl in
+      let low = word.header in
+      let high = word.inside in
+      let g = moved_to h rs pc h.local in
+      let g1 = writes g 6 (h.local w) in
+      let g2 = writes g1 7 (h.local (w + 2)) in
+      let m' = put h.local r (rs 5) in
+      let g3 : Hart = record (moves g2) { local = m' } in
+      let Goal : Hart → Type 0 = λ h'. HasDone core image places (ended core image bound places i op true framed p h.local l) h' × Keeps framed h' in
+      let about1 = writing image t' j g 6 (h.local w) about lines.0.within in
+      let about2 = writing image (later t') (suc j) g1 7 (h.local (w + 2)) about1 lines.1.0.within in
+      let about3 = storing image (later (later t')) (suc (suc j)) g2 m' about2 lines.1.1.0.within in
+      let stored : m' r ≡ last (values p.runner.has) = same_word h.local r (rs 5) ∙ value in
+      let others : (x : ℕ) → (x ≡ r → ⊥) → m' x ≡ h.local x = λ x ne. other_word h.local r (rs 5) x ne in
+      first image t' number 6 j _ g g1 Goal about lines.0 (lw_goes t' number 6 8 0 w g (near_word w 0 w (rs 8) 0 start refl (omega arith) (omega arith)))
+      (first image (later t') number 5 (suc j) _ g1 g2 Goal about1 lines.1.0 (lw_goes (later t') number 7 8 8 (w + 2) g1 (near_word w 2 (w + 2) (rs 8) 8 start refl (omega arith) (omega arith)))
+      (first image (later (later t')) number 4 (suc (suc j)) _ g2 g3 Goal about2 lines.1.1.0
+      (sw_goes (later (later t')) number 7 5 0 r g2 (near_word r 0 r (g2.registers 7) 0 l.returns.result refl (omega arith) (omega arith)))
+      (comes_back core image bound places i op true framed few calls labels p h at l waiting (later (later (later t'))) (suc (suc (suc j))) g3.registers g3.pc m' about3 lines.1.1.1 l.returns.code
+      (λ r' a b c f. rw (c, b) (same r' a b c f)) frames others
+      (stored, values_kept h.local m' (frame_end m) l.call.values (omega arith) (λ x a b. others x (λ f. omega arith)) l.frame.values))))
+
+  -- the last value
+  value_at_depth : (framed : Bool) → Fits core places.frames i op (Leave true framed) → Entered true framed
+      → (h.local (frame_end (length p.runner.has.callers) - op.depth) ≡ last (values p.runner.has))
+      × IsLocal (word_sum (h.registers 9) (at_value op.depth)) (frame_end (length p.runner.has.callers) - op.depth)
+  value_at_depth framed fits enters =
+      let positive = fits.values in
+      let header = fits.room.header in
+      let waiting = enters.ready.in_range.waiting in
+      let n = length p.runner.has.callers in (
+        last_value h.local (frame_end n) op.depth _ enters.at.stands.running.values enters.ready.depth (omega arith),
+        value_word (frame_end n) op.depth (h.registers 9) enters.at.stands.behind (omega arith) (omega arith) (omega arith),
+      )
+
+  leave_with : HasBlock image bound places i (leave_block true false op.depth) → OpAt core i op (Leave true false) → Fits core places.frames i op (Leave true false) → Entered true false → Ends true false
+  leave_with block op_at fits enters =
+      let at = enters.at in
+      let about = about_block image bound places t p h i enters.running.code enters.index at in
+      let l = last_call true false enters in
+      let taken = frame_end (length p.runner.has.callers) - op.depth in
+      let v = h.local taken in
+      let value = value_at_depth false fits enters in
+      let h1 = writes h 5 v in
+      let about1 = writing image t k h 5 v about block.lines.0.within in
+      lw_does core image places setting t p h (ended core image bound places i op true false p h.local l) (Keeps false) k 5 9 (at_value op.depth) taken 7 about block.lines.0 value.1 (omega arith)
+      (ended_part core image bound places i op true false setting p h.local l op_at enters.index)
+      (result_comes false block.labels enters (later t) (suc k) h1.registers h1.pc about1 block.lines.1 value.0 (λ r' a b c f. rw a) refl)
+
+  leave_framed_with : HasBlock image bound places i (leave_block true true op.depth) → OpAt core i op (Leave true true) → Fits core places.frames i op (Leave true true) → Entered true true → Ends true true
+  leave_framed_with block op_at fits enters =
+      let l = last_call true true enters in
+      let taken = frame_end (length p.runner.has.callers) - op.depth in
+      let v = h.local taken in
+      let value = value_at_depth true fits enters in
+      let has = frame_of_call true enters fits.place in
+      let t3 = later (later (later t)) in
+      let k3 = suc (suc (suc k)) in
+      let h4 = writes given 5 v in
+      let l3 = block.lines.1.1.1.0 in
+      let Goal : Hart → Type 0 = λ h'. HasDone core image places (ended core image bound places i op true true p h.local l) h' × Keeps true h' in
+      gives_back true op_at enters (block.lines.0, (block.lines.1.0, (block.lines.1.1.0, tt))) 8 (omega arith)
+      (λ about.
+      first image t3 number 7 k3 _ given h4 Goal about l3 (lw_goes t3 number 5 9 (at_value op.depth) taken given value.1)
+      (result_comes true block.labels enters (later t3) (suc k3) h4.registers h4.pc (writing image t3 k3 given 5 v about l3.within) block.lines.1.1.1.1 value.0
+      (λ r' a b c f. rw (a, f, c, b)) (end_of_frames _ _ has.address has.within)))
+
+pub leave_keeps : (core : List CoreOp) (image : Image) (bound : ℕ → ℕ) (places : Places) (i : ℕ) (op : CoreOp) (gives framed : Bool) → places.frames.of_file ≤ 56
+    → CallsReturn core image bound places → HasBlock image bound places i (leave_block gives framed op.depth) → OpAt core i op (Leave gives framed) → Fits core places.frames i op (Leave gives framed)
+    → BlockKeeps core image places 0 (λ way. leaving_takes gives framed) i op (Leave gives framed)
+leave_keeps core image bound places i op true true few calls block op_at fits setting t p h enters = leave_framed_with core image bound places i op few calls setting t p h block op_at fits enters
+leave_keeps core image bound places i op true false few calls block op_at fits setting t p h enters = leave_with core image bound places i op few calls setting t p h block op_at fits enters
+leave_keeps core image bound places i op false true few calls block op_at fits setting t p h enters = leave_framed core image bound places i op few calls setting t p h block op_at fits enters
+leave_keeps core image bound places i op false false few calls block op_at fits setting t p h enters = leave_without core image bound places i op few calls setting t p h block op_at enters

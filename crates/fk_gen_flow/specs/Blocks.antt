@@ -1,5 +1,5 @@
 -- The blocks of control flow.
-use Rattle.std.specs.Prelude.{◌≡◌, ℕ, ◌^◌, ◌<◌, ◌≤◌, List, [], Bool, true, false, not, Option, Some}
+use Rattle.std.specs.Prelude.{◌≡◌, ℕ, ◌^◌, ◌<◌, ◌≤◌, List, [], Bool, true, false, Option, Some}
 use Rattle.std.specs.Prelude.{None, if◌then◌else◌, ◌⊎◌}
 use Rattle.fk_meaning_operation.specs.declared.operation.Operation.{Operation}
 use Rattle.fk_meaning_operation.specs.declared.operation.Operation.TheVariants.{Branch, Leave}
@@ -12,17 +12,17 @@ use Rattle.fk_gen.specs.declared.placed.Placed.{Placed}
 use Rattle.fk_gen_flow.specs.Flow.{jump_block, branch_block, leave_block, halt_block}
 use Rattle.fk_gen_flow.specs.Calls.{enter_block}
 
--- The operations of control flow, except ends of calls that took a group frame.
+-- The operations of control flow.
 abbrev pub is_flow : Operation → Bool
 is_flow (Branch onward) = true
-is_flow (Leave gives framed) = not framed
+is_flow (Leave gives framed) = true
 is_flow (Enter arguments) = true
 is_flow Halt = true
 is_flow operation = false
 
 abbrev pub block_by : (clears : Bool) (back : ℕ) → CoreOp → Option Operation → List MarkedLine
 block_by clears back op (Some (Branch onward)) = branch_block onward op.depth op.target
-block_by clears back op (Some (Leave gives framed)) = leave_block gives op.depth
+block_by clears back op (Some (Leave gives framed)) = leave_block gives framed op.depth
 block_by clears back op (Some (Enter arguments)) =
     enter_block clears arguments op.depth op.site back
 block_by clears back op (Some Halt) = halt_block

@@ -1,12 +1,13 @@
 -- The blocks of jumps, branches, ends of calls and halts.
-use Rattle.std.specs.Prelude.{ℕ, List, [], ◌∷◌, Bool, true, false}
+use Rattle.std.specs.Prelude.{ℕ, List, [], ◌∷◌, ◌++◌, map, Bool, true, false}
 use Rattle.fk_isa.specs.declared.instruction.Instruction.{Instruction}
 use Rattle.fk_isa.specs.declared.instruction.Instruction.TheVariants.{Jal, Jalr, Beq, Bne, Lw, Sw}
-use Rattle.fk_isa.specs.declared.instruction.Instruction.TheVariants.{Addi}
+use Rattle.fk_isa.specs.declared.instruction.Instruction.TheVariants.{Addi, Add, Lui}
 use Rattle.fk_asm.specs.Block.{MarkedLine}
 use Rattle.fk_sim_block.specs.Stands.{frame_register, end_register, device_register}
-use Rattle.fk_gen.specs.Registers.{zero_register, t0, t1, t2}
-use Rattle.fk_gen.specs.Lines.{quiet, commits, goes_to, at_value, label_of}
+use Rattle.fk_gen.specs.Registers.{zero_register, t0, t1, t2, a2}
+use Rattle.fk_gen.specs.Lines.{quiet, commits, goes_to, first_commits, at_value, at_group_frame}
+use Rattle.fk_gen.specs.Lines.{label_of, to_control}
 
 abbrev pub jump_line : (target : ℕ) → MarkedLine
 jump_line target = goes_to (Jal zero_register 0) (label_of target)
@@ -24,20 +25,32 @@ abbrev pub branch_block : (onward : Bool) (depth target : ℕ) → List MarkedLi
 branch_block onward depth target =
     commits (Lw t0 end_register (at_value depth)) ∷ quiet (passes onward) ∷ jump_line target ∷ []
 
+-- Gives the words of the call's group frame back: the frames of the group end where that frame
+-- begins.
+abbrev pub giving_back : List Instruction
+giving_back = Lw t1 end_register at_group_frame ∷ Lui t2 to_control ∷ Add a2 t1 t2 ∷ []
+
 -- The end of the block that ends a call. The frame of the waiting call is that of the running call
 -- again. The hart returns into the block that began the call, to the address in t1, where a jump
 -- leads to the index where the waiting call goes on.
-abbrev pub returning : List MarkedLine
+abbrev pub returning : List Instruction
 returning =
-    quiet (Addi end_register frame_register 0) ∷ quiet (Lw frame_register frame_register 4) ∷
-    quiet (Jalr zero_register t1 0) ∷ []
+    Addi end_register frame_register 0 ∷ Lw frame_register frame_register 4
+    ∷ Jalr zero_register t1 0 ∷ []
 
-abbrev pub leave_block : (gives : Bool) (depth : ℕ) → List MarkedLine
-leave_block true depth =
-    commits (Lw t0 end_register (at_value depth)) ∷ quiet (Lw t1 frame_register 0) ∷
-    quiet (Lw t2 frame_register 8) ∷
-    quiet (Sw t2 t0 0) ∷ returning
-leave_block false depth = commits (Lw t1 frame_register 0) ∷ returning
+abbrev pub leaving : (gives : Bool) (depth : ℕ) → List Instruction
+leaving true depth =
+    Lw t0 end_register (at_value depth) ∷ Lw t1 frame_register 0 ∷ Lw t2 frame_register 8
+    ∷ Sw t2 t0 0 ∷ returning
+leaving false depth = Lw t1 frame_register 0 ∷ returning
+
+abbrev pub leaving_lines : (commit : Bool) → (gives : Bool) (depth : ℕ) → List MarkedLine
+leaving_lines true gives depth = first_commits (leaving gives depth)
+leaving_lines false gives depth = map quiet (leaving gives depth)
+
+abbrev pub leave_block : (gives framed : Bool) (depth : ℕ) → List MarkedLine
+leave_block gives true depth = first_commits giving_back ++ leaving_lines false gives depth
+leave_block gives false depth = leaving_lines true gives depth
 
 abbrev pub halt_block : List MarkedLine
 halt_block = commits (Sw device_register zero_register 12) ∷ []

@@ -1,7 +1,7 @@
 -- What the blocks of control flow guarantee besides doing their operations: how many cycles they
 -- take, and what they keep of their harts.
 use Rattle.std.specs.Prelude.{◌≡◌, ℕ, suc, ◌+◌, ◌-◌, ◌*◌, ◌<◌, nat_le, List, [], ◌∷◌, length, Bool}
-use Rattle.std.specs.Prelude.{if◌then◌else◌}
+use Rattle.std.specs.Prelude.{true, false, if◌then◌else◌}
 use Rattle.fk_meaning_operation.specs.declared.operation.Operation.{Operation}
 use Rattle.fk_meaning_operation.specs.declared.operation.Operation.TheVariants.{Branch, Leave}
 use Rattle.fk_meaning_operation.specs.declared.operation.Operation.TheVariants.{Enter}
@@ -14,6 +14,7 @@ use Rattle.fk_sim_block.specs.Owner.{Owner}
 use Rattle.fk_sim_block.specs.Stands.{Places, frame_end}
 use Rattle.fk_sim_block.specs.Suits.{writes}
 use Rattle.fk_sim_block.specs.Block.{Enters}
+use Rattle.fk_sim_block.specs.Node.{control_address}
 use Rattle.fk_gen.specs.Registers.{a0, a1, a2, a3}
 use Rattle.fk_gen.specs.Keeps.{Keeps, DoesAnd, peak}
 use Rattle.fk_gen_flow.specs.Calls.{most_privates, most_own}
@@ -40,10 +41,14 @@ call_takes clears arguments =
     copying_takes (nat_le arguments (most_own clears)) arguments + clearing_takes clears arguments
     + 4
 
+-- Those of the end of a call: three more where it gives a group frame back.
+abbrev pub leaving_takes : (gives framed : Bool) → ℕ
+leaving_takes gives framed = (if gives then 7 else 4) + (if framed then 3 else 0)
+
 -- The number of cycles after a commit, by the branch that the operation takes.
 abbrev pub behind_commit : (clears : Bool) → Operation → (onward : Bool) → ℕ
 behind_commit clears (Branch turned) onward = if onward then 1 else 2
-behind_commit clears (Leave gives framed) onward = if gives then 7 else 4
+behind_commit clears (Leave gives framed) onward = leaving_takes gives framed
 behind_commit clears (Enter arguments) onward = call_takes clears arguments
 behind_commit clears operation onward = 0
 
@@ -54,19 +59,28 @@ abbrev pub result_word : List Call → ℕ
 result_word [] = 0
 result_word (c ∷ calls) = frame_end (length calls) - suc (length c.values)
 
--- a hart keeps what it knows of its node, and all words below one
-pub record KeepsBelow (word : ℕ) (h h' : Hart) : Type 0 where
+-- The address at which the frames of the group end after the end of a call: where the group frame
+-- of that call begins, if it gives one back.
+abbrev pub frames_behind : (framed : Bool) → Processor → Hart → ℕ
+frames_behind true p h = control_address (p.call.frames 0)
+frames_behind false p h = h.registers a2
+
+-- a hart keeps what it knows of its node, but where the frames of the group end, and all words
+-- below one
+pub record KeepsBelow (word frames : ℕ) (h h' : Hart) : Type 0 where
   pub node : h'.registers a0 ≡ h.registers a0
   pub body : h'.registers a1 ≡ h.registers a1
-  pub frames : h'.registers a2 ≡ h.registers a2
+  pub frames_end : h'.registers a2 ≡ frames
   pub blocks : h'.registers a3 ≡ h.registers a3
   pub words : (j : ℕ) → j < word → h'.local j ≡ h.local j
 
 -- What the block of an operation keeps. A call keeps all words below its own frame, and the end of
 -- a call those below the result. Other operations keep what blocks without a call do.
 abbrev pub KeepsFor : Places → Operation → (depth : ℕ) → Processor → (h h' : Hart) → Type 0
-KeepsFor places (Enter arguments) depth p h h' = KeepsBelow (frame_end (length p.callers)) h h'
-KeepsFor places (Leave gives framed) depth p h h' = KeepsBelow (result_word p.callers) h h'
+KeepsFor places (Enter arguments) depth p h h' =
+    KeepsBelow (frame_end (length p.callers)) (h.registers a2) h h'
+KeepsFor places (Leave gives framed) depth p h h' =
+    KeepsBelow (result_word p.callers) (frames_behind framed p h) h h'
 KeepsFor places operation depth p h h' =
     Keeps places (length p.callers) (peak operation depth) (writes operation) h h'
 

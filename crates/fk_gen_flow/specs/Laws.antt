@@ -1,6 +1,6 @@
 -- What the blocks of control flow do in place.
-use Rattle.std.specs.Prelude.{◌≡◌, ℕ, suc, ◌-◌, ◌^◌, ◌<◌, ◌≤◌, List, Bool, true, Some, slice_get}
-use Rattle.std.specs.Prelude.{slice_index}
+use Rattle.std.specs.Prelude.{◌≡◌, ℕ, suc, ◌-◌, ◌^◌, ◌<◌, ◌≤◌, List, Bool, true, Some, None}
+use Rattle.std.specs.Prelude.{slice_get, slice_index}
 use Rattle.fk_meaning_operation.specs.declared.operation.Operation.{Operation}
 use Rattle.fk_meaning_operation.specs.declared.operation.Operation.TheVariants.{Enter, Halt}
 use Rattle.fk_meaning.specs.Processor.{Setting}
@@ -100,6 +100,6 @@ HartsBegin =
     (core : List CoreOp) (image : Image) (places : Places) (bound : ℕ → ℕ)
     (firsts : List ℕ) (main : ℕ)
     → HasOpening image bound places firsts main → AreFirsts places.frames.of_file firsts
-    → places.frames.is_main main ≡ true
+    → places.frames.is_main main ≡ true → places.frames.group main ≡ None
     → (setting : Setting) (t : MachineSetting) (number : ℕ) → IsRunning image setting t
     → Begins core image places t (beginner setting (slice_index firsts) main number)

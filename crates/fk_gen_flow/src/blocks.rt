@@ -1,14 +1,18 @@
 //! The blocks of jumps and of operations.
 
-ghost use Rattle.std.specs.Prelude.{◌≡◌, ◌+◌, ◌^◌, ◌<◌, ◌≤◌, All, OnOk, OnErr, length};
-ghost use Rattle.fk_asm.specs.Assembly.{AreFollowed};
+ghost use Rattle.std.specs.Prelude.{◌≡◌, ◌+◌, ◌^◌, ◌<◌, ◌≤◌, true, false, All, OnOk, OnErr};
+ghost use Rattle.std.specs.Prelude.{length};
+ghost use Rattle.fk_asm.specs.Assembly.{AreFollowed, straight};
 ghost use Rattle.fk_asm.specs.Block.{GoesToMade, HasBegun, with_block};
-ghost use Rattle.fk_gen_flow.specs.Flow.{jump_block, branch_block, leave_block, halt_block, passes};
+ghost use Rattle.fk_gen.specs.Lines.{first_commits};
+ghost use Rattle.fk_gen_flow.specs.Flow.{jump_block, branch_block, giving_back, leaving_lines};
+ghost use Rattle.fk_gen_flow.specs.Flow.{leave_block, halt_block, passes};
 ghost use Rattle.fk_isa.specs.Fits.{Fits};
 
 use crate::calls::emit_enter;
+use crate::registers::FRAMES;
 use fk_asm::{Assembler, Blocks};
-use fk_gen::numbers::at_value;
+use fk_gen::numbers::{AT_GROUP_FRAME, TO_CONTROL, at_value};
 use fk_gen::registers::{DEVICES, END, FRAME, T0, T1, T2, ZERO};
 use fk_gen::{BlockLine, Placed, emit_lines};
 use fk_isa::Instruction;
@@ -40,7 +44,7 @@ impl Blocks<Placed> for FlowBlocks {
         }
         match op.operation() {
             Some(Operation::Branch(onward)) => emit_branch(into, onward, op.depth, op.target),
-            Some(Operation::Leave { gives, .. }) => emit_leave(into, gives, op.depth),
+            Some(Operation::Leave { gives, framed }) => emit_leave(into, gives, framed, op.depth),
             Some(Operation::Enter(arguments)) => {
                 emit_enter(into, clears, arguments, op.depth, op.site, back)
             }
@@ -101,18 +105,78 @@ fn emit_branch(
     )
 }
 
-fn emit_leave(into: &mut Assembler, gives: bool, depth: u32) -> Result<(), AllocError>
+fn emit_leave(into: &mut Assembler, gives: bool, framed: bool, depth: u32) -> Result<(), AllocError>
     requires depth { depth ≤ 56 }
-    requires room { length into.old.lines + length (leave_block gives depth) < 2 ^ 30 }
+    requires room { length into.old.lines + length (leave_block gives framed depth) < 2 ^ 30 }
     requires free { AreFollowed into.old }
-    ensures added { OnOk result (into.new ≡ with_block into.old (leave_block gives depth)) }
-    ensures begun { OnErr result (HasBegun (leave_block gives depth) into.old into.new) }
+    ensures added { OnOk result (into.new ≡ with_block into.old (leave_block gives framed depth)) }
+    ensures begun { OnErr result (HasBegun (leave_block gives framed depth) into.old into.new) }
+{
+    if framed {
+        emit_framed_leave(into, gives, depth)
+    } else {
+        emit_leaving(into, true, gives, depth)
+    }
+}
+
+// The end of a call that gives its group frame back.
+fn emit_framed_leave(into: &mut Assembler, gives: bool, depth: u32) -> Result<(), AllocError>
+    requires depth { depth ≤ 56 }
+    requires room { length into.old.lines + length (leave_block gives true depth) < 2 ^ 30 }
+    requires free { AreFollowed into.old }
+    ensures added { OnOk result (into.new ≡ with_block into.old (leave_block gives true depth)) }
+    ensures begun { OnErr result (HasBegun (leave_block gives true depth) into.old into.new) }
+{
+    emit_giving_back(into)?;
+    emit_leaving(into, false, gives, depth)
+}
+
+fn emit_giving_back(into: &mut Assembler) -> Result<(), AllocError>
+    requires room { length into.old.lines + 3 < 2 ^ 30 }
+    requires free { AreFollowed into.old }
+    ensures added { OnOk result (into.new ≡ with_block into.old (first_commits giving_back)) }
+    ensures begun { OnErr result (HasBegun (first_commits giving_back) into.old into.new) }
+{
+    emit_lines(
+        into,
+        &[
+            BlockLine::commits(Instruction::Lw(T1, END, AT_GROUP_FRAME)),
+            BlockLine::quiet(Instruction::Lui(T2, TO_CONTROL)),
+            BlockLine::quiet(Instruction::Add(FRAMES, T1, T2)),
+        ],
+    )
+}
+
+fn first_line(commits: bool, instruction: Instruction) -> BlockLine
+    ensures { result ≡ record { line = straight instruction; commits = commits } }
+{
+    if commits {
+        BlockLine::commits(instruction)
+    } else {
+        BlockLine::quiet(instruction)
+    }
+}
+
+// The lines with which a call ends. The first of them may do the operation.
+fn emit_leaving(
+    into: &mut Assembler,
+    commits: bool,
+    gives: bool,
+    depth: u32,
+) -> Result<(), AllocError>
+    requires depth { depth ≤ 56 }
+    requires room { length into.old.lines + length (leaving_lines commits gives depth) < 2 ^ 30 }
+    requires free { AreFollowed into.old }
+    ensures added { OnOk result
+        (into.new ≡ with_block into.old (leaving_lines commits gives depth)) }
+    ensures begun { OnErr result (HasBegun (leaving_lines commits gives depth) into.old into.new) }
 {
     if gives {
+        let result = first_line(commits, Instruction::Lw(T0, END, at_value(depth)));
         emit_lines(
             into,
             &[
-                BlockLine::commits(Instruction::Lw(T0, END, at_value(depth))),
+                result,
                 BlockLine::quiet(Instruction::Lw(T1, FRAME, 0)),
                 BlockLine::quiet(Instruction::Lw(T2, FRAME, 8)),
                 BlockLine::quiet(Instruction::Sw(T2, T0, 0)),
@@ -122,10 +186,11 @@ fn emit_leave(into: &mut Assembler, gives: bool, depth: u32) -> Result<(), Alloc
             ],
         )
     } else {
+        let back = first_line(commits, Instruction::Lw(T1, FRAME, 0));
         emit_lines(
             into,
             &[
-                BlockLine::commits(Instruction::Lw(T1, FRAME, 0)),
+                back,
                 BlockLine::quiet(Instruction::Addi(END, FRAME, 0)),
                 BlockLine::quiet(Instruction::Lw(FRAME, FRAME, 4)),
                 BlockLine::quiet(Instruction::Jalr(ZERO, T1, 0)),
