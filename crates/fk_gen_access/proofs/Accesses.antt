@@ -57,7 +57,7 @@ module _ (core : List CoreOp) (image : Image) (places : Places) (i : ℕ) (op : 
       inl (record {
         hart = writes committing 5 v;
         store = s;
-        owner = went places p (suc i) (v ∷ before 1 vs) p.heap p.runner.has.top;
+        owner = went places p (suc i) (v ∷ before 1 vs) p.heap.words p.runner.has.top;
         part = refl;
         goes = λ t' earlier sh shows. (
           sh,
@@ -69,7 +69,7 @@ module _ (core : List CoreOp) (image : Image) (places : Places) (i : ℕ) (op : 
         live = en.at.live;
         can = λ told. (some.place, tt);
         at = refl;
-        stands = λ told. stands_on places p i (suc i) op.depth p.runner.has.top (v ∷ before 1 vs) p.heap h (walk_straight told b.behind (writes committing 5 v)) stands en.index fits.room some.some core (fits.goes_on true)
+        stands = λ told. stands_on places p i (suc i) op.depth p.runner.has.top (v ∷ before 1 vs) p.heap.words h (walk_straight told b.behind (writes committing 5 v)) stands en.index fits.room some.some core (fits.goes_on true)
             (record { nought = refl; frame = refl; behind = refl; number = refl; rank = refl; size = refl; local = refl; shared_data = refl; private_heap = refl; shared_mask = refl; devices = refl; heap_mask = refl; node = refl; body = refl; frames = refl; blocks = refl })
             stands.top (below_put h.local (frame_end n - op.depth) word v (omega arith))
             (value_put h.local (frame_end n) word v v (before 1 vs) (omega arith) (omega arith) refl (values_before 1 h.local (frame_end n) vs stands.running.values))
@@ -100,13 +100,13 @@ module _ (core : List CoreOp) (image : Image) (places : Places) (i : ℕ) (op : 
 
   -- what a write is, by where its address lies
   abbrev written : Commons → Store → ℕ → Part Commons Doing
-  written s st v = as_part (number_of p) (answered (step_of core i op Write p.runner.left.callers) p.runner.has (Served st v))
+  written s st v = as_part s.asked p (answered (step_of core i op Write p.runner.left.callers) p.runner.has (Served st v))
 
   write_part_private : (s : Commons) (a v : ℕ) → IsPrivate a → written s (write (found s p.heap) (number_of p) a v) v
-      ≡ Passes s (idle (went places p (suc i) (v ∷ before 1 (before 1 (values p.runner.has))) (put p.heap (private_index a) v) p.runner.has.top))
+      ≡ Passes s (idle (went places p (suc i) (v ∷ before 1 (before 1 (values p.runner.has))) (put p.heap.words (private_index a) v) p.runner.has.top))
   write_part_private s a v at =
       ap (λ st. written s st v) (write_private (found s p.heap) (number_of p) a v at)
-      ∙ ap (λ b. Passes s (idle (went places p (suc i) (v ∷ before 1 (before 1 (values p.runner.has))) (if b then put p.heap (private_index a) v else p.heap) p.runner.has.top)))
+      ∙ ap (λ b. Passes s (idle (went places p (suc i) (v ∷ before 1 (before 1 (values p.runner.has))) (if b then put p.heap.words (private_index a) v else p.heap.words) p.runner.has.top)))
       (eq-eqb (number_of p) (number_of p) refl)
 
   write_commits : Enters core image places setting t i op Write p h → Fits core places.frames i op Write
@@ -128,7 +128,7 @@ module _ (core : List CoreOp) (image : Image) (places : Places) (i : ℕ) (op : 
       record {
         hart = moves committing;
         store = record s { words = put s.words x v };
-        owner = went places p (suc i) (v ∷ before 1 (before 1 vs)) p.heap p.runner.has.top;
+        owner = went places p (suc i) (v ∷ before 1 (before 1 vs)) p.heap.words p.runner.has.top;
         part = ap (λ st. written s st v) (write_shared (found s p.heap) (number_of p) a v at);
         goes = λ t' earlier sh shows. (
           _,
@@ -140,7 +140,7 @@ module _ (core : List CoreOp) (image : Image) (places : Places) (i : ℕ) (op : 
         live = en.at.live;
         can = λ told. (first.place, tt);
         at = refl;
-        stands = λ told. replaced (suc i) op.depth p.runner.has.top (committing.registers 6) v p.heap (moves committing) stands en.index fits.room en.ready.depth (let l = first.some in omega arith)
+        stands = λ told. replaced (suc i) op.depth p.runner.has.top (committing.registers 6) v p.heap.words (moves committing) stands en.index fits.room en.ready.depth (let l = first.some in omega arith)
             (fits.goes_on true)
             (record { nought = refl; frame = refl; behind = refl; number = refl; rank = refl; size = refl; local = refl; shared_data = refl; private_heap = refl; shared_mask = refl; devices = refl; heap_mask = refl; node = refl; body = refl; frames = refl; blocks = refl })
             stands.top (λ k lt. refl) stands.heap first.calls second.value _ first.index;
@@ -161,7 +161,7 @@ module _ (core : List CoreOp) (image : Image) (places : Places) (i : ℕ) (op : 
       record {
         hart = m;
         store = s;
-        owner = went places p (suc i) (v ∷ before 1 (before 1 vs)) (put p.heap x v) p.runner.has.top;
+        owner = went places p (suc i) (v ∷ before 1 (before 1 vs)) (put p.heap.words x v) p.runner.has.top;
         part = write_part_private s a v at;
         goes = λ t' earlier sh shows. (
           _,
@@ -173,11 +173,11 @@ module _ (core : List CoreOp) (image : Image) (places : Places) (i : ℕ) (op : 
         live = en.at.live;
         can = λ told. (first.place, tt);
         at = refl;
-        stands = λ told. replaced (suc i) op.depth p.runner.has.top (committing.registers 6) v (put p.heap x v) m stands en.index fits.room en.ready.depth (let l = first.some in omega arith)
+        stands = λ told. replaced (suc i) op.depth p.runner.has.top (committing.registers 6) v (put p.heap.words x v) m stands en.index fits.room en.ready.depth (let l = first.some in omega arith)
             (fits.goes_on true)
             (record { nought = refl; frame = refl; behind = refl; number = refl; rank = refl; size = refl; local = refl; shared_data = refl; private_heap = refl; shared_mask = refl; devices = refl; heap_mask = refl; node = refl; body = refl; frames = refl; blocks = refl })
             stands.top (λ k lt. other_word h.local (16384 + x) (committing.registers 6) k (λ e. omega arith))
-            (λ k lt. heap_put h.local p.heap x (committing.registers 6) stands.heap k lt ∙ ap (λ w. put p.heap x w k) second.value)
+            (λ k lt. heap_put h.local p.heap.words x (committing.registers 6) stands.heap k lt ∙ ap (λ w. put p.heap.words x w k) second.value)
             first.calls second.value _ first.index;
       }
 
@@ -191,7 +191,7 @@ module _ (core : List CoreOp) (image : Image) (places : Places) (i : ℕ) (op : 
 
   -- a multiprefix
   abbrev combined_part : Multiprefix → Commons → Store → (former : ℕ) → Part Commons Doing
-  combined_part by s st former = as_part (number_of p) (answered (step_of core i op (Combine by) p.runner.left.callers) p.runner.has (Served st former))
+  combined_part by s st former = as_part s.asked p (answered (step_of core i op (Combine by) p.runner.left.callers) p.runner.has (Served st former))
 
   abbrev after_combine : Multiprefix → Commons → (a v : ℕ) → Commons
   after_combine by s a v = record s { words = put s.words (shared_index a) (applied (operator_of by) (s.words (shared_index a)) v) }
@@ -208,7 +208,7 @@ module _ (core : List CoreOp) (image : Image) (places : Places) (i : ℕ) (op : 
 
   shared_part : (by : Multiprefix) (s : Commons) (a v : ℕ) → IsShared a
       → combined_part by s (write (found s p.heap) (number_of p) a (applied (operator_of by) (read (found s p.heap) (number_of p) a) v)) (read (found s p.heap) (number_of p) a)
-      ≡ Passes (after_combine by s a v) (idle (went places p (suc i) (s.words (shared_index a) ∷ before 1 (before 1 (values p.runner.has))) p.heap p.runner.has.top))
+      ≡ Passes (after_combine by s a v) (idle (went places p (suc i) (s.words (shared_index a) ∷ before 1 (before 1 (values p.runner.has))) p.heap.words p.runner.has.top))
   shared_part by s a v at =
       ap (λ x. combined_part by s (write (found s p.heap) (number_of p) a (applied (operator_of by) x v)) x) (read_shared (found s p.heap) (number_of p) a at)
       ∙ ap (λ st. combined_part by s st (s.words (shared_index a))) (write_shared (found s p.heap) (number_of p) a (applied (operator_of by) (s.words (shared_index a)) v) at)
@@ -228,7 +228,7 @@ module _ (core : List CoreOp) (image : Image) (places : Places) (i : ℕ) (op : 
       record {
         hart = writes committing 5 (s.words x);
         store = after_combine by s a v;
-        owner = went places p (suc i) (s.words x ∷ before 1 (before 1 vs)) p.heap p.runner.has.top;
+        owner = went places p (suc i) (s.words x ∷ before 1 (before 1 vs)) p.heap.words p.runner.has.top;
         part = multiprefix_part by s ∙ shared_part by s a v at;
         goes = λ t' earlier sh shows. (
           after_amo by committing sh x,
@@ -245,7 +245,7 @@ module _ (core : List CoreOp) (image : Image) (places : Places) (i : ℕ) (op : 
         live = en.at.live;
         can = λ told. (first.place, tt);
         at = refl;
-        stands = λ told. replaced (suc i) op.depth p.runner.has.top (s.words x) (s.words x) p.heap (writes committing 5 (s.words x)) stands en.index fits.room en.ready.depth (let l = first.some in omega arith)
+        stands = λ told. replaced (suc i) op.depth p.runner.has.top (s.words x) (s.words x) p.heap.words (writes committing 5 (s.words x)) stands en.index fits.room en.ready.depth (let l = first.some in omega arith)
             flows
             (record { nought = refl; frame = refl; behind = refl; number = refl; rank = refl; size = refl; local = refl; shared_data = refl; private_heap = refl; shared_mask = refl; devices = refl; heap_mask = refl; node = refl; body = refl; frames = refl; blocks = refl })
             stands.top (λ k lt. refl) stands.heap first.calls refl _ first.index;

@@ -14,7 +14,7 @@ use Rattle.fk_machine.specs.Run.{count_in}
 use Rattle.fk_sim_nodes.specs.Alone.{RunsPrivately, in_cycles, later}
 use Rattle.fk_sim_nodes.specs.Source.{Part, Passes, Breaks, Shows}
 use Rattle.fk_sim_nodes.proofs.InPlace.{step_at}
-use Rattle.fk_sim_block.specs.Owner.{Commons, Owner, Doing, number_of, idle, as_part, phases, core_source}
+use Rattle.fk_sim_block.specs.Owner.{Commons, Owner, Doing, number_of, idle, phases, core_source}
 use Rattle.fk_sim_block.specs.Stands.{Places, StandsFor}
 use Rattle.fk_sim_block.specs.Next.{OpAt, step_at as step_of}
 use Rattle.fk_sim_block.specs.Suits.{nothing}
@@ -36,7 +36,7 @@ length_of b =
 module _ (core : List CoreOp) (image : Image) (places : Places) (i : ℕ) (op : CoreOp) (operation : Operation) (setting : Setting) (p : Owner) where
   -- the part of a processor that is about to do the operation
   abbrev pub part_of : Commons → Part Commons Doing
-  part_of s = as_part (number_of p) (phases core setting s p.heap (taking p.runner (Some (step_of core i op operation p.runner.left.callers))))
+  part_of s = phases core setting s p (taking p.runner (Some (step_of core i op operation p.runner.left.callers)))
 
   -- what its block keeps
   abbrev pub KeepsMost : Hart → Hart → Type 0

@@ -1,18 +1,19 @@
 -- What stands in frames stays where only the last values change, the private heap, and words that nobody needs.
-use Rattle.std.proofs.Common.{◌≡◌, ℕ, zero, suc, ◌+◌, ◌-◌, ◌<◌, ◌≤◌, List, [], ◌∷◌, length, true, ap, subst, ◌∙◌, arith, refl}
+use Rattle.std.proofs.Common.{◌≡◌, ℕ, zero, suc, ◌+◌, ◌-◌, ◌<◌, ◌≤◌, List, [], ◌∷◌, length, Bool, true, ap, subst, ◌∙◌, arith, refl}
 use Rattle.std.specs.Prelude.{◌==◌}
+use Rattle.std.specs.Int.{from_bool}
 use Rattle.fk_num.specs.Word.{Memory, put}
 use Rattle.fk_meaning.specs.Processor.{Call}
 use Rattle.fk_core.specs.declared.op.CoreOp.{CoreOp}
 use Rattle.fk_core.specs.Next.{position}
 use Rattle.fk_machine.specs.Hart.{Hart}
 use Rattle.fk_sim_block.specs.Owner.{Owner}
-use Rattle.fk_sim_block.specs.Stands.{Places, HasValues, HasFrame, HasRoom, HasWaiting, StandsFor, frame_end, frame_start, ahead, frame_register, end_register, number_register, rank_register, size_register, top_register, local_register, shared_register, heap_register, shared_mask_register, device_register, heap_mask_register}
+use Rattle.fk_sim_block.specs.Stands.{Places, HasValues, HasFrame, HasRoom, HasWaiting, StandsFor, frame_end, frame_start, group_word, ahead, frame_register, end_register, number_register, rank_register, size_register, top_register, local_register, shared_register, heap_register, shared_mask_register, device_register, heap_mask_register, full_word}
 use Rattle.fk_sim_block.specs.Suits.{Flows, nothing}
 use Rattle.fk_gen.specs.Registers.{a0, a1, a2, a3}
 use Rattle.fk_gen.specs.Keeps.{Keeps}
 use Rattle.fk_gen.proofs.Values.{other_word}
-use Rattle.fk_gen.proofs.Standing.{lies_in, waiting_kept, stands_with}
+use Rattle.fk_gen.proofs.Standing.{lies_in, frame_stays, waiting_kept, stands_with}
 
 -- a memory is as it was below a word
 pub record SameBelow (bound : ℕ) (m m' : Memory) : Type 0 where
@@ -65,15 +66,20 @@ module _ (places : Places) where
   abbrev pub went : Owner → (index : ℕ) → (values : List ℕ) → (heap : Memory) → (top : ℕ) → Owner
   went p j vs heap top = record {
     runner = record { left = position j p.runner.left.callers; has = record (p.runner.has) { call = record (p.runner.has.call) { values = vs }; top = top } };
-    heap = heap;
+    heap = record (p.heap) { words = heap };
   }
 
-  pub stands_on : (p : Owner) (i j d top : ℕ) (vs : List ℕ) (heap : Memory) (h h' : Hart) → StandsFor places p h → p.runner.left.at ≡ i
+  -- and has another note about the global heap
+  abbrev pub noted : Owner → (index : ℕ) → (values : List ℕ) → (heap : Memory) → (top : ℕ) → (full : Bool) → Owner
+  noted p j vs heap top full = record (went p j vs heap top) { heap = record { words = heap; full = full } }
+
+  pub stands_noted : (p : Owner) (i j d top : ℕ) (vs : List ℕ) (heap : Memory) (full : Bool) (h h' : Hart) → StandsFor places p h → p.runner.left.at ≡ i
       → HasRoom places.frames i d → 0 < d → (core : List CoreOp) → Flows core places.frames nothing i j → SameRegisters h h'
-      → h'.registers top_register ≡ top → SameBelow (frame_end (length p.runner.has.callers) - d) h.local h'.local
+      → h'.registers top_register ≡ top → ((k : ℕ) → k < frame_end (length p.runner.has.callers) - d → (k ≡ full_word → ⊥) → h'.local k ≡ h.local k)
+      → h'.local full_word ≡ from_bool full
       → HasValues h'.local (frame_end (length p.runner.has.callers)) vs → ((k : ℕ) → k < 16384 → h'.local (16384 + k) ≡ heap k)
-      → StandsFor places (went p j vs heap top) h' × Keeps places (length p.runner.has.callers) d nothing h h'
-  stands_on p i j d top vs heap h h' stands at room some core flows same top' below values heap' =
+      → StandsFor places (noted p j vs heap top full) h' × Keeps places (length p.runner.has.callers) d nothing h h'
+  stands_noted p i j d top vs heap full h h' stands at room some core flows same top' below full' values heap' =
       let n = length p.runner.has.callers in
       let frame = subst (λ k. HasFrame places h.local n k p.runner.has.call) at stands.running in
       let few = file_few n i d h.local p.runner.has.call p.runner.left.callers p.runner.has.callers some refl frame room stands.waiting in
@@ -81,7 +87,7 @@ module _ (places : Places) where
       let start = l.start in
       let low = l.values in
       let short = l.few in (
-        stands_with places p (went p j vs heap top) h h' stands (
+        stands_with places p (noted p j vs heap top full) h h' stands (
           same.nought,
           same.frame,
           same.behind,
@@ -101,19 +107,36 @@ module _ (places : Places) where
             privates = λ word kept.
                 let kept' = flows.kept word kept refl in
                 let lt = l.kept word kept' in
-                below.same (frame_start places n + 7 + word) (omega arith) ∙ frame.privates word kept';
+                below (frame_start places n + 7 + word) (omega arith) (λ e. omega arith) ∙ frame.privates word kept';
+            group = λ number told.
+                frame_stays h.local h'.local n (p.runner.has.call.frames number) (below (group_word n) (omega arith) (λ e. omega arith)) (frame.group number (flows.group number told));
           };
-          waiting = waiting_kept places h.local h'.local p.runner.left.callers p.runner.has.callers few
-              (λ k le lt. below.same k (omega arith)) stands.waiting;
-          own = λ k lt. below.same (7 + k) (omega arith) ∙ stands.own k lt;
+          waiting = waiting_kept places h.local h'.local p.runner.left.callers p.runner.has.callers few (below 3 (omega arith) (λ e. omega arith))
+              (λ k le lt. below k (omega arith) (λ e. omega arith)) stands.waiting;
+          own = λ k lt. below (7 + k) (omega arith) (λ e. omega arith) ∙ stands.own k lt;
           heap = heap';
+          full = full';
         }),
         record {
           node = same.node;
           body = same.body;
           frames = same.frames;
           blocks = same.blocks;
-          header = λ k lt. below.same k (omega arith);
-          words = λ k from lt apart. below.same k (omega arith);
+          header = λ k lt apart. below k (omega arith) apart;
+          words = λ k from lt apart. below k (omega arith) (λ e. omega arith);
         },
       )
+
+  pub stands_on : (p : Owner) (i j d top : ℕ) (vs : List ℕ) (heap : Memory) (h h' : Hart) → StandsFor places p h → p.runner.left.at ≡ i
+      → HasRoom places.frames i d → 0 < d → (core : List CoreOp) → Flows core places.frames nothing i j → SameRegisters h h'
+      → h'.registers top_register ≡ top → SameBelow (frame_end (length p.runner.has.callers) - d) h.local h'.local
+      → HasValues h'.local (frame_end (length p.runner.has.callers)) vs → ((k : ℕ) → k < 16384 → h'.local (16384 + k) ≡ heap k)
+      → StandsFor places (went p j vs heap top) h' × Keeps places (length p.runner.has.callers) d nothing h h'
+  stands_on p i j d top vs heap h h' stands at room some core flows same top' below values heap' =
+      let n = length p.runner.has.callers in
+      let frame = subst (λ k. HasFrame places h.local n k p.runner.has.call) at stands.running in
+      let few = file_few n i d h.local p.runner.has.call p.runner.left.callers p.runner.has.callers some refl frame room stands.waiting in
+      let l = lies_in places n i d few frame.home room in
+      let low = l.values in
+      stands_noted p i j d top vs heap p.heap.full h h' stands at room some core flows same top' (λ k lt apart. below.same k lt)
+      (below.same 2 (omega arith) ∙ stands.full) values heap'

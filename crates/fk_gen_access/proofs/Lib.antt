@@ -1,6 +1,5 @@
 pub mod Addresses
 pub mod Checked
-pub mod Difference
 pub mod Takes
 pub mod Walk
 pub mod Does
@@ -12,5 +11,8 @@ pub mod Memory
 pub mod Accesses
 pub mod Refusals
 pub mod Mallocs
+pub mod Hire
 pub mod Law
 pub mod Made
+pub mod Hires
+pub mod HeapCode

@@ -70,7 +70,7 @@ module _ (core : List CoreOp) (image : Image) (places : Places) (i : ℕ) (op : 
       does core image places i op Take setting p b bound t h op_at en has (omega arith) (omega arith) tt (λ s. inl (record {
         hart = hart;
         store = s;
-        owner = went places p (suc i) (take_word (last vs) top ∷ before 1 vs) p.heap (top_word (last vs) top);
+        owner = went places p (suc i) (take_word (last vs) top ∷ before 1 vs) p.heap.words (top_word (last vs) top);
         part = ap (took s) (takes (last vs) p.runner.has (last_is_word vs en.ready.in_range.values) en.ready.in_range.top).processor;
         goes = λ t' earlier sh shows.
             let alone = can_run_goes b.commit (reached b.commit h) h some.place t' (number_of p) sh in
@@ -79,7 +79,7 @@ module _ (core : List CoreOp) (image : Image) (places : Places) (i : ℕ) (op : 
         live = en.at.live;
         can = λ told. (tt, (tt, (tt, (tt, (tt, (tt, (tt, (tt, (tt, (tt, (tt, (some.place, (tt, (tt, tt))))))))))))));
         at = refl;
-        stands = λ told. stands_on places p i (suc i) op.depth (top_word (last vs) top) (take_word (last vs) top ∷ before 1 vs) p.heap h m stands en.index fits.room some.some core (fits.goes_on true)
+        stands = λ told. stands_on places p i (suc i) op.depth (top_word (last vs) top) (take_word (last vs) top ∷ before 1 vs) p.heap.words h m stands en.index fits.room some.some core (fits.goes_on true)
             (record { nought = refl; frame = refl; behind = refl; number = refl; rank = refl; size = refl; local = refl; shared_data = refl; private_heap = refl; shared_mask = refl; devices = refl; heap_mask = refl; node = refl; body = refl; frames = refl; blocks = refl })
             more (below_put h.local (frame_end n - op.depth) found_at v (omega arith))
             (value_put h.local (frame_end n) found_at v (take_word (last vs) top) (before 1 vs) (omega arith) (omega arith) answer (values_before 1 h.local (frame_end n) vs stands.running.values))

@@ -17,7 +17,7 @@ use Rattle.fk_meaning_operation.specs.declared.operation.Multiprefix.{Multiprefi
 use Rattle.fk_meaning_operation.specs.declared.operation.Multiprefix.TheVariants.{MpAdd, MpMax, MpAnd, MpOr}
 use Rattle.fk_meaning_store.specs.Store.{Store}
 use Rattle.fk_meaning_store.specs.Serve.{may_use, shared_index, private_index, read, write, operator_of}
-use Rattle.fk_sim_block.specs.Owner.{Commons, found}
+use Rattle.fk_sim_block.specs.Owner.{Commons, Heaps, found}
 use Rattle.fk_gen_access.specs.Blocks.{combining}
 use Rattle.fk_gen_access.proofs.Addresses.{IsShared, IsPrivate, used, shared_is, not_shared, shared_place, private_place, private_few}
 use Rattle.fk_gen.proofs.Values.{other_word}
@@ -49,8 +49,8 @@ heap_put m heap i v has k lt = elim (cases_eq k i) [
 
 -- ---- loads
 
-load_at : (t : Setting) (number rs a : ℕ) (h : Hart) (sh : Shared) (s : Commons) (heap : Memory) → h.registers rs ≡ a → sh.words ≡ s.words
-    → ((k : ℕ) → k < 16384 → h.local (16384 + k) ≡ heap k) → (IsShared a ⊎ ((false ≡ false) × IsPrivate a))
+load_at : (t : Setting) (number rs a : ℕ) (h : Hart) (sh : Shared) (s : Commons) (heap : Heaps) → h.registers rs ≡ a → sh.words ≡ s.words
+    → ((k : ℕ) → k < 16384 → h.local (16384 + k) ≡ heap.words k) → (IsShared a ⊎ ((false ≡ false) × IsPrivate a))
     → perform t number (Lw 5 rs 0) h sh ≡ Goes (writes h 5 (read (found s heap) number a)) sh
 load_at t number rs a h sh s heap e words has (inl at) =
     let aligned = at.aligned in
@@ -66,8 +66,8 @@ load_at t number rs a h sh s heap e words has (inr (_, at)) =
     lw-local t number 5 rs 0 (16384 + private_index a) h sh (omega arith) (ap place_of same ∙ private_place a at)
     ∙ ap (λ v. Goes (writes h 5 v) sh) (has (private_index a) (private_few a at) ∙ sym (read_private (found s heap) number a at))
 
-pub load : (t : Setting) (number rs a : ℕ) (h : Hart) (sh : Shared) (s : Commons) (heap : Memory) → h.registers rs ≡ a → sh.words ≡ s.words
-    → ((k : ℕ) → k < 16384 → h.local (16384 + k) ≡ heap k) → may_use false a ≡ true
+pub load : (t : Setting) (number rs a : ℕ) (h : Hart) (sh : Shared) (s : Commons) (heap : Heaps) → h.registers rs ≡ a → sh.words ≡ s.words
+    → ((k : ℕ) → k < 16384 → h.local (16384 + k) ≡ heap.words k) → may_use false a ≡ true
     → perform t number (Lw 5 rs 0) h sh ≡ Goes (writes h 5 (read (found s heap) number a)) sh
 load t number rs a h sh s heap e words has may = load_at t number rs a h sh s heap e words has (used false a may)
 

@@ -45,7 +45,7 @@ print_does : (core : List CoreOp) (image : Image) (places : Places) (i : ℕ) (o
     → Fits core places.frames i op operation → 0 < op.depth → Flows core places.frames nothing i (suc i)
     → HasBlock image bound places i (lines (print_block device op.depth))
     → ((s : Commons) → part_of core image places i op operation setting p s
-    ≡ Passes (record s { output = s.output ++ bytes (last (values p.runner.has)) }) (idle (went places p (suc i) (before 1 (values p.runner.has)) p.heap p.runner.has.top)))
+    ≡ Passes (record s { output = s.output ++ bytes (last (values p.runner.has)) }) (idle (went places p (suc i) (before 1 (values p.runner.has)) p.heap.words p.runner.has.top)))
     → ((t' : MachineSetting) (g : Hart) (sh : Shared) → g.registers 26 ≡ 0x30000000
     → perform t' (number_of p) (Sw 26 5 device) g sh ≡ Goes (moves g) (record sh { output = sh.output ++ bytes (g.registers 5) }))
     → DoesAnd core image places setting t p h 1 0 (Keeps places (length p.runner.has.callers) op.depth nothing h)
@@ -57,7 +57,7 @@ print_does core image places i op operation setting t p h device bytes bound op_
     does core image places i op operation setting p b bound t h op_at en has (omega arith) (omega arith) (found.place, tt) (λ s. inl (record {
       hart = moves committing;
       store = record s { output = s.output ++ bytes (last (values p.runner.has)) };
-      owner = went places p (suc i) (before 1 (values p.runner.has)) p.heap p.runner.has.top;
+      owner = went places p (suc i) (before 1 (values p.runner.has)) p.heap.words p.runner.has.top;
       part = part s;
       goes = λ t' earlier sh shows. (
         record sh { output = sh.output ++ bytes (committing.registers 5) },
@@ -75,7 +75,7 @@ print_does core image places i op operation setting t p h device bytes bound op_
       live = en.at.live;
       can = λ told. tt;
       at = refl;
-      stands = λ told. stands_on places p i (suc i) op.depth p.runner.has.top (before 1 (values p.runner.has)) p.heap h (moves committing) stands en.index fits.room some core flows
+      stands = λ told. stands_on places p i (suc i) op.depth p.runner.has.top (before 1 (values p.runner.has)) p.heap.words h (moves committing) stands en.index fits.room some core flows
           (record { nought = refl; frame = refl; behind = refl; number = refl; rank = refl; size = refl; local = refl; shared_data = refl; private_heap = refl; shared_mask = refl; devices = refl; heap_mask = refl; node = refl; body = refl; frames = refl; blocks = refl })
           stands.top (record { same = λ j lt. refl })
           (values_before 1 h.local (frame_end (length p.runner.has.callers)) (values p.runner.has) stands.running.values)

@@ -252,13 +252,13 @@ module _ (core : List CoreOp) (image : Image) (places : Places) (i : ℕ) (op : 
       let e = after told idle Plain g in
       let same = c.same in
       let on =
-      stands_on places p i (suc i) op.depth p.runner.has.top vs p.heap h e stands en.index here.fits.room (let some = here.fits.values in omega arith) core (here.fits.goes_on true)
+      stands_on places p i (suc i) op.depth p.runner.has.top vs p.heap.words h e stands en.index here.fits.room (let some = here.fits.values in omega arith) core (here.fits.goes_on true)
       (record { nought = same.nought; frame = same.frame; behind = same.behind; number = same.number; rank = same.rank; size = same.size; local = same.local; shared_data = same.shared_data; private_heap = same.private_heap; shared_mask = same.shared_mask; devices = same.devices; heap_mask = same.heap_mask; node = same.node; body = same.body; frames = same.frames; blocks = same.blocks })
       (c.top ∙ stands.top)
       (record { same = λ j lt. c.local j })
       (values_kept h.local e.local (frame_end n) vs (omega arith) (λ j from lt. c.local j) stands.running.values)
       (λ k lt. c.local (16384 + k) ∙ stands.heap k lt) in
-      request_does_by core image places setting t i op (Check alone) p h here.at refl en before 0 (omega arith) (omega arith) g c.runs kc idle at c.pc c.live KeepsMost
+      request_does_by core image places setting t i op (Check alone) p h here.at refl refl en before 0 (omega arith) (omega arith) g c.runs kc idle at c.pc c.live KeepsMost
       (λ s. inl (record {
         hart = e;
         store = found s p.heap;
@@ -281,7 +281,7 @@ module _ (core : List CoreOp) (image : Image) (places : Places) (i : ℕ) (op : 
   refuses alone here before kc g c at may =
       let few = c.few in
       let device : g.registers 26 ≡ 0x30000000 = c.same.devices ∙ here.enters.at.stands.devices in
-      request_does_by core image places setting t i op (Check alone) p h here.at refl here.enters before 0 (omega arith) (omega arith) g c.runs kc refuse at c.pc c.live KeepsMost
+      request_does_by core image places setting t i op (Check alone) p h here.at refl refl here.enters before 0 (omega arith) (omega arith) g c.runs kc refuse at c.pc c.live KeepsMost
       (λ s. inr (record {
         kind = BadAddress;
         refused = asked alone s false may;

@@ -1,9 +1,8 @@
 -- What the instructions of `malloc` come to.
-use Rattle.std.proofs.Common.{◌≡◌, ℕ, ◌+◌, ◌-◌, ◌*◌, ◌/◌, ◌^◌, ◌<◌, ◌≤◌, ap, ◌∙◌, sym, arith, ◌⊎◌, inl, inr}
-use Rattle.std.specs.Prelude.{nat_lt, if◌then◌else◌, bit_and}
+use Rattle.std.proofs.Common.{◌≡◌, ℕ, ◌+◌, ◌-◌, ◌*◌, ◌^◌, ◌<◌, ◌≤◌, ap, ◌∙◌, sym, arith, ◌⊎◌, inl, inr}
+use Rattle.std.specs.Prelude.{nat_lt, if◌then◌else◌}
 use Rattle.std.specs.Int.{from_bool}
 use Rattle.std.specs.Int.Bits.{and_zero_r}
-use Rattle.std.proofs.lemmas.Nat.Bits.{and_high_mask}
 use Rattle.std.proofs.lemmas.Bool.{lt-ltb, le-ltb, eq-eqb, ne_eqb, cases_lt}
 use Rattle.fk_num.specs.Word.{word_sum}
 use Rattle.fk_num.specs.Op.{applied}
@@ -12,7 +11,8 @@ use Rattle.fk_meaning_store.specs.Store.{private_words, private_address}
 use Rattle.fk_meaning_store.specs.Serve.{words_of}
 use Rattle.fk_meaning.specs.Processor.{Processor, in_place}
 use Rattle.fk_meaning.specs.Local.{taken}
-use Rattle.fk_gen_access.proofs.Difference.{difference}
+use Rattle.fk_gen.proofs.Difference.{difference}
+use Rattle.fk_gen.proofs.Sizes.{ones, words_small, words_large}
 
 -- the words of a size, how many there are left, all ones where they are enough, and else 0
 abbrev pub size_word : (bytes : ℕ) → ℕ
@@ -37,21 +37,12 @@ pub record Takes (bytes : ℕ) (p : Processor) : Type 0 where
 left_is : (top : ℕ) → top ≤ 16384 → left_word top ≡ 16384 - top
 left_is top le = difference (4 * 4096) top (omega arith) ∙ omega arith
 
-ones : (x : ℕ) → x < 2 ^ 32 → bit_and x (2 ^ 32 - 1) ≡ x
-ones x lt = and_high_mask 32 0 (omega arith) x lt ∙ omega arith
-
 -- where they are not enough
 refused_mask : (bytes top : ℕ) → left_word top ≤ word_sum (size_word bytes) 0xffffffff → enough bytes top ≡ 0
 refused_mask bytes top le = ap (λ b. applied Sub 0 (from_bool b)) (le-ltb (word_sum (size_word bytes) 0xffffffff) (left_word top) le)
 
 enough_mask : (bytes top : ℕ) → word_sum (size_word bytes) 0xffffffff < left_word top → enough bytes top ≡ 2 ^ 32 - 1
 enough_mask bytes top lt = ap (λ b. applied Sub 0 (from_bool b)) (lt-ltb (word_sum (size_word bytes) 0xffffffff) (left_word top) lt)
-
-words_small : (bytes : ℕ) → bytes < 2 ^ 31 → words_of bytes ≡ (bytes + 3) / 4
-words_small bytes lt = ap (λ b. if b then (bytes + 3) / 4 else 0) (lt-ltb bytes (2 ^ 31) lt)
-
-words_large : (bytes : ℕ) → 2 ^ 31 ≤ bytes → words_of bytes ≡ 0
-words_large bytes le = ap (λ b. if b then (bytes + 3) / 4 else 0) (le-ltb bytes (2 ^ 31) le)
 
 -- none are taken
 taken_none : (words : ℕ) (p : Processor) → words ≡ 0 → taken words p ≡ in_place 0 p

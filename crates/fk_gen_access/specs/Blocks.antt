@@ -8,7 +8,7 @@ use Rattle.fk_meaning_operation.specs.declared.operation.Operation.{Operation}
 use Rattle.fk_meaning_operation.specs.declared.operation.Operation.TheVariants.{Take, Check, Read}
 use Rattle.fk_meaning_operation.specs.declared.operation.Operation.TheVariants.{Write, Combine}
 use Rattle.fk_meaning_operation.specs.declared.operation.Operation.TheVariants.{PrintNumber}
-use Rattle.fk_meaning_operation.specs.declared.operation.Operation.TheVariants.{PrintByte}
+use Rattle.fk_meaning_operation.specs.declared.operation.Operation.TheVariants.{PrintByte, Heap}
 use Rattle.fk_isa.specs.declared.instruction.Instruction.{Instruction}
 use Rattle.fk_isa.specs.declared.instruction.Instruction.TheVariants.{Lui, Addi, Slli, Srli, Add}
 use Rattle.fk_isa.specs.declared.instruction.Instruction.TheVariants.{Sub, Sltu, And, Beq, Lw, Sw}
@@ -21,6 +21,7 @@ use Rattle.fk_core.specs.Numbers.{operation_of}
 use Rattle.fk_gen.specs.declared.placed.Placed.{Placed}
 use Rattle.fk_gen.specs.Registers.{zero_register, t0, t1, t2, t3}
 use Rattle.fk_gen.specs.Lines.{quiet, commits, at_value, load_number}
+use Rattle.fk_gen_access.specs.Heap.{hire_block}
 
 -- A block without branches: the instructions before its commit, the commit, and those after it.
 pub record Straight : Type 0 where
@@ -153,6 +154,7 @@ is_access (Some Write) = true
 is_access (Some (Combine by)) = true
 is_access (Some PrintNumber) = true
 is_access (Some PrintByte) = true
+is_access (Some Heap) = true
 is_access operation = false
 
 -- The block of an access that finds `depth` values, at a site.
@@ -164,6 +166,7 @@ block_of (Some Write) d site = lines (write_block d)
 block_of (Some (Combine by)) d site = lines (combine_block by d)
 block_of (Some PrintNumber) d site = lines (print_block number_device d)
 block_of (Some PrintByte) d site = lines (print_block byte_device d)
+block_of (Some Heap) d site = hire_block d
 block_of operation d site = []
 
 -- The number of instructions before the commit of the block of an access, and after it.
@@ -178,6 +181,7 @@ before_commit Write site = 2
 before_commit (Combine by) site = 2
 before_commit PrintNumber site = 1
 before_commit PrintByte site = 1
+before_commit Heap site = 16
 before_commit operation site = 0
 
 abbrev pub behind_commit : Operation → ℕ
@@ -185,6 +189,7 @@ behind_commit Take = 14
 behind_commit Read = 1
 behind_commit Write = 1
 behind_commit (Combine by) = 1
+behind_commit Heap = 18
 behind_commit operation = 0
 
 -- A block is made for an access that finds at most 56 values.

@@ -1,2 +1,4 @@
 pub mod Blocks
+pub mod Heap
+pub mod HeapLaw
 pub mod Law

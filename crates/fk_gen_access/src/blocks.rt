@@ -9,6 +9,7 @@ ghost use Rattle.fk_gen_access.specs.Blocks.{store_earlier, combining, take_bloc
 ghost use Rattle.fk_gen_access.specs.Blocks.{shared_test, any_test, test_lines, read_block};
 ghost use Rattle.fk_gen_access.specs.Blocks.{write_block, combine_block, print_block};
 
+use crate::heap::hire;
 use fk_asm::{Assembler, Blocks};
 use fk_gen::numbers::at_value;
 use fk_gen::registers::{
@@ -30,7 +31,7 @@ const HEAP_WORDS: u32 = 4;
 /// The upper 20 bits of the address of the private heap.
 const PRIVATE_HEAP: u32 = 0x20010;
 
-/// The blocks of `malloc`, of checks of addresses, of reads, writes and
+/// The blocks of `malloc` and `shmalloc`, of checks of addresses, of reads, writes and
 /// multiprefixes, and of prints.
 #[derive(Clone, Copy, Drop)]
 pub struct AccessBlocks;
@@ -54,6 +55,7 @@ impl Blocks<Placed> for AccessBlocks {
             Some(Operation::Combine(by)) => combine(into, by, depth),
             Some(Operation::PrintNumber) => print(into, NUMBER_DEVICE, depth),
             Some(Operation::PrintByte) => print(into, BYTE_DEVICE, depth),
+            Some(Operation::Heap) => hire(into, depth),
             _ => Ok(()),
         }
     }
@@ -244,8 +246,8 @@ fn combining(by: Multiprefix) -> Instruction
     }
 }
 
-// Loads the last of `depth` values into a register.
-fn load_last(register: u8, depth: u32) -> Instruction
+/// Loads the last of `depth` values into a register.
+pub(crate) fn load_last(register: u8, depth: u32) -> Instruction
     requires register { register < 32 }
     requires depth { depth ≤ 56 }
     ensures exact { result ≡ load_last register depth }
@@ -264,8 +266,8 @@ fn load_earlier(register: u8, depth: u32) -> Instruction
     Instruction::Lw(register, END, at_value(depth.saturating_sub(1)))
 }
 
-// Stores a register in place of the last of `depth` values.
-fn store_last(register: u8, depth: u32) -> Instruction
+/// Stores a register in place of the last of `depth` values.
+pub(crate) fn store_last(register: u8, depth: u32) -> Instruction
     requires register { register < 32 }
     requires depth { depth ≤ 56 }
     ensures exact { result ≡ store_last register depth }

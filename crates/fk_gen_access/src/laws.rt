@@ -1,5 +1,6 @@
 //! Laws of the blocks of accesses.
 
+ghost use Rattle.fk_gen_access.specs.HeapLaw.{HeapCodeHires};
 ghost use Rattle.fk_gen_access.specs.Law.{AccessBlocksDo, AccessBlocksKeep};
 
 /// The block of an access, in place, does the access as the law of blocks requires. A hart that
@@ -14,4 +15,12 @@ pub fn access_blocks_do()
 /// values.
 pub fn access_blocks_keep()
     ensures { AccessBlocksKeep }
+{}
+
+/// The code that all blocks of `shmalloc` share, in place: a hart that comes to it with a size
+/// commits once, by an addition to the count of words asked for. Then it goes on with the address
+/// of the block that comes behind those counted before, or 0. Equally many cycles come before the
+/// commit, and equally many after it, for each size and count.
+pub fn heap_code_hires()
+    ensures { HeapCodeHires }
 {}
