@@ -30,7 +30,7 @@ use Rattle.fk_sim_block.specs.Node.{Nestings, HasOuter, OwnsHeader, control_addr
 use Rattle.fk_sim_block.proofs.Spaces.{space_kept}
 use Rattle.fk_sim_block.specs.Lockstep.{IsMember, AreMembers, AllEnter, HaveStepped, highest_value, stepped, is_due}
 use Rattle.fk_gen_group.specs.Laws.{IsInPlace, GroupsAgree}
-use Rattle.fk_gen_group.proofs.Members.{Both, all_stand, entered, at_block, each_on, each_standing, stand_on, all_alone, all_at_own, own_word, values_of, no_values, told_highest, all_due, apart}
+use Rattle.fk_gen_group.proofs.Members.{Both, all_stand, entered, at_block, each_on, each_standing, stand_on, all_alone, all_at_own, own_word, values_of, no_values, told_highest, all_due}
 use Rattle.fk_gen_group.proofs.Last.{value_word, IsValue, is_value, is_last}
 use Rattle.fk_gen_group.proofs.Levels.{below_values, lies_below, outer_on, many_callers}
 
@@ -278,7 +278,7 @@ module _ (core : List CoreOp) (image : Image) (bound : ℕ → ℕ) (places : Pl
       (λ ms2 own2. Commits source image mine t2 1 ms2 ps own2 (Goal t0 ps own))
       (λ ms2 own2 y.
       cycle_commits source image mine t2 1 ms2 ps (map (is_due core i op Agree) ps) own2 (λ ms3 own3. NodeRun image mine t3 1 ms3 own3 (λ ms4 own4. Ready ps own ms4 own4))
-      (apart core setting i op Agree mine)
+      owns.apart
       (all_due core setting i op Agree Loaded ms2 ps place.stands refl (due_here 0) y.1)
       (cycle_map image mine t2 1 ms2 own2 (λ ms3 own3. AllAreAt (suc (suc (suc k))) ms3 × Both (Has (stored_value (own1 w) ps)) ms3 ps × (own3 ≡ own2))
       (λ ms3 own3. NodeRun image mine t3 1 ms3 own3 (λ ms4 own4. Ready ps own ms4 own4))

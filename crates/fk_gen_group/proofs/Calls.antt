@@ -1,10 +1,10 @@
 -- Calls and their ends keep their harts in their nodes.
-use Rattle.std.proofs.Common.{◌≡◌, ℕ, suc, ◌-◌, List, [], ◌∷◌, length, Bool, false, Option, sym, ap, subst, ◌∙◌, arith, refl}
+use Rattle.std.proofs.Common.{◌≡◌, ℕ, suc, ◌-◌, List, [], ◌∷◌, length, Bool, true, false, Option, sym, ap, subst, ◌∙◌, arith, refl}
 use Rattle.std.specs.Prelude.{◌==◌}
 use Rattle.fk_meaning_operation.specs.declared.operation.Operation.TheVariants.{Leave, Enter}
 use Rattle.fk_meaning_store.specs.Serve.{Answer, Served, Faults as Refused, serve}
 use Rattle.fk_meaning.specs.Processor.{Call, Processor, Setting, values, last, before}
-use Rattle.fk_meaning.specs.Local.{to_caller}
+use Rattle.fk_meaning.specs.Local.{to_caller, unframed}
 use Rattle.fk_meaning.specs.Request.{request}
 use Rattle.fk_meaning.specs.Round.{answered}
 use Rattle.fk_core.specs.declared.op.CoreOp.{CoreOp}
@@ -19,13 +19,13 @@ use Rattle.fk_sim_block.specs.Next.{OpAt, step_at}
 use Rattle.fk_sim_block.specs.Block.{Enters, HasDone}
 use Rattle.fk_gen.proofs.Does.{local_part, asks}
 use Rattle.fk_gen.proofs.Values.{length_before}
-use Rattle.fk_gen_flow.specs.Keeps.{KeepsBelow, result_word}
+use Rattle.fk_gen_flow.specs.Keeps.{KeepsBelow, frames_behind, result_word}
 use Rattle.fk_gen_flow.proofs.Frames.{last_of}
 use Rattle.fk_sim_block.specs.Node.{Nestings, StandsInNode, HasOuter, HasNestings, LieBelow}
 use Rattle.fk_sim_block.specs.Lockstep.{IsMember}
 use Rattle.fk_gen_group.specs.InNode.{GivesLevels, HasNoLevels}
 use Rattle.fk_gen_group.proofs.Levels.{lies_below, values_behind, outer_of_call, outer_of_caller, many_callers}
-use Rattle.fk_gen_group.proofs.InNode.{SameGroup, stands_in_node, done_of}
+use Rattle.fk_gen_group.proofs.InNode.{SameGroup, stands_in_node, stands_with_frames, done_of}
 
 -- ---- a call
 
@@ -43,17 +43,17 @@ module _ (core : List CoreOp) (image : Image) (places : Places) (nestings : Nest
     pub left : (owner_of d).runner.left ≡ position (suc i) (back ∷ p.runner.left.callers)
     pub callers : (owner_of d).runner.has.callers ≡ waiting_call ∷ p.runner.has.callers
 
-  by_answer : (d : Doing) (s s' : Commons) (o : Answer) → as_part (number_of p) (answered (step_at core i op (Enter n) p.runner.left.callers) p.runner.has o) ≡ Passes s' d → HasEntered d
+  by_answer : (d : Doing) (s s' : Commons) (o : Answer) → as_part s.asked p (answered (step_at core i op (Enter n) p.runner.left.callers) p.runner.has o) ≡ Passes s' d → HasEntered d
   by_answer d s s' (Served store answer) e =
       subst HasEntered (ap (λ y. done_of y d) e) (record { group = record { number = refl; level = refl; outer = refl }; left = refl; callers = refl })
   by_answer d s s' (Refused kind) e = absurd (cc)
 
   pub has_entered : (d : Doing) (s s' : Commons) → p.runner.left.at ≡ i → part core setting 1 s p ≡ Passes s' d → HasEntered d
   has_entered d s s' at e =
-      by_answer d s s' (serve (request (Enter n) p.runner.has) (found s p.heap) (number_of p)) (sym (asks core image places setting i op (Enter n) s p stands refl at) ∙ e)
+      by_answer d s s' (serve (request (Enter n) p.runner.has) (found s p.heap) (number_of p)) (sym (asks core image places setting i op (Enter n) s p stands refl refl at) ∙ e)
 
   pub enters_in_node : (t : MachineSetting) (runs : Option ℕ) (first : ℕ) (m : Member) (h' : Hart) (d : Doing) → Enters core image places setting t i op (Enter n) p m.hart
-      → IsMember places nestings setting runs first m p → HasDone core image places d h' → KeepsBelow (frame_end (length p.runner.has.callers)) m.hart h' → HasEntered d
+      → IsMember places nestings setting runs first m p → HasDone core image places d h' → KeepsBelow (frame_end (length p.runner.has.callers)) (m.hart.registers 12) m.hart h' → HasEntered d
       → StandsInNode places nestings setting runs (owner_of d) h'
   enters_in_node t runs first m h' d en member done keeps did =
       let w = length p.runner.has.callers in
@@ -72,7 +72,7 @@ module _ (core : List CoreOp) (image : Image) (places : Places) (nestings : Nest
       outer_of_call places nestings setting.processors (number_of p) m.hart.local h'.local i back (suc i) callers p.runner.has.outer levels.few levels.stay levels.none (omega arith)
       (λ x lt. keeps.words x (omega arith))
       (subst (λ a. HasOuter places nestings setting.processors (number_of p) m.hart.local (a ∷ callers) p.runner.has.outer) en.index member.node.outer.0) in
-      stands_in_node places nestings setting runs first m p (owner_of d) h' member keeps.node keeps.body keeps.frames keeps.blocks did.group
+      stands_in_node places nestings setting runs first m p (owner_of d) h' member keeps.node keeps.body keeps.frames_end keeps.blocks did.group
       (subst (λ cs. HasNestings places nestings setting.processors (number_of p) h'.local (owner_of d).runner.left.at (owner_of d).runner.left.callers cs p.runner.has.outer) (sym did.callers)
       (subst (λ (l : Position). HasNestings places nestings setting.processors (number_of p) h'.local l.at l.callers calls p.runner.has.outer) (sym did.left)
       (on, (omega arith, member.node.outer.1))))
@@ -91,21 +91,35 @@ is_caller : (gives : Bool) (v : ℕ) (p : Processor) (calls : List Call) → p.c
 is_caller gives v p [] e = record { group = record { number = refl; level = refl; outer = refl }; callers = e }
 is_caller gives v p (c ∷ calls) e = record { group = record { number = refl; level = refl; outer = refl }; callers = refl }
 
-module _ (core : List CoreOp) (image : Image) (places : Places) (nestings : Nestings) (i : ℕ) (op : CoreOp) (gives : Bool) (stands : OpAt core i op (Leave gives false))
+unframed_callers : (framed : Bool) (p : Processor) → (unframed framed p).callers ≡ p.callers
+unframed_callers true p = refl
+unframed_callers false p = refl
+
+-- with the space that the end of the call leaves
+left_node : (framed : Bool) (places : Places) (nestings : Nestings) (setting : Setting) (runs : Option ℕ) (first : ℕ) (m : Member) (p q : Owner) (h' : Hart) (word : ℕ)
+    → IsMember places nestings setting runs first m p → KeepsBelow word (frames_behind framed p.runner.has m.hart) m.hart h' → SameGroup (unframed framed p.runner.has) q.runner.has
+    → HasNestings places nestings setting.processors (number_of p) h'.local q.runner.left.at q.runner.left.callers q.runner.has.callers p.runner.has.outer
+    → StandsInNode places nestings setting runs q h'
+left_node true places nestings setting runs first m p q h' word member keeps group held =
+    stands_with_frames places nestings setting runs first (p.runner.has.call.frames 0) m p q h' member keeps.node keeps.body keeps.frames_end keeps.blocks group.number group.level group.outer held
+left_node false places nestings setting runs first m p q h' word member keeps group held =
+    stands_in_node places nestings setting runs first m p q h' member keeps.node keeps.body keeps.frames_end keeps.blocks group held
+
+module _ (core : List CoreOp) (image : Image) (places : Places) (nestings : Nestings) (i : ℕ) (op : CoreOp) (gives framed : Bool) (stands : OpAt core i op (Leave gives framed))
     (levels : HasNoLevels places nestings i) (setting : Setting) (p : Owner) where
   pub record HasLeft (d : Doing) : Type 0 where
-    pub group : SameGroup p.runner.has (owner_of d).runner.has
+    pub group : SameGroup (unframed framed p.runner.has) (owner_of d).runner.has
     pub left : (owner_of d).runner.left ≡ returned core p.runner.left.callers
     pub callers : (owner_of d).runner.has.callers ≡ past p.runner.has.callers
 
   pub has_left : (d : Doing) (s s' : Commons) → p.runner.left.at ≡ i → part core setting 1 s p ≡ Passes s' d → HasLeft d
   has_left d s s' at e =
-      let caller = is_caller gives (last (values p.runner.has)) p.runner.has p.runner.has.callers refl in
-      subst HasLeft (ap (λ y. done_of y d) (sym (local_part core image places setting i op (Leave gives false) s p stands refl at) ∙ e))
+      let caller = is_caller gives (last (values p.runner.has)) (unframed framed p.runner.has) p.runner.has.callers (unframed_callers framed p.runner.has) in
+      subst HasLeft (ap (λ y. done_of y d) (sym (local_part core image places setting i op (Leave gives framed) s p stands refl at) ∙ e))
       (record { group = caller.group; left = refl; callers = caller.callers })
 
-  pub leaves_in_node : (t : MachineSetting) (runs : Option ℕ) (first : ℕ) (m : Member) (h' : Hart) (d : Doing) → Enters core image places setting t i op (Leave gives false) p m.hart
-      → IsMember places nestings setting runs first m p → KeepsBelow (result_word p.runner.has.callers) m.hart h' → HasLeft d
+  pub leaves_in_node : (t : MachineSetting) (runs : Option ℕ) (first : ℕ) (m : Member) (h' : Hart) (d : Doing) → Enters core image places setting t i op (Leave gives framed) p m.hart
+      → IsMember places nestings setting runs first m p → KeepsBelow (result_word p.runner.has.callers) (frames_behind framed p.runner.has m.hart) m.hart h' → HasLeft d
       → StandsInNode places nestings setting runs (owner_of d) h'
   leaves_in_node t runs first m h' d en member keeps did =
       let l = last_of places m.hart.local p.runner.left.callers p.runner.has.callers en.at.stands.waiting en.ready.may in
@@ -120,7 +134,7 @@ module _ (core : List CoreOp) (image : Image) (places : Places) (nestings : Nest
       let on =
       outer_of_caller places nestings setting.processors (number_of p) m.hart.local h'.local i l.back l.call l.backs' l.calls' p.runner.has.outer levels.few levels.none below many
       (λ x lt. keeps.words x (omega arith)) held in
-      stands_in_node places nestings setting runs first m p (owner_of d) h' member keeps.node keeps.body keeps.frames keeps.blocks did.group
+      left_node framed places nestings setting runs first m p (owner_of d) h' (result_word p.runner.has.callers) member keeps did.group
       (subst (λ cs. HasNestings places nestings setting.processors (number_of p) h'.local (owner_of d).runner.left.at (owner_of d).runner.left.callers cs p.runner.has.outer)
       (sym (did.callers ∙ ap past l.are_calls))
       (subst (λ (x : Position). HasNestings places nestings setting.processors (number_of p) h'.local x.at x.callers l.calls' p.runner.has.outer)

@@ -24,10 +24,10 @@ use Rattle.fk_gen.specs.Lines.{label_of, goes_to}
 use Rattle.fk_isa.specs.declared.instruction.Instruction.TheVariants as isa
 use Rattle.fk_gen.proofs.Walk.{Quiets, Plain, TellsNumber, TellsHarts, quiet_lines, walk, told_of, walked, lines_split, runs_join}
 use Rattle.fk_gen.proofs.Jumps.{jumps, goes_to_pc, jal_private}
-use Rattle.fk_sim_block.specs.Node.{Nestings, IsRoot, HasOuter, HasSaved, past_levels, saved_at, root_words}
+use Rattle.fk_sim_block.specs.Node.{Nestings, OwnsHeader, IsRoot, HasOuter, HasSaved, past_levels, saved_at, root_words}
 use Rattle.fk_sim_block.specs.Lockstep.{IsMember, AllComeAlone, AllEnter, LevelsStay, IsInStart, AreInStart, NoneSaved, is_due}
 use Rattle.fk_gen_group.specs.Laws.{IsInPlace, GroupsEnd}
-use Rattle.fk_gen_group.proofs.Members.{Both, all_stand, at_block, each_standing, all_alone, all_due, apart}
+use Rattle.fk_gen_group.proofs.Members.{Both, all_stand, at_block, each_standing, all_alone, all_due}
 use Rattle.fk_gen_group.proofs.Behind.{goes_behind}
 
 module _ (places : Places) (nestings : Nestings) (processors number : ℕ) where
@@ -47,7 +47,7 @@ module _ (places : Places) (nestings : Nestings) (processors number : ℕ) where
   )
 
 module _ (core : List CoreOp) (image : Image) (bound : ℕ → ℕ) (places : Places) (nestings : Nestings) (i : ℕ) (op : CoreOp) (place : IsInPlace core image bound places nestings i op End)
-    (leads : LevelsStay nestings i op.target) (setting : Setting) (t0 : MachineSetting) (mine : Words) (first : ℕ) (highest lowest size : ℕ) where
+    (leads : LevelsStay nestings i op.target) (setting : Setting) (t0 : MachineSetting) (mine : Words) (first : ℕ) (owns : OwnsHeader mine first) (highest lowest size : ℕ) where
   record Came (m : Member) (p : Owner) : Type 0 where
     pub enters : Enters core image places setting t0 i op End p m.hart
     pub member : IsMember places nestings setting None first m p
@@ -139,6 +139,7 @@ module _ (core : List CoreOp) (image : Image) (bound : ℕ → ℕ) (places : Pl
             waiting = s.waiting;
             own = s.own;
             heap = s.heap;
+            full = s.full;
           };
         };
         node = record {
@@ -176,7 +177,7 @@ module _ (core : List CoreOp) (image : Image) (bound : ℕ → ℕ) (places : Pl
   together ms ps own holds all =
       let stand = all_stand (places.block i) Came ms ps (λ m p came. at_block core image places nestings i op End setting t0 first m p came.enters) all in
       cycle_commits (core_source core setting) image mine t0 1 ms ps (map (is_due core i op End) ps) own (λ ms' own'. Gone ms' ps × (own' ≡ own))
-      (apart core setting i op End mine)
+      owns.apart
       (all_due core setting i op End Came ms ps place.stands refl due_here all)
       (cycle_map image mine t0 1 ms own (λ ms' own'. (ms' ≡ on_each committed ms) × (own' ≡ own)) (λ ms' own'. Gone ms' ps × (own' ≡ own))
       (λ ms' own' x.
@@ -185,8 +186,8 @@ module _ (core : List CoreOp) (image : Image) (bound : ℕ → ℕ) (places : Pl
       (all_alone Came t0 (Addi 18 0 0) committed ms ps (λ m p came s. (s.reserved, addi t0 m.number 18 0 0 m.hart s)) all)))
 
 pub groups_end : GroupsEnd
-groups_end core image bound places nestings i op lowest size place leads setting t mine first [] [] own all start = record { counted = tt; chain = (refl, (tt, refl)) }
-groups_end core image bound places nestings i op lowest size place leads setting t mine first (m ∷ ms) (p ∷ ps) own all start =
-    let came = came_all core image bound places nestings i op place leads setting t mine first 0 lowest size (m ∷ ms) (p ∷ ps) all start in
-    together core image bound places nestings i op place leads setting t mine first 0 lowest size (m ∷ ms) (p ∷ ps) own all.0.running.code came
-groups_end core image bound places nestings i op lowest size place leads setting t mine first ms ps own all start = absurd (assumption all)
+groups_end core image bound places nestings i op lowest size place leads setting t mine first [] [] own owns all start = record { counted = tt; chain = (refl, (tt, refl)) }
+groups_end core image bound places nestings i op lowest size place leads setting t mine first (m ∷ ms) (p ∷ ps) own owns all start =
+    let came = came_all core image bound places nestings i op place leads setting t mine first owns 0 lowest size (m ∷ ms) (p ∷ ps) all start in
+    together core image bound places nestings i op place leads setting t mine first owns 0 lowest size (m ∷ ms) (p ∷ ps) own all.0.running.code came
+groups_end core image bound places nestings i op lowest size place leads setting t mine first ms ps own owns all start = absurd (assumption all)

@@ -14,7 +14,7 @@ use Rattle.fk_gen_group.specs.Start.{gathering_of}
 
 -- no variables, and code of one block a word; at index 9 one level is saved
 frames : Frames
-frames = record { keeps = λ index word. false; is_main = λ index. true; of_file = 0 }
+frames = record { keeps = λ index word. false; is_main = λ index. true; group = λ index. None; of_file = 0 }
 
 places : Places
 places = record { block = λ index. index; returns = λ index. None; frames = frames }
@@ -40,7 +40,7 @@ in_level index level outer = record {
     left = record { at = index; callers = [] };
     has = record (first_processor setting (λ i. 0) 2) { level = level; outer = outer };
   };
-  heap = λ i. saved (16384 + i);
+  heap = record { words = λ i. saved (16384 + i); full = false };
 }
 
 group : Level
@@ -82,7 +82,7 @@ hart : (index : ℕ) → Level → (node body : ℕ) → Hart
 hart index level node body = record { registers = registers level node body; pc = 4 * index; local = saved; ended = false }
 
 stands : (index : ℕ) (level : Level) (outer : List Level) (node body : ℕ) → StandsAt places (in_level index level outer) (hart index level node body)
-unfolding in_level hart registers places frames setting
+unfolding in_level hart registers places frames setting saved
 stands index level outer node body = record {
   live = refl;
   at = refl;
@@ -100,10 +100,11 @@ stands index level outer node body = record {
     shared_mask = refl;
     devices = refl;
     heap_mask = refl;
-    running = record { home = refl; values = tt; privates = λ i e. absurd (cc) };
+    running = record { home = refl; values = tt; privates = λ i e. absurd (cc); group = λ number told. absurd (cc) };
     waiting = tt;
     own = λ i lt. absurd (omega (arith, lt));
     heap = λ i lt. refl;
+    full = refl;
   };
 }
 

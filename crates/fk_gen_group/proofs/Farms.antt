@@ -22,7 +22,7 @@ use Rattle.fk_sim_block.specs.Node.{Nestings}
 use Rattle.fk_sim_block.proofs.Spaces.{space_kept}
 use Rattle.fk_sim_block.specs.Lockstep.{IsMember, AllComeAlone, AllEnter, AreOfSize, HaveParted, highest_value, stepped, is_due}
 use Rattle.fk_gen_group.specs.Laws.{IsInPlace, GroupsSetFree}
-use Rattle.fk_gen_group.proofs.Members.{Both, all_stand, at_block, each_standing, all_alone, all_due, apart}
+use Rattle.fk_gen_group.proofs.Members.{Both, all_stand, at_block, each_standing, all_alone, all_due}
 use Rattle.fk_gen_group.proofs.Behind.{goes_behind}
 
 module _ (core : List CoreOp) (image : Image) (bound : ℕ → ℕ) (places : Places) (nestings : Nestings) (i : ℕ) (op : CoreOp) (place : IsInPlace core image bound places nestings i op Farm)
@@ -99,7 +99,7 @@ groups_set_free core image bound places nestings i op lowest size few place sett
     let came = came_all core image bound places nestings i op place setting t mine first highest lowest size few (m ∷ ms) (p ∷ ps) all sized in
     let Next : List Member → Memory → Type 0 = λ ms' own'. HaveParted core image places nestings i op Farm setting (later t) 0 (λ p. Some size) first lowest size (p ∷ ps) own ms' own' in
     cycle_commits (core_source core setting) image mine t 1 (m ∷ ms) (p ∷ ps) (map (is_due core i op Farm) (p ∷ ps)) own Next
-    (apart core setting i op Farm mine)
+    owns.apart
     (all_due core setting i op Farm (Came core image bound places nestings i op place setting t mine first highest lowest size few) (m ∷ ms) (p ∷ ps) place.stands refl
     (due_here core image bound places nestings i op place setting t mine first highest lowest size few) came)
     (cycle_map image mine t 1 (m ∷ ms) own

@@ -7,9 +7,10 @@ use Rattle.fk_meaning_operation.specs.declared.kinds.Class.TheVariants.{Local, R
 use Rattle.fk_meaning_operation.specs.declared.operation.Operation.{Operation}
 use Rattle.fk_meaning_operation.specs.declared.operation.Operation.TheVariants.{Push, Set, Branch, Take, Leave, Enter, Halt, End}
 use Rattle.fk_meaning_operation.specs.declared.operation.Variable.TheVariants.{Private, OfFile}
-use Rattle.fk_meaning_store.specs.Store.{private_words, private_address}
+use Rattle.fk_sim_heap.specs.Count.{added_by, block_at}
+use Rattle.fk_meaning_store.specs.Store.{private_words, private_address, heap_start}
 use Rattle.fk_meaning_store.specs.Serve.{Answer, Served, Faults as Refused, serve, words_of}
-use Rattle.fk_meaning.specs.Processor.{Processor, Setting, values, last, in_place}
+use Rattle.fk_meaning.specs.Processor.{Level, Processor, Setting, values, last, in_place}
 use Rattle.fk_meaning.specs.Local.{local, is_onward}
 use Rattle.fk_meaning.specs.Request.{request, with_answer}
 use Rattle.fk_meaning.specs.Round.{answered}
@@ -20,7 +21,7 @@ use Rattle.fk_machine.specs.Hart.{Hart, Setting as MachineSetting}
 use Rattle.fk_sim_nodes.specs.Node.{Member}
 use Rattle.fk_sim_nodes.specs.Source.{Part, Passes, Breaks}
 use Rattle.fk_sim_nodes.specs.OneHart.{OneDoes}
-use Rattle.fk_sim_block.specs.Owner.{Commons, Owner, Doing, number_of, owner_of, found, as_part, part, core_source}
+use Rattle.fk_sim_block.specs.Owner.{Commons, Owner, Doing, number_of, owner_of, found, as_part, is_hire, part, core_source}
 use Rattle.fk_sim_block.specs.Stands.{Places, HasFrame, frame_start}
 use Rattle.fk_sim_block.specs.Next.{OpAt, step_at}
 use Rattle.fk_sim_block.specs.Ready.{is_alone}
@@ -30,7 +31,7 @@ use Rattle.fk_gen.specs.Keeps.{Keeps, DoesAnd, BlockDoesBy, peak}
 use Rattle.fk_gen.specs.Lines.{label_of}
 use Rattle.fk_gen.proofs.Standing.{stands_with}
 use Rattle.fk_gen.proofs.Jumps.{jumps, jal_private}
-use Rattle.fk_gen.proofs.Does.{local_part, asks}
+use Rattle.fk_gen.proofs.Does.{local_part, asks, hired_part}
 use Rattle.fk_sim_block.specs.Node.{Nestings, StandsInNode, KnowsSpace, HasOuter, HasNestings, LieBelow, saved_at, first_word, control_address}
 use Rattle.fk_sim_block.proofs.Spaces.{space_kept}
 use Rattle.fk_sim_block.specs.Lockstep.{IsMember}
@@ -64,6 +65,40 @@ stands_in_node places nestings setting runs first m p q h' member node body fram
       subst (λ k. HasNestings places nestings setting.processors k h'.local q.runner.left.at q.runner.left.callers q.runner.has.callers q.runner.has.outer) (sym group.number)
       (subst (λ o. HasNestings places nestings setting.processors (number_of p) h'.local q.runner.left.at q.runner.left.callers q.runner.has.callers o) (sym group.outer) held);
 }
+
+-- one whose processor's group has its frames end elsewhere
+abbrev with_frames : (frames : ℕ) → Level → Level
+with_frames frames level = record level { space = record (level.space) { frames = frames } }
+
+word_with_frames : (frames : ℕ) (level : Level) (outer : List Level) → first_word (with_frames frames level) outer ≡ first_word level outer
+word_with_frames frames level [] = refl
+word_with_frames frames level (o ∷ outer) = refl
+
+space_with_frames : (frames : ℕ) (level : Level) (outer : List Level) (h h' : Hart) → h'.registers 12 ≡ control_address frames → h'.registers 13 ≡ h.registers 13
+    → KnowsSpace level outer h → KnowsSpace (with_frames frames level) outer h'
+space_with_frames frames level [] h h' e f known = tt
+space_with_frames frames level (o ∷ outer) h h' e f known = (e, f ∙ known.1)
+
+pub stands_with_frames : (places : Places) (nestings : Nestings) (setting : Setting) (runs : Option ℕ) (first frames : ℕ) (m : Member) (p q : Owner) (h' : Hart)
+    → IsMember places nestings setting runs first m p → h'.registers 10 ≡ m.hart.registers 10 → h'.registers 11 ≡ m.hart.registers 11 → h'.registers 12 ≡ control_address frames
+    → h'.registers 13 ≡ m.hart.registers 13 → q.runner.has.number ≡ p.runner.has.number → q.runner.has.level ≡ with_frames frames p.runner.has.level
+    → q.runner.has.outer ≡ p.runner.has.outer
+    → HasNestings places nestings setting.processors (number_of p) h'.local q.runner.left.at q.runner.left.callers q.runner.has.callers p.runner.has.outer
+    → StandsInNode places nestings setting runs q h'
+stands_with_frames places nestings setting runs first frames m p q h' member node body end blocks number level outer held =
+    let l = with_frames frames p.runner.has.level in
+    record {
+      node =
+          node ∙ member.node.node ∙ ap control_address (sym (word_with_frames frames p.runner.has.level p.runner.has.outer))
+          ∙ sym (ap (λ x. control_address (first_word x q.runner.has.outer)) level ∙ ap (λ o. control_address (first_word l o)) outer);
+      body = body_kept runs (m.hart.registers 11) (h'.registers 11) body member.node.body;
+      space =
+          subst (λ x. KnowsSpace x q.runner.has.outer h') (sym level)
+          (subst (λ o. KnowsSpace l o h') (sym outer) (space_with_frames frames p.runner.has.level p.runner.has.outer m.hart h' end blocks member.node.space));
+      outer =
+          subst (λ k. HasNestings places nestings setting.processors k h'.local q.runner.left.at q.runner.left.callers q.runner.has.callers q.runner.has.outer) (sym number)
+          (subst (λ o. HasNestings places nestings setting.processors (number_of p) h'.local q.runner.left.at q.runner.left.callers q.runner.has.callers o) (sym outer) held);
+    }
 
 module _ (core : List CoreOp) (image : Image) (places : Places) (nestings : Nestings) (setting : Setting) (p : Owner) where
   -- a block whose hart is in its node whatever its processor has done
@@ -171,7 +206,7 @@ module _ (core : List CoreOp) (image : Image) (places : Places) (nestings : Nest
     pub same : SameCalls p.runner.has (owner_of d).runner.has
     pub left : (owner_of d).runner.left ≡ position (follows core operation i op.target [] onward).at p.runner.left.callers
 
-  by_answer : (d : Doing) (s s' : Commons) (o : Answer) → as_part (number_of p) (answered (step_at core i op operation p.runner.left.callers) p.runner.has o) ≡ Passes s' d → IsSame d
+  by_answer : (d : Doing) (s s' : Commons) (o : Answer) → as_part s.asked p (answered (step_at core i op operation p.runner.left.callers) p.runner.has o) ≡ Passes s' d → IsSame d
   by_answer d s s' (Served store answer) e =
       let same = ap (λ y. done_of y d) e in
       subst IsSame same (record {
@@ -192,7 +227,17 @@ module _ (core : List CoreOp) (image : Image) (places : Places) (nestings : Nest
             same = local_same setting operation p.runner.has stays;
             left = stays_at core operation i op.target p.runner.left.callers (is_onward operation p.runner.has) alone stays;
           })
-      by Request kind = by_answer d s s' (serve (request operation p.runner.has) (found s p.heap) (number_of p)) (sym (asks core image places setting i op operation s p stands kind at) ∙ e)
+      by Request kind = ask (is_hire operation) refl
+        where
+          ask : (b : Bool) → is_hire operation ≡ b → IsSame d
+          ask false other = by_answer d s s' (serve (request operation p.runner.has) (found s p.heap) (number_of p)) (sym (asks core image places setting i op operation s p stands kind other at) ∙ e)
+          ask true hire =
+              let same = ap (λ y. done_of y d) (sym (hired_part core image places setting i op operation s p stands kind hire at) ∙ e) in
+              subst IsSame same (record {
+                onward = true;
+                same = answer_same operation (block_at (heap_start (setting.globals + setting.inputs)) s.asked (added_by p.heap.full (words_of (last (values p.runner.has))))) p.runner.has stays;
+                left = stays_at core operation i op.target p.runner.left.callers true alone stays;
+              })
       by Tree kind = absurd (never_tree operation alone kind)
 
   -- behind the block its hart is in the node
@@ -268,10 +313,12 @@ jumps_stay_in_node core image bound places nestings i op block flows few stay se
             home = flows.main ∙ running.home;
             values = running.values;
             privates = λ x kept. running.privates x (flows.kept x kept refl);
+            group = λ number told. running.group number (flows.group number told);
           };
           waiting = s.waiting;
           own = s.own;
           heap = s.heap;
+          full = s.full;
         });
       };
       node = record {

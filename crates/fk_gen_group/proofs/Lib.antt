@@ -20,6 +20,12 @@ pub mod Agree
 pub mod Meets
 -- that they are in phases there
 pub mod Phases
+-- a step that each member does by itself
+pub mod Taking
+-- a group frame is taken
+pub mod Frames
+-- a block of `shalloc` is taken
+pub mod Shallocs
 -- all members begin to run a body
 pub mod Farms
 -- one member runs a body

@@ -6,6 +6,7 @@ use Rattle.fk_num.specs.Word.{word_sum}
 use Rattle.fk_meaning_operation.specs.Kinds.{class_of}
 use Rattle.fk_meaning_operation.specs.declared.kinds.Class.TheVariants.{Tree}
 use Rattle.fk_meaning_operation.specs.declared.operation.Operation.{Operation}
+use Rattle.fk_meaning_store.specs.Store.{heap_start}
 use Rattle.fk_meaning.specs.Processor.{Setting, values, last}
 use Rattle.fk_meaning.specs.Round.{Passes as Going, Breaks as Broken, taking, do_local, request_phase, do_request}
 use Rattle.fk_meaning.specs.Group.{has_room}
@@ -15,18 +16,19 @@ use Rattle.fk_image.specs.declared.Image.{Image}
 use Rattle.fk_machine.specs.Hart.{Hart, Shared, Setting as MachineSetting}
 use Rattle.fk_machine.specs.Step.{perform}
 use Rattle.fk_machine.proofs.Places.{place_of-control}
-use Rattle.fk_sim_nodes.specs.Node.{Member, Words, add, AreApart}
-use Rattle.fk_sim_nodes.specs.Source.{Passes}
+use Rattle.fk_sim_nodes.specs.Node.{Member, Words, add}
+use Rattle.fk_sim_nodes.specs.Source.{Passes, Breaks}
 use Rattle.fk_sim_nodes.specs.Alone.{GoesAlone}
 use Rattle.fk_sim_nodes.specs.Together.{AllTake}
 use Rattle.fk_sim_nodes.specs.OnePlace.{AllAreAt, on_each, AllGoAlone, IsOwnWord, AllAtOwn, values_for, last_or}
-use Rattle.fk_sim_block.specs.Owner.{Commons, Owner, number_of, as_part, found, part, core_source}
+use Rattle.fk_sim_block.specs.Owner.{Commons, Owner, as_part, found, hires, asks as phase_of, part, core_source}
 use Rattle.fk_sim_block.specs.Stands.{Places}
 use Rattle.fk_sim_block.specs.Next.{OpAt, step_at}
 use Rattle.fk_sim_block.specs.Block.{Enters}
 use Rattle.fk_sim_block.proofs.Standing.{operations_are_next}
 use Rattle.fk_sim_block.specs.Node.{Nestings, OwnsHeader, control_address}
 use Rattle.fk_sim_block.specs.Lockstep.{IsMember, AllEnter, highest_value, is_due}
+use Rattle.fk_gen.proofs.Does.{tree_hires_none}
 
 -- something holds of each with its processor
 abbrev pub Both : (Member → Owner → Type 0) → List Member → List Owner → Type 0
@@ -131,9 +133,21 @@ module _ (core : List CoreOp) (setting : Setting) (i : ℕ) (op : CoreOp) (opera
       let step = step_at core i op operation p.runner.left.callers in
       let a = taking p.runner (Some step) in
       operations_are_next core i op operation setting s p stands e
-      ∙ ap (λ c. as_part (number_of p) (let b = do_local (next core) setting a c step in request_phase (found s p.heap) b b.due)) kind
-      ∙ ap (λ c. as_part (number_of p) (do_request (found s p.heap) a c step)) kind
-      ∙ ap (λ b. as_part (number_of p) (if b then Going (found s p.heap) a else Broken op.site)) room
+      ∙ ap (λ c. let b = do_local (next core) setting a c step in phase_of core setting s p b b.due) kind
+      ∙ ap (λ b. if b then hires (heap_start (setting.globals + setting.inputs)) s p a step else as_part s.asked p (request_phase (found s p.heap) a (Some step))) (tree_hires_none operation kind)
+      ∙ ap (λ c. as_part s.asked p (do_request (found s p.heap) a c step)) kind
+      ∙ ap (λ b. as_part s.asked p (if b then Going (found s p.heap) a else Broken op.site)) room
+
+  pub fault_part : (s : Commons) (p : Owner) → OpAt core i op operation → class_of operation ≡ Tree → has_room operation p.runner.has ≡ false → p.runner.left.at ≡ i
+      → part core setting 1 s p ≡ Breaks op.site
+  fault_part s p stands kind full e =
+      let step = step_at core i op operation p.runner.left.callers in
+      let a = taking p.runner (Some step) in
+      operations_are_next core i op operation setting s p stands e
+      ∙ ap (λ c. let b = do_local (next core) setting a c step in phase_of core setting s p b b.due) kind
+      ∙ ap (λ b. if b then hires (heap_start (setting.globals + setting.inputs)) s p a step else as_part s.asked p (request_phase (found s p.heap) a (Some step))) (tree_hires_none operation kind)
+      ∙ ap (λ c. as_part s.asked p (do_request (found s p.heap) a c step)) kind
+      ∙ ap (λ b. as_part s.asked p (if b then Going (found s p.heap) a else Broken op.site)) full
 
   pub all_due : (P : Member → Owner → Type 0) (ms : List Member) (ps : List Owner) → OpAt core i op operation → class_of operation ≡ Tree
       → ((m : Member) (p : Owner) → P m p → (has_room operation p.runner.has ≡ true) × (p.runner.left.at ≡ i)) → Both P ms ps
@@ -143,7 +157,3 @@ module _ (core : List CoreOp) (setting : Setting) (i : ℕ) (op : CoreOp) (opera
       let q = f m p all.0 in
       (λ s. due_part s p stands kind q.0 q.1, all_due P ms ps stands kind f all.1)
   all_due P ms ps stands kind f all = absurd (assumption all)
-
-  -- no control word is common to all
-  pub apart : (mine : Words) → AreApart mine (core_source core setting).common
-  apart mine = λ j own. refl

@@ -31,7 +31,7 @@ use Rattle.fk_sim_block.specs.Node.{Nestings, OwnsHeader, control_address, agree
 use Rattle.fk_sim_block.proofs.Spaces.{space_kept}
 use Rattle.fk_sim_block.specs.Lockstep.{IsMember, AllComeAlone, LevelsStay, HaveParted, NoneIs, IsLowest, one_runs, is_due}
 use Rattle.fk_gen_group.specs.Laws.{IsInPlace, GroupsSendOne}
-use Rattle.fk_gen_group.proofs.Members.{Both, all_stand, entered, at_block, each_on, stand_on, all_alone, all_at_own, all_due, apart}
+use Rattle.fk_gen_group.proofs.Members.{Both, all_stand, entered, at_block, each_on, stand_on, all_alone, all_at_own, all_due}
 use Rattle.fk_gen_group.proofs.Behind.{KeepsMost, kept, same_registers, goes_behind}
 
 module _ (core : List CoreOp) (image : Image) (bound : ℕ → ℕ) (places : Places) (nestings : Nestings) (i : ℕ) (op : CoreOp) (place : IsInPlace core image bound places nestings i op Seq)
@@ -387,7 +387,7 @@ module _ (core : List CoreOp) (image : Image) (bound : ℕ → ℕ) (places : Pl
       (λ ms3 own3. Commits source image mine t3 1 ms3 ps own3 (Goal ps own))
       (λ ms3 own3 z.
       cycle_commits source image mine t3 1 ms3 ps (map (is_due core i op Seq) ps) own3 (λ ms4 own4. Parted ps own ms4 own4)
-      (apart core setting i op Seq mine)
+      owns.apart
       (all_due core setting i op Seq Ready ms3 ps place.stands refl due_here z.1)
       (let many = as_many Ready ms3 ps z.1 in
       cycle_map image mine t3 1 ms3 own3 (λ ms4 own4. AllAreAt (suc (suc (suc (suc k)))) ms4 × FoundAll ms4 ps × ((j : ℕ) → j ≢ word → own4 j ≡ own3 j))

@@ -41,7 +41,7 @@ use Rattle.fk_gen_group.specs.Laws.{IsInPlace, GroupsStart}
 use Rattle.fk_gen_group.proofs.Performs.{bltu-taken, bltu-passed}
 use Rattle.fk_gen_group.proofs.Steps.{harts_arrive}
 use Rattle.fk_gen_group.proofs.Phases.{kept_at, keeps_polling, on_its_way}
-use Rattle.fk_gen_group.proofs.Members.{Both, all_stand, each_on, all_at_own, own_word, values_of, no_values, told_highest, all_due, apart}
+use Rattle.fk_gen_group.proofs.Members.{Both, all_stand, each_on, all_at_own, own_word, values_of, no_values, told_highest, all_due}
 use Rattle.fk_gen_group.proofs.Last.{value_word, is_value, is_last}
 use Rattle.fk_gen_group.proofs.Behind.{goes_behind_with}
 use Rattle.fk_gen_group.proofs.Sizes.{sized, sized_is, below_lesser, halfway, halfway_is}
@@ -474,6 +474,7 @@ module _ (core : List CoreOp) (image : Image) (bound : ℕ → ℕ) (places : Pl
                 waiting = s.waiting;
                 own = s.own;
                 heap = s.heap;
+                full = s.full;
               };
             };
             node = record {
@@ -589,7 +590,7 @@ module _ (core : List CoreOp) (image : Image) (bound : ℕ → ℕ) (places : Pl
         (λ ms' own'. Commits source image mine t1 1 ms' ps own' (λ ms'' ds own''. (ds ≡ map (is_due core i op Begin) ps) × Behind ps own ms'' own''))
         (λ ms' own' has.
         cycle_commits source image mine t1 1 ms' ps (map (is_due core i op Begin) ps) own' (λ ms'' own''. Behind ps own ms'' own'')
-        (apart core setting i op Begin mine)
+        owns.apart
         (all_due core setting i op Begin Stored ms' ps place.stands refl due_here has.stored)
         (commit_cycle ms' ps own own' has))
         (store_cycle ms ps own all)

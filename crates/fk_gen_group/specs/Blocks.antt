@@ -1,20 +1,22 @@
 -- The blocks of the steps of groups.
-use Rattle.std.specs.Prelude.{◌≡◌, ℕ, ◌*◌, ◌^◌, ◌<◌, ◌≤◌, List, [], ◌∷◌, ◌++◌, length, Bool, true}
-use Rattle.std.specs.Prelude.{false, Option, Some}
+use Rattle.std.specs.Prelude.{◌≡◌, ℕ, ◌+◌, ◌*◌, ◌^◌, ◌<◌, ◌≤◌, List, [], ◌∷◌, ◌++◌, length, Bool, true}
+use Rattle.std.specs.Prelude.{false, Option, Some, map}
 use Rattle.fk_meaning_operation.specs.declared.operation.Operation.{Operation}
 use Rattle.fk_meaning_operation.specs.declared.operation.Operation.TheVariants.{Begin, Agree, Farm}
 use Rattle.fk_meaning_operation.specs.declared.operation.Operation.TheVariants.{Seq, End, Resume}
-use Rattle.fk_meaning_operation.specs.declared.operation.Operation.TheVariants.{Meet}
+use Rattle.fk_meaning_operation.specs.declared.operation.Operation.TheVariants.{Meet, Frame, Block}
 use Rattle.fk_core.specs.Numbers.{operation_of}
 use Rattle.fk_image.specs.declared.Image.{Image}
-use Rattle.fk_isa.specs.declared.instruction.Instruction.TheVariants.{Lui, Jal, Jalr, Beq, Bltu, Lw}
-use Rattle.fk_isa.specs.declared.instruction.Instruction.TheVariants.{Sw, Addi, Sltiu, Slli, Srli}
-use Rattle.fk_isa.specs.declared.instruction.Instruction.TheVariants.{Add, Sltu, Mul, AmoAddW}
+use Rattle.fk_isa.specs.declared.instruction.Instruction.TheVariants.{Lui, Jal, Jalr, Beq, Bltu, Bgeu}
+use Rattle.fk_isa.specs.declared.instruction.Instruction.TheVariants.{Lw, Sw, Addi, Sltiu, Slli, Srli}
+use Rattle.fk_isa.specs.declared.instruction.Instruction.TheVariants.{Andi, Add, Sub, Sltu, And, Mul}
+use Rattle.fk_isa.specs.declared.instruction.Instruction.TheVariants.{AmoAddW}
 use Rattle.fk_asm.specs.Block.{MarkedLine}
 use Rattle.fk_sim_block.specs.Stands.{end_register, number_register, rank_register, size_register}
 use Rattle.fk_sim_block.specs.Stands.{device_register}
 use Rattle.fk_gen.specs.Registers.{zero_register, ra, t0, t1, t2, t3}
-use Rattle.fk_gen.specs.Lines.{quiet, commits, goes_to, at_value, label_of, high_part, low_part}
+use Rattle.fk_gen.specs.Lines.{quiet, commits, goes_to, first_commits, at_value, at_group_frame}
+use Rattle.fk_gen.specs.Lines.{label_of, high_part, low_part, add_number, to_data}
 use Rattle.fk_gen.specs.InPlace.{LinesAt}
 use Rattle.fk_gen.specs.declared.placed.Placed.{Placed}
 use Rattle.fk_sim_block.specs.Node.{node_register, body_register, frames_register, blocks_register}
@@ -70,6 +72,48 @@ end_block target =
     quiet (Lw size_register t0 24) ∷ quiet (Addi body_register size_register 0) ∷
     quiet (Lui node_register 0x18400) ∷
     goes_to (Jal zero_register 0) (label_of target) ∷ []
+
+-- ---- frames and blocks
+
+-- The two ways of a frame, which have equally many lines. Without room the site goes to the device
+-- that faults. Else the header gets the address of the frame's first word, and the frames of the
+-- group end where the frame does.
+abbrev pub no_room : (site : ℕ) → List MarkedLine
+no_room site =
+    quiet (Lui t1 (high_part site)) ∷ quiet (Addi t1 t1 (low_part site))
+    ∷ commits (Sw device_register t1 8) ∷ []
+
+abbrev pub taking_lines : List MarkedLine
+taking_lines =
+    quiet (Add t1 t1 frames_register) ∷ quiet (Sw end_register t1 at_group_frame)
+    ∷ commits (Addi frames_register t0 0) ∷ []
+
+-- A frame is taken behind those of the group, if it ends where the group's blocks begin, or before.
+abbrev pub frame_lines : (site : ℕ) → List MarkedLine
+frame_lines site =
+    quiet (Lui t1 to_data) ∷ quiet (Bgeu blocks_register t0 16)
+    ∷ (no_room site ++ taking_lines)
+
+abbrev pub frame_block : (words site : ℕ) → List MarkedLine
+frame_block words site =
+    map quiet (add_number (4 * words) frames_register) ++ frame_lines site
+
+-- The cycles of a frame before its commit, on either way.
+abbrev pub frame_takes : (words : ℕ) → ℕ
+frame_takes words = length (add_number (4 * words) frames_register) + 4
+
+-- `shalloc`. The bytes of a size, rounded up to words, are taken from the end of the free words, if
+-- there are more than 0 of them, and no more than are free. Else a mask makes the result and the
+-- number of bytes taken 0. Sizes below 0 are more than are free.
+abbrev pub shalloc_block : (depth : ℕ) → List MarkedLine
+shalloc_block d =
+    first_commits (
+    Lw t0 end_register (at_value d) ∷ Addi t0 t0 3 ∷ Andi t0 t0 0xfffffffc ∷
+    Sub t1 blocks_register frames_register ∷ Addi t2 t0 0xffffffff ∷ Sltu t2 t2 t1 ∷
+    Sub t2 zero_register t2 ∷ And t0 t0 t2 ∷ Sub blocks_register blocks_register t0 ∷
+    Lui t1 to_data ∷ Add t1 t1 blocks_register ∷ And t1 t1 t2
+    ∷ Sw end_register t1 (at_value d) ∷ []
+    )
 
 -- ---- the beginning of `start`
 
@@ -140,16 +184,18 @@ pub record HasStart (image : Image) (bound : ℕ → ℕ) : Type 0 where
   pub few : length image.globals.items ≤ 2 ^ 19
   pub lines : LinesAt image bound (bound start_label) (start_lines (length image.globals.items))
 
-abbrev pub block_of : Option Operation → (depth target : ℕ) → List MarkedLine
-block_of (Some Begin) depth target = begin_block depth target
-block_of (Some Agree) depth target = agree_block depth
-block_of (Some Farm) depth target = farm_block
-block_of (Some Seq) depth target = seq_block target
-block_of (Some End) depth target = end_block target
-block_of (Some Resume) depth target = closing_block
-block_of (Some (Meet false)) depth target = barrier_block
-block_of (Some (Meet true)) depth target = closing_block
-block_of operation depth target = []
+abbrev pub block_of : Option Operation → (depth target site : ℕ) → List MarkedLine
+block_of (Some Begin) depth target site = begin_block depth target
+block_of (Some Agree) depth target site = agree_block depth
+block_of (Some Farm) depth target site = farm_block
+block_of (Some Seq) depth target site = seq_block target
+block_of (Some End) depth target site = end_block target
+block_of (Some Resume) depth target site = closing_block
+block_of (Some (Meet false)) depth target site = barrier_block
+block_of (Some (Meet true)) depth target site = closing_block
+block_of (Some (Frame nesting words)) depth target site = frame_block words site
+block_of (Some Block) depth target site = shalloc_block depth
+block_of operation depth target site = []
 
 abbrev pub is_group_step : Option Operation → Bool
 is_group_step (Some Begin) = true
@@ -159,10 +205,17 @@ is_group_step (Some Seq) = true
 is_group_step (Some End) = true
 is_group_step (Some Resume) = true
 is_group_step (Some (Meet closing)) = true
+is_group_step (Some (Frame nesting words)) = true
+is_group_step (Some Block) = true
 is_group_step operation = false
+
+abbrev pub HasWords : Option Operation → Type 0
+HasWords (Some (Frame nesting words)) = words < 2 ^ 21
+HasWords operation = Unit {0}
 
 -- An operation of a group whose values have room in a frame, and whose target has a label.
 pub record HasGroupStep (placed : Placed) : Type 0 where
   pub kind : is_group_step (operation_of placed.op.kind placed.op.number) ≡ true
   pub depth : placed.op.depth ≤ 56
   pub target : placed.op.target < 2 ^ 31
+  pub words : HasWords (operation_of placed.op.kind placed.op.number)

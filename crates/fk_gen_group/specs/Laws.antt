@@ -1,8 +1,10 @@
 -- What the blocks of groups do in place.
-use Rattle.std.specs.Prelude.{◌≡◌, ℕ, ◌≤◌, suc, List, length, Some, None, true, if◌then◌else◌}
+use Rattle.std.specs.Prelude.{◌≡◌, ℕ, ◌^◌, ◌<◌, ◌≤◌, suc, List, length, Some, None, true}
+use Rattle.std.specs.Prelude.{if◌then◌else◌}
 use Rattle.fk_meaning_operation.specs.declared.operation.Operation.{Operation}
 use Rattle.fk_meaning_operation.specs.declared.operation.Operation.TheVariants.{Begin, Agree, Farm}
-use Rattle.fk_meaning_operation.specs.declared.operation.Operation.TheVariants.{Seq, End}
+use Rattle.fk_meaning_operation.specs.declared.operation.Operation.TheVariants.{Seq, End, Frame}
+use Rattle.fk_meaning_operation.specs.declared.operation.Operation.TheVariants.{Block}
 use Rattle.fk_core.specs.declared.op.CoreOp.{CoreOp}
 use Rattle.fk_image.specs.declared.Image.{Image}
 use Rattle.fk_sim_block.specs.Stands.{Places}
@@ -11,8 +13,9 @@ use Rattle.fk_sim_block.specs.Suits.{Fits}
 use Rattle.fk_gen.specs.InPlace.{HasBlock}
 use Rattle.fk_sim_block.specs.Node.{Nestings, HasLevelRoom}
 use Rattle.fk_sim_block.specs.Lockstep.{LevelsStay, StepTogether, PartTogether, EndTogether}
-use Rattle.fk_sim_block.specs.Lockstep.{AreOfSize, IsLowest, one_runs, values_of_step}
-use Rattle.fk_gen_group.specs.Blocks.{block_of, HasStart}
+use Rattle.fk_sim_block.specs.Lockstep.{AreOfSize, IsLowest, AreInGroup, one_runs}
+use Rattle.fk_sim_block.specs.Lockstep.{values_of_step}
+use Rattle.fk_gen_group.specs.Blocks.{block_of, frame_takes, HasStart}
 use Rattle.fk_gen_group.specs.Start.{gathered_at, who_comes}
 use Rattle.fk_sim_block.specs.Joint.{is_meeting, BlockMeets}
 use Rattle.fk_sim_block.specs.Start.{BlockStarts}
@@ -21,7 +24,7 @@ use Rattle.fk_sim_block.specs.Start.{BlockStarts}
 pub record IsInPlace (core : List CoreOp) (image : Image) (bound : ℕ → ℕ) (places : Places)
     (nestings : Nestings) (i : ℕ) (op : CoreOp) (operation : Operation) : Type 0 where
   pub stands : OpAt core i op operation
-  pub block : HasBlock image bound places i (block_of (Some operation) op.depth op.target)
+  pub block : HasBlock image bound places i (block_of (Some operation) op.depth op.target op.site)
   pub fits : Fits core places.frames i op operation
   pub few : places.frames.of_file ≤ 56
   pub values : values_of_step operation ≤ op.depth
@@ -85,3 +88,23 @@ GroupsStart =
     → LevelsStay nestings i op.target
     → BlockStarts core image places nestings i op (gathered_at bound)
     (who_comes bound op.depth) 9 1 (λ onward. if onward then 21 else 11)
+
+-- Members in lockstep take a group frame together, if there is room. Else the lowest member faults
+-- at the site.
+abbrev pub GroupsTakeFrames : Type 0
+GroupsTakeFrames =
+    (core : List CoreOp) (image : Image) (bound : ℕ → ℕ) (places : Places) (nestings : Nestings)
+    (i : ℕ) (op : CoreOp) (nesting words lowest size : ℕ)
+    → IsInPlace core image bound places nestings i op (Frame nesting words) → op.site < 2 ^ 32
+    → StepTogether core image places nestings i op (Frame nesting words) AreInGroup
+    (frame_takes words) 0 None (λ p. None) lowest size
+
+-- Members in lockstep take a block of `shalloc` together. They commit at once, and 12 cycles bring
+-- them to the next block.
+abbrev pub GroupsTakeBlocks : Type 0
+GroupsTakeBlocks =
+    (core : List CoreOp) (image : Image) (bound : ℕ → ℕ) (places : Places) (nestings : Nestings)
+    (i : ℕ) (op : CoreOp) (lowest size : ℕ)
+    → IsInPlace core image bound places nestings i op Block
+    → StepTogether core image places nestings i op Block AreInGroup 0 12 None (λ p. None)
+    lowest size

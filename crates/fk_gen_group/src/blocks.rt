@@ -4,14 +4,15 @@ ghost use Rattle.std.specs.Prelude.{◌≡◌, ◌+◌, ◌^◌, ◌<◌, ◌≤
 ghost use Rattle.fk_asm.specs.Assembly.{AreFollowed};
 ghost use Rattle.fk_asm.specs.Block.{GoesToMade, HasBegun, with_block};
 ghost use Rattle.fk_gen_group.specs.Blocks.{meet_block, begin_block, agree_block, farm_block};
-ghost use Rattle.fk_gen_group.specs.Blocks.{seq_block, end_block};
+ghost use Rattle.fk_gen_group.specs.Blocks.{seq_block, end_block, frame_block, frame_lines};
+ghost use Rattle.fk_gen_group.specs.Blocks.{shalloc_block};
 
 use crate::start::START_LABEL;
 use fk_asm::{Assembler, Blocks};
-use fk_gen::numbers::at_value;
-use fk_gen::registers::{END, NUMBER, RA, RANK, SIZE, T0, T1, T2, T3, ZERO};
-use fk_gen::{BlockLine, Placed, emit_lines};
-use fk_gen_flow::registers::{BODY, NODE};
+use fk_gen::numbers::{AT_GROUP_FRAME, TO_DATA, at_value, high_part, low_part};
+use fk_gen::registers::{DEVICES as DEVICE, END, NUMBER, RA, RANK, SIZE, T0, T1, T2, T3, ZERO};
+use fk_gen::{BlockLine, Placed, emit_lines, emit_sum};
+use fk_gen_flow::registers::{BLOCKS, BODY, FRAMES, NODE};
 use fk_isa::Instruction;
 use fk_meaning_operation::Operation;
 use std::alloc::AllocError;
@@ -35,8 +36,11 @@ const CLOSING_WORD: u32 = 1;
 /// The offset of the agreed value from the node's first control word, in bytes.
 const AGREED: u32 = 8;
 
+/// The offset of the device that ends a run at a site, from the first device, in bytes.
+const FAULT_DEVICE: u32 = 8;
+
 /// The blocks of barriers, of the ends of bodies and parts, of `farm`, `seq`, the beginning and the
-/// end of `start`, and of agreement.
+/// end of `start`, of agreement, and of frames and blocks of groups.
 #[derive(Clone, Copy, Drop)]
 pub struct GroupBlocks;
 
@@ -47,7 +51,8 @@ impl Blocks<Placed> for GroupBlocks {
     ghost has_block = { HasGroupStep };
 
     ghost block = { λ placed.
-        block_of (operation_of placed.op.kind placed.op.number) placed.op.depth placed.op.target };
+        block_of (operation_of placed.op.kind placed.op.number) placed.op.depth placed.op.target
+        placed.op.site };
 
     fn emit_op(&self, op: &Placed, into: &mut Assembler) -> Result<(), AllocError> {
         match op.op.operation() {
@@ -59,6 +64,8 @@ impl Blocks<Placed> for GroupBlocks {
             Some(Operation::Resume) => meet(into, CLOSING_WORD, SIZE),
             Some(Operation::Meet(true)) => meet(into, CLOSING_WORD, SIZE),
             Some(Operation::Meet(false)) => meet(into, BARRIER_WORD, BODY),
+            Some(Operation::Frame { words, .. }) => frame(into, words, op.op.site),
+            Some(Operation::Block) => shalloc(into, op.op.depth),
             _ => Ok(()),
         }
     }
@@ -183,6 +190,67 @@ fn end(into: &mut Assembler, target: u32) -> Result<(), AllocError>
             BlockLine::quiet(Instruction::Addi(BODY, SIZE, 0)),
             BlockLine::quiet(Instruction::Lui(NODE, ROOT_WORDS)),
             BlockLine::goes_to(Instruction::Jal(ZERO, 0), FIRST_LABEL + target),
+        ],
+    )
+}
+
+// A group frame of so many words.
+fn frame(into: &mut Assembler, words: u32, site: u32) -> Result<(), AllocError>
+    requires few { words < 2 ^ 21 }
+    requires room { length into.old.lines + length (frame_block words site) < 2 ^ 30 }
+    requires free { AreFollowed into.old }
+    ensures added { OnOk result (into.new ≡ with_block into.old (frame_block words site)) }
+    ensures begun { OnErr result (HasBegun (frame_block words site) into.old into.new) }
+{
+    emit_sum(into, 4 * words, FRAMES)?;
+    emit_taking(into, site)
+}
+
+// The lines of a frame that ends at the address in `t0`.
+fn emit_taking(into: &mut Assembler, site: u32) -> Result<(), AllocError>
+    requires room { length into.old.lines + 8 < 2 ^ 30 }
+    requires free { AreFollowed into.old }
+    ensures added { OnOk result (into.new ≡ with_block into.old (frame_lines site)) }
+    ensures begun { OnErr result (HasBegun (frame_lines site) into.old into.new) }
+{
+    emit_lines(
+        into,
+        &[
+            BlockLine::quiet(Instruction::Lui(T1, TO_DATA)),
+            BlockLine::quiet(Instruction::Bgeu(BLOCKS, T0, 16)),
+            BlockLine::quiet(Instruction::Lui(T1, high_part(site))),
+            BlockLine::quiet(Instruction::Addi(T1, T1, low_part(site))),
+            BlockLine::commits(Instruction::Sw(DEVICE, T1, FAULT_DEVICE)),
+            BlockLine::quiet(Instruction::Add(T1, T1, FRAMES)),
+            BlockLine::quiet(Instruction::Sw(END, T1, AT_GROUP_FRAME)),
+            BlockLine::commits(Instruction::Addi(FRAMES, T0, 0)),
+        ],
+    )
+}
+
+fn shalloc(into: &mut Assembler, depth: u32) -> Result<(), AllocError>
+    requires depth { depth ≤ 56 }
+    requires room { length into.old.lines + length (shalloc_block depth) < 2 ^ 30 }
+    requires free { AreFollowed into.old }
+    ensures added { OnOk result (into.new ≡ with_block into.old (shalloc_block depth)) }
+    ensures begun { OnErr result (HasBegun (shalloc_block depth) into.old into.new) }
+{
+    emit_lines(
+        into,
+        &[
+            BlockLine::commits(Instruction::Lw(T0, END, at_value(depth))),
+            BlockLine::quiet(Instruction::Addi(T0, T0, 3)),
+            BlockLine::quiet(Instruction::Andi(T0, T0, 0xffff_fffc)),
+            BlockLine::quiet(Instruction::Sub(T1, BLOCKS, FRAMES)),
+            BlockLine::quiet(Instruction::Addi(T2, T0, 0xffff_ffff)),
+            BlockLine::quiet(Instruction::Sltu(T2, T2, T1)),
+            BlockLine::quiet(Instruction::Sub(T2, ZERO, T2)),
+            BlockLine::quiet(Instruction::And(T0, T0, T2)),
+            BlockLine::quiet(Instruction::Sub(BLOCKS, BLOCKS, T0)),
+            BlockLine::quiet(Instruction::Lui(T1, TO_DATA)),
+            BlockLine::quiet(Instruction::Add(T1, T1, BLOCKS)),
+            BlockLine::quiet(Instruction::And(T1, T1, T2)),
+            BlockLine::quiet(Instruction::Sw(END, T1, at_value(depth))),
         ],
     )
 }

@@ -6,7 +6,8 @@ ghost use Rattle.fk_gen_group.specs.Together.{MembersLeaveInTen};
 ghost use Rattle.fk_gen_group.specs.Chains.{MeetersHaveChains};
 ghost use Rattle.fk_gen_group.specs.InNode.{LoneBlocksStayInNode, JumpsStayInNode};
 ghost use Rattle.fk_gen_group.specs.Laws.{BlocksMeet, GroupsAgree, GroupsEnd, GroupsSendOne};
-ghost use Rattle.fk_gen_group.specs.Laws.{GroupsSetFree, GroupsStart};
+ghost use Rattle.fk_gen_group.specs.Laws.{GroupsSetFree, GroupsStart, GroupsTakeFrames};
+ghost use Rattle.fk_gen_group.specs.Laws.{GroupsTakeBlocks};
 
 /// A hart that comes to the lines of a meeting, in whatever cycle, arrives after 5 or 6 cycles, in
 /// an even one.
@@ -74,6 +75,19 @@ pub fn groups_end()
 /// `start`, which has that many members. The others come to where they wait.
 pub fn groups_start()
     ensures { GroupsStart }
+{}
+
+/// Members in lockstep that come to the block of a group frame commit together: if the frame has
+/// room, it is behind the others of the group, and the header of the call has its address. Else the
+/// lowest member faults at the site.
+pub fn groups_take_frames()
+    ensures { GroupsTakeFrames }
+{}
+
+/// Members in lockstep that come to the block of `shalloc` commit in that cycle. Twelve cycles later
+/// each has the address of the words in place of their size, or 0, and is at the next block.
+pub fn groups_take_blocks()
+    ensures { GroupsTakeBlocks }
 {}
 
 /// The block of an operation that a processor does alone keeps its hart in its node, in as many

@@ -1,0 +1,402 @@
+-- A group frame is taken, or has no room.
+use Rattle.std.proofs.Common.{◌≡◌, ℕ, zero, suc, ◌+◌, ◌-◌, ◌*◌, ◌^◌, ◌<◌, ◌≤◌, List, [], ◌∷◌, ◌++◌, length, map, Bool, true, false, Option, Some, None, sym, ap, subst, ◌∙◌, arith, refl, inl, inr, length-append}
+use Rattle.std.specs.Prelude.{◌==◌, is_some, if◌then◌else◌}
+use Rattle.std.proofs.lemmas.List.{length-map}
+use Rattle.std.proofs.lemmas.Bool.{cases_lt, lt-ltb, le-ltb, le-leb, lt-leb}
+use Rattle.fk_num.specs.Word.{put, word, word_sum}
+use Rattle.fk_space.specs.Space.{Space, free, frame}
+use Rattle.fk_meaning_operation.specs.declared.operation.Operation.TheVariants.{Frame}
+use Rattle.fk_meaning_store.specs.Store.{address_of}
+use Rattle.fk_meaning.specs.Processor.{Level, Setting}
+use Rattle.fk_meaning.specs.Group.{framed}
+use Rattle.fk_core.specs.declared.op.CoreOp.{CoreOp}
+use Rattle.fk_core.specs.Next.{position}
+use Rattle.fk_image.specs.declared.Image.{Image}
+use Rattle.fk_isa.specs.declared.instruction.Instruction.TheVariants.{Lui, Addi, Add, Sw}
+use Rattle.fk_machine.specs.declared.stand.Stand.TheVariants.{Faulted}
+use Rattle.fk_machine.specs.Place.{place_of}
+use Rattle.fk_machine.specs.Hart.{Hart, Stops, Setting as MachineSetting}
+use Rattle.fk_machine.specs.Run.{count_in}
+use Rattle.fk_machine.proofs.Performs.{writes, moves, sw-fault}
+use Rattle.fk_machine.proofs.Places.{place_of-fault}
+use Rattle.fk_sim_nodes.specs.Node.{Member}
+use Rattle.fk_sim_nodes.specs.Alone.{Holds, RunsPrivately, later, in_cycles}
+use Rattle.fk_sim_nodes.specs.OneHart.{OneDoes}
+use Rattle.fk_sim_nodes.proofs.InPlace.{step_at}
+use Rattle.fk_sim_block.specs.Owner.{Owner, number_of, core_source}
+use Rattle.fk_sim_block.specs.Stands.{Places, frame_start, frame_end, group_word, local_address}
+use Rattle.fk_sim_block.specs.Suits.{TakesFrame}
+use Rattle.fk_sim_block.specs.Block.{Enters}
+use Rattle.fk_sim_block.specs.Node.{Nestings, KnowsSpace, HasOuter, first_word, control_address, saved_at}
+use Rattle.fk_sim_block.specs.Lockstep.{IsMember, IsInGroup, is_due}
+use Rattle.fk_gen.specs.Lines.{quiet, high_part, low_part, add_by, add_number, at_group_frame}
+use Rattle.fk_gen.specs.InPlace.{LinesAt}
+use Rattle.fk_gen.proofs.Values.{other_word, value_place, number_of_parts, number_of_low_part, sum_of_low, sum_of_parts}
+use Rattle.fk_gen.proofs.Walk.{Quiets, Plain, LocalAt, walk, walked, private, runs_join, lines_split, can_run_goes, told_of}
+use Rattle.fk_gen.proofs.Jumps.{goes_to_pc, bgeu_taken, bgeu_on}
+use Rattle.fk_gen.proofs.Does.{holds_in_cycles}
+use Rattle.fk_gen.proofs.Standing.{InMemory, in_memory, stands_with, stands_in_space, with_frame, frame_written}
+use Rattle.fk_gen_group.specs.Blocks.{frame_lines}
+use Rattle.fk_gen_group.specs.Laws.{IsInPlace, GroupsTakeFrames}
+use Rattle.fk_gen_group.proofs.Members.{due_part, fault_part}
+use Rattle.fk_gen_group.proofs.Levels.{outer_by, many_callers}
+use Rattle.fk_gen_group.proofs.Taking.{Takes, step_together}
+
+group_below : (places : Places) (n : ℕ) → group_word n < frame_start places n + 7
+group_below places zero = omega arith
+group_below places (suc n) = omega arith
+
+module _ (core : List CoreOp) (image : Image) (bound : ℕ → ℕ) (places : Places) (nestings : Nestings) (i : ℕ) (op : CoreOp) (nesting words : ℕ)
+    (place : IsInPlace core image bound places nestings i op (Frame nesting words)) (small : op.site < 2 ^ 32)
+    (setting : Setting) (first highest lowest size : ℕ) (t0 : MachineSetting) (m : Member) (p : Owner)
+    (en : Enters core image places setting t0 i op (Frame nesting words) p m.hart) (member : IsMember places nestings setting None first m p) (inside : IsInGroup p) where
+  abbrev n : ℕ
+  n = length p.runner.has.callers
+
+  abbrev k : ℕ
+  k = places.block i
+
+  abbrev space : Space
+  space = p.runner.has.level.space
+
+  at_block : m.hart.pc ≡ 4 * k
+  at_block = en.at.at ∙ ap (λ j. 4 * places.block j) en.index
+
+  known : (m.hart.registers 12 ≡ control_address space.frames) × (m.hart.registers 13 ≡ control_address space.blocks)
+  known = subst (λ o. KnowsSpace p.runner.has.level o m.hart) inside.outer member.node.space
+
+  -- ---- where the frame ends
+
+  -- the hart after so many lines, with that address in t0
+  record HasSum (count : ℕ) : Type 0 where
+    pub hart : Hart
+    pub runs : RunsPrivately image t0 m.number count m.hart hart
+    pub at : hart.pc ≡ 4 * (k + count)
+    pub live : hart.ended ≡ false
+    pub sum : hart.registers 5 ≡ word (m.hart.registers 12 + 4 * words)
+    pub local : hart.local ≡ m.hart.local
+    pub same : (r : ℕ) → (r == 5) ≡ false → hart.registers r ≡ m.hart.registers r
+
+  sum_by : (short : Bool) → (high_part (4 * words) == 0) ≡ short → LinesAt image bound k (map quiet (add_by short (4 * words) 12)) → HasSum (length (add_by short (4 * words) 12))
+  sum_by true e lines =
+      let number = 4 * words in
+      let quiets : Quiets = (Addi 5 12 (low_part number), Plain) ∷ [] in
+      let w = walked image bound t0 m.number en.running.code quiets k m.hart lines at_block en.at.live (tt, tt) in
+      record {
+        hart = walk (told_of t0 m.number) quiets m.hart;
+        runs = w.runs;
+        at = w.pc;
+        live = w.live;
+        sum = sum_of_low (m.hart.registers 12) (low_part number) number (number_of_low_part number e);
+        local = refl;
+        same = λ r f. rw f;
+      }
+  sum_by false e lines =
+      let number = 4 * words in
+      let quiets : Quiets = (Lui 5 (high_part number), Plain) ∷ (Addi 5 5 (low_part number), Plain) ∷ (Add 5 5 12, Plain) ∷ [] in
+      let w = walked image bound t0 m.number en.running.code quiets k m.hart lines at_block en.at.live (tt, (tt, (tt, tt))) in
+      record {
+        hart = walk (told_of t0 m.number) quiets m.hart;
+        runs = w.runs;
+        at = w.pc;
+        live = w.live;
+        sum = sum_of_parts (m.hart.registers 12) (word_sum (high_part number * 4096) (low_part number)) number (number_of_parts number);
+        local = refl;
+        same = λ r f. rw f;
+      }
+
+  -- ---- the two ways
+
+  abbrev Done : (count : ℕ) → Type 0
+  Done count = OneDoes (core_source core setting) image t0 1 (count + 4) 0 m p (Takes core image places nestings i op (Frame nesting words) setting first highest lowest size m.number p)
+
+  module _ (count : ℕ) (sum : HasSum count) (lines : LinesAt image bound (k + count) (frame_lines op.site)) (next : places.block (suc i) ≡ k + count + 8) where
+    abbrev k1 : ℕ
+    k1 = k + count
+
+    abbrev t1 : MachineSetting
+    t1 = in_cycles count t0
+
+    abbrev h2 : Hart
+    h2 = writes sum.hart 6 (0xf8000 * 4096)
+
+    holds1 : Holds image t1
+    holds1 = holds_in_cycles image count t0 en.running.code
+
+    -- without room the site faults
+    faults : free space < words → Done count
+    faults lt =
+        let few = place.fits.place in
+        let is = en.ready.may in
+        let header = is.header in
+        let ordered = is.ordered in
+        let within = is.within in
+        let shared = is.shared in
+        let frames = known.0 in
+        let blocks = known.1 in
+        let s = sum.sum in
+        let at1 = sum.at in
+        let l0 = lines.0 in
+        let l1 = lines.1.0 in
+        let l2 = lines.1.1.0 in
+        let l3 = lines.1.1.1.0 in
+        let l4 = lines.1.1.1.1.0 in
+        let near = l4.within in
+        let v4 = high_part op.site * 4096 in
+        let v5 = word_sum v4 (low_part op.site) in
+        let h3 = goes_to_pc h2 (word_sum h2.pc 4) in
+        let h4 = writes h3 6 v4 in
+        let h5 = writes h4 6 v5 in
+        let t2 = later t1 in
+        let t3 = later t2 in
+        let t4 = later t3 in
+        let t5 = in_cycles (count + 4) t0 in
+        let holds = en.running.code in
+        let b : h2.registers 13 ≡ control_address space.blocks = sum.same 13 refl ∙ blocks in
+        let e2 : h2.pc ≡ 4 * suc k1 = omega arith in
+        let e3 : h3.pc ≡ 4 * suc (suc k1) = omega arith in
+        let e4 : h4.pc ≡ 4 * suc (suc (suc k1)) = omega arith in
+        let e5 : h5.pc ≡ 4 * suc (suc (suc (suc k1))) = omega arith in
+        let device : h5.registers 26 ≡ 0x30000000 = sum.same 26 refl ∙ en.at.stands.devices in
+        let no_room = ap (λ x. is_some (if x then None else Some (record space { frames = space.frames + words }))) (lt-ltb (free space) words lt) in
+        record {
+          committing = h5;
+          runs = runs_join image t0 m.number count 4 m.hart sum.hart h5 sum.runs (
+            h2,
+            private image t1 m.number k1 (Lui 6 0xf8000) sum.hart h2 holds1 l0 at1 sum.live (λ s. (s.reserved, refl)),
+            (
+              h3,
+              bgeu_on image t2 m.number (suc k1) 13 5 16 h2 holds1 l1 e2 sum.live (lt-leb (h2.registers 5) (h2.registers 13) (omega arith)),
+              (
+                h4,
+                private image t3 m.number (suc (suc k1)) (Lui 6 (high_part op.site)) h3 h4 holds1 l2 e3 sum.live (λ s. (s.reserved, refl)),
+                (
+                  h5,
+                  private image t4 m.number (suc (suc (suc k1))) (Addi 6 6 (low_part op.site)) h4 h5 holds1 l3 e4 sum.live (λ s. (s.reserved, refl)),
+                  refl,
+                ),
+              ),
+            ),
+          );
+          commits = record {
+            live = sum.live;
+            counted = ap (count_in image.commits.items) e5 ∙ l4.counted;
+            does = λ s. inr (record {
+              site = op.site;
+              part = fault_part core setting i op (Frame nesting words) s p place.stands refl no_room en.index;
+              stops = λ earlier sh shows.
+                  step_at image (suc (suc (suc (suc k1)))) 1 (Sw 26 6 8) l4 t5 (holds_in_cycles image (count + 4) t0 holds) m.number h5 sh e5
+                  ∙ sw-fault t5 m.number 26 6 8 h5 sh (omega (arith, device)) (ap (λ a. place_of (word_sum a 8)) device ∙ place_of-fault)
+                  ∙ ap (λ v. Stops (Faulted v m.number)) (number_of_parts op.site ∙ site_is);
+            });
+          };
+        }
+      where
+        site_is : word op.site ≡ op.site
+        site_is = omega arith
+
+    -- else the frames of the group end where it does, and the header has its address
+    abbrev address : ℕ
+    address = word_sum (0xf8000 * 4096) (sum.hart.registers 12)
+
+    abbrev h3 : Hart
+    h3 = goes_to_pc h2 (word_sum h2.pc 16)
+
+    abbrev h4 : Hart
+    h4 = writes h3 6 address
+
+    abbrev h5 : Hart
+    h5 = record (moves h4) { local = put sum.hart.local (group_word n) address }
+
+    abbrev h6 : Hart
+    h6 = writes h5 12 (word_sum (sum.hart.registers 5) 0)
+
+    abbrev larger : Space
+    larger = record space { frames = space.frames + words }
+
+    -- what the frame makes of its processor
+    abbrev taken : Option Space → Owner
+    taken o = record { runner = record { left = position (suc i) p.runner.left.callers; has = framed nesting p.runner.has o }; heap = p.heap }
+
+    address_is : address ≡ address_of space.frames
+    address_is =
+        let is = en.ready.may in
+        let ordered = is.ordered in
+        let within = is.within in
+        let shared = is.shared in
+        let frames = known.0 in
+        let same = sum.same 12 refl in
+        omega arith
+
+    memory : put m.hart.local (group_word n) (address_of space.frames) ≡ h5.local
+    memory = sym (ap (λ l. put l (group_word n) address) sum.local ∙ ap (put m.hart.local (group_word n)) address_is)
+
+    stands_behind : words ≤ free space → h6.pc ≡ 4 * places.block (suc i) → IsMember places nestings setting None first (record m { hart = h6 }) (taken (Some larger))
+    stands_behind le pc =
+        let is = en.ready.may in
+        let header = is.header in
+        let ordered = is.ordered in
+        let within = is.within in
+        let shared = is.shared in
+        let frames = known.0 in
+        let blocks = known.1 in
+        let total = sum.sum in
+        let few = place.few in
+        let calls = en.ready.in_range.waiting in
+        let depth = en.ready.depth in
+        let stands = en.at.stands in
+        let here = en.index in
+        let takes : TakesFrame core places.frames nesting i (suc i) = place.fits.goes_on in
+        let callers = p.runner.left.callers in
+        let many = many_callers places nestings m.hart.local callers p.runner.has.callers stands.waiting in
+        let written : InMemory places h5.local (with_frame core places (suc i) nesting space.frames p) =
+        subst (λ l. InMemory places l (with_frame core places (suc i) nesting space.frames p)) memory
+        (frame_written core places m.hart.local p i (suc i) nesting space.frames op.depth few calls here place.fits.room (omega arith) takes (omega arith) (in_memory places p m.hart stands)) in
+        let same : (x : ℕ) → (x ≡ group_word n → ⊥) → h5.local x ≡ m.hart.local x =
+        λ x e. ap (λ l. l x) (sym memory) ∙ other_word m.hart.local (group_word n) (address_of space.frames) x e in
+        let below = group_below places n in
+        let outer =
+        outer_by places nestings setting.processors (number_of p) m.hart.local h5.local i (suc i) callers p.runner.has.outer few place.stay
+        (λ x from lt. same x (λ e. omega arith))
+        (λ x from lt.
+        let from' = subst (λ c. saved_at places nestings c i ≤ x) many from in
+        same x (λ e. omega arith))
+        (subst (λ a. HasOuter places nestings setting.processors (number_of p) m.hart.local (a ∷ callers) p.runner.has.outer) here member.node.outer.0) in
+        let frames' : h6.registers 12 ≡ control_address larger.frames = omega arith in
+        let blocks' : h6.registers 13 ≡ control_address larger.blocks = sum.same 13 refl ∙ blocks in
+        let level' : Level = record (p.runner.has.level) { space = larger } in
+        let first_same : first_word level' p.runner.has.outer ≡ first_word p.runner.has.level p.runner.has.outer =
+        ap (first_word level') inside.outer ∙ sym (ap (first_word p.runner.has.level) inside.outer) in
+        record {
+          number = member.number;
+          at = record {
+            live = sum.live;
+            at = pc;
+            stands =
+                stands_in_space places (with_frame core places (suc i) nesting space.frames p) h6 larger
+                (stands_with places p (with_frame core places (suc i) nesting space.frames p) m.hart h6 stands (
+                  sum.same 0 refl,
+                  sum.same 8 refl,
+                  sum.same 9 refl,
+                  sum.same 18 refl,
+                  sum.same 19 refl,
+                  sum.same 20 refl,
+                  sum.same 22 refl,
+                  sum.same 23 refl,
+                  sum.same 24 refl,
+                  sum.same 25 refl,
+                  sum.same 26 refl,
+                  sum.same 27 refl,
+                ) refl refl (sum.same 21 refl ∙ stands.top) written);
+          };
+          node = record {
+            node = sum.same 10 refl ∙ member.node.node ∙ sym (ap control_address first_same);
+            body = tt;
+            space = subst (λ o. KnowsSpace level' o h6) (sym inside.outer) (frames', blocks');
+            outer = (outer, member.node.outer.1);
+          };
+          words = first_same ∙ member.words;
+        }
+
+    takes_frame : words ≤ free space → Done count
+    takes_frame le =
+        let few = place.fits.place in
+        let is = en.ready.may in
+        let ordered = is.ordered in
+        let within = is.within in
+        let shared = is.shared in
+        let frames = known.0 in
+        let blocks = known.1 in
+        let total = sum.sum in
+        let at1 = sum.at in
+        let calls = en.ready.in_range.waiting in
+        let l0 = lines.0 in
+        let l1 = lines.1.0 in
+        let l5 = lines.1.1.1.1.1.0 in
+        let l6 = lines.1.1.1.1.1.1.0 in
+        let l7 = lines.1.1.1.1.1.1.1.0 in
+        let near = l7.within in
+        let k5 = suc (suc (suc (suc (suc k1)))) in
+        let t2 = later t1 in
+        let t3 = later t2 in
+        let t4 = later t3 in
+        let t5 = in_cycles (count + 4) t0 in
+        let b : h2.registers 13 ≡ control_address space.blocks = sum.same 13 refl ∙ blocks in
+        let e2 : h2.pc ≡ 4 * suc k1 = omega arith in
+        let e3 : h3.pc ≡ 4 * k5 = omega arith in
+        let e4 : h4.pc ≡ 4 * suc k5 = omega arith in
+        let e5 : h5.pc ≡ 4 * suc (suc k5) = omega arith in
+        let e6 : h6.pc ≡ 4 * places.block (suc i) = omega arith in
+        let end : h4.registers 9 ≡ local_address (frame_end n) = sum.same 9 refl ∙ en.at.stands.behind in
+        let word_at = value_place (h4.registers 9) n 61 end calls (omega arith) (omega arith) in
+        let not_full = le-ltb (free space) words le in
+        let room = ap (λ x. is_some (if x then None else Some larger)) not_full in
+        let is_taken : frame space words ≡ Some larger = ap (λ x. if x then None else Some larger) not_full in
+        record {
+          committing = h5;
+          runs = runs_join image t0 m.number count 4 m.hart sum.hart h5 sum.runs (
+            h2,
+            private image t1 m.number k1 (Lui 6 0xf8000) sum.hart h2 holds1 l0 at1 sum.live (λ s. (s.reserved, refl)),
+            (
+              h3,
+              bgeu_taken image t2 m.number (suc k1) 13 5 16 h2 holds1 l1 e2 sum.live (le-leb (h2.registers 5) (h2.registers 13) (omega arith)) (omega arith),
+              (
+                h4,
+                private image t3 m.number k5 (Add 6 6 12) h3 h4 holds1 l5 e3 sum.live (λ s. (s.reserved, refl)),
+                (
+                  h5,
+                  private image t4 m.number (suc k5) (Sw 9 6 at_group_frame) h4 h5 holds1 l6 e4 sum.live
+                      (λ s. can_run_goes (Sw 9 6 at_group_frame) (LocalAt (group_word n)) h4 (word_at.0, word_at.1) t4 m.number s),
+                  refl,
+                ),
+              ),
+            ),
+          );
+          commits = record {
+            live = sum.live;
+            counted = ap (count_in image.commits.items) e5 ∙ l7.counted;
+            does = λ s. inl (record {
+              hart = h6;
+              store = s;
+              done = is_due core i op (Frame nesting words) p;
+              part = due_part core setting i op (Frame nesting words) s p place.stands refl room en.index;
+              goes = λ earlier sh shows. (
+                sh,
+                step_at image (suc (suc k5)) 1 (Addi 12 5 0) l7 t5 (holds_in_cycles image (count + 4) t0 en.running.code) m.number h5 sh e5,
+                shows,
+                λ j e. refl,
+              );
+              follows = (
+                h6,
+                refl,
+                (refl, subst (λ o. IsMember places nestings setting None first (record m { hart = h6 }) (taken o)) (sym is_taken) (stands_behind le e6)),
+              );
+            });
+          };
+        }
+
+    does : Done count
+    does = elim (cases_lt (free space) words) [
+      | inl lt ↦ faults lt
+      | inr le ↦ takes_frame le
+    ]
+
+  -- ---- by the form of the sum
+
+  does_by : (short : Bool) → (high_part (4 * words) == 0) ≡ short → Done (length (add_by short (4 * words) 12))
+  does_by short e =
+      let adds = map quiet (add_by short (4 * words) 12) in
+      let block = subst (λ b. LinesAt image bound k (map quiet (add_by b (4 * words) 12) ++ frame_lines op.site)) e place.block.lines in
+      let long = subst (λ b. places.block (suc i) ≡ k + length (map quiet (add_by b (4 * words) 12) ++ frame_lines op.site)) e place.block.next in
+      let split = lines_split image bound k adds (frame_lines op.site) block in
+      let many : length adds ≡ length (add_by short (4 * words) 12) = length-map (add_by short (4 * words) 12) quiet in
+      let all = length-append adds (frame_lines op.site) in
+      does (length (add_by short (4 * words) 12)) (sum_by short e split.0) (subst (λ c. LinesAt image bound (k + c) (frame_lines op.site)) many split.1) (omega arith)
+
+  pub frame_does : Done (length (add_number (4 * words) 12))
+  frame_does = does_by (high_part (4 * words) == 0) refl
+
+pub groups_take_frames : GroupsTakeFrames
+groups_take_frames core image bound places nestings i op nesting words lowest size place small =
+    step_together core image places nestings i op (Frame nesting words) (length (add_number (4 * words) 12) + 4) 0 lowest size
+    (λ setting first highest t m p en member inside. frame_does core image bound places nestings i op nesting words place small setting first highest lowest size t m p en member inside)
