@@ -20,6 +20,7 @@ use Rattle.fk_gen.specs.InPlace.{HasBlock}
 use Rattle.fk_gen_expr.specs.Expressions as expressions
 use Rattle.fk_gen_expr.proofs.Expressions.{expressions_do}
 use Rattle.fk_gen_access.specs.Blocks as accesses
+use Rattle.fk_gen_access.specs.Heap.{HasHeap}
 use Rattle.fk_gen_access.proofs.Law.{access_blocks_do}
 use Rattle.fk_gen_flow.specs.Blocks.{is_flow, is_some_flow}
 use Rattle.fk_gen_flow.specs.Calls.{HasShared}
@@ -44,11 +45,12 @@ module _ (core : List CoreOp) (image : Image) (places : Places) (bound : ℕ →
   abbrev here : (i : ℕ) → CoreOp → Placed
   here i op = placed core (length image.globals.items) kept i op
 
-  -- the block of each index is in its place, and so is the code that all calls share
+  -- the block of each index is in its place, and so is the code that all calls share, and that of `shmalloc`
   pub record AreInPlace : Type 0 where
     pub blocks : (i : ℕ) (op : CoreOp) → slice_get core i ≡ Some op → HasBlock image bound places i (block_of (here i op))
     pub returns : (i : ℕ) → places.returns i ≡ return_at core places.block i (slice_get core i)
     pub shared : HasShared image bound
+    pub heap : HasHeap image bound
 
   abbrev block_or : Option Operation → CoreOp → List MarkedLine
   block_or o op = option_map_or (expressions.expression_block (length image.globals.items) op.depth) o []
@@ -81,7 +83,7 @@ module _ (core : List CoreOp) (image : Image) (places : Places) (bound : ℕ →
       (suits.fits i op operation stands) (clears_enough places.frames kept i (operation_of op.kind op.number) operation are stands.is_read)
   does_by main suits are ranges in_place i op operation stands alone false true f a has =
       access_blocks_do core image bound places i op operation stands a (ranges.sites i op stands.stands)
-      (subst (λ o. HasBlock image bound places i (accesses.block_of o op.depth op.site)) stands.is_read has) (suits.fits i op operation stands)
+      (subst (λ o. HasBlock image bound places i (accesses.block_of o op.depth op.site)) stands.is_read has) (λ hires. in_place.heap) (suits.fits i op operation stands)
   does_by main suits are ranges in_place i op operation stands alone false false f a has =
       let fits = suits.fits i op operation stands in
       expressions_do core image places bound i op operation stands
@@ -99,5 +101,5 @@ module _ (core : List CoreOp) (image : Image) (places : Places) (bound : ℕ →
     halts = λ i op stands. halts_end core image places bound i op (here i op).clears (here i op).back stands (block_here in_place i op Halt stands refl);
     jumps = λ i op at jump. jumps_go core image places bound i op jump (has_jumps in_place i op at jump) (suits.jumps i op at jump);
     begins = λ setting t number running lt.
-        harts_begin core image places bound firsts main opening (record { few = suits.few; within = omega arith; words = words }) suits.begins setting t number running;
+        harts_begin core image places bound firsts main opening (record { few = suits.few; within = omega arith; words = words }) suits.begins suits.none setting t number running;
   }

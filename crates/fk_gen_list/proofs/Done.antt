@@ -17,13 +17,14 @@ use Rattle.fk_sim_block.specs.Next.{OpAt}
 use Rattle.fk_core_liveness.specs.declared.set.Set.{Set}
 use Rattle.fk_gen.specs.declared.placed.Placed.{Placed}
 use Rattle.fk_gen.specs.InPlace.{LinesAt, HasBlock}
+use Rattle.fk_gen_access.specs.Heap.{heap_label, heap_lines}
 use Rattle.fk_gen_flow.specs.Opening.{opening_lines}
 use Rattle.fk_gen_group.specs.Blocks.{start_label, start_lines, is_group_step}
 use Rattle.fk_gen_list.specs.Generable.{IsGenerable, DoesTheList, GivesWholeCode, places_in, return_at, has_target, most_words}
 use Rattle.fk_gen_list.specs.Kinds.{HasBlockOf, block_of}
 use Rattle.fk_gen_list.specs.Layout.{placed, all_placed, front, place, all_lines, IsLaid}
 use Rattle.fk_gen_list.proofs.InImage.{IsAssembled, bound_in}
-use Rattle.fk_gen_list.proofs.Laid.{places, has_labels, has_opening, has_shared, has_start, has_block}
+use Rattle.fk_gen_list.proofs.Laid.{places, has_labels, has_opening, has_shared, has_start, has_heap, has_block}
 use Rattle.fk_gen_list.proofs.AllPlaced.{placed_get, all_from}
 use Rattle.fk_gen_list.proofs.Whole.{assembled}
 use Rattle.fk_gen_list.proofs.Suited.{back_within, has_block_of, has_operands, jump_has}
@@ -113,6 +114,10 @@ module _ (core : List CoreOp) (kept : List Set) (main : ℕ) (firsts : List ℕ)
                 few = let e = has.globals_of in omega arith;
                 lines = subst (λ n. LinesAt image bound (bound start_label) (start_lines n)) (sym has.globals_of) (has_start block_of opening globals ops a laid image built);
               };
+              heap = record {
+                few = let e = has.globals_of in omega arith;
+                lines = subst (λ n. LinesAt image bound (bound heap_label) (heap_lines n)) (sym has.globals_of) (has_heap block_of opening globals ops a laid image built);
+              };
             },
           ),
         )
@@ -128,5 +133,5 @@ module _ (core : List CoreOp) (kept : List Set) (main : ℕ) (firsts : List ℕ)
         } in (
           all.0,
           law_of_blocks core image (places_in core all.0 frames) all.1.0 kept firsts main suits keeps ranges
-              (record { blocks = whole.blocks; returns = whole.returns; shared = whole.shared }) whole.opening (sym of_file) is.first_words,
+              (record { blocks = whole.blocks; returns = whole.returns; shared = whole.shared; heap = whole.heap }) whole.opening (sym of_file) is.first_words,
         )

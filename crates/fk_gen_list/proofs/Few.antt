@@ -1,12 +1,10 @@
 -- How many cycles the blocks of a list take at most.
-use Rattle.std.proofs.Common.{◌≡◌, ℕ, ◌+◌, ◌^◌, ◌<◌, ◌≤◌, List, [], ◌∷◌, length, Bool, true, false, Option, Some, None, sym, subst, arith, refl}
+use Rattle.std.proofs.Common.{◌≡◌, ℕ, ◌+◌, ◌*◌, ◌^◌, ◌<◌, ◌≤◌, List, [], ◌∷◌, length, Bool, true, false, Option, Some, None, sym, subst, arith, refl}
 use Rattle.std.specs.Prelude.{◌==◌, slice_get}
 use Rattle.std.specs.Option.{option_map_or}
 use Rattle.std.proofs.lemmas.Bool.{eqb-true}
-use Rattle.fk_meaning_operation.specs.declared.operation.OwnValue.{OwnValue}
-use Rattle.fk_meaning_operation.specs.declared.operation.OwnValue.TheVariants.{FrameAddress}
 use Rattle.fk_meaning_operation.specs.declared.operation.Operation.{Operation}
-use Rattle.fk_meaning_operation.specs.declared.operation.Operation.TheVariants.{Push, Get, Set, DropLast, CopyLast, Apply, Binary, Index, Branch, Leave, Check, Enter, Begin}
+use Rattle.fk_meaning_operation.specs.declared.operation.Operation.TheVariants.{Push, Get, Set, DropLast, CopyLast, Apply, Binary, Index, Branch, Leave, Check, Enter, Begin, Frame}
 use Rattle.fk_core.specs.declared.op.CoreOp.{CoreOp}
 use Rattle.fk_core.specs.Next.{is_jump}
 use Rattle.fk_core.specs.Numbers.{operation_of}
@@ -17,7 +15,7 @@ use Rattle.fk_sim_block.specs.Suits.{Fits, Suits}
 use Rattle.fk_sim_block.specs.Block.{most_before, most_behind}
 use Rattle.fk_core_liveness.specs.declared.set.Set as sets
 use Rattle.fk_gen.specs.declared.placed.Placed.{Placed}
-use Rattle.fk_gen.specs.Lines.{high_part, load_by}
+use Rattle.fk_gen.specs.Lines.{high_part, load_by, add_by}
 use Rattle.fk_gen.specs.Keeps.{past_first}
 use Rattle.fk_asm.specs.Block.{MarkedLine}
 use Rattle.fk_gen_expr.specs.Expressions.{IsExpression, expression_block}
@@ -35,11 +33,14 @@ short_number : (short : Bool) (n steps : ℕ) → steps ≤ 5 → length (load_b
 short_number true n steps le = omega arith
 short_number false n steps le = omega arith
 
+short_sum : (short : Bool) (n register : ℕ) → length (add_by short n register) + 4 ≤ most_before
+short_sum true n register = omega arith
+short_sum false n register = omega arith
+
 few_before_of : (op : CoreOp) (operation : Operation) → before_of op operation ≤ most_before
 few_before_of op (Check true) = short_number (high_part op.site == 0) op.site 3 (omega arith)
 few_before_of op (Check false) = short_number (high_part op.site == 0) op.site 5 (omega arith)
-few_before_of op (Leave gives true) = omega arith
-few_before_of op (Leave gives false) = omega arith
+few_before_of op (Frame nesting words) = short_sum (high_part (4 * words) == 0) (4 * words) 12
 few_before_of op operation = omega arith
 
 few_before_by : (op : CoreOp) (o : Option Operation) → option_map_or (before_of op) o 0 ≤ most_before
@@ -66,15 +67,10 @@ module _ (core : List CoreOp) (frames : Frames) (i : ℕ) (here : Placed) (few :
       few_expression here.globals here.op.depth operation
       (has_expression core frames i here.globals here.op operation read fits few number some alone f a)
 
-  of_known : (known : OwnValue) → operation_of here.op.kind here.op.number ≡ Some (Get known) → Fits core frames i here.op (Get known)
-      → past_first (expression_block here.globals here.op.depth (Get known)) ≤ most_behind
-  of_known (FrameAddress nesting word) read fits = omega arith
-  of_known known read fits = of_expression (Get known) read fits refl refl refl
-
   few_behind_of : (operation : Operation) (onward : Bool) → operation_of here.op.kind here.op.number ≡ Some operation → Fits core frames i here.op operation
       → behind_of here operation onward ≤ most_behind
   few_behind_of (Push n) onward read fits = of_expression (Push n) read fits refl refl refl
-  few_behind_of (Get known) onward read fits = of_known known read fits
+  few_behind_of (Get known) onward read fits = of_expression (Get known) read fits refl refl refl
   few_behind_of (Set variable) onward read fits = of_expression (Set variable) read fits refl refl refl
   few_behind_of DropLast onward read fits = of_expression DropLast read fits refl refl refl
   few_behind_of CopyLast onward read fits = of_expression CopyLast read fits refl refl refl

@@ -43,9 +43,9 @@ module _ (core : List CoreOp) (kept : List Set) (image : Image) (bound : ℕ →
       (kind_here core i op operation stands ∙ ap (kind_by (is_flow operation) (is_access (Some operation))) (lone_is_no_step operation is)) (blocks i op stands.stands)
 
   step : (i : ℕ) (op : CoreOp) (operation : Operation) → OpAt core i op operation → is_group_step (Some operation) ≡ true
-      → HasBlock image bound places i (block_of_step (Some operation) op.depth op.target)
+      → HasBlock image bound places i (block_of_step (Some operation) op.depth op.target op.site)
   step i op operation stands is =
-      subst (λ o. HasBlock image bound places i (block_of_step o op.depth op.target)) stands.is_read
+      subst (λ o. HasBlock image bound places i (block_of_step o op.depth op.target op.site)) stands.is_read
       (subst (λ k. HasBlock image bound places i (block_in k (placed core globals kept i op))) (kind_here core i op operation stands ∙ step_kind operation is) (blocks i op stands.stands))
 
   jump : (i : ℕ) (op : CoreOp) → slice_get core i ≡ Some op → is_jump op ≡ true → HasBlock image bound places i (jump_block op.target)
@@ -61,6 +61,7 @@ generated_code_is_whole core kept image bound places firsts main whole = record 
     jumps = jump core kept image bound places whole.blocks;
     calls = calls_return core image bound places kept whole.blocks whole.returns;
     shared = whole.shared;
+    heap = whole.heap;
   };
   steps = record { blocks = step core kept image bound places whole.blocks; start = whole.start };
 }

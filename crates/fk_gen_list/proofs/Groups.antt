@@ -3,7 +3,7 @@ use Rattle.std.proofs.Common.{◌≡◌, ℕ, ◌<◌, List, length, Bool, true,
 use Rattle.std.specs.Prelude.{slice_get, if◌then◌else◌}
 use Rattle.std.specs.Option.{option_map_or}
 use Rattle.fk_meaning_operation.specs.declared.operation.Operation.{Operation}
-use Rattle.fk_meaning_operation.specs.declared.operation.Operation.TheVariants.{Begin, Agree, Farm, Seq, End, Resume, Meet}
+use Rattle.fk_meaning_operation.specs.declared.operation.Operation.TheVariants.{Begin, Agree, Farm, Seq, End, Resume, Meet, Frame, Block}
 use Rattle.fk_core.specs.declared.op.CoreOp.{CoreOp}
 use Rattle.fk_image.specs.declared.Image.{Image}
 use Rattle.fk_sim_block.specs.Stands.{Places}
@@ -14,18 +14,20 @@ use Rattle.fk_sim_block.specs.Node.{Nestings}
 use Rattle.fk_sim_block.specs.Lockstep.{StepTogether, PartTogether, EndTogether}
 use Rattle.fk_sim_block.specs.Joint.{most_to_meet, is_meeting, BlockMeets}
 use Rattle.fk_sim_block.specs.Start.{most_united, most_to_start, BlockStarts}
-use Rattle.fk_sim_block.specs.Law.{IsAskedOf, sets_apart, runs_behind}
-use Rattle.fk_gen_group.specs.Blocks.{is_group_step}
+use Rattle.fk_sim_block.specs.Law.{IsAskedOf, sets_apart, stays_in_step, runs_behind}
+use Rattle.fk_gen_group.specs.Blocks.{is_group_step, frame_takes}
 use Rattle.fk_gen_group.specs.Start.{gathered_at, who_comes, gathering_of}
 use Rattle.fk_gen_group.specs.Laws.{IsInPlace}
 use Rattle.fk_gen_group.proofs.Agree.{groups_agree}
+use Rattle.fk_gen_group.proofs.Frames.{groups_take_frames}
+use Rattle.fk_gen_group.proofs.Shallocs.{groups_take_blocks}
 use Rattle.fk_gen_group.proofs.Farms.{groups_set_free}
 use Rattle.fk_gen_group.proofs.Seqs.{groups_send_one}
 use Rattle.fk_gen_group.proofs.Ends.{groups_end}
 use Rattle.fk_gen_group.proofs.Phases.{blocks_meet}
 use Rattle.fk_gen_group.proofs.Starts.{groups_start}
 use Rattle.fk_gen_list.specs.Cycles.{before_at, behind_at}
-use Rattle.fk_gen_list.specs.Laws.{HasGroupCode, StepsHaveValues, HaveStepLevels, ListsHaveTheLaw}
+use Rattle.fk_gen_list.specs.Laws.{AreInRange, HasGroupCode, StepsHaveValues, HaveStepLevels, ListsHaveTheLaw}
 use Rattle.fk_gen_list.proofs.Law.{lists_do_alone}
 use Rattle.fk_gen_list.proofs.At.{before_is, behind_is}
 
@@ -35,7 +37,8 @@ meeting_is_step Resume e = refl
 meeting_is_step operation e = absurd (cc)
 
 module _ (core : List CoreOp) (image : Image) (bound : ℕ → ℕ) (places : Places) (nestings : Nestings) (kept : List Set) (main : ℕ) (suits : Suits core places.frames main)
-    (code : HasGroupCode core image bound places) (looks : StepsHaveValues core) (levels : HaveStepLevels core places nestings) where
+    (code : HasGroupCode core image bound places) (looks : StepsHaveValues core) (levels : HaveStepLevels core places nestings)
+    (ranges : AreInRange core image) where
   in_place : (i : ℕ) (op : CoreOp) (operation : Operation) → OpAt core i op operation → is_group_step (Some operation) ≡ true → IsInPlace core image bound places nestings i op operation
   in_place i op operation stands step = record {
     stands = stands;
@@ -56,12 +59,33 @@ module _ (core : List CoreOp) (image : Image) (bound : ℕ → ℕ) (places : Pl
   abbrev behind : (i : ℕ) → Bool → ℕ
   behind i onward = behind_at core globals kept i (slice_get core i) onward
 
-  agrees : (i : ℕ) (op : CoreOp) (lowest size : ℕ) → OpAt core i op Agree
-      → StepTogether core image places nestings i op Agree (λ ps. Unit {0}) (before i) (behind i true) None (λ p. None) lowest size
-  agrees i op lowest size stands =
-      subst (λ c. StepTogether core image places nestings i op Agree (λ ps. Unit {0}) c (behind i true) None (λ p. None) lowest size) (sym (before_is core globals kept i op Agree stands))
-      (subst (λ (f : Bool → ℕ). StepTogether core image places nestings i op Agree (λ ps. Unit {0}) 2 (f true) None (λ p. None) lowest size) (sym (behind_is core globals kept i op Agree stands))
-      (groups_agree core image bound places nestings i op lowest size (in_place i op Agree stands refl)))
+  -- in the cycles that are told
+  step_in : (i : ℕ) (op : CoreOp) (operation : Operation) (c d lowest size : ℕ) → OpAt core i op operation → c ≡ before i → d ≡ behind i true
+      → StepTogether core image places nestings i op operation (IsAskedOf operation lowest size) c d None (λ p. None) lowest size
+      → StepTogether core image places nestings i op operation (IsAskedOf operation lowest size) (before i) (behind i true) None (λ p. None) lowest size
+  step_in i op operation c d lowest size stands e f step =
+      subst (λ x. StepTogether core image places nestings i op operation (IsAskedOf operation lowest size) x (behind i true) None (λ p. None) lowest size) e
+      (subst (λ x. StepTogether core image places nestings i op operation (IsAskedOf operation lowest size) c x None (λ p. None) lowest size) f step)
+
+  steps : (i : ℕ) (op : CoreOp) (operation : Operation) (lowest size : ℕ) → OpAt core i op operation → stays_in_step operation ≡ true
+      → StepTogether core image places nestings i op operation (IsAskedOf operation lowest size) (before i) (behind i true) None (λ p. None) lowest size
+  steps i op Agree lowest size stands e =
+      step_in i op Agree 2 1 lowest size stands (sym (before_is core globals kept i op Agree stands))
+      (sym (ap (λ (f : Bool → ℕ). f true) (behind_is core globals kept i op Agree stands)))
+      (λ setting t mine first ms ps own owns enter asked.
+      groups_agree core image bound places nestings i op lowest size (in_place i op Agree stands refl) setting t mine first ms ps own owns enter asked)
+  steps i op (Frame nesting words) lowest size stands e =
+      let step = Frame nesting words in
+      step_in i op step (frame_takes words) 0 lowest size stands (sym (before_is core globals kept i op step stands))
+      (sym (ap (λ (f : Bool → ℕ). f true) (behind_is core globals kept i op step stands)))
+      (λ setting t mine first ms ps own owns enter asked.
+      groups_take_frames core image bound places nestings i op nesting words lowest size (in_place i op step stands refl) (ranges.words i op stands.stands).0 setting t mine first ms ps own owns enter asked)
+  steps i op Block lowest size stands e =
+      step_in i op Block 0 12 lowest size stands (sym (before_is core globals kept i op Block stands))
+      (sym (ap (λ (f : Bool → ℕ). f true) (behind_is core globals kept i op Block stands)))
+      (λ setting t mine first ms ps own owns enter asked.
+      groups_take_blocks core image bound places nestings i op lowest size (in_place i op Block stands refl) setting t mine first ms ps own owns enter asked)
+  steps i op operation lowest size stands e = absurd (cc)
 
   -- by what the law of its block tells
   parts_in : (i : ℕ) (op : CoreOp) (operation : Operation) (c d lowest size : ℕ) → OpAt core i op operation → c ≡ before i → d ≡ behind i true
@@ -120,7 +144,7 @@ module _ (core : List CoreOp) (image : Image) (bound : ℕ → ℕ) (places : Pl
       (subst (λ d. BlockStarts core image places nestings i op there (who_comes bound d) most_to_start (before i) (behind i)) (sym depth) here)
 
 pub lists_have_the_law : ListsHaveTheLaw
-lists_have_the_law core kept image bound places nestings firsts main suits are ranges lone levels code looks steps gathers begins =
+lists_have_the_law core kept image bound places nestings firsts main suits are ranges lone levels code looks room gathers begins =
     let alone = lists_do_alone core kept image bound places nestings main suits are ranges lone levels in
     record {
       few_before = alone.few_before;
@@ -129,10 +153,10 @@ lists_have_the_law core kept image bound places nestings firsts main suits are r
       jumps = alone.jumps;
       halts = alone.halts;
       begins = begins;
-      agrees = agrees core image bound places nestings kept main suits code looks steps;
-      parts = parts core image bound places nestings kept main suits code looks steps;
-      ends = ends core image bound places nestings kept main suits code looks steps;
-      meets = meets core image bound places nestings kept main suits code looks steps;
-      few_to_begin = few_to_begin core image bound places nestings kept main suits code looks steps;
-      starts = starts core image bound places nestings kept main suits code looks steps gathers;
+      steps = steps core image bound places nestings kept main suits code looks room ranges;
+      parts = parts core image bound places nestings kept main suits code looks room ranges;
+      ends = ends core image bound places nestings kept main suits code looks room ranges;
+      meets = meets core image bound places nestings kept main suits code looks room ranges;
+      few_to_begin = few_to_begin core image bound places nestings kept main suits code looks room ranges;
+      starts = starts core image bound places nestings kept main suits code looks room ranges gathers;
     }

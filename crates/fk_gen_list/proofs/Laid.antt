@@ -12,18 +12,19 @@ use Rattle.fk_asm.proofs.Straight.{with_block-append}
 use Rattle.fk_sim_block.specs.Stands.{Places, ReturnPoint, Frames}
 use Rattle.fk_gen.specs.Lines.{copy_label, clear_label, label_of}
 use Rattle.fk_gen.specs.InPlace.{LinesAt, HasLabels, HasBlock}
+use Rattle.fk_gen_access.specs.Heap.{heap_label, heap_lines}
 use Rattle.fk_gen_flow.specs.Calls.{chain_lines, copy_lines, clear_lines, back_lines, most_privates, HasChain, HasShared}
 use Rattle.fk_gen_group.specs.Blocks.{start_label, start_lines}
-use Rattle.fk_gen_list.specs.Layout.{place, copy_offset, clear_offset, copying_lines, clearing_lines, calls_front, front, all_lines, AddsBlocks, AddsCopying, AddsClearing, AddsStart, IsSpare, IsLaid}
+use Rattle.fk_gen_list.specs.Layout.{place, copy_offset, clear_offset, copying_lines, clearing_lines, calls_front, start_front, front, all_lines, AddsBlocks, AddsCopying, AddsClearing, AddsLabelled, AddsStart, AddsHeap, IsSpare, IsLaid}
 use Rattle.fk_gen_list.proofs.Blocks.{length-with_block}
-use Rattle.fk_gen_list.proofs.Chain.{IsChain, copying_chain, clearing_chain, length-chain, offset_within, part_within, back_within}
+use Rattle.fk_gen_list.proofs.Chain.{IsChain, copying_chain, clearing_chain, length-chain, part_within, back_within}
 use Rattle.fk_gen_list.proofs.InImage.{Within, within_self, within_front, within_back, IsAssembled, bound_in, word_or, lines_at}
 use Rattle.fk_gen_list.proofs.Near.{IsFar, GoesFar}
 
--- The labels of so many operations. That of the code that beginnings of `start` share is behind those that copy arguments
+-- The labels of so many operations. Behind those that copy arguments are that of the code that beginnings of `start` share and that of the code of `shmalloc`
 abbrev pub IsLabel : (operations label : ℕ) → Type 0
 IsLabel n label =
-    (label ≤ start_label)
+    (label ≤ heap_label)
     ⊎ (((clear_label 0 ≤ label) × (label ≤ clear_label most_privates)) ⊎ ((label_of 0 ≤ label) × (label < label_of n)))
 
 -- a line goes to none, or far, to one of them
@@ -81,6 +82,9 @@ length-clearing = let e = length-chain clear_label clear_offset clear_lines 1 cl
 pub length-start : (globals : ℕ) → length (start_lines globals) ≡ 35
 length-start globals = refl
 
+pub length-heap : (globals : ℕ) → length (heap_lines globals) ≡ 32
+length-heap globals = refl
+
 -- a chain stands in an image where it stands among its lines
 stands_chain : (label offset : ℕ → ℕ) (part : ℕ → List MarkedLine) (width : ℕ) → IsChain label offset part width
     → (image : Image) (bounds : List (Option ℕ)) (all : List MarkedLine) → IsAssembled image bounds all → (end first : ℕ)
@@ -106,20 +110,25 @@ stands_chain label offset part width chain image bounds all code end first w at 
           (back_within label offset part width chain all first most_privates (omega arith) there));
     }
 
--- the label of the code that beginnings of `start` share is bound
-module _ (globals : ℕ) (cleared started : Assembly) (s : AddsStart globals cleared started) where
-  start_bound : started.bound ≡ slice_set cleared.bound start_label (Some (length cleared.lines))
-  start_bound = ap (λ (a : Assembly). a.bound) s
+-- the label of code that has one is bound, and the lines are there
+module _ (own : ℕ) (lines : List MarkedLine) (old new : Assembly) (s : AddsLabelled own lines old new) where
+  own_bound : new.bound ≡ slice_set old.bound own (Some (length old.lines))
+  own_bound = ap (λ (a : Assembly). a.bound) s
 
-  pub start_count : length started.bound ≡ length cleared.bound
-  start_count = ap length start_bound ∙ length-set cleared.bound start_label (Some (length cleared.lines))
+  pub labelled_count : length new.bound ≡ length old.bound
+  labelled_count = ap length own_bound ∙ length-set old.bound own (Some (length old.lines))
 
-  pub start_other : (label : ℕ) → (label ≡ start_label → ⊥) → slice_index_or started.bound label None ≡ slice_index_or cleared.bound label None
-  start_other label ne =
-      ap (λ l. slice_index_or l label None) start_bound ∙ get_or-set_other cleared.bound start_label label (Some (length cleared.lines)) None ne
+  pub labelled_other : (label : ℕ) → (label ≡ own → ⊥) → slice_index_or new.bound label None ≡ slice_index_or old.bound label None
+  labelled_other label ne =
+      ap (λ l. slice_index_or l label None) own_bound ∙ get_or-set_other old.bound own label (Some (length old.lines)) None ne
 
-  pub start_at : start_label < length cleared.bound → slice_index_or started.bound start_label None ≡ Some (length cleared.lines)
-  start_at in' = ap (λ l. slice_index_or l start_label None) start_bound ∙ get_or-set_same cleared.bound start_label (Some (length cleared.lines)) None in'
+  pub labelled_at : own < length old.bound → slice_index_or new.bound own None ≡ Some (length old.lines)
+  labelled_at in' = ap (λ l. slice_index_or l own None) own_bound ∙ get_or-set_same old.bound own (Some (length old.lines)) None in'
+
+  pub labelled_words : length new.lines ≡ length old.lines + length lines
+  labelled_words =
+      ap (λ (a : Assembly). length a.lines) s
+      ∙ length-with_block (record old { bound = slice_set old.bound own (Some (length old.lines)) }) lines
 
 module _ (block : Placed → List MarkedLine) (opening : List MarkedLine) (globals : ℕ) (ops : List Placed) where
   abbrev copied_front : List MarkedLine
@@ -138,41 +147,54 @@ module _ (block : Placed → List MarkedLine) (opening : List MarkedLine) (globa
       let clearing = length-clearing in
       omega (arith, sum, first, clearing)
 
-  pub length-front : length (front opening globals) ≡ length opening + 205
-  length-front =
+  length-started : length (start_front opening globals) ≡ length opening + 205
+  length-started =
       let sum = length-append (calls_front opening) (start_lines globals) in
       let first = length-calls in
       let start = length-start globals in
       omega (arith, sum, first, start)
+
+  pub length-front : length (front opening globals) ≡ length opening + 237
+  length-front =
+      let sum = length-append (start_front opening globals) (heap_lines globals) in
+      let first = length-started in
+      let heap = length-heap globals in
+      omega (arith, sum, first, heap)
 
   length-all : length (all_lines block opening globals ops) ≡ length (front opening globals) + length (flat_map block ops)
   length-all = length-append (front opening globals) (flat_map block ops)
 
   -- ---- it is laid part by part
 
-  -- what is added behind the code that calls share, with the labels of the end
-  abbrev behind_calls : (bound : List (Option ℕ)) → Assembly → Assembly
-  behind_calls bound a = record (with_block (with_block a (start_lines globals)) (flat_map block ops)) { bound = bound }
+  -- what is added behind the code of `start`, and behind the code that calls share, with the labels of the end
+  abbrev behind_start : (bound : List (Option ℕ)) → Assembly → Assembly
+  behind_start bound a = record (with_block (with_block a (heap_lines globals)) (flat_map block ops)) { bound = bound }
 
-  laid_made : (bound : List (Option ℕ)) (opened copied cleared started laid : Assembly)
+  abbrev behind_calls : (bound : List (Option ℕ)) → Assembly → Assembly
+  behind_calls bound a = behind_start bound (with_block a (start_lines globals))
+
+  laid_made : (bound : List (Option ℕ)) (opened copied cleared started hiring laid : Assembly)
       → opened ≡ with_block (record empty { bound = bound }) opening → AddsCopying opened copied → AddsClearing copied cleared → AddsStart globals cleared started
-      → AddsBlocks block ops started laid → laid ≡ record (with_block empty (all_lines block opening globals ops)) { bound = laid.bound }
-  laid_made bound opened copied cleared started laid o c d s b =
+      → AddsHeap globals started hiring
+      → AddsBlocks block ops hiring laid → laid ≡ record (with_block empty (all_lines block opening globals ops)) { bound = laid.bound }
+  laid_made bound opened copied cleared started hiring laid o c d s r b =
       b.made
-      ∙ ap (λ (a : Assembly). record (with_block a (flat_map block ops)) { bound = laid.bound }) s
+      ∙ ap (λ (a : Assembly). record (with_block a (flat_map block ops)) { bound = laid.bound }) r
+      ∙ ap (λ (a : Assembly). behind_start laid.bound a) s
       ∙ ap (λ (a : Assembly). behind_calls laid.bound a) d.made
       ∙ ap (λ (a : Assembly). behind_calls laid.bound (with_block a clearing_lines)) c.made
       ∙ ap (λ (a : Assembly). behind_calls laid.bound (with_block (with_block a copying_lines) clearing_lines)) o
       ∙ ap (λ (a : Assembly). behind_calls laid.bound (with_block a clearing_lines)) (with_block-append empty opening copying_lines)
       ∙ ap (λ (a : Assembly). behind_calls laid.bound a) (with_block-append empty copied_front clearing_lines)
-      ∙ ap (λ (a : Assembly). record (with_block a (flat_map block ops)) { bound = laid.bound }) (with_block-append empty (calls_front opening) (start_lines globals))
+      ∙ ap (λ (a : Assembly). behind_start laid.bound a) (with_block-append empty (calls_front opening) (start_lines globals))
+      ∙ ap (λ (a : Assembly). record (with_block a (flat_map block ops)) { bound = laid.bound }) (with_block-append empty (start_front opening globals) (heap_lines globals))
       ∙ ap (λ (a : Assembly). record a { bound = laid.bound }) (with_block-append empty (front opening globals) (flat_map block ops))
 
-  pub laid_all : (opened copied cleared started laid : Assembly)
+  pub laid_all : (opened copied cleared started hiring laid : Assembly)
       → opened ≡ with_block (record empty { bound = replicate (label_of (length ops)) None }) opening
-      → AddsCopying opened copied → AddsClearing copied cleared → AddsStart globals cleared started → AddsBlocks block ops started laid
-      → IsLaid block opening globals ops laid
-  laid_all opened copied cleared started laid o c d s b =
+      → AddsCopying opened copied → AddsClearing copied cleared → AddsStart globals cleared started → AddsHeap globals started hiring
+      → AddsBlocks block ops hiring laid → IsLaid block opening globals ops laid
+  laid_all opened copied cleared started hiring laid o c d s r b =
       let bound : opened.bound ≡ replicate (label_of (length ops)) None = ap (λ (a : Assembly). a.bound) o in
       let count : length cleared.bound ≡ label_of (length ops) = d.count ∙ c.count ∙ ap length bound ∙ length-replicate (label_of (length ops)) None in
       let first : length opened.lines ≡ length opening =
@@ -183,26 +205,35 @@ module _ (block : Placed → List MarkedLine) (opening : List MarkedLine) (globa
       let third : length cleared.lines ≡ length (calls_front opening) =
       ap (λ (a : Assembly). length a.lines) d.made ∙ length-with_block copied clearing_lines
       ∙ ap (λ n. n + length clearing_lines) second ∙ sym (length-append copied_front clearing_lines) in
-      let fourth : length started.lines ≡ length (front opening globals) =
-      ap (λ (a : Assembly). length a.lines) s
-      ∙ length-with_block (record cleared { bound = slice_set cleared.bound start_label (Some (length cleared.lines)) }) (start_lines globals)
+      let fourth : length started.lines ≡ length (start_front opening globals) =
+      labelled_words start_label (start_lines globals) cleared started s
       ∙ ap (λ n. n + length (start_lines globals)) third ∙ sym (length-append (calls_front opening) (start_lines globals)) in
+      let fifth : length hiring.lines ≡ length (front opening globals) =
+      labelled_words heap_label (heap_lines globals) started hiring r
+      ∙ ap (λ n. n + length (heap_lines globals)) fourth ∙ sym (length-append (start_front opening globals) (heap_lines globals)) in
+      let count' : length started.bound ≡ label_of (length ops) = labelled_count start_label (start_lines globals) cleared started s ∙ count in
+      let other : (label : ℕ) → (label ≡ heap_label → ⊥) → (label ≡ start_label → ⊥) → slice_index_or hiring.bound label None ≡ slice_index_or cleared.bound label None =
+      λ label apart apart'.
+      labelled_other heap_label (heap_lines globals) started hiring r label apart ∙ labelled_other start_label (start_lines globals) cleared started s label apart' in
       record {
-        made = laid_made (replicate (label_of (length ops)) None) opened copied cleared started laid o c d s b;
-        count = b.count ∙ start_count globals cleared started s ∙ count;
+        made = laid_made (replicate (label_of (length ops)) None) opened copied cleared started hiring laid o c d s r b;
+        count = b.count ∙ labelled_count heap_label (heap_lines globals) started hiring r ∙ count';
         copies = λ n few.
-            b.others (copy_label n) (omega arith) ∙ start_other globals cleared started s (copy_label n) (λ e. omega arith)
+            b.others (copy_label n) (omega arith) ∙ other (copy_label n) (λ e. omega arith) (λ e. omega arith)
             ∙ d.others (copy_label n) (λ m le e. absurd (omega arith)) ∙ c.entries n few ∙ ap (λ k. Some (k + copy_offset n)) first;
         clears = λ n few.
-            b.others (clear_label n) (omega arith) ∙ start_other globals cleared started s (clear_label n) (λ e. omega arith)
+            b.others (clear_label n) (omega arith) ∙ other (clear_label n) (λ e. omega arith) (λ e. omega arith)
             ∙ d.entries n few ∙ ap (λ k. Some (k + clear_offset n)) second;
-        starts = b.others start_label (omega arith) ∙ start_at globals cleared started s (omega (arith, count)) ∙ ap Some third;
+        starts =
+            b.others start_label (omega arith) ∙ labelled_other heap_label (heap_lines globals) started hiring r start_label (λ e. omega arith)
+            ∙ labelled_at start_label (start_lines globals) cleared started s (omega (arith, count)) ∙ ap Some third;
+        hires = b.others heap_label (omega arith) ∙ labelled_at heap_label (heap_lines globals) started hiring r (omega (arith, count')) ∙ ap Some fourth;
         spare = λ label is.
             let low = is.low in
             let in' : label < label_of (length ops) = omega arith in
-            b.others label is.low ∙ start_other globals cleared started s label is.no_start ∙ d.others label is.no_clear ∙ c.others label is.no_copy
+            b.others label is.low ∙ other label is.no_heap is.no_start ∙ d.others label is.no_clear ∙ c.others label is.no_copy
             ∙ ap (λ l. slice_index_or l label None) bound ∙ get_or-replicate (label_of (length ops)) label None None in';
-        labels = λ i lt. b.labels i lt ∙ ap (λ k. Some (place block k ops i)) fourth;
+        labels = λ i lt. b.labels i lt ∙ ap (λ k. Some (place block k ops i)) fifth;
       }
 
   -- ---- labels
@@ -231,14 +262,27 @@ module _ (block : Placed → List MarkedLine) (opening : List MarkedLine) (globa
         let first = length-calls in
         omega (arith, whole, begin, first)
 
+    heap_end : length (start_front opening globals) ≤ end
+    heap_end =
+        let whole = length-all in
+        let begin = length-front in
+        let first = length-started in
+        omega (arith, whole, begin, first)
+
+    -- a label that is bound to a word of the code
+    word_within : (label own word : ℕ) → own ≡ label → slice_index_or a.bound own None ≡ Some word → word ≤ end
+        → IsSomeAnd (slice_index_or a.bound label None) (λ word. word ≤ end)
+    word_within label own word same is le = subst (λ o. IsSomeAnd o (λ word. word ≤ end)) (sym (ap (λ l. slice_index_or a.bound l None) (sym same) ∙ is)) le
+
     label_within : (label : ℕ) → IsLabel (length ops) label → IsSomeAnd (slice_index_or a.bound label None) (λ word. word ≤ end)
     label_within label (inl low) = elim (cases_lt label start_label) [
       | inl less ↦
           let copy : label ≤ most_privates = omega arith in
           subst (λ o. IsSomeAnd o (λ word. word ≤ end)) (sym (is.copies label copy)) (copy_end label copy)
-      | inr more ↦
-          let same : start_label ≡ label = omega arith in
-          subst (λ o. IsSomeAnd o (λ word. word ≤ end)) (sym (ap (λ l. slice_index_or a.bound l None) (sym same) ∙ is.starts)) start_end
+      | inr from ↦ elim (cases_lt label heap_label) [
+        | inl start ↦ word_within label start_label (length (calls_front opening)) (omega arith) is.starts start_end
+        | inr heap ↦ word_within label heap_label (length (start_front opening globals)) (omega arith) is.hires heap_end
+      ]
     ]
     label_within label (inr (inl clear)) =
         let n = label - clear_label 0 in
@@ -294,8 +338,31 @@ module _ (block : Placed → List MarkedLine) (opening : List MarkedLine) (globa
     pub bound_start : bound start_label ≡ length (calls_front opening)
     bound_start = ap (word_or end) is.starts
 
+    pub bound_heap : bound heap_label ≡ length (start_front opening globals)
+    bound_heap = ap (word_or end) is.hires
+
     bound_spare : (label : ℕ) → IsSpare label → bound label ≤ end
     bound_spare label spare = let e : bound label ≡ end = ap (word_or end) (is.spare label spare) in omega (arith, e)
+
+    -- one behind those that copy arguments, before those that clear words
+    bound_between : (label : ℕ) → most_privates < label → label < clear_label 0 → bound label ≤ end
+    bound_between label from less = elim (cases_lt heap_label label) [
+      | inl past ↦
+          bound_spare label
+          (record { low = omega arith; no_copy = λ n le e. omega arith; no_start = λ e. omega arith; no_heap = λ e. omega arith; no_clear = λ n le e. omega arith })
+      | inr here ↦ elim (cases_lt start_label label) [
+        | inl heap ↦
+            let same : label ≡ heap_label = omega arith in
+            let e : bound label ≡ length (start_front opening globals) = ap bound same ∙ bound_heap in
+            let le = heap_end in
+            omega (arith, e, le)
+        | inr start ↦
+            let same : label ≡ start_label = omega arith in
+            let e : bound label ≡ length (calls_front opening) = ap bound same ∙ bound_start in
+            let le = start_end in
+            omega (arith, e, le)
+      ]
+    ]
 
     -- one that is no label of a block
     bound_low : (label : ℕ) → label < label_of 0 → bound label ≤ end
@@ -305,16 +372,9 @@ module _ (block : Placed → List MarkedLine) (opening : List MarkedLine) (globa
           let le = copy_end label (omega arith) in
           omega (arith, e, le)
       | inl more ↦ elim (cases_lt label (clear_label 0)) [
-        | inl less ↦ elim (cases_lt start_label label) [
-          | inl past ↦ bound_spare label (record { low = low; no_copy = λ n le e. omega arith; no_start = λ e. omega arith; no_clear = λ n le e. omega arith })
-          | inr here ↦
-              let same : label ≡ start_label = omega arith in
-              let e : bound label ≡ length (calls_front opening) = ap bound same ∙ bound_start in
-              let le = start_end in
-              omega (arith, e, le)
-        ]
+        | inl less ↦ bound_between label more less
         | inr from ↦ elim (cases_lt (clear_label most_privates) label) [
-          | inl past ↦ bound_spare label (record { low = low; no_copy = λ n le e. omega arith; no_start = λ e. omega arith; no_clear = λ n le e. omega arith })
+          | inl past ↦ bound_spare label (record { low = low; no_copy = λ n le e. omega arith; no_start = λ e. omega arith; no_heap = λ e. omega arith; no_clear = λ n le e. omega arith })
           | inr clear ↦
               let n = label - clear_label 0 in
               let same : label ≡ clear_label n = omega arith in
@@ -361,8 +421,11 @@ module _ (block : Placed → List MarkedLine) (opening : List MarkedLine) (globa
       in_front : Within all 0 (front opening globals)
       in_front = within_front all (front opening globals) (flat_map block ops) 0 (within_self all)
 
+      in_started : Within all 0 (start_front opening globals)
+      in_started = within_front all (start_front opening globals) (heap_lines globals) 0 in_front
+
       in_calls : Within all 0 (calls_front opening)
-      in_calls = within_front all (calls_front opening) (start_lines globals) 0 in_front
+      in_calls = within_front all (calls_front opening) (start_lines globals) 0 in_started
 
       in_copied : Within all 0 copied_front
       in_copied = within_front all copied_front clearing_lines 0 in_calls
@@ -386,7 +449,12 @@ module _ (block : Placed → List MarkedLine) (opening : List MarkedLine) (globa
       pub has_start : LinesAt image bound (bound start_label) (start_lines globals)
       has_start =
           subst (λ k. LinesAt image bound k (start_lines globals)) (sym bound_start)
-          (lines_at image a.bound all code end (length (calls_front opening)) (start_lines globals) (behind (calls_front opening) (start_lines globals) in_front))
+          (lines_at image a.bound all code end (length (calls_front opening)) (start_lines globals) (behind (calls_front opening) (start_lines globals) in_started))
+
+      pub has_heap : LinesAt image bound (bound heap_label) (heap_lines globals)
+      has_heap =
+          subst (λ k. LinesAt image bound k (heap_lines globals)) (sym bound_heap)
+          (lines_at image a.bound all code end (length (start_front opening globals)) (heap_lines globals) (behind (start_front opening globals) (heap_lines globals) in_front))
 
       pub has_block : (returns : (index : ℕ) → Option ReturnPoint) (frames : Frames) (i : ℕ) (op : Placed) → slice_get ops i ≡ Some op
           → HasBlock image bound (places returns frames) i (block op)

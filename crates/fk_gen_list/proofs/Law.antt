@@ -3,7 +3,7 @@ use Rattle.std.proofs.Common.{◌≡◌, ℕ, List, [], length, Option, Bool, tr
 use Rattle.std.specs.Prelude.{slice_get}
 use Rattle.std.specs.Option.{option_map_or}
 use Rattle.fk_meaning_operation.specs.declared.operation.Operation.{Operation}
-use Rattle.fk_meaning_operation.specs.declared.operation.Operation.TheVariants.{Leave, Enter, Halt, Begin, Agree, Seq, End}
+use Rattle.fk_meaning_operation.specs.declared.operation.Operation.TheVariants.{Leave, Enter, Halt, Begin, Agree, Seq, End, Frame, Block}
 use Rattle.fk_core.specs.declared.op.CoreOp.{CoreOp}
 use Rattle.fk_core.specs.Numbers.{operation_of}
 use Rattle.fk_image.specs.declared.Image.{Image}
@@ -45,8 +45,7 @@ is_lone_of operation alone = alone
 keeps_of : (core : List CoreOp) (image : Image) (places : Places) (before : ℕ) (behind : Bool → ℕ) (i : ℕ) (op : CoreOp) (operation : Operation) → is_flow operation ≡ false → is_alone operation ≡ true
     → BlockDoesBy core image places before behind i op operation → BlockKeeps core image places before behind i op operation
 keeps_of core image places before behind i op (Enter n) flow alone does = never (sym flow)
-keeps_of core image places before behind i op (Leave gives true) flow alone does = never alone
-keeps_of core image places before behind i op (Leave gives false) flow alone does = never (sym flow)
+keeps_of core image places before behind i op (Leave gives framed) flow alone does = never (sym flow)
 keeps_of core image places before behind i op operation flow alone does = does
 
 module _ (core : List CoreOp) (image : Image) (places : Places) (bound : ℕ → ℕ) (kept : List Set) (main : ℕ) (suits : Suits core places.frames main) (are : AreKept places.frames kept)
@@ -69,7 +68,7 @@ module _ (core : List CoreOp) (image : Image) (places : Places) (bound : ℕ →
   keeps_by i op operation stands alone false true f a has =
       keeps_of core image places (accesses.before_commit operation op.site) (λ onward. accesses.behind_commit operation) i op operation f alone
       (access_blocks_keep core image bound places i op operation stands a (ranges.words i op stands.stands).0
-      (subst (λ o. HasBlock image bound places i (accesses.block_of o op.depth op.site)) stands.is_read has) (suits.fits i op operation stands))
+      (subst (λ o. HasBlock image bound places i (accesses.block_of o op.depth op.site)) stands.is_read has) (λ hires. code.heap) (suits.fits i op operation stands))
   keeps_by i op operation stands alone false false f a has =
       let fits = suits.fits i op operation stands in
       keeps_of core image places 0 (behind_in (kind_by false false false) (here i op) operation) i op operation f alone
@@ -85,6 +84,8 @@ module _ (core : List CoreOp) (image : Image) (places : Places) (bound : ℕ →
   by_kind i op Agree alone keeps = never alone
   by_kind i op Seq alone keeps = never alone
   by_kind i op End alone keeps = never alone
+  by_kind i op (Frame nesting words) alone keeps = never alone
+  by_kind i op Block alone keeps = never alone
   by_kind i op operation alone keeps = keeps
 
   -- and those at its index

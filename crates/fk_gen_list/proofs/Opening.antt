@@ -19,9 +19,9 @@ root_nestings places nestings processors number main m none room = (
 )
 
 pub groups_begin : GroupsBegin
-groups_begin core image bound places nestings firsts main opening are is_main none level_room setting t number running lt =
+groups_begin core image bound places nestings firsts main opening are is_main no_frame none level_room setting t number running lt =
     let of_file = places.frames.of_file in
-    let begun = begins_in_root core image bound places firsts main opening are is_main setting t number running in
+    let begun = begins_in_root core image bound places firsts main opening are is_main no_frame setting t number running in
     let main_room : of_file + 7 + nestings.behind main ≤ 64 =
     let starts : ahead places.frames (places.frames.is_main main) ≡ of_file = ap (ahead places.frames) is_main in
     let r = level_room.room in

@@ -20,10 +20,11 @@ use Rattle.fk_isa.specs.declared.instruction.Instruction.{Instruction}
 use Rattle.fk_isa.specs.declared.instruction.Instruction.TheVariants.{Add}
 use Rattle.fk_asm.specs.Block.{MarkedLine}
 use Rattle.fk_gen.specs.declared.placed.Placed.{Placed}
-use Rattle.fk_gen.specs.Lines.{quiet, commits, high_part, load_by, load_number}
+use Rattle.fk_gen.specs.Lines.{quiet, commits, first_commits, high_part, load_by, load_number, add_by, add_number}
 use Rattle.fk_gen.specs.Registers.{t0, t1}
 use Rattle.fk_core_liveness.specs.declared.set.Set.{Set}
 use Rattle.fk_gen_access.specs.Blocks as accesses
+use Rattle.fk_gen_access.specs.Heap as heap
 use Rattle.fk_gen_expr.specs.Expressions as expressions
 use Rattle.fk_gen_flow.specs.Blocks as flow
 use Rattle.fk_sim_block.specs.Next.{OpAt}
@@ -55,7 +56,7 @@ quiet_all : (is : List Instruction) → All IsUnlabeled (map quiet is)
 quiet_all [] = All-nil IsUnlabeled
 quiet_all (i ∷ is) = All-cons IsUnlabeled (quiet i) (map quiet is) refl (quiet_all is)
 
-first_all : (is : List Instruction) → All IsUnlabeled (expressions.first_commits is)
+first_all : (is : List Instruction) → All IsUnlabeled (first_commits is)
 first_all [] = All-nil IsUnlabeled
 first_all (i ∷ is) = All-cons IsUnlabeled (commits i) (map quiet is) refl (quiet_all is)
 
@@ -68,16 +69,22 @@ test_all : (alone : Bool) (d : ℕ) → All IsUnlabeled (accesses.test_lines alo
 test_all true d = All-from_recursion IsUnlabeled (accesses.shared_test d) (refl, (refl, (refl, (refl, (refl, tt)))))
 test_all false d = All-from_recursion IsUnlabeled (accesses.any_test d) (refl, (refl, (refl, (refl, (refl, (refl, (refl, (refl, tt))))))))
 
-access_all : (operation : Option Operation) (d site : ℕ) → All IsUnlabeled (accesses.block_of operation d site)
-access_all (Some o.Take) d site = straight_all (accesses.take_block d)
-access_all (Some (o.Check alone)) d site =
-    All-append IsUnlabeled (map quiet (load_number site)) (accesses.test_lines alone d) (quiet_all (load_number site)) (test_all alone d)
-access_all (Some o.Read) d site = straight_all (accesses.read_block d)
-access_all (Some o.Write) d site = straight_all (accesses.write_block d)
-access_all (Some (o.Combine by)) d site = straight_all (accesses.combine_block by d)
-access_all (Some o.PrintNumber) d site = straight_all (accesses.print_block accesses.number_device d)
-access_all (Some o.PrintByte) d site = straight_all (accesses.print_block accesses.byte_device d)
-access_all operation d site = All-nil IsUnlabeled
+straight_goes : (n : ℕ) (b : accesses.Straight) → All (GoesTo n) (accesses.lines b)
+straight_goes n b = go_nowhere n (accesses.lines b) (straight_all b)
+
+-- that of `shmalloc` alone goes anywhere
+access_all : (n : ℕ) (operation : Option Operation) (d site : ℕ) → All (GoesTo n) (accesses.block_of operation d site)
+access_all n (Some o.Take) d site = straight_goes n (accesses.take_block d)
+access_all n (Some (o.Check alone)) d site =
+    go_nowhere n (accesses.check_block alone d site)
+    (All-append IsUnlabeled (map quiet (load_number site)) (accesses.test_lines alone d) (quiet_all (load_number site)) (test_all alone d))
+access_all n (Some o.Read) d site = straight_goes n (accesses.read_block d)
+access_all n (Some o.Write) d site = straight_goes n (accesses.write_block d)
+access_all n (Some (o.Combine by)) d site = straight_goes n (accesses.combine_block by d)
+access_all n (Some o.PrintNumber) d site = straight_goes n (accesses.print_block accesses.number_device d)
+access_all n (Some o.PrintByte) d site = straight_goes n (accesses.print_block accesses.byte_device d)
+access_all n (Some o.Heap) d site = All-from_recursion (GoesTo n) (heap.hire_block d) (tt, ((inl (omega arith), (1, refl)), (tt, tt)))
+access_all n operation d site = All-nil (GoesTo n)
 
 expression_all : (globals d : ℕ) (operation : Option Operation)
     → All IsUnlabeled (option_map_or (expressions.expression_block globals d) operation [])
@@ -115,10 +122,10 @@ clears_all n false arguments = All-nil (GoesTo n)
 flow_all : (n : ℕ) (clears : Bool) (back : ℕ) (op : CoreOp) (operation : Option Operation) → Leads n back op operation → All (GoesTo n) (flow.block_by clears back op operation)
 flow_all n clears back op (Some (o.Branch onward)) leads =
     All-from_recursion (GoesTo n) (f.branch_block onward op.depth op.target) (tt, (tt, (jump_goes n op.target leads, tt)))
-flow_all n clears back op (Some (o.Leave true framed)) leads =
-    All-from_recursion (GoesTo n) (f.leave_block true op.depth) (tt, (tt, (tt, (tt, (tt, (tt, (tt, tt)))))))
-flow_all n clears back op (Some (o.Leave false framed)) leads =
-    All-from_recursion (GoesTo n) (f.leave_block false op.depth) (tt, (tt, (tt, (tt, tt))))
+flow_all n clears back op (Some (o.Leave gives true)) leads =
+    go_nowhere n (f.leave_block gives true op.depth)
+    (All-append IsUnlabeled (first_commits f.giving_back) (f.leaving_lines false gives op.depth) (first_all f.giving_back) (quiet_all (f.leaving gives op.depth)))
+flow_all n clears back op (Some (o.Leave gives false)) leads = go_nowhere n (f.leave_block gives false op.depth) (first_all (f.leaving gives op.depth))
 flow_all n clears back op (Some (o.Enter arguments)) leads =
     All-append (GoesTo n) (calls.depth_lines arguments op.depth op.site) (calls.word_lines clears arguments ++ calls.frame_lines back)
     (All-from_recursion (GoesTo n) (calls.depth_lines arguments op.depth op.site) (tt, (tt, (tt, (tt, (tt, (tt, (tt, tt))))))))
@@ -143,7 +150,7 @@ meet_all n word size =
     go_nowhere n (group.meet_block word size)
     (All-from_recursion IsUnlabeled (group.meet_block word size) (refl, (refl, (refl, (refl, (refl, (refl, (refl, (refl, (refl, (refl, (refl, tt))))))))))))
 
-group_all : (n back : ℕ) (op : CoreOp) (operation : Option Operation) → Leads n back op operation → All (GoesTo n) (group.block_of operation op.depth op.target)
+group_all : (n back : ℕ) (op : CoreOp) (operation : Option Operation) → Leads n back op operation → All (GoesTo n) (group.block_of operation op.depth op.target op.site)
 group_all n back op (Some o.Begin) leads =
     All-from_recursion (GoesTo n) (group.begin_block op.depth op.target) (tt, ((inl (omega arith), (1, refl)), (jump_goes n op.target leads, tt)))
 group_all n back op (Some o.Agree) leads = All-from_recursion (GoesTo n) (group.agree_block op.depth) (tt, (tt, (tt, (tt, tt))))
@@ -155,6 +162,14 @@ group_all n back op (Some o.End) leads =
 group_all n back op (Some o.Resume) leads = meet_all n 1 20
 group_all n back op (Some (o.Meet false)) leads = meet_all n 0 11
 group_all n back op (Some (o.Meet true)) leads = meet_all n 1 20
+group_all n back op (Some (o.Frame nesting words)) leads =
+    go_nowhere n (group.frame_block words op.site)
+    (All-append IsUnlabeled (map quiet (add_number (4 * words) 12)) (group.frame_lines op.site) (quiet_all (add_number (4 * words) 12))
+    (All-from_recursion IsUnlabeled (group.frame_lines op.site) (refl, (refl, (refl, (refl, (refl, (refl, (refl, (refl, tt))))))))))
+group_all n back op (Some o.Block) leads =
+    go_nowhere n (group.shalloc_block op.depth)
+    (All-from_recursion IsUnlabeled (group.shalloc_block op.depth)
+    (refl, (refl, (refl, (refl, (refl, (refl, (refl, (refl, (refl, (refl, (refl, (refl, (refl, tt))))))))))))))
 group_all n back op operation leads = All-nil (GoesTo n)
 
 -- a jump is no operation, and so none that leads anywhere
@@ -169,7 +184,7 @@ block_all n p jumps leads = by (kind_of p.op)
   where
     by : (kind : Kind) → All (GoesTo n) (block_in kind p)
     by Flow = flow_block_all n p.clears p.back p.op jumps leads
-    by Access = go_nowhere n _ (access_all (operation_of p.op.kind p.op.number) p.op.depth p.op.site)
+    by Access = access_all n (operation_of p.op.kind p.op.number) p.op.depth p.op.site
     by Group = group_all n p.back p.op (operation_of p.op.kind p.op.number) (leads_all n p.back p.op (is_jump p.op) refl leads)
     by Expression = go_nowhere n _ (expression_all p.globals p.op.depth (operation_of p.op.kind p.op.number))
 
@@ -221,13 +236,14 @@ access_length (Some o.Write) d site = omega arith
 access_length (Some (o.Combine by)) d site = omega arith
 access_length (Some o.PrintNumber) d site = omega arith
 access_length (Some o.PrintByte) d site = omega arith
+access_length (Some o.Heap) d site = omega arith
 access_length operation d site = omega arith
 
 access_words : (operation : Option Operation) (d site : ℕ) → length (accesses.block_of operation d site) ≤ words_by operation
 access_words (Some (o.Enter arguments)) d site = omega arith
 access_words operation d site = access_length operation d site
 
-first_length : (is : List Instruction) → length (expressions.first_commits is) ≡ length is
+first_length : (is : List Instruction) → length (first_commits is) ≡ length is
 first_length [] = refl
 first_length (i ∷ is) = ap suc (length-map is quiet)
 
@@ -252,6 +268,17 @@ index_length : (d size : ℕ) (is_word : Bool) (a b c s : Instruction) → lengt
 index_length d size true a b c s = omega arith
 index_length d size false a b c s = omega arith
 
+sum_few : (short : Bool) (n register : ℕ) → length (add_by short n register) ≤ 3
+sum_few true n register = omega arith
+sum_few false n register = omega arith
+
+frame_word_length : (is_first : Bool) (d word : ℕ) → length (expressions.frame_word is_first word ++ expressions.store_value t0 (d + 1) ∷ []) ≤ 15
+frame_word_length true d word = omega arith
+frame_word_length false d word =
+    let all = length-append (add_number (4 * word) t1) (expressions.store_value t0 (d + 1) ∷ []) in
+    let sum = sum_few (high_part (4 * word) == 0) (4 * word) t1 in
+    omega arith
+
 get_length : (globals d : ℕ) (which : OwnValue) → length (expressions.get_code globals d which) ≤ 15
 get_length globals d (known.Value variable) = omega arith
 get_length globals d known.Rank = omega arith
@@ -261,7 +288,7 @@ get_length globals d known.ProcessorNumber = omega arith
 get_length globals d known.Processors = omega arith
 get_length globals d known.InputLength = omega arith
 get_length globals d known.InputAddress = push_length d (address_of globals)
-get_length globals d (known.FrameAddress nesting word) = omega arith
+get_length globals d (known.FrameAddress nesting word) = frame_word_length (word == 0) d word
 
 code_length : (globals d : ℕ) (operation : Operation) → length (expressions.expression_code globals d operation) ≤ words_by (Some operation)
 code_length globals d (o.Push n) = push_length d n
@@ -299,8 +326,10 @@ few_words false arguments = let few = arguments_few (nat_le arguments 1) 1 argum
 
 flow_words : (clears : Bool) (back : ℕ) (op : CoreOp) (operation : Option Operation) → length (flow.block_by clears back op operation) ≤ words_by operation
 flow_words clears back op (Some (o.Branch onward)) = omega arith
-flow_words clears back op (Some (o.Leave true framed)) = omega arith
-flow_words clears back op (Some (o.Leave false framed)) = omega arith
+flow_words clears back op (Some (o.Leave true true)) = omega arith
+flow_words clears back op (Some (o.Leave true false)) = omega arith
+flow_words clears back op (Some (o.Leave false true)) = omega arith
+flow_words clears back op (Some (o.Leave false false)) = omega arith
 flow_words clears back op (Some (o.Enter arguments)) =
     let all = length-append (calls.word_lines clears arguments) (calls.frame_lines back) in
     let both = length-append (calls.argument_lines clears arguments) (calls.clears_by clears arguments) in
@@ -309,16 +338,22 @@ flow_words clears back op (Some (o.Enter arguments)) =
 flow_words clears back op (Some o.Halt) = omega arith
 flow_words clears back op operation = omega arith
 
-group_words : (operation : Option Operation) (d target : ℕ) → length (group.block_of operation d target) ≤ words_by operation
-group_words (Some o.Begin) d target = omega arith
-group_words (Some o.Agree) d target = omega arith
-group_words (Some o.Farm) d target = omega arith
-group_words (Some o.Seq) d target = omega arith
-group_words (Some o.End) d target = omega arith
-group_words (Some o.Resume) d target = omega arith
-group_words (Some (o.Meet false)) d target = omega arith
-group_words (Some (o.Meet true)) d target = omega arith
-group_words operation d target = omega arith
+group_words : (operation : Option Operation) (d target site : ℕ) → length (group.block_of operation d target site) ≤ words_by operation
+group_words (Some o.Begin) d target site = omega arith
+group_words (Some o.Agree) d target site = omega arith
+group_words (Some o.Farm) d target site = omega arith
+group_words (Some o.Seq) d target site = omega arith
+group_words (Some o.End) d target site = omega arith
+group_words (Some o.Resume) d target site = omega arith
+group_words (Some (o.Meet false)) d target site = omega arith
+group_words (Some (o.Meet true)) d target site = omega arith
+group_words (Some (o.Frame nesting words)) d target site =
+    let all = length-append (map quiet (add_number (4 * words) 12)) (group.frame_lines site) in
+    let same = length-map (add_number (4 * words) 12) quiet in
+    let sum = sum_few (high_part (4 * words) == 0) (4 * words) 12 in
+    omega arith
+group_words (Some o.Block) d target site = omega arith
+group_words operation d target site = omega arith
 
 words_of : (jump : Bool) (p : Placed) (operation : Option Operation) → is_jump p.op ≡ jump → operation_of p.op.kind p.op.number ≡ operation
     → length (block_in (kind_by (jump || flow.is_some_flow operation) (accesses.is_access operation) (group.is_group_step operation)) p)
@@ -329,7 +364,7 @@ words_of false p operation j read = by (kind_by (flow.is_some_flow operation) (a
     by : (kind : Kind) → length (block_in kind p) ≤ words_by operation
     by Flow = rw (j, read) (flow_words p.clears p.back p.op operation)
     by Access = rw read (access_words operation p.op.depth p.op.site)
-    by Group = rw read (group_words operation p.op.depth p.op.target)
+    by Group = rw read (group_words operation p.op.depth p.op.target p.op.site)
     by Expression = rw read (expression_words p.globals p.op.depth operation)
 
 block_words : (p : Placed) → length (block_of p) ≤ most_words p.op
@@ -375,7 +410,7 @@ opening_length of_file firsts main =
     let firsts' = firsts_length 0 firsts in
     omega arith
 
--- ---- the code that beginnings of `start` share
+-- ---- the code that beginnings of `start` share, and that of `shmalloc`
 
 pub start_goes : (n globals : ℕ) → All (GoesTo n) (group.start_lines globals)
 start_goes n globals =
@@ -387,3 +422,14 @@ start_goes n globals =
     (All-append IsUnlabeled group.size_lines (group.parting_lines globals)
     (All-from_recursion IsUnlabeled group.size_lines (refl, (refl, (refl, (refl, (refl, (refl, (refl, (refl, tt)))))))))
     (All-from_recursion IsUnlabeled (group.parting_lines globals) (refl, (refl, (refl, (refl, (refl, (refl, (refl, (refl, (refl, (refl, (refl, (refl, (refl, (refl, tt))))))))))))))))))
+
+pub heap_goes : (n globals : ℕ) → All (GoesTo n) (heap.heap_lines globals)
+heap_goes n globals =
+    let adding = map quiet heap.add_up ++ commits heap.tell ∷ [] in
+    let giving = map quiet heap.give ++ quiet heap.back ∷ [] in
+    go_nowhere n (heap.heap_lines globals)
+    (All-append IsUnlabeled (map quiet heap.ask) (adding ++ (map quiet (heap.find_end globals) ++ giving)) (quiet_all heap.ask)
+    (All-append IsUnlabeled adding (map quiet (heap.find_end globals) ++ giving)
+    (All-append IsUnlabeled (map quiet heap.add_up) (commits heap.tell ∷ []) (quiet_all heap.add_up) (All-cons IsUnlabeled (commits heap.tell) [] refl (All-nil IsUnlabeled)))
+    (All-append IsUnlabeled (map quiet (heap.find_end globals)) giving (quiet_all (heap.find_end globals))
+    (All-append IsUnlabeled (map quiet heap.give) (quiet heap.back ∷ []) (quiet_all heap.give) (All-cons IsUnlabeled (quiet heap.back) [] refl (All-nil IsUnlabeled))))))

@@ -1,20 +1,21 @@
 -- The steps that lay the code of a list.
 use Rattle.std.proofs.Common.{◌≡◌, ℕ, ◌+◌, ◌*◌, ◌^◌, ◌<◌, ◌≤◌, List, length, None, Result, Ok, Err, IfOk, All, ap, sym, ◌∙◌, arith}
-use Rattle.std.specs.Prelude.{flat_map, slice_index_or, slice_set, Some, replicate, sum_by}
+use Rattle.std.specs.Prelude.{flat_map, slice_index_or, replicate, sum_by}
 use Rattle.std.proofs.lemmas.List.Elements.{All-weaker}
 use Rattle.fk_core.specs.declared.op.CoreOp.{CoreOp}
 use Rattle.fk_asm.specs.Assembly.{Assembly, empty, AreFollowed}
 use Rattle.fk_asm.specs.Block.{MarkedLine, GoesToMade, with_block}
 use Rattle.fk_core_liveness.specs.declared.set.Set.{Set}
 use Rattle.fk_gen.specs.Lines.{clear_label, label_of}
+use Rattle.fk_gen_access.specs.Heap.{heap_label, heap_lines}
 use Rattle.fk_gen_flow.specs.Calls.{most_privates}
 use Rattle.fk_gen.specs.declared.placed.Placed.{Placed}
 use Rattle.fk_gen_group.specs.Blocks.{start_label, start_lines}
 use Rattle.fk_gen_list.specs.Generable.{IsGenerable, most_words}
 use Rattle.fk_gen_list.specs.Kinds.{block_of}
-use Rattle.fk_gen_list.specs.Layout.{copying_lines, clearing_lines, AddsBlocks, AddsCopying, AddsClearing, AddsStart, IsLaid}
+use Rattle.fk_gen_list.specs.Layout.{copying_lines, clearing_lines, AddsBlocks, AddsCopying, AddsClearing, AddsStart, AddsHeap, IsLaid}
 use Rattle.fk_gen_list.proofs.Blocks.{length-with_block}
-use Rattle.fk_gen_list.proofs.Laid.{GoesTo, length-copying, length-clearing, length-start, start_count, start_other, laid_all}
+use Rattle.fk_gen_list.proofs.Laid.{GoesTo, length-copying, length-clearing, length-start, length-heap, labelled_count, labelled_other, labelled_words, laid_all}
 use Rattle.fk_gen_list.proofs.Laying.{few_ops, goes_to_made, labelled, opened_words, opened_labels, opened_free, opened_followed}
 use Rattle.fk_gen_list.proofs.Shapes.{all_words, opening_length}
 use Rattle.fk_gen_list.proofs.Whole.{ops, opening, length-ops, blocks_go, few_firsts}
@@ -87,51 +88,73 @@ module _ (core : List CoreOp) (kept : List Set) (main : ℕ) (firsts : List ℕ)
       pub labels_cleared : length cleared.bound ≡ label_of (length core)
       labels_cleared = clears.count ∙ labels_copied
 
+      -- a label that no call goes to is still free
+      free_behind : (label : ℕ) → most_privates < label → label < clear_label 0 → slice_index_or cleared.bound label None ≡ None
+      free_behind label from less =
+          clears.others label (λ m few e. absurd (omega arith))
+          ∙ copies.others label (λ m few e. absurd (omega arith))
+          ∙ free_opened label (omega arith)
+
       pub free_cleared : slice_index_or cleared.bound start_label None ≡ None
-      free_cleared =
-          clears.others start_label (λ m few e. absurd (omega arith))
-          ∙ copies.others start_label (λ m few e. absurd (omega arith))
-          ∙ free_opened start_label (omega arith)
+      free_cleared = free_behind start_label (omega arith) (omega arith)
 
       module _ (started : Assembly) (starts : AddsStart globals cleared started) where
-        abbrev list : List Placed
-        list = ops core kept main firsts globals is
-
-        labels_started : length started.bound ≡ label_of (length core)
-        labels_started = start_count globals cleared started starts ∙ labels_cleared
-
-        pub blocks_made : All (λ op. All (GoesToMade started.bound) (block_of op)) (ops core kept main firsts globals is)
-        blocks_made =
-            let count : length started.bound ≡ label_of (length list) = labels_started ∙ ap label_of (sym (length-ops core kept main firsts globals is)) in
-            All-weaker (λ op. All (GoesTo (length list)) (block_of op))
-            (λ op. All (GoesToMade started.bound) (block_of op))
-            (λ op go. goes_to_made (length list) started.bound (block_of op) count go)
-            list (blocks_go core kept main firsts globals is)
-
-        pub room_for_blocks : length started.lines + length (flat_map block_of (ops core kept main firsts globals is)) < 2 ^ 30
-        room_for_blocks =
+        words_started : length started.lines ≡ 3 * length firsts + 220
+        words_started =
             let w = words_cleared in
-            let few = few_firsts core kept main firsts globals is in
-            let grown : length started.lines ≡ length cleared.lines + length (start_lines globals) =
-            ap (λ (a : Assembly). length a.lines) starts
-            ∙ length-with_block (record cleared { bound = slice_set cleared.bound start_label (Some (length cleared.lines)) }) (start_lines globals) in
+            let grown = labelled_words start_label (start_lines globals) cleared started starts in
             let start = length-start globals in
-            let blocks = all_words core globals kept 0 core in
-            omega (arith, w, few, grown, start, blocks, small)
+            omega (arith, w, grown, start)
 
-        pub labels_free : (i : ℕ) → i < length core → slice_index_or started.bound (label_of i) None ≡ None
-        labels_free i lt =
-            start_other globals cleared started starts (label_of i) (λ e. omega arith)
-            ∙ clears.others (label_of i) (λ m few e. absurd (omega arith))
-            ∙ copies.others (label_of i) (λ m few e. absurd (omega arith))
-            ∙ free_opened (label_of i) (omega arith)
+        pub room_for_hiring : length started.lines < 2 ^ 20
+        room_for_hiring = let w = words_started in let few = few_firsts core kept main firsts globals is in omega (arith, w, few)
 
-        pub enough_labels : label_of (length core) ≤ length started.bound
-        enough_labels = let e = labels_started in omega (arith, e)
+        pub labels_started : length started.bound ≡ label_of (length core)
+        labels_started = labelled_count start_label (start_lines globals) cleared started starts ∙ labels_cleared
 
-        pub all_laid : (laid : Assembly) → AddsBlocks block_of (ops core kept main firsts globals is) started laid
-            → IsLaid block_of first globals (ops core kept main firsts globals is) laid
-        all_laid laid blocks =
-            let again : opened ≡ with_block (labelled (length list) first) first =
-            made ∙ ap (λ (n : ℕ). with_block (labelled n first) first) (sym (length-ops core kept main firsts globals is)) in
-            laid_all block_of first globals list opened copied cleared started laid again copies clears starts blocks
+        pub free_started : slice_index_or started.bound heap_label None ≡ None
+        free_started =
+            labelled_other start_label (start_lines globals) cleared started starts heap_label (λ e. omega arith)
+            ∙ free_behind heap_label (omega arith) (omega arith)
+
+        module _ (hiring : Assembly) (hires : AddsHeap globals started hiring) where
+          abbrev list : List Placed
+          list = ops core kept main firsts globals is
+
+          labels_hiring : length hiring.bound ≡ label_of (length core)
+          labels_hiring = labelled_count heap_label (heap_lines globals) started hiring hires ∙ labels_started
+
+          pub blocks_made : All (λ op. All (GoesToMade hiring.bound) (block_of op)) (ops core kept main firsts globals is)
+          blocks_made =
+              let count : length hiring.bound ≡ label_of (length list) = labels_hiring ∙ ap label_of (sym (length-ops core kept main firsts globals is)) in
+              All-weaker (λ op. All (GoesTo (length list)) (block_of op))
+              (λ op. All (GoesToMade hiring.bound) (block_of op))
+              (λ op go. goes_to_made (length list) hiring.bound (block_of op) count go)
+              list (blocks_go core kept main firsts globals is)
+
+          pub room_for_blocks : length hiring.lines + length (flat_map block_of (ops core kept main firsts globals is)) < 2 ^ 30
+          room_for_blocks =
+              let w = words_started in
+              let few = few_firsts core kept main firsts globals is in
+              let grown = labelled_words heap_label (heap_lines globals) started hiring hires in
+              let heap = length-heap globals in
+              let blocks = all_words core globals kept 0 core in
+              omega (arith, w, few, grown, heap, blocks, small)
+
+          pub labels_free : (i : ℕ) → i < length core → slice_index_or hiring.bound (label_of i) None ≡ None
+          labels_free i lt =
+              labelled_other heap_label (heap_lines globals) started hiring hires (label_of i) (λ e. omega arith)
+              ∙ labelled_other start_label (start_lines globals) cleared started starts (label_of i) (λ e. omega arith)
+              ∙ clears.others (label_of i) (λ m few e. absurd (omega arith))
+              ∙ copies.others (label_of i) (λ m few e. absurd (omega arith))
+              ∙ free_opened (label_of i) (omega arith)
+
+          pub enough_labels : label_of (length core) ≤ length hiring.bound
+          enough_labels = let e = labels_hiring in omega (arith, e)
+
+          pub all_laid : (laid : Assembly) → AddsBlocks block_of (ops core kept main firsts globals is) hiring laid
+              → IsLaid block_of first globals (ops core kept main firsts globals is) laid
+          all_laid laid blocks =
+              let again : opened ≡ with_block (labelled (length list) first) first =
+              made ∙ ap (λ (n : ℕ). with_block (labelled n first) first) (sym (length-ops core kept main firsts globals is)) in
+              laid_all block_of first globals list opened copied cleared started hiring laid again copies clears starts hires blocks

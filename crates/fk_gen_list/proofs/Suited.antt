@@ -5,7 +5,7 @@ use Rattle.std.proofs.lemmas.Bool.{eqb-true}
 use Rattle.fk_meaning_operation.specs.declared.operation.OwnValue.TheVariants.{Value, Rank, GroupNumber, ProcessorNumber, Processors, GroupSize, InputLength, FrameAddress, InputAddress}
 use Rattle.fk_meaning_operation.specs.declared.operation.Multiprefix.{Multiprefix}
 use Rattle.fk_meaning_operation.specs.declared.operation.Operation.{Operation}
-use Rattle.fk_meaning_operation.specs.declared.operation.Operation.TheVariants.{Push, Get, Set, DropLast, CopyLast, Apply, Binary, Index, Branch, Enter, Leave, Combine, Halt, Begin, Agree, Farm, Seq, End, Resume, Meet}
+use Rattle.fk_meaning_operation.specs.declared.operation.Operation.TheVariants.{Push, Get, Set, DropLast, CopyLast, Apply, Binary, Index, Branch, Enter, Leave, Combine, Halt, Begin, Agree, Farm, Seq, End, Resume, Meet, Frame, Block}
 use Rattle.fk_meaning_operation.specs.declared.operation.Variable.TheVariants.{Private, OfFile}
 use Rattle.fk_meaning_operation.specs.declared.kinds.Class.{Class}
 use Rattle.fk_meaning_operation.specs.declared.kinds.Class.TheVariants.{Local, Request, Tree}
@@ -20,7 +20,7 @@ use Rattle.fk_sim_block.specs.Suits.{Fits}
 use Rattle.fk_gen_expr.specs.Expressions.{IsExpression}
 use Rattle.fk_gen_access.specs.Blocks.{is_access}
 use Rattle.fk_gen_flow.specs.Blocks.{is_flow, is_some_flow, HasOperands}
-use Rattle.fk_gen_group.specs.Blocks.{is_group_step}
+use Rattle.fk_gen_group.specs.Blocks.{is_group_step, HasWords}
 use Rattle.fk_gen_list.specs.declared.kind.Kind.TheVariants.{Group}
 use Rattle.fk_gen_list.specs.Kinds.{kind_of, kind_by, HasBlockIn, HasBlockOf}
 use Rattle.fk_gen_list.specs.Layout.{back_by}
@@ -93,7 +93,7 @@ has_expression core frames i globals op (Get Processors) read fits few number so
 has_expression core frames i globals op (Get GroupSize) read fits few number some alone f a = (one_more frames i op.depth fits.place.1, tt)
 has_expression core frames i globals op (Get InputLength) read fits few number some alone f a = (one_more frames i op.depth fits.place.1, tt)
 has_expression core frames i globals op (Get InputAddress) read fits few number some alone f a = (one_more frames i op.depth fits.place.1, some)
-has_expression core frames i globals op (Get (FrameAddress nesting word)) read fits few number some alone f a = never alone
+has_expression core frames i globals op (Get (FrameAddress nesting word)) read fits few number some alone f a = (one_more frames i op.depth fits.place.1, fits.place.0.1)
 has_expression core frames i globals op (Set (Private w)) read fits few number some alone f a =
     let p = fits.place in (fits.values, at_most frames i op.depth fits.room, omega arith)
 has_expression core frames i globals op (Set (OfFile w)) read fits few number some alone f a =
@@ -104,8 +104,7 @@ has_expression core frames i globals op (Apply sign) read fits few number some a
 has_expression core frames i globals op (Binary sign turned) read fits few number some alone f a = (fits.values, at_most frames i op.depth fits.room)
 has_expression core frames i globals op (Index size) read fits few number some alone f a =
     let e = size_is op.kind op.number size read in (fits.values, at_most frames i op.depth fits.room, omega arith)
-has_expression core frames i globals op (Leave gives true) read fits few number some alone f a = never alone
-has_expression core frames i globals op (Leave gives false) read fits few number some alone f a = never (sym f)
+has_expression core frames i globals op (Leave gives framed) read fits few number some alone f a = never (sym f)
 has_expression core frames i globals op operation read fits few number some alone f a = absurd (cc)
 
 -- the caller of a call goes on in the list
@@ -133,6 +132,8 @@ alone_is_no_step Seq alone = never alone
 alone_is_no_step End alone = never alone
 alone_is_no_step Resume alone = never alone
 alone_is_no_step (Meet closing) alone = never alone
+alone_is_no_step (Frame nesting words) alone = never alone
+alone_is_no_step Block alone = never alone
 alone_is_no_step operation alone = refl
 
 -- and a step has its own kind
@@ -144,6 +145,8 @@ step_kind Seq step = refl
 step_kind End step = refl
 step_kind Resume step = refl
 step_kind (Meet closing) step = refl
+step_kind (Frame nesting words) step = refl
+step_kind Block step = refl
 step_kind operation step = never step
 
 -- ---- all of them
@@ -157,6 +160,11 @@ kind_here core i op operation stands =
 no_halt : (operation : Operation) → (is_alone operation ≡ true) ⊎ (operation ≡ Halt) → is_flow operation ≡ false → is_alone operation ≡ true
 no_halt operation (inl alone) f = alone
 no_halt operation (inr e) f = never (sym f ∙ ap is_flow e)
+
+-- the words of a frame have a number
+frame_words : (core : List CoreOp) (frames : Frames) (i : ℕ) (op : CoreOp) (operation : Operation) → Fits core frames i op operation → HasWords (Some operation)
+frame_words core frames i op (Frame nesting words) fits = fits.place
+frame_words core frames i op operation fits = tt
 
 module _ (core : List CoreOp) (frames : Frames) (i globals : ℕ) (op : CoreOp) (operation : Operation) (clears : Bool) (back : ℕ) where
   has_by : (flow access : Bool) → is_flow operation ≡ flow → is_access (Some operation) ≡ access → OpAt core i op operation
@@ -199,6 +207,7 @@ module _ (core : List CoreOp) (frames : Frames) (i globals : ℕ) (op : CoreOp) 
         kind = ap is_group_step stands.is_read ∙ step;
         depth = shallow core frames i op operation fits;
         target = near step;
+        words = subst HasWords (sym stands.is_read) (frame_words core frames i op operation fits);
       })
 
 -- a jump is no operation

@@ -10,17 +10,18 @@ use Rattle.fk_asm.specs.Assembly.{Assembly, instructions, IsBound, IsFirstTooFar
 use Rattle.fk_asm.specs.Block.{MarkedLine, lines_of, entries_from}
 use Rattle.fk_core_liveness.specs.declared.set.Set.{Set}
 use Rattle.fk_gen.specs.declared.placed.Placed.{Placed}
+use Rattle.fk_gen_access.specs.Heap.{heap_lines}
 use Rattle.fk_gen_flow.specs.Opening.{opening_lines}
 use Rattle.fk_gen_group.specs.Blocks.{start_lines}
 use Rattle.fk_gen_list.specs.Generable.{IsGenerable, most_words}
 use Rattle.fk_gen_list.specs.Kinds.{block_of}
-use Rattle.fk_gen_list.specs.Layout.{placed, all_placed, copying_lines, clearing_lines, calls_front, front, all_lines, IsLaid}
+use Rattle.fk_gen_list.specs.Layout.{placed, all_placed, copying_lines, clearing_lines, calls_front, start_front, front, all_lines, IsLaid}
 use Rattle.fk_gen_list.proofs.Chain.{copying_straight, clearing_straight}
 use Rattle.fk_gen_list.proofs.InImage.{IsAssembled}
 use Rattle.fk_gen_list.proofs.Laid.{GoesTo, length-front, all_go_far}
 use Rattle.fk_gen_list.proofs.Near.{are_bound, none_too_far}
 use Rattle.fk_gen_list.proofs.AllPlaced.{length-placed, all_from}
-use Rattle.fk_gen_list.proofs.Shapes.{go_nowhere, op_goes, all_words, start_goes, opening_goes, opening_length}
+use Rattle.fk_gen_list.proofs.Shapes.{go_nowhere, op_goes, all_words, start_goes, heap_goes, opening_goes, opening_length}
 
 all_flat : (P : MarkedLine → Type 0) (block : Placed → List MarkedLine) (ops : List Placed) → All (λ op. All P (block op)) ops
     → All P (flat_map block ops)
@@ -53,6 +54,7 @@ module _ (core : List CoreOp) (kept : List Set) (main : ℕ) (firsts : List ℕ)
   all_go =
       let main_there : main < length ops = let e = length-ops in let lt = is.begins in omega (arith, e, lt) in
       All-append (GoesTo (length ops)) (front opening globals) (flat_map block_of ops)
+      (All-append (GoesTo (length ops)) (start_front opening globals) (heap_lines globals)
       (All-append (GoesTo (length ops)) (calls_front opening) (start_lines globals)
       (All-append (GoesTo (length ops)) (opening ++ copying_lines) clearing_lines
       (All-append (GoesTo (length ops)) opening copying_lines
@@ -60,12 +62,13 @@ module _ (core : List CoreOp) (kept : List Set) (main : ℕ) (firsts : List ℕ)
       (go_nowhere (length ops) copying_lines copying_straight))
       (go_nowhere (length ops) clearing_lines clearing_straight))
       (start_goes (length ops) globals))
+      (heap_goes (length ops) globals))
       (all_flat (GoesTo (length ops)) block_of ops blocks_go)
 
   pub few_firsts : length firsts ≤ 56
   few_firsts = let few = is.suits.few in let same = is.of_file in omega arith
 
-  pub length-whole : length whole ≡ 3 * length firsts + 220 + length (flat_map block_of ops)
+  pub length-whole : length whole ≡ 3 * length firsts + 252 + length (flat_map block_of ops)
   length-whole =
       let sum = length-append (front opening globals) (flat_map block_of ops) in
       let first = length-front block_of opening globals ops in

@@ -27,7 +27,7 @@ code_has_the_law core kept image bound places firsts main suits are ranges looks
     let start = gathering_of core bound in
     let levels = levels_need_no_room core places start main suits in
     lists_have_the_law core kept image bound places (none_saved start) firsts main suits are ranges code.alone levels.0 code.steps looks levels.1 refl
-    (groups_begin core image bound places (none_saved start) firsts main code.opening firsts_are suits.begins refl (main_room places.frames start main suits.begins suits.few))
+    (groups_begin core image bound places (none_saved start) firsts main code.opening firsts_are suits.begins suits.none refl (main_room places.frames start main suits.begins suits.few))
 
 -- so has each image with the code that is made of a list
 pub gives_group_law : (core : List CoreOp) (kept : List Set) (main : ℕ) (firsts : List ℕ) (globals : ℕ) → IsGenerable core kept main firsts → globals ≤ 2 ^ 19 → (code : Code)

@@ -3,7 +3,7 @@ use Rattle.std.specs.Prelude.{ℕ, List, Bool, false, Option, Some, None, slice_
 use Rattle.std.specs.Option.{option_map_or}
 use Rattle.fk_meaning_operation.specs.declared.operation.Operation.{Operation}
 use Rattle.fk_meaning_operation.specs.declared.operation.Operation.TheVariants.{Begin, Agree, Seq}
-use Rattle.fk_meaning_operation.specs.declared.operation.Operation.TheVariants.{End}
+use Rattle.fk_meaning_operation.specs.declared.operation.Operation.TheVariants.{End, Frame, Block}
 use Rattle.fk_core.specs.declared.op.CoreOp.{CoreOp}
 use Rattle.fk_core.specs.Numbers.{operation_of}
 use Rattle.fk_core_liveness.specs.declared.set.Set.{Set}
@@ -13,6 +13,7 @@ use Rattle.fk_gen_expr.specs.Expressions.{expression_block}
 use Rattle.fk_gen_access.specs.Blocks as accesses
 use Rattle.fk_gen_flow.specs.Blocks.{is_flow}
 use Rattle.fk_gen_flow.specs.Keeps as flow
+use Rattle.fk_gen_group.specs.Blocks.{frame_takes}
 use Rattle.fk_gen_list.specs.declared.kind.Kind.{Kind}
 use Rattle.fk_gen_list.specs.declared.kind.Kind.TheVariants.{Flow, Access, Group, Expression}
 use Rattle.fk_gen_list.specs.Kinds.{kind_by}
@@ -42,6 +43,7 @@ abbrev pub before_of : CoreOp → Operation → ℕ
 before_of op Begin = 1
 before_of op Agree = 2
 before_of op Seq = 3
+before_of op (Frame nesting words) = frame_takes words
 before_of op operation = before_in (lone_kind operation) op operation
 
 abbrev pub behind_of : Placed → Operation → (onward : Bool) → ℕ
@@ -49,6 +51,7 @@ behind_of here Begin onward = if onward then 21 else 11
 behind_of here Agree onward = 1
 behind_of here Seq onward = 2
 behind_of here End onward = 6
+behind_of here Block onward = 12
 behind_of here operation onward = behind_in (lone_kind operation) here operation onward
 
 -- The cycles at an index of a list: none where there is no operation.

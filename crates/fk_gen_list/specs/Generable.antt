@@ -16,6 +16,7 @@ use Rattle.fk_sim_block.specs.Block.{BlockLaw}
 use Rattle.fk_core_liveness.specs.declared.set.Set.{Set}
 use Rattle.fk_core_liveness.specs.Frames.{kept_in}
 use Rattle.fk_gen.specs.InPlace.{HasBlock}
+use Rattle.fk_gen_access.specs.Heap.{HasHeap}
 use Rattle.fk_gen_flow.specs.Calls.{HasShared}
 use Rattle.fk_gen_flow.specs.Laws.{return_in}
 use Rattle.fk_gen_flow.specs.Opening.{HasOpening}
@@ -116,7 +117,7 @@ DoesTheList core kept main firsts globals code =
 -- ---- an image with all of the code
 
 -- The image has the opening, the block of each index, which clears where it has to, and the code
--- that calls and beginnings of `start` share. Calls return into their blocks.
+-- that calls, beginnings of `start` and blocks of `shmalloc` share. Calls return into their blocks.
 pub record HasWholeCode (core : List CoreOp) (kept : List Set) (image : Image) (bound : ℕ → ℕ)
     (places : Places) (firsts : List ℕ) (main : ℕ) : Type 0 where
   pub opening : HasOpening image bound places firsts main
@@ -126,6 +127,7 @@ pub record HasWholeCode (core : List CoreOp) (kept : List Set) (image : Image) (
   pub returns : (i : ℕ) → places.returns i ≡ return_at core places.block i (slice_get core i)
   pub shared : HasShared image bound
   pub start : HasStart image bound
+  pub heap : HasHeap image bound
 
 -- Each image with this code has all of it, with each label bound to a word.
 abbrev pub GivesWholeCode : (core : List CoreOp) (kept : List Set) (main : ℕ) (firsts : List ℕ)

@@ -16,6 +16,7 @@ use Rattle.fk_sim_block.specs.Suits.{Suits}
 use Rattle.fk_sim_block.specs.Block.{IsRunning, BlockHalts, beginner, most_before, most_behind}
 use Rattle.fk_core_liveness.specs.declared.set.Set.{Set}
 use Rattle.fk_gen.specs.InPlace.{HasBlock}
+use Rattle.fk_gen_access.specs.Heap.{HasHeap}
 use Rattle.fk_gen_flow.specs.Calls.{HasShared}
 use Rattle.fk_gen_flow.specs.Laws.{HasJumps, CallsReturn}
 use Rattle.fk_gen_list.specs.Kinds.{block_in}
@@ -36,8 +37,8 @@ is_lone Halt = true
 is_lone operation = is_alone operation
 
 -- The blocks of these operations are at their indices. Those of calls clear where words are kept
--- that are no arguments. The image also has the jumps, those to which calls return among them, and
--- the code that calls share.
+-- that are no arguments. The image also has the jumps, those to which calls return among them, the
+-- code that calls share, and the code that blocks of `shmalloc` share.
 pub record HasLoneCode (core : List CoreOp) (kept : List Set) (image : Image) (bound : ℕ → ℕ)
     (places : Places) : Type 0 where
   pub blocks : (i : ℕ) (op : CoreOp) (operation : Operation) → OpAt core i op operation
@@ -47,6 +48,7 @@ pub record HasLoneCode (core : List CoreOp) (kept : List Set) (image : Image) (b
   pub jumps : HasJumps core image bound places
   pub calls : CallsReturn core image bound places
   pub shared : HasShared image bound
+  pub heap : HasHeap image bound
 
 -- The numbers of a list are words, and there are no more globals than shared words.
 pub record AreInRange (core : List CoreOp) (image : Image) : Type 0 where
@@ -100,7 +102,8 @@ pub record HasGroupCode (core : List CoreOp) (image : Image) (bound : ℕ → �
     (places : Places) : Type 0 where
   pub blocks : (i : ℕ) (op : CoreOp) (operation : Operation) → OpAt core i op operation
       → is_group_step (Some operation) ≡ true
-      → HasBlock image bound places i (block_of_step (Some operation) op.depth op.target)
+      → HasBlock image bound places i
+      (block_of_step (Some operation) op.depth op.target op.site)
   pub start : HasStart image bound
 
 -- A step finds the value that it looks at.

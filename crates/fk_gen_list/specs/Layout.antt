@@ -12,6 +12,7 @@ use Rattle.fk_asm.specs.Block.{MarkedLine, with_block}
 use Rattle.fk_core_liveness.specs.declared.set.Set.{Set}
 use Rattle.fk_gen.specs.declared.placed.Placed.{Placed}
 use Rattle.fk_gen.specs.Lines.{copy_label, clear_label, label_of}
+use Rattle.fk_gen_access.specs.Heap.{heap_label, heap_lines}
 use Rattle.fk_gen_flow.specs.Calls.{chain_lines, copy_lines, clear_lines, most_privates}
 use Rattle.fk_gen_group.specs.Blocks.{start_label, start_lines}
 
@@ -93,20 +94,30 @@ copying_lines = chain_lines copy_lines most_privates
 abbrev pub clearing_lines : List MarkedLine
 clearing_lines = chain_lines clear_lines most_privates
 
--- An assembler to which the code was added that all beginnings of `start` share, for an image with
--- this many words of globals. Its label is bound where it begins.
-abbrev pub AddsStart : (globals : ℕ) → (old new : Assembly) → Type 0
-AddsStart globals old new =
+-- An assembler to which code was added that has one label, bound where the code begins.
+abbrev pub AddsLabelled : (label : ℕ) → List MarkedLine → (old new : Assembly) → Type 0
+AddsLabelled label lines old new =
     new
-    ≡ with_block (record old { bound = slice_set old.bound start_label (Some (length old.lines)) })
-    (start_lines globals)
+    ≡ with_block (record old { bound = slice_set old.bound label (Some (length old.lines)) }) lines
 
--- The lines before that code, the lines before the blocks, and all lines of the code.
+-- The code that all beginnings of `start` share, and the code that all blocks of `shmalloc` share,
+-- for an image with this many words of globals.
+abbrev pub AddsStart : (globals : ℕ) → (old new : Assembly) → Type 0
+AddsStart globals old new = AddsLabelled start_label (start_lines globals) old new
+
+abbrev pub AddsHeap : (globals : ℕ) → (old new : Assembly) → Type 0
+AddsHeap globals old new = AddsLabelled heap_label (heap_lines globals) old new
+
+-- The lines before the code of `start`, those before the code of `shmalloc`, those before the
+-- blocks, and all lines of the code.
 abbrev pub calls_front : (opening : List MarkedLine) → List MarkedLine
 calls_front opening = (opening ++ copying_lines) ++ clearing_lines
 
+abbrev pub start_front : (opening : List MarkedLine) → (globals : ℕ) → List MarkedLine
+start_front opening globals = calls_front opening ++ start_lines globals
+
 abbrev pub front : (opening : List MarkedLine) → (globals : ℕ) → List MarkedLine
-front opening globals = calls_front opening ++ start_lines globals
+front opening globals = start_front opening globals ++ heap_lines globals
 
 abbrev pub all_lines : (Placed → List MarkedLine) → (opening : List MarkedLine) → (globals : ℕ)
     → List Placed → List MarkedLine
@@ -117,6 +128,7 @@ pub record IsSpare (label : ℕ) : Type 0 where
   pub low : label < label_of 0
   pub no_copy : (n : ℕ) → n ≤ most_privates → label ≡ copy_label n → ⊥
   pub no_start : label ≡ start_label → ⊥
+  pub no_heap : label ≡ heap_label → ⊥
   pub no_clear : (n : ℕ) → n ≤ most_privates → label ≡ clear_label n → ⊥
 
 -- An assembler with all of the code.
@@ -130,6 +142,7 @@ pub record IsLaid (block : Placed → List MarkedLine) (opening : List MarkedLin
       → slice_index_or a.bound (clear_label n) None
       ≡ Some (length (opening ++ copying_lines) + clear_offset n)
   pub starts : slice_index_or a.bound start_label None ≡ Some (length (calls_front opening))
+  pub hires : slice_index_or a.bound heap_label None ≡ Some (length (start_front opening globals))
   pub spare : (label : ℕ) → IsSpare label → slice_index_or a.bound label None ≡ None
   pub labels : (i : ℕ) → i < length ops
       → slice_index_or a.bound (label_of i) None

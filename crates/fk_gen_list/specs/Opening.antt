@@ -1,5 +1,5 @@
 -- The opening of an image: each hart begins in the root.
-use Rattle.std.specs.Prelude.{◌≡◌, ℕ, List, true}
+use Rattle.std.specs.Prelude.{◌≡◌, ℕ, List, true, None}
 use Rattle.fk_core.specs.declared.op.CoreOp.{CoreOp}
 use Rattle.fk_image.specs.declared.Image.{Image}
 use Rattle.fk_sim_block.specs.Stands.{Places}
@@ -14,6 +14,6 @@ GroupsBegin =
     (core : List CoreOp) (image : Image) (bound : ℕ → ℕ) (places : Places) (nestings : Nestings)
     (firsts : List ℕ) (main : ℕ)
     → HasOpening image bound places firsts main → AreFirsts places.frames.of_file firsts
-    → places.frames.is_main main ≡ true
+    → places.frames.is_main main ≡ true → places.frames.group main ≡ None
     → nestings.levels main ≡ 0 → HasLevelRoom places.frames nestings main 0
     → HartsBeginInNode core image places nestings firsts main

@@ -12,6 +12,7 @@ ghost use Rattle.fk_gen_list.specs.Layout.{IsLaid, all_placed};
 use crate::all_blocks::AllBlocks;
 use crate::assemble::{FIRST_LABEL, emit_blocks, finish, make_labels};
 use crate::copying::{emit_clearing, emit_copying};
+use crate::hiring::emit_hiring;
 use crate::starting::emit_starting;
 use fk_asm::{Assembler, Code};
 use fk_core::CoreOp;
@@ -25,7 +26,8 @@ use std::alloc::{AllocError, Global};
 /// words of globals.
 ///
 /// The opening is at word 0. After it comes the code that all calls share, that which all
-/// beginnings of `start` share, and then the block of each operation, in their order.
+/// beginnings of `start` share, that which all blocks of `shmalloc` share, and then the block of
+/// each operation, in their order.
 pub(crate) fn assemble_list(
     alloc: Global,
     ops: &[CoreOp],
@@ -69,6 +71,7 @@ fn lay(
     emit_copying(&mut into)?;
     emit_clearing(&mut into)?;
     emit_starting(&mut into, globals)?;
+    emit_hiring(&mut into, globals)?;
     emit_blocks(&AllBlocks, ops, kept, globals, &mut into)?;
     Ok(into)
 }

@@ -29,7 +29,7 @@ impl Kind {
         match op.operation() {
             Some(
                 Operation::Branch(_)
-                | Operation::Leave { framed: false, .. }
+                | Operation::Leave { .. }
                 | Operation::Enter(_)
                 | Operation::Halt,
             ) => Kind::Flow,
@@ -40,7 +40,8 @@ impl Kind {
                 | Operation::Write
                 | Operation::Combine(_)
                 | Operation::PrintNumber
-                | Operation::PrintByte,
+                | Operation::PrintByte
+                | Operation::Heap,
             ) => Kind::Access,
             Some(
                 Operation::Begin
@@ -49,7 +50,9 @@ impl Kind {
                 | Operation::Seq
                 | Operation::End
                 | Operation::Resume
-                | Operation::Meet(_),
+                | Operation::Meet(_)
+                | Operation::Frame { .. }
+                | Operation::Block,
             ) => Kind::Group,
             _ => Kind::Expression,
         }

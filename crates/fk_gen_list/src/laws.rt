@@ -34,7 +34,7 @@ pub fn groups_begin()
 {}
 
 /// A plain list has the whole law of blocks in an image with its opening, its blocks and the code
-/// that they share. A plain list has no splits, no group frames, no `shalloc` and no `shmalloc`.
+/// that they share. A plain list has no splits.
 pub fn code_has_the_law()
     ensures { CodeHasTheLaw }
 {}

@@ -1,6 +1,6 @@
-//! The code of a flat list: the opening, the code that all calls share and that which all
-//! beginnings of `start` share, and the block of each operation; and that it has the law of blocks
-//! of groups.
+//! The code of a flat list: the opening, the code that all calls, all beginnings of `start` and all
+//! blocks of `shmalloc` share, and the block of each operation; and that it has the law of blocks of
+//! groups.
 //!
 //! The definitions are in `specs/`, and the laws proved of them in `laws`.
 #![tactic(auto)]
@@ -9,6 +9,7 @@ mod all_blocks;
 mod assemble;
 mod code;
 mod copying;
+mod hiring;
 mod kind;
 pub mod laws;
 mod list;

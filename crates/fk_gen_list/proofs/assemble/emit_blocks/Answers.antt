@@ -1,12 +1,10 @@
-use Rattle.std.proofs.Common.{◌≡◌, ℕ, ◌+◌, ◌^◌, ◌<◌, ◌≤◌, ◌∙◌, All, List, ap, sym, subst, length, get_or, arith}
+use Rattle.std.proofs.Common.{◌≡◌, ◌+◌, ◌^◌, ◌<◌, ◌∙◌, All, ap, sym, subst, length, arith}
 use Rattle.std.proofs.lemmas.List.{length-set}
 use Rattle.std.proofs.lemmas.List.Elements.{All-get_or}
 use Rattle.fk_core.specs.declared.op.CoreOp.{CoreOp}
 use Rattle.fk_asm.specs.Block.{GoesToMade}
 use Rattle.fk_asm.specs.Block.{with_block}
-use Rattle.fk_gen.specs.Lines.{label_of}
-use Rattle.fk_gen.specs.declared.placed.Placed.{Placed}
-use Rattle.fk_gen_list.specs.Layout.{placed, all_placed}
+use Rattle.fk_gen_list.specs.Layout.{all_placed}
 use Rattle.fk_gen_list.proofs.Blocks.{at_start, at_end, has_room, one_more, unbound}
 use Rattle.fk_gen_list.proofs.AllPlaced.{length-placed, placed_here, goes_still}
 use Rattle.fk_gen_list.proofs.assemble.emit_blocks.Goals as goal

@@ -1,4 +1,3 @@
-use Rattle.fk_asm.specs.declared.code.Code.{Code}
 use Rattle.fk_gen_list.specs.Generable.{GivesWholeCode}
 use Rattle.fk_gen_list.proofs.Steps.{if_ok_two}
 use Rattle.fk_gen_list.specs.Whole.{GivesGroupLaw}

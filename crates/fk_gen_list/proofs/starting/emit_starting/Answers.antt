@@ -1,4 +1,4 @@
-use Rattle.std.proofs.Common.{◌≡◌, ◌+◌, ◌<◌, ◌≤◌, None, Some, ◌∙◌, ap, subst, sym, length, arith}
+use Rattle.std.proofs.Common.{◌≡◌, None, Some, ◌∙◌, ap, subst, sym, arith}
 use Rattle.std.proofs.lemmas.Option.{slice_get-get_or}
 use Rattle.std.proofs.lemmas.Result.{on_ok_weaker}
 use Rattle.fk_asm.specs.Assembly.{AreFollowed}
