@@ -10,15 +10,13 @@ use Rattle.fk_sim_nodes.specs.Source.{Source}
 use Rattle.fk_sim_nodes.specs.Alone.{later, in_cycles, RunsPrivately}
 use Rattle.fk_sim_nodes.specs.OneHart.{Serves, Faults, OneCommits, OneDoes}
 use Rattle.fk_sim_nodes.specs.Together.{Together}
-use Rattle.fk_sim_nodes.proofs.Runs.{cycle_map}
-use Rattle.fk_sim_nodes.proofs.Members.{together_same}
+use Rattle.fk_sim_nodes.proofs.Members.{together_map, together_same}
 use Rattle.fk_sim_nodes.specs.Phase.{Phase, Outside, Away, Coming, Waiting, Leaving, is_odd, word_after, polled, Moves, AllMove, Each, Settled, SetsOut, AllSetOut, IsIdle}
 use Rattle.fk_sim_nodes.proofs.Between.{members_may_set_out, words_open_at_zero}
 use Rattle.fk_sim_match.specs.Stage.{Commits, Unites, Stage, Ended, Acts, Meets, distance, IsOver, Nears, Pairwise, AllNear, Remains, kept, absent, phase_of}
 use Rattle.fk_sim_match.specs.Plan.{Plan, phase_at, phases_from, phases, Blocks, told_by, StandsAt, AllStandAt, AllAct, InLockstep, Binds, IsBound}
 use Rattle.fk_sim_match.specs.Cycle.{AllHaveCommitted, AllKeep, Went, AllAreLeft, NodeIsLeft, IsLeft}
 use Rattle.fk_sim_match.specs.Change.{IsFresh, HasSame, StaysMember, AllAreNew, StaysOpen, Changes, AllChange, GroupStays, MeetingStays, TreeChanges, GoesOn, PlansGoOn, RunsLeadToStages}
-use Rattle.fk_sim_match.proofs.Cycles.{chain_map}
 use Rattle.fk_sim_match.proofs.Left.{meeting_is_kept}
 
 -- ---- phases
@@ -150,14 +148,6 @@ module _ {S P D : Type 0} (source : Source S P D) (image : Image) where
       let same : suc (n + a) ≡ suc n + a = omega arith in
       let r = does_later (later t) c a b n (record m { hart = runs.0 }) h p Then runs.2 x in
       subst (λ k. OneDoes source image t c k b m p Then) same (record { committing = r.committing; runs = (runs.0, runs.1, r.runs); commits = r.commits })
-
-  pub together_map : (mine : Words) (t : Setting) (c d : ℕ) (ms : List Member) (ps : List P) (own : Memory) (Then Then' : List Member → List D → Memory → Type 0)
-      → ((ms' : List Member) (ds : List D) (own' : Memory) → Then ms' ds own' → Then' ms' ds own')
-      → Together source image mine t c d ms ps own Then → Together source image mine t c d ms ps own Then'
-  together_map mine t c zero ms ps own Then Then' f x = record { counted = x.counted; chain = chain_map source image mine t ms ps own Then Then' f x.chain }
-  together_map mine t c (suc d) ms ps own Then Then' f x =
-      cycle_map image mine t 0 ms own (λ ms' own'. Together source image mine (later t) c d ms' ps own' Then) (λ ms' own'. Together source image mine (later t) c d ms' ps own' Then')
-      (λ ms' own' y. together_map mine (later t) c d ms' ps own' Then Then' f y) x
 
   pub together_on : (mine : Words) (t : Setting) (c d : ℕ) (ms : List Member) (ps : List P) (own own2 : Memory) (Then : List Member → List D → Memory → Type 0)
       → (length ms ≡ 0 → ⊥) → Has mine own own2 → Together source image mine t c d ms ps own Then → Together source image mine t c d ms ps own2 Then

@@ -1,49 +1,22 @@
 -- One cycle of all nodes, where all are bound by a plan.
-use Rattle.std.proofs.Common.{◌≡◌, ℕ, zero, suc, List, [], ◌∷◌, length, Bool, true, false, sym, ap, subst, ◌∙◌, refl, inl, inr, ⊎_elim, eq-eqb}
+use Rattle.std.proofs.Common.{◌≡◌, ℕ, zero, suc, List, [], ◌∷◌, length, Bool, true, false, sym, ap, subst, ◌∙◌, refl, eq-eqb}
 use Rattle.std.specs.Prelude.{◌==◌}
 use Rattle.fk_num.specs.Word.{Memory}
 use Rattle.fk_image.specs.declared.Image.{Image}
 use Rattle.fk_machine.specs.Hart.{Hart, Shared, Setting}
 use Rattle.fk_machine.specs.Run.{count_of}
-use Rattle.fk_sim_nodes.specs.Node.{Member, numbered, add, of_node, AreAsMany, Words, Has, AreApart, OwnApart}
+use Rattle.fk_sim_nodes.specs.Node.{Member, numbered, add, of_node, AreAsMany, Has, AreApart, OwnApart}
 use Rattle.fk_sim_nodes.specs.Source.{Source, Shows}
 use Rattle.fk_sim_nodes.specs.Chain.{runs, Chain}
 use Rattle.fk_sim_nodes.specs.Alone.{later, in_cycles}
 use Rattle.fk_sim_nodes.specs.Together.{AllCount, Together}
 use Rattle.fk_sim_nodes.specs.Whole.{planned}
-use Rattle.fk_sim_nodes.proofs.Members.{nearer}
+use Rattle.fk_sim_nodes.proofs.Members.{nearer, chain_map}
 use Rattle.fk_sim_nodes.proofs.Chains.{projected}
 use Rattle.fk_sim_match.specs.Stage.{Stage, Acts, count_of_stage, counts_for}
 use Rattle.fk_sim_match.specs.Plan.{Plan, Blocks, told_by, IsIdle, AllStandAt, AllAct, Binds, IsBound, JointBlocksTurn}
 use Rattle.fk_sim_match.specs.Cycle.{HaveMoved, GroupDone, AllActIn, Done, DoneIn, IsPlanned, CyclesArePlanned}
 use Rattle.fk_sim_match.proofs.Stages.{stages_chain, stage_count}
-
--- what a chain comes to may be weakened
-pub chain_map : {S P D : Type 0} (source : Source S P D) (image : Image) (mine : Words) (t : Setting) (ms : List Member) (ps : List P) (own : Memory) (Then Then' : List Member → List D → Memory → Type 0)
-    → ((ms' : List Member) (ds : List D) (own' : Memory) → Then ms' ds own' → Then' ms' ds own')
-    → Chain source image mine t ms ps own Then → Chain source image mine t ms ps own Then'
-chain_map source image mine t [] [] own Then Then' f x = f [] [] own x
-chain_map source image mine t (m ∷ ms) (p ∷ ps) own Then Then' f x =
-    λ earlier sh s shows has.
-    ⊎_elim
-    (λ one. inl (record {
-      hart = one.hart;
-      shared = one.shared;
-      own = one.own;
-      store = one.store;
-      done = one.done;
-      part = one.part;
-      turned = one.turned;
-      shows = one.shows;
-      has = one.has;
-      keeps = one.keeps;
-      follows =
-          chain_map source image mine t ms ps one.own (λ ms' ds. Then (record m { hart = one.hart } ∷ ms') (one.done ∷ ds)) (λ ms' ds. Then' (record m { hart = one.hart } ∷ ms') (one.done ∷ ds))
-          (λ ms' ds own' y. f (record m { hart = one.hart } ∷ ms') (one.done ∷ ds) own' y) one.follows;
-    }))
-    (λ one. inr one)
-    (x earlier sh s shows has)
-chain_map source image mine t ms ps own Then Then' f x = absurd (assumption x)
 
 -- members run the counts of their stages
 abbrev AllCounted : Image → List Stage → List Member → Type 0

@@ -13,13 +13,14 @@ use Rattle.fk_sim_nodes.specs.Source.{Source, Part, Passes}
 use Rattle.fk_sim_nodes.specs.Alone.{Holds, IsAt, later, in_cycles, IsPrivateIn, RunsPrivately}
 use Rattle.fk_sim_nodes.specs.OneHart.{OneCommits, OneDoes, EachDoes, AllReach}
 use Rattle.fk_sim_nodes.specs.Together.{Together}
+use Rattle.fk_sim_nodes.proofs.Members.{together_map}
 use Rattle.fk_sim_nodes.proofs.InPlace.{step_at}
 use Rattle.fk_sim_nodes.proofs.OneHart.{each_does}
 use Rattle.fk_sim_match.specs.Stage.{Stage, Ended, Acts, Meets}
 use Rattle.fk_sim_match.specs.Plan.{Plan, Blocks, IsIdle, StandsAt, AllStandAt, InLockstep, Binds, IsBound, JointBlocksTurn}
 use Rattle.fk_sim_match.specs.Cycle.{AllHaveCommitted, Went, AllAreLeft, GroupIsLeft, IsLeft}
 use Rattle.fk_sim_match.specs.Change.{StaysMember, Changes, GroupStays, TreeChanges, GoesOn}
-use Rattle.fk_sim_match.proofs.Changes.{together_map, plan_goes_on}
+use Rattle.fk_sim_match.proofs.Changes.{plan_goes_on}
 
 -- a processor counts its commits
 pub record Stored : Type 0 where

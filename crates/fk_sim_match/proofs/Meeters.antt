@@ -1,5 +1,6 @@
 -- Who meets has the turns of its phases.
 use Rattle.std.proofs.Common.{◌≡◌, ℕ, zero, suc, List, true, Some, ap, ◌∙◌, refl, inr}
+use Rattle.std.proofs.lemmas.Bool.{ne_eqb}
 use Rattle.fk_num.specs.Word.{Memory}
 use Rattle.fk_meaning_operation.specs.declared.operation.Operation.{Operation}
 use Rattle.fk_meaning_operation.specs.declared.operation.Operation.TheVariants.{Resume, Meet}
@@ -16,7 +17,8 @@ use Rattle.fk_sim_match.specs.Stage.{Ending, Commits, Unites, Meets, count_of_st
 use Rattle.fk_sim_match.specs.Plan.{Plan, IsInside, IsOpen, IsIdle, Follows, Turn}
 use Rattle.fk_sim_match.proofs.Cycles.{cycle_is_planned}
 use Rattle.fk_sim_match.proofs.Words.{plan_leaves}
-use Rattle.fk_sim_block.specs.Owner.{Commons, Owner, Doing, number_of, idle, as_part, phases, part, core_source}
+use Rattle.fk_sim_heap.specs.Count.{asked_word}
+use Rattle.fk_sim_block.specs.Owner.{Commons, Owner, Doing, idle, phases, part, core_source}
 use Rattle.fk_sim_block.specs.Stands.{Places}
 use Rattle.fk_sim_block.specs.Next.{step_at}
 use Rattle.fk_sim_block.specs.Node.{Nestings, Polling}
@@ -36,7 +38,7 @@ is_idle core setting s p = refl
 
 -- who meets takes its operation, which the tree does
 takes_step : (core : List CoreOp) (setting : Setting) (i : ℕ) (op : CoreOp) (operation : Operation) (s : Commons) (p : Owner) → is_meeting operation ≡ true
-    → as_part (number_of p) (phases core setting s p.heap (taking p.runner (Some (step_at core i op operation p.runner.left.callers)))) ≡ Passes s (is_due core i op operation p)
+    → phases core setting s p (taking p.runner (Some (step_at core i op operation p.runner.left.callers))) ≡ Passes s (is_due core i op operation p)
 takes_step core setting i op Resume s p is = refl
 takes_step core setting i op (Meet closing) s p is = refl
 takes_step core setting i op operation s p is = absurd (cc)
@@ -55,7 +57,7 @@ module _ (core : List CoreOp) (image : Image) (places : Places) (nestings : Nest
 
   takes : (g w : ℕ) (t : MachineSetting) (f : Phase) (m : Member) (p : Owner) (s : Commons) → (x : Standing g w t f m p) → part core setting 1 s p ≡ Passes s (is_due core x.i x.op x.operation p)
   takes g w t f m p s x =
-      ap (λ n. as_part (number_of p) (phases core setting s p.heap (taking p.runner n))) x.next_is ∙ takes_step core setting x.i x.op x.operation s p x.meeting
+      ap (λ n. phases core setting s p (taking p.runner n)) x.next_is ∙ takes_step core setting x.i x.op x.operation s p x.meeting
 
   module _ (t : MachineSetting) (g w : ℕ) (m : Member) (p : Owner) (own : Memory) (is_open : IsOpen plan g w) where
     -- a turn in a phase, with what its processor does and what follows
@@ -190,6 +192,7 @@ cycles_are_rounds core image places nestings setting tree spaces nodes t earlier
     (joins_bound core image places nestings setting plan (first_of spaces) t stages hs ps own bound)
 
 pub unowned_words_stay : UnownedWordsStay
-unowned_words_stay core image places nestings setting plan first t earlier stages hs ps own sh s word apart shows has bound going free =
+unowned_words_stay core image places nestings setting plan first t earlier stages hs ps own sh s word apart shows has bound going free other =
     plan_leaves (core_source core setting) image plan (joining_blocks_of core image places nestings setting plan first) t earlier stages hs ps own sh s word (is_idle core setting)
-    (meeters_turn core image places nestings setting plan first) apart shows has (joins_bound core image places nestings setting plan first t stages hs ps own bound) going free refl
+    (meeters_turn core image places nestings setting plan first) apart shows has (joins_bound core image places nestings setting plan first t stages hs ps own bound) going free
+    (ne_eqb word asked_word other)

@@ -1,7 +1,8 @@
 -- Nodes own words apart, and their plan tells who meets at these.
 use Rattle.std.proofs.Common.{◌≡◌, ◌≢◌, ℕ, zero, suc, ◌+◌, ◌-◌, ◌≤◌, ◌<◌, List, length, Bool, true, false, Option, Some, None, sym, ap, subst, ◌∙◌, refl, arith, ◌⊎◌, inl, inr, ⊎_elim}
-use Rattle.std.specs.Prelude.{is_some, if◌then◌else◌}
-use Rattle.std.proofs.lemmas.Bool.{cases_Bool, cases_eq, and_parts, and_from, cond-true, cond-false, false≢true}
+use Rattle.std.specs.Prelude.{is_some, ◌==◌, if◌then◌else◌}
+use Rattle.std.proofs.lemmas.Bool.{cases_Bool, cases_eq, and_parts, and_from, cond-true, cond-false, false≢true, ne_eqb}
+use Rattle.fk_sim_heap.specs.Count.{asked_word}
 use Rattle.fk_space.specs.Space.{Space}
 use Rattle.fk_tree.specs.Tree as t
 use Rattle.fk_tree.specs.Tree.{Node, Tree, kind_of, is_from, is_member, is_waiting}
@@ -212,8 +213,16 @@ module _ (tree : Tree) (spaces : ℕ → Space) (h : HaveSpaces tree spaces) whe
   other_owns_not g k i differ own =
       ⊎_elim (λ both. absurd (not_both g k i differ (owned g i own) (owned k i both))) (λ no. no) (cases_Bool (owns tree spaces k i))
 
-  pub own_apart : OwnApart (owns tree spaces) (λ i. false)
-  own_apart = record { nodes = λ g k differ i own. other_owns_not g k i differ own; from_common = λ g i own. refl }
+  -- the word that counts the words asked for lies after all of them
+  not_asked : (g i : ℕ) → Owned g i → i ≡ asked_word → ⊥
+  not_asked zero i x e = let below : i < root_words + 8 = x.below in omega arith
+  not_asked (suc g) i x e =
+      let within = h.within (suc g) (not_zero g) x.some in
+      let below = (lies g i x).below in
+      omega arith
+
+  pub own_apart : OwnApart (owns tree spaces) (λ i. i == asked_word)
+  own_apart = record { nodes = λ g k differ i own. other_owns_not g k i differ own; from_common = λ g i own. ne_eqb i asked_word (not_asked g i (owned g i own)) }
 
   -- the node that owns a word is found
   owner_is : (g word count : ℕ) → owns tree spaces g word ≡ true → g < count → owner_among tree spaces count word ≡ Some g

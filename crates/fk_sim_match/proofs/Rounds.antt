@@ -23,7 +23,7 @@ use Rattle.fk_sim_nodes.specs.Node.{Member, numbered, of_node, add}
 use Rattle.fk_sim_nodes.specs.Phase.{Phase, Outside, Away, Coming, Waiting as Polls, Leaving, members, Each, Stays, Leaves}
 use Rattle.fk_sim_match.specs.Stage.{Ending, Commits, Unites, Stage, Ended, Acts, Meets, count_of_stage, counts_for, kept, absent, phase_of}
 use Rattle.fk_sim_match.specs.Plan.{Plan, IsOpen, phase_at, phases_from, phases, Binds, InLockstep, AllAct, IsInside, IsBound}
-use Rattle.fk_sim_block.specs.Owner.{Owner, core_source}
+use Rattle.fk_sim_block.specs.Owner.{Heaps, Owner, core_source}
 use Rattle.fk_sim_block.specs.Stands.{Places}
 use Rattle.fk_sim_block.specs.Node.{Nestings}
 use Rattle.fk_sim_match.specs.Nodes.{first_of, HaveSpaces, body_at, meeters_at, is_arrival, is_lockstep, nodes_of, plan_of}
@@ -256,9 +256,9 @@ body_or_none (Some (Asynchronous alone)) g ms = inl refl
 -- ---- a whole round
 
 module _ (core : List CoreOp) (image : Image) (places : Places) (nestings : Nestings) (setting : Setting) (p : ℕ) (spaces : ℕ → Space) (u : MachineSetting) (stages : List Stage) (hs : List Hart)
-    (own : ℕ → Memory) (s : State Position) (spaced : HaveSpaces s.tree spaces) (sound : IsSound p s.tree) (many : length s.runners ≡ p) (due : AllDue core s.tree spaces 0 stages s.runners)
+    (own : ℕ → Memory) (heaps : ℕ → Heaps) (s : State Position) (spaced : HaveSpaces s.tree spaces) (sound : IsSound p s.tree) (many : length s.runners ≡ p) (due : AllDue core s.tree spaces 0 stages s.runners)
     (bound : IsBound (core_source core setting) image (plan_of s.tree spaces (nodes_of s.tree s.runners))
-    (blocks_of core image places nestings setting (plan_of s.tree spaces (nodes_of s.tree s.runners)) (first_of spaces)) u stages hs (owners_of s.store.heaps s.runners) own) where
+    (blocks_of core image places nestings setting (plan_of s.tree spaces (nodes_of s.tree s.runners)) (first_of spaces)) u stages hs (owners_of heaps s.runners) own) where
   abbrev tree : Tree
   tree = s.tree
 
@@ -312,13 +312,13 @@ module _ (core : List CoreOp) (image : Image) (places : Places) (nestings : Nest
   group_acts : (n : ℕ) → is_lockstep (t.kind tree n) ≡ true → (d : ℕ) × ((h : ℕ) (x : Stage) → slice_get nodes h ≡ Some n → slice_get stages h ≡ Some x → x ≡ Acts d)
   group_acts n is =
       let group : InLockstep (core_source core setting) image plan (blocks_of core image places nestings setting plan (first_of spaces)) u n (of_node n nodes stages)
-      (of_node n nodes (numbered 0 hs)) (of_node n nodes (owners_of s.store.heaps s.runners)) (own n)
+      (of_node n nodes (numbered 0 hs)) (of_node n nodes (owners_of heaps s.runners)) (own n)
       = subst
       (λ b.
       Binds (core_source core setting) image plan (blocks_of core image places nestings setting plan (first_of spaces)) b u n (of_node n nodes stages)
-      (of_node n nodes (numbered 0 hs)) (of_node n nodes (owners_of s.store.heaps s.runners)) (own n))
+      (of_node n nodes (numbered 0 hs)) (of_node n nodes (owners_of heaps s.runners)) (own n))
       is (bound.binds n) in
-      let all = act_only group.distance (of_node n nodes stages) (of_node n nodes (numbered 0 hs)) (of_node n nodes (owners_of s.store.heaps s.runners)) group.alike in (
+      let all = act_only group.distance (of_node n nodes stages) (of_node n nodes (numbered 0 hs)) (of_node n nodes (owners_of heaps s.runners)) group.alike in (
         group.distance,
         λ h x node at. act_at group.distance n nodes stages h x all node at,
       )
@@ -546,5 +546,5 @@ module _ (core : List CoreOp) (image : Image) (places : Places) (nestings : Nest
       (λ i lt. let e : i ≡ 0 + i = omega arith in subst (λ k. fits round does tree k (slice_index round i) ≡ true) e (fits_one i (omega (arith, lt, many, as_many, counted)))))
 
 pub rounds_are_allowed : RoundsAreAllowed
-rounds_are_allowed core image places nestings setting p spaces u stages hs own s spaced sound many due bound =
-    allowed core image places nestings setting p spaces u stages hs own s spaced sound many due bound
+rounds_are_allowed core image places nestings setting p spaces u stages hs own heaps s spaced sound many due bound =
+    allowed core image places nestings setting p spaces u stages hs own heaps s spaced sound many due bound

@@ -2,7 +2,7 @@
 use Rattle.std.proofs.Common.{◌≡◌, ℕ, suc, ◌+◌, ◌≤◌, List, [], ◌∷◌, length, map, Bool, true, Some, None, sym, ap, subst, ◌∙◌, refl, arith, inl, inr, ⊎_elim}
 use Rattle.fk_num.specs.Word.{Memory}
 use Rattle.fk_meaning_operation.specs.declared.operation.Operation.{Operation}
-use Rattle.fk_meaning_operation.specs.declared.operation.Operation.TheVariants.{Begin, Agree, Farm, Seq, End, Halt}
+use Rattle.fk_meaning_operation.specs.declared.operation.Operation.TheVariants.{Begin, Agree, Frame, Block, Farm, Seq, End, Halt}
 use Rattle.fk_meaning.specs.Processor.{Setting}
 use Rattle.fk_core.specs.declared.op.CoreOp.{CoreOp}
 use Rattle.fk_core.specs.Next.{next, position, follows, returned}
@@ -14,10 +14,10 @@ use Rattle.fk_sim_nodes.specs.Alone.{NodeRun, later, in_cycles}
 use Rattle.fk_sim_nodes.specs.OneHart.{OneDoes, AllReach}
 use Rattle.fk_sim_nodes.specs.Together.{Together}
 use Rattle.fk_sim_nodes.proofs.Runs.{run_map}
+use Rattle.fk_sim_nodes.proofs.Members.{together_map}
 use Rattle.fk_sim_nodes.specs.Phase.{Coming}
 use Rattle.fk_sim_match.specs.Plan.{Plan, AllAct, InLockstep}
-use Rattle.fk_sim_match.proofs.Changes.{together_map}
-use Rattle.fk_sim_block.specs.Owner.{Commons, Owner, Doing, commons_of, found, part, core_source}
+use Rattle.fk_sim_block.specs.Owner.{Commons, Owner, Doing, part, core_source}
 use Rattle.fk_sim_block.specs.Stands.{Places}
 use Rattle.fk_sim_block.specs.Next.{OpAt, step_at}
 use Rattle.fk_sim_block.specs.Ready.{MayDo, is_alone}
@@ -27,7 +27,7 @@ use Rattle.fk_sim_block.specs.Node.{Polling, Nestings, OwnsHeader, IsAtRest, clo
 use Rattle.fk_sim_block.specs.Lockstep.{is_due, stepped, highest_value, AllComeAlone, AllEnter, HaveStepped, HaveParted, AreInStart}
 use Rattle.fk_sim_block.specs.Joint.{word_of, Polls, MeetsAt}
 use Rattle.fk_sim_block.specs.Start.{MeetsUntil, AllHaveMet, HaveStarted}
-use Rattle.fk_sim_block.specs.Law.{Cycles, GroupLaw, HasDoneInNode, way_of, runs_behind, is_shared_step, sets_apart, IsAskedOf}
+use Rattle.fk_sim_block.specs.Law.{Cycles, GroupLaw, HasDoneInNode, way_of, runs_behind, is_shared_step, stays_in_step, sets_apart, IsAskedOf}
 use Rattle.fk_sim_block.specs.Laws.{AllGo}
 use Rattle.fk_sim_block.proofs.Together.{members_do_together}
 use Rattle.fk_sim_match.specs.Behind.{IsBehind, AllHaveGone, IsGroupBehind, HaveActed, runs_of, blocks_of}
@@ -66,7 +66,7 @@ members_stand_at_stages core image places nestings cycles firsts main setting pl
 
 -- the end of `main` leaves what all share, and its processor is to end
 halt_part : (core : List CoreOp) (setting : Setting) (i : ℕ) (op : CoreOp) (s : Commons) (p : Owner) → OpAt core i op Halt → p.runner.left.at ≡ i
-    → part core setting 1 s p ≡ Passes (commons_of (found s p.heap)) (is_due core i op Halt p)
+    → part core setting 1 s p ≡ Passes s (is_due core i op Halt p)
 halt_part core setting i op s p stands at = operations_are_next core i op Halt setting s p stands at
 
 abbrev done_in : Doing → Part Commons Doing → Doing
@@ -215,9 +215,9 @@ module _ (core : List CoreOp) (image : Image) (places : Places) (nestings : Nest
 
   module _ (cycles : Cycles) (firsts : List ℕ) (main : ℕ) (t : MachineSetting) (g i : ℕ) (op : CoreOp) (law : GroupLaw core image places nestings cycles firsts main) where
     pub act_together : (operation : Operation) (onward : Bool) (ms : List Member) (ps : List Owner) (own : Memory) → OpAt core i op operation → is_alone operation ≡ true
-        → AllEnter core image places nestings i op operation setting t None (first g) ms ps → AllGo operation onward ps → IsAtRest (first g) own
+        → OwnsHeader (plan.words g) (first g) → AllEnter core image places nestings i op operation setting t None (first g) ms ps → AllGo operation onward ps → IsAtRest (first g) own
         → Together (core_source core setting) image (plan.words g) t 1 (cycles.before i) ms ps own (Behind (later (in_cycles (cycles.before i) t)) g)
-    act_together operation onward ms ps own stands alone all go rest =
+    act_together operation onward ms ps own stands alone owns all go rest =
         let b = cycles.before i in
         let a = cycles.behind i onward in
         let mine = plan.words g in
@@ -235,31 +235,33 @@ module _ (core : List CoreOp) (image : Image) (places : Places) (nestings : Nest
               (λ ms'' own'' y. (subst (λ o. IsAtRest (first g) o) (sym y.0) rest, inl (have_gone ps ms'' ds y.1)))
               x),
         ))
-        (members_do_together core image places nestings cycles firsts main i op operation onward setting t mine None (first g) ms ps own law stands alone all go)
+        (members_do_together core image places nestings cycles firsts main i op operation onward setting t mine None (first g) ms ps own law stands alone owns all go)
 
-    -- they agree, and are in lockstep still
-    agree_together : (ms : List Member) (ps : List Owner) (own : Memory) → OpAt core i op Agree
-        → OwnsHeader (plan.words g) (first g) → AllEnter core image places nestings i op Agree setting t None (first g) ms ps → IsAtRest (first g) own
+    -- they are in lockstep still
+    stay_together : (operation : Operation) (ms : List Member) (ps : List Owner) (own : Memory) → OpAt core i op operation → stays_in_step operation ≡ true
+        → OwnsHeader (plan.words g) (first g) → AllEnter core image places nestings i op operation setting t None (first g) ms ps → IsAskedOf operation 0 0 ps → IsAtRest (first g) own
         → Together (core_source core setting) image (plan.words g) t 1 (cycles.before i) ms ps own (Behind (later (in_cycles (cycles.before i) t)) g)
-    agree_together ms ps own stands owns all rest =
+    stay_together operation ms ps own stands stays owns all asked rest =
         let b = cycles.before i in
         let a = cycles.behind i true in
         let mine = plan.words g in
         let u = later (in_cycles b t) in
         let Stepped : List Member → Memory → Type 0
-        = λ ms'' own''. HaveStepped core image places nestings i op Agree setting (λ p. None) (first g) 0 0 ps own ms'' own'' in
-        together_map (core_source core setting) image mine t 1 b ms ps own (λ ms' ds own'. (ds ≡ map (is_due core i op Agree) ps) × NodeRun image mine u a ms' own' Stepped)
+        = λ ms'' own''. HaveStepped core image places nestings i op operation setting (λ p. None) (first g) 0 0 ps own ms'' own'' in
+        together_map (core_source core setting) image mine t 1 b ms ps own (λ ms' ds own'. (ds ≡ map (is_due core i op operation) ps) × NodeRun image mine u a ms' own' Stepped)
         (Behind u g)
         (λ ms' ds own' x. (
           a,
           law.few_behind i true,
           inl
               (run_map image mine u a ms' own' Stepped (λ ms'' own''. IsGroupBehind core image places nestings setting (first g) ds ms'' own'')
-              (λ ms'' own'' y.
-              (still_at_rest g own own'' y.others rest, inr (record { i = i; op = op; ps = ps; stands = stands; due = x.0; members = y.members })))
+              (λ ms'' own'' y. (
+                still_at_rest g own own'' y.others rest,
+                inr (record { i = i; op = op; operation = operation; ps = ps; stands = stands; stays = stays; due = x.0; members = y.members }),
+              ))
               x.1),
         ))
-        (law.agrees i op 0 0 stands setting t mine (first g) ms ps own owns all tt)
+        (law.steps i op operation 0 0 stands stays setting t mine (first g) ms ps own owns all asked)
 
     -- or each goes on by itself
     part_together : (operation : Operation) (lowest size : ℕ) (ms : List Member) (ps : List Owner) (own : Memory) → OpAt core i op operation → sets_apart operation ≡ true
@@ -303,15 +305,17 @@ module _ (core : List CoreOp) (image : Image) (places : Places) (nestings : Nest
         → OwnsHeader (plan.words g) (first g) → AllEnter core image places nestings i op operation setting t None (first g) ms ps
         → IsAskedOf operation lowest size ps → IsAtRest (first g) own
         → Together (core_source core setting) image (plan.words g) t 1 (cycles.before i) ms ps own (Behind (later (in_cycles (cycles.before i) t)) g)
-    step_together Agree lowest size ms ps own stands shared owns all asked rest = agree_together ms ps own stands owns all rest
+    step_together Agree lowest size ms ps own stands shared owns all asked rest = stay_together Agree ms ps own stands refl owns all asked rest
+    step_together (Frame number words) lowest size ms ps own stands shared owns all asked rest = stay_together (Frame number words) ms ps own stands refl owns all asked rest
+    step_together Block lowest size ms ps own stands shared owns all asked rest = stay_together Block ms ps own stands refl owns all asked rest
     step_together Farm lowest size ms ps own stands shared owns all asked rest = part_together Farm lowest size ms ps own stands refl owns all asked rest
     step_together Seq lowest size ms ps own stands shared owns all asked rest = part_together Seq lowest size ms ps own stands refl owns all asked rest
     step_together operation lowest size ms ps own stands shared owns all asked rest = absurd (cc)
 
-    pub end_together : (ms : List Member) (ps : List Owner) (own : Memory) → OpAt core i op End → AllEnter core image places nestings i op End setting t None (first g) ms ps
+    pub end_together : (ms : List Member) (ps : List Owner) (own : Memory) → OpAt core i op End → OwnsHeader (plan.words g) (first g) → AllEnter core image places nestings i op End setting t None (first g) ms ps
         → AreInStart nestings ps → IsAtRest (first g) own
         → Together (core_source core setting) image (plan.words g) t 1 0 ms ps own (Behind (later t) g)
-    end_together ms ps own stands all start rest =
+    end_together ms ps own stands owns all start rest =
         let a = cycles.behind i true in
         let mine = plan.words g in
         let u = later t in
@@ -321,7 +325,7 @@ module _ (core : List CoreOp) (image : Image) (places : Places) (nestings : Nest
         together_map (core_source core setting) image mine t 1 0 ms ps own (λ ms' ds own'. (ds ≡ map (is_due core i op End) ps) × (InRoot ms' × (own' ≡ own)))
         (Behind u g)
         (λ ms' ds own' x. (a, law.few_behind i true, inr (inr (inl (record { i = i; op = op; ps = ps; stands = stands; due = x.0; rest = subst (λ o. IsAtRest (first g) o) (sym x.1.1) rest; come = x.1.0 })))))
-        (law.ends i op 0 0 stands setting t mine (first g) ms ps own all start)
+        (law.ends i op 0 0 stands setting t mine (first g) ms ps own owns all start)
 
 -- all have met in the root
 module _ (core : List CoreOp) (image : Image) (places : Places) (nestings : Nestings) (setting : Setting) (plan : Plan) (first : ℕ → ℕ) where
@@ -366,9 +370,9 @@ module _ (core : List CoreOp) (image : Image) (places : Places) (nestings : Nest
       (start.starts setting t (plan.words 0) 0 ms ps own owns running met))
 
 pub groups_act_together : GroupsActTogether
-groups_act_together core image places nestings cycles firsts main setting plan first t g i op operation onward ms ps own law stands alone all go rest =
+groups_act_together core image places nestings cycles firsts main setting plan first t g i op operation onward ms ps own law stands alone owns all go rest =
     in_lockstep core image places nestings setting plan first t g (cycles.before i) ms ps own (as_many core image places nestings setting plan first i op operation t g ms ps all)
-    (act_together core image places nestings setting plan first cycles firsts main t g i op law operation onward ms ps own stands alone all go rest)
+    (act_together core image places nestings setting plan first cycles firsts main t g i op law operation onward ms ps own stands alone owns all go rest)
 
 pub groups_step_together : GroupsStepTogether
 groups_step_together core image places nestings cycles firsts main setting plan first t g i op operation lowest size ms ps own law stands shared owns all asked rest =
@@ -376,9 +380,9 @@ groups_step_together core image places nestings cycles firsts main setting plan 
     (step_together core image places nestings setting plan first cycles firsts main t g i op law operation lowest size ms ps own stands shared owns all asked rest)
 
 pub groups_end_together : GroupsEndTogether
-groups_end_together core image places nestings cycles firsts main setting plan first t g i op ms ps own law stands all start rest =
+groups_end_together core image places nestings cycles firsts main setting plan first t g i op ms ps own law stands owns all start rest =
     in_lockstep core image places nestings setting plan first t g 0 ms ps own (as_many core image places nestings setting plan first i op End t g ms ps all)
-    (end_together core image places nestings setting plan first cycles firsts main t g i op law ms ps own stands all start rest)
+    (end_together core image places nestings setting plan first cycles firsts main t g i op law ms ps own stands owns all start rest)
 
 pub groups_start_together : GroupsStartTogether
 groups_start_together core image places nestings cycles firsts main setting plan first t i op ms ps own law stands owns running met rest =

@@ -3,8 +3,7 @@ use Rattle.std.specs.Prelude.{◌≡◌, ℕ, ◌+◌, ◌≤◌, List, [], ◌�
 use Rattle.std.specs.Prelude.{Some, None, if◌then◌else◌, ◌⊎◌}
 use Rattle.fk_num.specs.Word.{Memory}
 use Rattle.fk_meaning_operation.specs.declared.operation.Operation.{Operation}
-use Rattle.fk_meaning_operation.specs.declared.operation.Operation.TheVariants.{Agree, Halt, Begin}
-use Rattle.fk_meaning_operation.specs.declared.operation.Operation.TheVariants.{End}
+use Rattle.fk_meaning_operation.specs.declared.operation.Operation.TheVariants.{Halt, Begin, End}
 use Rattle.fk_meaning.specs.Processor.{Setting}
 use Rattle.fk_meaning.specs.Round.{Step}
 use Rattle.fk_core.specs.declared.op.CoreOp.{CoreOp}
@@ -26,7 +25,8 @@ use Rattle.fk_sim_block.specs.Lockstep.{AllComeAlone}
 use Rattle.fk_sim_block.specs.Joint.{is_meeting, word_of, lead, Polls, MeetsAt, StandsBehind}
 use Rattle.fk_sim_block.specs.Start as starts
 use Rattle.fk_sim_block.specs.Start.{IsInRoot, MeetsUntil, AllComeToParts}
-use Rattle.fk_sim_block.specs.Law.{HasDoneInNode, sets_apart, IsAskedOf, runs_behind}
+use Rattle.fk_sim_block.specs.Law.{HasDoneInNode, stays_in_step, sets_apart, IsAskedOf}
+use Rattle.fk_sim_block.specs.Law.{runs_behind}
 
 -- How many members run the body of a node, as one that does sees it: those who meet at the node's
 -- first word.
@@ -117,19 +117,21 @@ module _ (core : List CoreOp) (image : Image) (places : Places) (nestings : Nest
   AllHaveGone (m ∷ ms) (d ∷ ds) = HasGone None m d × AllHaveGone ms ds
   AllHaveGone ms ds = ⊥
 
-  -- The members agree, and are at the next block.
-  pub record HaveAgreed (first : ℕ) (ds : List Doing) (ms : List Member) : Type 0 where
+  -- The members do a step after which they are in lockstep still, and are at the next block.
+  pub record HaveStayed (first : ℕ) (ds : List Doing) (ms : List Member) : Type 0 where
     pub i : ℕ
     pub op : CoreOp
+    pub operation : Operation
     pub ps : List Owner
-    pub stands : OpAt core i op Agree
-    pub due : ds ≡ map (is_due core i op Agree) ps
+    pub stands : OpAt core i op operation
+    pub stays : stays_in_step operation ≡ true
+    pub due : ds ≡ map (is_due core i op operation) ps
     pub members : AreMembers places nestings setting (λ p. None) first ms
-        (map (stepped core i op Agree (highest_value ps) 0 0) ps)
+        (map (stepped core i op operation (highest_value ps) 0 0) ps)
 
   -- Nobody has arrived at a word of a group, and its members are after their common commit.
   abbrev pub IsGroupBehind : (first : ℕ) → List Doing → List Member → Memory → Type 0
-  IsGroupBehind first ds ms own = IsAtRest first own × (AllHaveGone ms ds ⊎ HaveAgreed first ds ms)
+  IsGroupBehind first ds ms own = IsAtRest first own × (AllHaveGone ms ds ⊎ HaveStayed first ds ms)
 
   -- The members do a step after which each comes by itself, in `behind` private instructions, to
   -- where it goes on in their node.

@@ -1,5 +1,5 @@
 -- Laws of the plan of a tree.
-use Rattle.std.specs.Prelude.{◌≡◌, ◌≢◌, ℕ, ◌+◌, ◌<◌, List, length, true, false, None, is_some}
+use Rattle.std.specs.Prelude.{◌≡◌, ◌≢◌, ℕ, ◌+◌, ◌<◌, ◌==◌, List, length, true, false, None, is_some}
 use Rattle.fk_num.specs.Word.{Memory}
 use Rattle.fk_space.specs.Space.{Space, IsSpace}
 use Rattle.fk_tree.specs.Tree.{Tree, parent, kind, is_member, is_waiting}
@@ -13,6 +13,7 @@ use Rattle.fk_sim_nodes.specs.Source.{Shows}
 use Rattle.fk_sim_match.specs.Stage.{Stage}
 use Rattle.fk_sim_match.specs.Plan.{Plan, JointBlocksTurn, IsBound}
 use Rattle.fk_sim_match.specs.Cycle.{IsPlanned}
+use Rattle.fk_sim_heap.specs.Count.{asked_word}
 use Rattle.fk_sim_block.specs.Owner.{Commons, Owner, core_source}
 use Rattle.fk_sim_block.specs.Stands.{Places}
 use Rattle.fk_sim_block.specs.Node.{Nestings}
@@ -32,7 +33,7 @@ OneGroupHasSpace = (tree : Tree) (spaces : ℕ → Space) (group : ℕ) → HasO
 
 abbrev pub NodesOwnApart : Type 0
 NodesOwnApart = (tree : Tree) (spaces : ℕ → Space) → HaveSpaces tree spaces
-    → OwnApart (owns tree spaces) (λ i. false)
+    → OwnApart (owns tree spaces) (λ i. i == asked_word)
 
 -- The plan tells, of a word in the header of a node, who meets there and how many they are.
 pub record TellsMeeters (tree : Tree) (plan : Plan) (g offset word : ℕ) : Type 0 where
@@ -70,16 +71,16 @@ CyclesAreRounds =
     setting plan (first_of spaces)) t earlier stages hs ps own sh s
 
 -- A cycle without a fault leaves the control words that no node owns as they were, whatever the
--- plan.
+-- plan, but for the word that counts the words asked for.
 abbrev pub UnownedWordsStay : Type 0
 UnownedWordsStay =
     (core : List CoreOp) (image : Image) (places : Places) (nestings : Nestings) (setting : Setting)
     (plan : Plan) (first : ℕ → ℕ)
     (t : MachineSetting) (earlier : List ℕ) (stages : List Stage) (hs : List Hart) (ps : List Owner)
     (own : ℕ → Memory) (sh : Shared) (s : Commons) (word : ℕ)
-    → OwnApart plan.words (λ i. false) → Shows (core_source core setting) earlier sh s
+    → OwnApart plan.words (λ i. i == asked_word) → Shows (core_source core setting) earlier sh s
     → ((g : ℕ) → Has (plan.words g) sh.control (own g))
     → IsBound (core_source core setting) image plan
     (blocks_of core image places nestings setting plan first) t stages hs ps own
-    → (turns t 0 hs sh).stop ≡ None → ((g : ℕ) → plan.words g word ≡ false)
+    → (turns t 0 hs sh).stop ≡ None → ((g : ℕ) → plan.words g word ≡ false) → word ≢ asked_word
     → (turns t 0 hs sh).shared.control word ≡ sh.control word

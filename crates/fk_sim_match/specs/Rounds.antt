@@ -20,7 +20,7 @@ use Rattle.fk_image.specs.declared.Image.{Image}
 use Rattle.fk_machine.specs.Hart.{Hart, Setting as MachineSetting}
 use Rattle.fk_sim_match.specs.Stage.{Ending, Commits, Unites, Stage, Ended, Acts, Meets, counts_for}
 use Rattle.fk_sim_match.specs.Plan.{IsInside, IsBound}
-use Rattle.fk_sim_block.specs.Owner.{Owner, core_source}
+use Rattle.fk_sim_block.specs.Owner.{Heaps, Owner, core_source}
 use Rattle.fk_sim_block.specs.Stands.{Places}
 use Rattle.fk_sim_block.specs.Node.{Nestings}
 use Rattle.fk_sim_match.specs.Nodes.{first_of, HaveSpaces, is_arrival, is_lockstep, nodes_of}
@@ -73,8 +73,8 @@ module _ (core : List CoreOp) (tree : Tree) (spaces : ℕ → Space) where
       × AllDue (suc number) stages rs
   AllDue number stages rs = ⊥
 
--- Processors with their private heaps.
-abbrev pub owners_of : (heaps : ℕ → Memory) → List (Runner Position) → List Owner
+-- Processors with their heaps.
+abbrev pub owners_of : (heaps : ℕ → Heaps) → List (Runner Position) → List Owner
 owners_of heaps rs =
     map (λ r. let p : Owner = record { runner = r; heap = heaps r.has.number } in p) rs
 
@@ -84,11 +84,12 @@ abbrev pub RoundsAreAllowed : Type 0
 RoundsAreAllowed =
     (core : List CoreOp) (image : Image) (places : Places) (nestings : Nestings) (setting : Setting)
     (p : ℕ) (spaces : ℕ → Space) (t : MachineSetting)
-    (stages : List Stage) (hs : List Hart) (own : ℕ → Memory) (s : State Position)
+    (stages : List Stage) (hs : List Hart) (own : ℕ → Memory) (heaps : ℕ → Heaps)
+    (s : State Position)
     → let plan = plan_of s.tree spaces (nodes_of s.tree s.runners) in
     let blocks = blocks_of core image places nestings setting plan (first_of spaces) in
     HaveSpaces s.tree spaces → IsSound p s.tree → length s.runners ≡ p
     → AllDue core s.tree spaces 0 stages s.runners
     → IsBound (core_source core setting) image plan blocks t stages hs
-    (owners_of s.store.heaps s.runners) own
+    (owners_of heaps s.runners) own
     → is_allowed (next core) setting (counts_for stages) s ≡ true

@@ -96,7 +96,7 @@ GroupsActTogether =
     (t : MachineSetting) (g i : ℕ) (op : CoreOp) (operation : Operation) (onward : Bool)
     (ms : List Member) (ps : List Owner) (own : Memory)
     → GroupLaw core image places nestings cycles firsts main → OpAt core i op operation
-    → is_alone operation ≡ true
+    → is_alone operation ≡ true → OwnsHeader (plan.words g) (first g)
     → AllEnter core image places nestings i op operation setting t None (first g) ms ps
     → AllGo operation onward ps → IsAtRest (first g) own
     → InLockstep (core_source core setting) image plan
@@ -126,6 +126,7 @@ GroupsEndTogether =
     (firsts : List ℕ) (main : ℕ) (setting : Setting) (plan : Plan) (first : ℕ → ℕ)
     (t : MachineSetting) (g i : ℕ) (op : CoreOp) (ms : List Member) (ps : List Owner) (own : Memory)
     → GroupLaw core image places nestings cycles firsts main → OpAt core i op End
+    → OwnsHeader (plan.words g) (first g)
     → AllEnter core image places nestings i op End setting t None (first g) ms ps
     → AreInStart nestings ps → IsAtRest (first g) own
     → InLockstep (core_source core setting) image plan

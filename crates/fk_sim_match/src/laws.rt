@@ -102,7 +102,7 @@ pub fn cycles_are_rounds()
 {}
 
 /// Where a plan binds all harts, a cycle without a fault leaves the control words that no node owns
-/// as they were.
+/// as they were, but for the word that counts the words asked for.
 pub fn unowned_words_stay()
     ensures { UnownedWordsStay }
 {}
