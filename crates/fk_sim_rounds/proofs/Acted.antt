@@ -1,11 +1,11 @@
 -- A group in lockstep that has done a step of the tree, behind which each of its members goes on by itself.
-use Rattle.std.proofs.Common.{◌≡◌, ℕ, suc, ◌≤◌, List, [], ◌∷◌, length, Option, Some, Bool, true, false, ap, subst, ◌∙◌, refl, ◌⊎◌, inl, inr, ⊎_elim, eq-eqb}
+use Rattle.std.proofs.Common.{◌≡◌, ℕ, suc, ◌≤◌, List, [], ◌∷◌, length, Option, Some, Bool, true, false, sym, ap, subst, ◌∙◌, refl, ◌⊎◌, inl, inr, ⊎_elim, eq-eqb}
 use Rattle.std.specs.Prelude.{◌==◌, map}
 use Rattle.std.proofs.lemmas.Bool.{false≢true}
 use Rattle.fk_num.specs.Word.{Memory}
 use Rattle.fk_tree.specs.Tree.{Tree}
 use Rattle.fk_meaning_operation.specs.declared.operation.Operation.{Operation}
-use Rattle.fk_meaning_operation.specs.declared.operation.Operation.TheVariants.{Begin, Agree, End}
+use Rattle.fk_meaning_operation.specs.declared.operation.Operation.TheVariants.{Begin, Agree, Frame, Block, End}
 use Rattle.fk_meaning.specs.Processor.{Setting}
 use Rattle.fk_core.specs.declared.op.CoreOp.{CoreOp}
 use Rattle.fk_image.specs.declared.Image.{Image}
@@ -20,6 +20,7 @@ use Rattle.fk_sim_block.specs.Stands.{Places}
 use Rattle.fk_sim_block.specs.Block.{most_behind}
 use Rattle.fk_sim_block.specs.Node.{Nestings}
 use Rattle.fk_sim_block.specs.Lockstep.{is_due}
+use Rattle.fk_sim_block.specs.Law.{stays_in_step}
 use Rattle.fk_sim_match.specs.Behind.{HaveParted, HaveEnded, HaveBegun, AllHaveGone, IsGroupBehind, blocks_of}
 use Rattle.fk_sim_rounds.specs.After.{DoesStep, ArePlaces}
 use Rattle.fk_sim_rounds.proofs.Lists.{run_end}
@@ -80,6 +81,13 @@ not_idle operation [] (d ∷ ds) do' e = absurd (cc)
 not_idle operation (p ∷ ps) (d ∷ ds) do' e =
     let same : d ≡ idle p = cc in absurd (subst (λ x. DoesStep operation x.acting.due) same do'.0)
 
+-- steps after which a group is in lockstep still leave the tree
+stays_keep : (operation : Operation) → stays_in_step operation ≡ true → changes_tree operation ≡ false
+stays_keep Agree stays = refl
+stays_keep (Frame number words) stays = refl
+stays_keep Block stays = refl
+stays_keep operation stays = absurd (cc)
+
 first_does : (core : List CoreOp) (i : ℕ) (op : CoreOp) (operation done : Operation) (ps : List Owner) → AllDo operation (map (is_due core i op done) ps) → (length (map (is_due core i op done) ps) ≡ 0 → ⊥)
     → done ≡ operation
 first_does core i op operation done [] do' some = absurd (some refl)
@@ -103,14 +111,14 @@ module _ (core : List CoreOp) (image : Image) (places : Places) (nestings : Nest
   does_it : (i : ℕ) (op : CoreOp) (done : Operation) (xs : List Owner) → ds ≡ map (is_due core i op done) xs → done ≡ operation
   does_it i op done xs e = first_does core i op operation done xs (subst (AllDo operation) e all_step) (λ none. some (ap (λ l. length l) e ∙ none))
 
-  -- they have not gone on alone, and have not agreed
+  -- they have not gone on alone, and do no step that leaves the tree
   none_gone : (ms' : List Member) (xs : List Doing) → AllDo operation xs → (length xs ≡ 0 → ⊥) → AllHaveGone core image places nestings setting ms' xs → ⊥
   none_gone [] [] do' some' gone = some' refl
   none_gone (m ∷ ms') (d ∷ xs) do' some' gone = subst (DoesStep operation) gone.0.done.done.done do'.0
   none_gone ms' xs do' some' gone = absurd (assumption gone)
 
-  no_agree : Agree ≡ operation → ⊥
-  no_agree e = let same = ap changes_tree e ∙ changes in absurd (cc)
+  none_stayed : (done : Operation) → stays_in_step done ≡ true → done ≡ operation → ⊥
+  none_stayed done stays e = let same = sym (stays_keep done stays) ∙ ap changes_tree e ∙ changes in absurd (false≢true same)
 
   pub acted : GroupIsLeft (core_source core setting) image plan blocks t g afters ms ps ds own → Acted
   acted (inr x) = absurd (some (not_idle operation ps ds all_step x.2))
@@ -118,7 +126,7 @@ module _ (core : List CoreOp) (image : Image) (places : Places) (nestings : Nest
       ⊎_elim
       (λ led.
       let end = run_end image (plan.words g) t x.1.0 ms own (λ ms' own'. IsGroupBehind core image places nestings setting (first g) ds ms' own') led in
-      absurd (⊎_elim (λ gone. none_gone end.0 ds all_step some gone) (λ agreed. no_agree (does_it agreed.i agreed.op Agree agreed.ps agreed.due)) end.2.1))
+      absurd (⊎_elim (λ gone. none_gone end.0 ds all_step some gone) (λ stayed. none_stayed stayed.operation stayed.stays (does_it stayed.i stayed.op stayed.operation stayed.ps stayed.due)) end.2.1))
       (λ other.
       record {
         committed = x.0;

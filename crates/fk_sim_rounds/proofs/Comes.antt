@@ -37,7 +37,7 @@ use Rattle.fk_sim_block.specs.Joint.{is_meeting, word_of, AreSoMany, Polls, IsAr
 use Rattle.fk_sim_block.specs.Law.{Cycles, GroupLaw}
 use Rattle.fk_sim_match.specs.Nodes.{first_of, HaveSpaces, body_at, meeters_at, is_arrival, is_lockstep, plan_of}
 use Rattle.fk_sim_match.specs.Behind.{runs_of, blocks_of}
-use Rattle.fk_sim_match.proofs.Nodes.{tells}
+use Rattle.fk_sim_match.proofs.Nodes.{tells, own_apart}
 use Rattle.fk_sim_match.proofs.Standing.{members_stand_at_stages, members_halt_at_stages, meeters_set_out, starters_set_out, act_together, step_together, end_together}
 use Rattle.fk_sim_match.specs.Rounds.{closing_joint, joint_at_word, ending_of}
 use Rattle.fk_sim_rounds.specs.Next.{JumpsLead, landed, all_landed, IsHome, MayMeet, MayStart, HasNext, AllAt, AllAbout, ActsAlike, StepsAlike, HaveNext}
@@ -80,6 +80,7 @@ pub owns_header : (tree : Tree) (spaces : ℕ → Space) (nodes : List ℕ) (g :
 owns_header tree spaces nodes g node = record {
   within = header_within tree spaces g node.spaced node.there;
   own = λ word lt. (tells tree spaces node.spaced nodes g word node.there node.given lt).own;
+  apart = (own_apart tree spaces node.spaced).from_common g;
 }
 
 so_many : (tree : Tree) (spaces : ℕ → Space) (nodes : List ℕ) (g number : ℕ) (p : Owner) (operation : Operation) → is_meeting operation ≡ true
@@ -501,7 +502,7 @@ module _ (core : List CoreOp) (image : Image) (places : Places) (nestings : Nest
     come_acting may =
         come (cycles.before index) (the_law.few_before index)
         (λ ms' own' x. act_together core image places nestings setting plan (first_of spaces) cycles firsts main there g index has.op the_law has.operation may.onward ms' (all_landed core ps) own' has.stands
-        may.alone (enter has.operation refl ms' x.1) may.go x.0)
+        may.alone (owns_header tree spaces nodes g node) (enter has.operation refl ms' x.1) may.go x.0)
 
     come_stepping : StepsAlike has.operation (all_landed core ps) → ComeTo core image places nestings setting tree spaces nodes t g ms (all_landed core ps) own
     come_stepping may =
@@ -513,7 +514,7 @@ module _ (core : List CoreOp) (image : Image) (places : Places) (nestings : Nest
     come_ending e start =
         come 0 (omega arith)
         (λ ms' own' x. end_together core image places nestings setting plan (first_of spaces) cycles firsts main there g index has.op the_law ms' (all_landed core ps) own'
-        (subst (λ o. OpAt core index has.op o) e has.stands) (enter End e ms' x.1) start x.0)
+        (subst (λ o. OpAt core index has.op o) e has.stands) (owns_header tree spaces nodes g node) (enter End e ms' x.1) start x.0)
 
 pub members_come_to_stages : MembersComeToStages
 members_come_to_stages core image places nestings cycles firsts main setting tree spaces nodes t b m hart p the_law leads node free running lt few private at stands home has =

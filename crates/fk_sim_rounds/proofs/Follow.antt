@@ -1,9 +1,8 @@
 -- From one cycle to the next a machine follows a run.
-use Rattle.std.proofs.Common.{◌≡◌, ℕ, suc, ◌+◌, ◌^◌, ◌<◌, List, [], ◌∷◌, ◌++◌, length, Some, true, ◌&&◌, sym, ap, subst, ◌∙◌, refl, arith, ◌⊎◌, inl, inr, ⊎_elim}
+use Rattle.std.proofs.Common.{◌≡◌, ℕ, zero, suc, ◌+◌, ◌^◌, ◌<◌, List, [], ◌∷◌, ◌++◌, length, Some, true, false, ◌&&◌, sym, ap, subst, ◌∙◌, refl, arith, ◌⊎◌, inl, inr, ⊎_elim}
 use Rattle.std.specs.Prelude.{map, is_none}
 use Rattle.std.proofs.lemmas.Bool.{and_from}
 use Rattle.std.proofs.lemmas.List.{append-nil, length-map}
-use Rattle.fk_num.specs.Word.{Memory}
 use Rattle.fk_space.specs.Space.{Space}
 use Rattle.fk_tree.specs.Tree.{Tree}
 use Rattle.fk_meaning.specs.Processor.{Setting}
@@ -20,7 +19,7 @@ use Rattle.fk_sim_nodes.specs.Node.{Member, Words, numbered}
 use Rattle.fk_sim_nodes.specs.Whole.{planned, first_of, IsCut}
 use Rattle.fk_sim_match.specs.Stage.{Stage, counts_for}
 use Rattle.fk_sim_match.specs.Plan.{IsBound}
-use Rattle.fk_sim_block.specs.Owner.{Commons, Owner, idle, core_source}
+use Rattle.fk_sim_block.specs.Owner.{Commons, Heaps, Owner, idle, core_source}
 use Rattle.fk_sim_block.specs.Stands.{Places}
 use Rattle.fk_sim_block.specs.Block.{gone_to}
 use Rattle.fk_sim_rounds.proofs.Cycles.{runs_later}
@@ -45,7 +44,7 @@ use Rattle.fk_sim_rounds.proofs.Groups.{many_length}
 use Rattle.fk_sim_rounds.proofs.Trees.{all_keep}
 use Rattle.fk_sim_rounds.proofs.Unite.{cycles_unite}
 use Rattle.fk_sim_rounds.proofs.Cycle.{cycles_bind_again}
-use Rattle.fk_sim_rounds.specs.Beside.{landed_runner, landed_state, HaveHeaps, AreInOrder, IsBeside}
+use Rattle.fk_sim_rounds.specs.Beside.{landed_runner, landed_state, AreInOrder, IsBeside}
 use Rattle.fk_sim_rounds.specs.Union.{AreNearBegin, AllLandAt}
 use Rattle.fk_sim_rounds.specs.Follow.{IsFollowed, FollowsRound, FollowsFault, FollowsUnion, CyclesFollowRounds}
 use Rattle.fk_sim_rounds.proofs.Landed.{landing_twice, allowed_land}
@@ -65,15 +64,23 @@ module _ (core : List CoreOp) where
   nodes_are tree number [] (r ∷ rs) here order e = absurd (omega (arith, e))
   nodes_are tree number (n ∷ nodes) [] here order e = absurd (omega (arith, e))
 
-  owners_are : (number : ℕ) (heaps : ℕ → Memory) (ps : List Owner) (rs : List (Runner Position)) → AreInOrder number rs → runners_of ps ≡ map (landed_runner core) rs → HaveHeaps number heaps ps
-      → owners_of heaps (map (landed_runner core) rs) ≡ ps
+  -- the heaps of processors, each by the number of its processor
+  abbrev heaps_of : List Owner → ℕ → Heaps
+  heaps_of [] h = record { words = λ i. 0; full = false }
+  heaps_of (p ∷ ps) zero = p.heap
+  heaps_of (p ∷ ps) (suc h) = heaps_of ps h
+
+  owners_are : (number : ℕ) (heaps : ℕ → Heaps) (ps : List Owner) (rs : List (Runner Position)) → AreInOrder number rs → runners_of ps ≡ map (landed_runner core) rs
+      → ((h : ℕ) → heaps (number + h) ≡ heaps_of ps h) → owners_of heaps (map (landed_runner core) rs) ≡ ps
   owners_are number heaps [] [] order same own = refl
   owners_are number heaps (p ∷ ps) (r ∷ rs) order same own =
       let first : p.runner ≡ landed_runner core r = cc in
       let others : runners_of ps ≡ map (landed_runner core) rs = cc in
+      let here : number ≡ number + 0 = omega arith in
+      let rest : (h : ℕ) → heaps (suc number + h) ≡ heaps_of ps h = λ h. let e : suc number + h ≡ number + suc h = omega arith in ap heaps e ∙ own (suc h) in
       ap (λ x. let q : Owner = record { runner = x; heap = heaps r.has.number } in q ∷ owners_of heaps (map (landed_runner core) rs)) (sym first)
-      ∙ ap (λ h. let q : Owner = record { runner = p.runner; heap = h } in q ∷ owners_of heaps (map (landed_runner core) rs)) (ap heaps order.0 ∙ own.0)
-      ∙ ap (λ l. p ∷ l) (owners_are (suc number) heaps ps rs order.1 others own.1)
+      ∙ ap (λ h. let q : Owner = record { runner = p.runner; heap = h } in q ∷ owners_of heaps (map (landed_runner core) rs)) (ap heaps (order.0 ∙ here) ∙ own 0)
+      ∙ ap (λ l. p ∷ l) (owners_are (suc number) heaps ps rs order.1 others rest)
   owners_are number heaps [] (r ∷ rs) order same own = absurd (cc)
   owners_are number heaps (p ∷ ps) [] order same own = absurd (cc)
 
@@ -118,15 +125,16 @@ module _ (core : List CoreOp) (image : Image) (places : Places) (nestings : Nest
       let as_many = f.before.many in
       let size : length nodes ≡ length s.runners = many ∙ sym long in
       let here = nodes_are core s.tree 0 nodes s.runners f.before.stand f.order size in
-      let are = owners_are core 0 s.store.heaps f.ps s.runners f.order f.beside.runners f.beside.heaps in
+      let heaps : ℕ → Heaps = heaps_of core f.ps in
+      let are = owners_are core 0 heaps f.ps s.runners f.order f.beside.runners (λ h. let e : 0 + h ≡ h = omega arith in ap heaps e) in
       sym (allowed_land core leads setting (counts_for stages) s)
-      ∙ rounds_are_allowed core image places nestings setting setting.processors spaces t stages hs (λ g. sh.control) (landed_state core s) f.before.spaced f.before.sound
+      ∙ rounds_are_allowed core image places nestings setting setting.processors spaces t stages hs (λ g. sh.control) heaps (landed_state core s) f.before.spaced f.before.sound
       (length-map s.runners (landed_runner core) ∙ sym size ∙ as_many)
       (subst (AllDue core s.tree spaces 0 stages) f.beside.runners f.before.due)
       (subst
       (λ ns.
       IsBound (core_source core setting) image (plan_of s.tree spaces ns) (blocks_of core image places nestings setting (plan_of s.tree spaces ns) (plans.first_of spaces)) t stages hs
-      (owners_of s.store.heaps rs) (λ g. sh.control)) (sym here)
+      (owners_of heaps rs) (λ g. sh.control)) (sym here)
       (subst
       (λ l.
       IsBound (core_source core setting) image (plan_of s.tree spaces nodes) (blocks_of core image places nestings setting (plan_of s.tree spaces nodes) (plans.first_of spaces)) t stages hs l
@@ -134,7 +142,7 @@ module _ (core : List CoreOp) (image : Image) (places : Places) (nestings : Nest
 
 -- a cycle that is cut is a stopped round
 pub cut_follows : (core : List CoreOp) (image : Image) (places : Places) (nestings : Nestings) (setting : Setting) (spaces : ℕ → Space) (s : State Position) (nodes : List ℕ) (t : MachineSetting) (printed : List ℕ)
-    (stages : List Stage) (hs : List Hart) (sh : Shared) (words : ℕ → Words) (ps : List Owner) (shared : Commons) → JumpsLead core → AreInOrder 0 s.runners → IsBeside core s ps shared
+    (stages : List Stage) (hs : List Hart) (sh : Shared) (words : ℕ → Words) (ps : List Owner) (shared : Commons) → JumpsLead core → AreInOrder 0 s.runners → IsBeside core setting s ps shared
     → is_allowed (next core) setting (counts_for stages) s ≡ true → planned image hs ≡ counts_for stages → IsCut (core_source core setting) image words printed 0 hs ps shared (turns t 0 hs sh)
     → FollowsFault core image places nestings setting spaces s nodes t printed stages hs sh
 cut_follows core image places nestings setting spaces s nodes t printed stages hs sh words ps shared leads order beside may counts c =
@@ -300,7 +308,7 @@ follows_union core image places nestings cycles firsts main setting spaces s nod
     let e : s.tree ≡ next_state.tree = sym (after.tree ∙ tree_stays) in
     let owners : all_landed core (owners_after s.tree new whole.did) ≡ f.ps
     = ap (λ l. all_landed core (map (owner_after (actings whole.did) s.tree new) l)) x.idle ∙ ap (all_landed core) (idle_stay (actings whole.did) s.tree new f.ps) ∙ still_landed core f.ps f.before.landed in
-    let beside : IsBeside core next_state f.ps whole.store = subst (λ l. IsBeside core next_state l whole.store) owners after.beside in (
+    let beside : IsBeside core setting next_state f.ps whole.store = subst (λ l. IsBeside core setting next_state l whole.store) owners after.beside in (
       cycle.0,
       inr (inr (record {
         going = whole.going;

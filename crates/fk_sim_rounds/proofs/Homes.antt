@@ -14,7 +14,7 @@ use Rattle.fk_meaning_operation.specs.declared.operation.Operation.{Operation}
 use Rattle.fk_meaning_operation.specs.declared.operation.Operation.TheVariants as o
 use Rattle.fk_meaning_operation.specs.declared.operation.Variable.{Variable}
 use Rattle.fk_meaning_operation.specs.declared.operation.Variable.TheVariants.{Private, OfFile}
-use Rattle.fk_meaning_store.specs.Store.{Store, private_words}
+use Rattle.fk_meaning_store.specs.Store.{Store, private_words, heap_start}
 use Rattle.fk_meaning_store.specs.Serve as store
 use Rattle.fk_meaning.specs.Processor.{Level, Call, Processor, Setting, values, last, to_outer}
 use Rattle.fk_meaning.specs.Local.{stored, taken, unframed, to_caller, local}
@@ -25,7 +25,8 @@ use Rattle.fk_core.specs.declared.op.CoreOp.{CoreOp}
 use Rattle.fk_core.specs.Next.{Position, next}
 use Rattle.fk_sim_nodes.specs.Source as nodes
 use Rattle.fk_sim_match.specs.Stage.{Stage, counts_for}
-use Rattle.fk_sim_block.specs.Owner.{Commons, Owner, Doing, number_of, found, as_part, part, core_source}
+use Rattle.fk_sim_heap.specs.Count.{added_by, block_at}
+use Rattle.fk_sim_block.specs.Owner.{Commons, Owner, Doing, found, as_part, is_hire, hires, asks, part, core_source}
 use Rattle.fk_sim_rounds.proofs.Rounds.{IsUnit, AreUnits}
 use Rattle.fk_sim_block.specs.Node.{Nestings, first_word}
 use Rattle.fk_sim_match.specs.Nodes.{first_of}
@@ -90,7 +91,7 @@ block_levels : (words : ℕ) (p : Processor) (b : Bool)
 block_levels words p true = (refl, refl, refl, refl)
 block_levels words p false = (refl, refl, refl, refl)
 
-does_levels : (operation : Operation) (highest size : ℕ) (p : Processor) → stays_put operation ≡ true → SameLevels p (does operation highest size p)
+pub does_levels : (operation : Operation) (highest size : ℕ) (p : Processor) → stays_put operation ≡ true → SameLevels p (does operation highest size p)
 does_levels o.Begin highest size p put = absurd (cc)
 does_levels (o.Split by) highest size p put = absurd (cc)
 does_levels o.Shrink highest size p put = absurd (cc)
@@ -146,15 +147,32 @@ module _ (core : List CoreOp) (setting : Setting) where
   acted_levels (suc zero) r unit = due_levels r (next core r.left)
   acted_levels (suc (suc c)) r unit = absurd unit
 
-  part_levels : (c : ℕ) (s s1 : Commons) (p : Owner) (d : Doing) → IsUnit c → part core setting c s p ≡ nodes.Passes s1 d → SameLevels p.runner.has d.acting.runner.has
-  part_levels c s s1 p d unit e = by (request_phase (found s p.heap) (acted c p.runner) (acted c p.runner).due) refl e
+  abbrev asked_of : Commons → Owner → Acting Position → Step Position → Bool → nodes.Part Commons Doing
+  asked_of s p a step hire =
+      if hire then hires (heap_start (setting.globals + setting.inputs)) s p a step else as_part s.asked p (request_phase (found s p.heap) a (Some step))
+
+  -- what a processor asks for changes no levels
+  asks_levels : (s s1 : Commons) (p : Owner) (a : Acting Position) (due : Option (Step Position)) (d : Doing) → asks core setting s p a due ≡ nodes.Passes s1 d
+      → SameLevels a.runner.has d.acting.runner.has
+  asks_levels s s1 p a None d e = subst (λ y. SameLevels a.runner.has y.runner.has) (ap (λ x. (did_in d x).acting) e) (same_levels a.runner.has)
+  asks_levels s s1 p a (Some step) d e = by (is_hire step.operation) refl
     where
-      by : (x : Phase Position) → request_phase (found s p.heap) (acted c p.runner) (acted c p.runner).due ≡ x → as_part (number_of p) x ≡ nodes.Passes s1 d → SameLevels p.runner.has d.acting.runner.has
-      by (Passes s' b) phase f =
-          levels_join p.runner.has (acted c p.runner).runner.has d.acting.runner.has (acted_levels c p.runner unit)
-          (subst (λ y. SameLevels (acted c p.runner).runner.has y.runner.has) (ap (λ x. (did_in d x).acting) f)
-          (phase_levels (found s p.heap) s' (acted c p.runner) b (acted c p.runner).due phase))
-      by (Breaks site) phase f = absurd (cc)
+      served : (x : Phase Position) → request_phase (found s p.heap) a (Some step) ≡ x → as_part s.asked p x ≡ nodes.Passes s1 d → SameLevels a.runner.has d.acting.runner.has
+      served (Passes s' b) phase f =
+          subst (λ y. SameLevels a.runner.has y.runner.has) (ap (λ x. (did_in d x).acting) f) (phase_levels (found s p.heap) s' a b (Some step) phase)
+      served (Breaks site) phase f = absurd (cc)
+
+      by : (b : Bool) → is_hire step.operation ≡ b → SameLevels a.runner.has d.acting.runner.has
+      by true hire =
+          let f : hires (heap_start (setting.globals + setting.inputs)) s p a step ≡ nodes.Passes s1 d = sym (ap (asked_of s p a step) hire) ∙ e in
+          subst (λ y. SameLevels a.runner.has y.runner.has) (ap (λ x. (did_in d x).acting) f)
+          (answer_levels step.operation (block_at (heap_start (setting.globals + setting.inputs)) s.asked (added_by p.heap.full (store.words_of (last (values a.runner.has))))) a.runner.has)
+      by false other = served (request_phase (found s p.heap) a (Some step)) refl (sym (ap (asked_of s p a step) other) ∙ e)
+
+  part_levels : (c : ℕ) (s s1 : Commons) (p : Owner) (d : Doing) → IsUnit c → part core setting c s p ≡ nodes.Passes s1 d → SameLevels p.runner.has d.acting.runner.has
+  part_levels c s s1 p d unit e =
+      levels_join p.runner.has (acted c p.runner).runner.has d.acting.runner.has (acted_levels c p.runner unit)
+      (asks_levels s s1 p (acted c p.runner) (acted c p.runner).due d e)
 
   abbrev AllSame : List Owner → List Doing → Type 0
   AllSame [] [] = Unit {0}

@@ -8,7 +8,7 @@ use Rattle.fk_tree.specs.Tree.{Tree, kind_of, members_of}
 use Rattle.fk_tree.specs.Sound.{IsSound}
 use Rattle.fk_tree.proofs.Shapes.{has_some, some-given}
 use Rattle.fk_meaning_operation.specs.declared.operation.Operation.{Operation}
-use Rattle.fk_meaning_operation.specs.declared.operation.Operation.TheVariants.{Begin, Agree, Meet, Resume, Halt, End, Farm, Seq}
+use Rattle.fk_meaning_operation.specs.declared.operation.Operation.TheVariants.{Begin, Agree, Frame, Block, Meet, Resume, Halt, End, Farm, Seq}
 use Rattle.fk_meaning.specs.Processor.{Setting, values, last}
 use Rattle.fk_meaning.specs.Round.{Acting, lowest, agreed, settled_by}
 use Rattle.fk_meaning.specs.Group.{goes_onward}
@@ -30,21 +30,33 @@ use Rattle.fk_sim_block.specs.Block.{most_behind, IsRunning, gone_to}
 use Rattle.fk_sim_block.specs.Node.{Nestings, StandsInNode, IsAtRest}
 use Rattle.fk_sim_block.specs.Lockstep.{is_due, stepped, highest_value, AreMembers}
 use Rattle.fk_sim_block.specs.Joint.{is_meeting}
-use Rattle.fk_sim_block.specs.Law.{Cycles, GroupLaw, sets_apart}
+use Rattle.fk_sim_block.specs.Law.{Cycles, GroupLaw, stays_in_step, sets_apart}
 use Rattle.fk_sim_match.specs.Nodes.{first_of, HaveSpaces, is_lockstep, plan_of}
-use Rattle.fk_sim_match.specs.Behind.{runs_of, HasEnded, HasGone, HasMet, AllHaveGone, HaveAgreed, HaveParted, HaveEnded, HaveBegun, IsGroupBehind, blocks_of}
+use Rattle.fk_sim_match.specs.Behind.{runs_of, HasEnded, HasGone, HasMet, AllHaveGone, HaveStayed, HaveParted, HaveEnded, HaveBegun, IsGroupBehind, blocks_of}
 use Rattle.fk_sim_rounds.specs.Next.{JumpsLead, landed, all_landed, IsHome, HasNext, HaveNext}
 use Rattle.fk_sim_rounds.specs.Comes.{AllBelow, IsNode, ComesTo, ComeTo}
 use Rattle.fk_sim_rounds.specs.After.{owner_after, AllKeep, is_halt, halts}
 use Rattle.fk_sim_rounds.proofs.Way.{landing_end, ended_next}
 use Rattle.fk_sim_rounds.proofs.Lists.{map_map, SameNumbers, run_numbers, run_end}
 use Rattle.fk_sim_rounds.proofs.Comes.{comes, groups_come_to_commits}
+use Rattle.fk_sim_rounds.proofs.Stays.{stays_put}
+use Rattle.fk_sim_rounds.proofs.Homes.{does_levels}
 
 -- ---- operations that keep the tree
 
 no_halt : (operation : Operation) → is_meeting operation ≡ true → is_halt operation ≡ false
 no_halt Halt meeting = absurd (cc)
 no_halt operation meeting = refl
+
+stays_on : (operation : Operation) → stays_in_step operation ≡ true → is_halt operation ≡ false
+stays_on Halt stays = absurd (cc)
+stays_on operation stays = refl
+
+stays_there : (operation : Operation) → stays_in_step operation ≡ true → stays_put operation ≡ true
+stays_there Agree stays = refl
+stays_there (Frame number words) stays = refl
+stays_there Block stays = refl
+stays_there operation stays = absurd (cc)
 
 parts_change : (operation : Operation) → sets_apart operation ≡ true → changes_tree operation ≡ false → ⊥
 parts_change Farm parts keeps = absurd (cc)
@@ -193,21 +205,29 @@ module _ (core : List CoreOp) (image : Image) (places : Places) (nestings : Nest
   due_on i op operation [] on = tt
   due_on i op operation (p ∷ ps) on = (on, due_on i op operation ps on)
 
-  -- an agree gives all of them one value
-  agree_one : (i : ℕ) (op : CoreOp) (value lowest size : ℕ) (p : Owner) → agreed acting (trees.members old (old.places (number_of p))) ≡ value
-      → settle (is_due core i op Agree p) ≡ stepped core i op Agree value lowest size p
-  agree_one i op value lowest size p e = ap (λ v. stepped core i op Agree v lowest size p) e
+  -- each has done the step, in which an agree gives all of them one value
+  stay_one : (i : ℕ) (op : CoreOp) (operation : Operation) (value lowest size : ℕ) (p : Owner) → stays_in_step operation ≡ true → agreed acting (trees.members old (old.places (number_of p))) ≡ value
+      → settle (is_due core i op operation p) ≡ stepped core i op operation value lowest size p
+  stay_one i op Agree value lowest size p stays e = ap (λ v. stepped core i op Agree v lowest size p) e
+  stay_one i op (Frame number words) value lowest size p stays e = refl
+  stay_one i op Block value lowest size p stays e = refl
+  stay_one i op operation value lowest size p stays e = absurd (cc)
 
-  agree_all : (i : ℕ) (op : CoreOp) (value lowest size g : ℕ) (ms : List Member) (ps : List Owner) → AllAtHome g ms (map (is_due core i op Agree) ps)
-      → agreed acting (trees.members old g) ≡ value → map settle (map (is_due core i op Agree) ps) ≡ map (stepped core i op Agree value lowest size) ps
-  agree_all i op value lowest size g [] [] home e = refl
-  agree_all i op value lowest size g (m ∷ ms) (p ∷ ps) home e =
-      let number : number_of p ≡ m.number = home.0.3.number_is in
-      ap (λ q. q ∷ map settle (map (is_due core i op Agree) ps))
-      (agree_one i op value lowest size p (ap (λ h. agreed acting (trees.members old (old.places h))) number ∙ ap (λ n. agreed acting (trees.members old n)) home.0.0 ∙ e))
-      ∙ ap (λ l. stepped core i op Agree value lowest size p ∷ l) (agree_all i op value lowest size g ms ps home.1 e)
-  agree_all i op value lowest size g [] (p ∷ ps) home e = absurd (assumption home)
-  agree_all i op value lowest size g (m ∷ ms) [] home e = absurd (assumption home)
+  stay_all : (i : ℕ) (op : CoreOp) (operation : Operation) (value lowest size g : ℕ) (ms : List Member) (ps : List Owner) → stays_in_step operation ≡ true
+      → AllAtHome g ms (map (is_due core i op operation) ps) → agreed acting (trees.members old g) ≡ value
+      → map settle (map (is_due core i op operation) ps) ≡ map (stepped core i op operation value lowest size) ps
+  stay_all i op operation value lowest size g [] [] stays home e = refl
+  stay_all i op operation value lowest size g (m ∷ ms) (p ∷ ps) stays home e =
+      let h = number_of p in
+      let same : number_of (settle (is_due core i op operation p)) ≡ number_of p
+      = (does_levels operation (agreed acting (trees.members old (old.places h))) (length (trees.members tree (tree.places h))) p.runner.has (stays_there operation stays)).0 in
+      let number : number_of p ≡ m.number = sym same ∙ home.0.3.number_is in
+      ap (λ q. q ∷ map settle (map (is_due core i op operation) ps))
+      (stay_one i op operation value lowest size p stays
+      (ap (λ h. agreed acting (trees.members old (old.places h))) number ∙ ap (λ n. agreed acting (trees.members old n)) home.0.0 ∙ e))
+      ∙ ap (λ l. stepped core i op operation value lowest size p ∷ l) (stay_all i op operation value lowest size g ms ps stays home.1 e)
+  stay_all i op operation value lowest size g [] (p ∷ ps) stays home e = absurd (assumption home)
+  stay_all i op operation value lowest size g (m ∷ ms) [] stays home e = absurd (assumption home)
 
   value_of : (i : ℕ) (op : CoreOp) (operation : Operation) (ps : List Owner) → last_or 0 (map (λ d. last (values d.acting.runner.has)) (map (is_due core i op operation) ps)) ≡ highest_value ps
   value_of i op operation ps = ap (last_or 0) (map_map (is_due core i op operation) (λ d. last (values d.acting.runner.has)) ps)
@@ -223,18 +243,18 @@ module _ (core : List CoreOp) (image : Image) (places : Places) (nestings : Nest
     abbrev Here : List Member → Memory → Type 0
     Here ms' own' = IsAtRest (first_of spaces g) own' × AreMembers places nestings setting (λ p. None) (first_of spaces g) ms' (map settle ds)
 
-    agreed_members : (ms' : List Member) → HaveAgreed core image places nestings setting (first_of spaces g) ds ms' → AreMembers places nestings setting (λ p. None) (first_of spaces g) ms' (map settle ds)
-    agreed_members ms' x =
-        let home' : AllAtHome g ms (map (is_due core x.i x.op Agree) x.ps) = subst (AllAtHome g ms) x.due home in
+    stayed_members : (ms' : List Member) → HaveStayed core image places nestings setting (first_of spaces g) ds ms' → AreMembers places nestings setting (λ p. None) (first_of spaces g) ms' (map settle ds)
+    stayed_members ms' x =
+        let home' : AllAtHome g ms (map (is_due core x.i x.op x.operation) x.ps) = subst (AllAtHome g ms) x.due home in
         let value : agreed acting (trees.members old g) ≡ highest_value x.ps
-        = agrees ∙ ap (λ l. last_or 0 (map (λ d. last (values d.acting.runner.has)) l)) x.due ∙ value_of x.i x.op Agree x.ps in
-        let same : map settle ds ≡ map (stepped core x.i x.op Agree (highest_value x.ps) 0 0) x.ps
-        = ap (map settle) x.due ∙ agree_all x.i x.op (highest_value x.ps) 0 0 g ms x.ps home' value in
+        = agrees ∙ ap (λ l. last_or 0 (map (λ d. last (values d.acting.runner.has)) l)) x.due ∙ value_of x.i x.op x.operation x.ps in
+        let same : map settle ds ≡ map (stepped core x.i x.op x.operation (highest_value x.ps) 0 0) x.ps
+        = ap (map settle) x.due ∙ stay_all x.i x.op x.operation (highest_value x.ps) 0 0 g ms x.ps x.stays home' value in
         subst (AreMembers places nestings setting (λ p. None) (first_of spaces g) ms') (sym same) x.members
 
     here_by : (ms' : List Member) (own' : Memory) → SameNumbers ms' ms → IsGroupBehind core image places nestings setting (first_of spaces g) ds ms' own' → Here ms' own'
     here_by ms' own' same x =
-        (x.0, ⊎_elim (λ gone. gone_members g ms ms' ds home same gone) (λ agreed. agreed_members ms' agreed) x.1)
+        (x.0, ⊎_elim (λ gone. gone_members g ms ms' ds home same gone) (λ stayed. stayed_members ms' stayed) x.1)
 
     -- no step sets them apart
     nobody_parts : (b : ℕ) (own : Memory)
@@ -250,7 +270,7 @@ module _ (core : List CoreOp) (image : Image) (places : Places) (nestings : Nest
     -- those of which nobody halts
     none_halts : (ms' : List Member) (own' : Memory) → IsGroupBehind core image places nestings setting (first_of spaces g) ds ms' own' → AllOn ds
     none_halts ms' own' x =
-        ⊎_elim (λ gone. gone_on ms' ds gone) (λ agreed. subst AllOn (sym agreed.due) (due_on agreed.i agreed.op Agree agreed.ps refl)) x.1
+        ⊎_elim (λ gone. gone_on ms' ds gone) (λ stayed. subst AllOn (sym stayed.due) (due_on stayed.i stayed.op stayed.operation stayed.ps (stays_on stayed.operation stayed.stays))) x.1
 
     pub group_comes : (own : Memory) → IsNode tree spaces g → plan.words g ≡ plan'.words g → HaveNext core nestings (map settle ds) → blocks.AfterAll t g ms ds own
         → ComeTo core image places nestings setting tree spaces nodes' t g ms (all_landed core (map settle ds)) own

@@ -23,7 +23,7 @@ use Rattle.fk_sim_block.specs.Owner.{Owner, number_of}
 use Rattle.fk_sim_block.specs.Next.{OpAt, step_at}
 use Rattle.fk_sim_block.specs.Ready.{is_alone, IsReady}
 use Rattle.fk_sim_block.specs.Node.{Nestings}
-use Rattle.fk_sim_block.specs.Lockstep.{IsInStart, AreInStart, AreOfSize, NoneIs, IsLowest}
+use Rattle.fk_sim_block.specs.Lockstep.{IsInStart, AreInStart, AreOfSize, IsInGroup, AreInGroup, NoneIs, IsLowest}
 use Rattle.fk_sim_block.specs.Law.{is_shared_step, IsAskedOf, way_by, way_of}
 use Rattle.fk_sim_block.specs.Laws.{AllGo}
 use Rattle.fk_sim_rounds.specs.Next.{landed, all_landed, AllAt, AllAbout, MayInGroup, HaveNext}
@@ -139,6 +139,10 @@ all_sized : (core : List CoreOp) (size : ℕ) (ps : List Owner) → Each (λ p. 
 all_sized core size [] each = tt
 all_sized core size (p ∷ ps) each = (each.0, all_sized core size ps each.1)
 
+all_grouped : (core : List CoreOp) (ps : List Owner) → Each (λ p. IsInGroup (landed core p)) ps → AreInGroup (all_landed core ps)
+all_grouped core [] each = tt
+all_grouped core (p ∷ ps) each = (each.0, all_grouped core ps each.1)
+
 all_started : (core : List CoreOp) (nestings : Nestings) (ps : List Owner) → Each (λ p. IsInStart nestings (landed core p)) ps → AreInStart nestings (all_landed core ps)
 all_started core nestings [] each = tt
 all_started core nestings (p ∷ ps) each = (each.0, all_started core nestings ps each.1)
@@ -243,6 +247,9 @@ module _ (core : List CoreOp) (nestings : Nestings) (processors : ℕ) (s : Stat
   some : length (of_node g nodes ps) ≡ 0 → ⊥
   some = there_are nodes g ps stands (in_step_length core nestings g 0 nodes ps all)
 
+  grouped : AreInGroup (all_landed core (of_node g nodes ps))
+  grouped = all_grouped core group (each_of (λ p. IsInGroup (landed core p)) g nodes ps (λ i p at is. (in_step i p at is).group))
+
   asked : (operation : Operation) → is_shared_step operation ≡ true → (lowest : ℕ) × (size : ℕ) × IsAskedOf operation lowest size (all_landed core (of_node g nodes ps))
   asked o.Agree shared = (0, 0, tt)
   asked o.Farm shared =
@@ -254,6 +261,8 @@ module _ (core : List CoreOp) (nestings : Nestings) (processors : ℕ) (s : Stat
       let long = length_of g nodes ps in
       let same = landed_length core group in
       (l.0, 0, (omega (arith, long, same, many, few), l.1))
+  asked (o.Frame number words) shared = (0, 0, grouped)
+  asked o.Block shared = (0, 0, grouped)
   asked operation shared = absurd (cc)
 
   may : MayInGroup nestings step0.operation (all_landed core (of_node g nodes ps))

@@ -1,5 +1,5 @@
 -- As long as there is no group, nobody is at the words of the one to come.
-use Rattle.std.proofs.Common.{◌≡◌, ℕ, zero, suc, ◌+◌, ◌^◌, ◌<◌, List, length, Option, None, Some, Bool, true, false, cond, ◌&&◌, sym, ap, subst, ◌∙◌, refl, arith, ◌⊎◌, ⊎_elim}
+use Rattle.std.proofs.Common.{◌≡◌, ◌≢◌, ℕ, zero, suc, ◌+◌, ◌^◌, ◌<◌, List, length, Option, None, Some, Bool, true, false, cond, ◌&&◌, sym, ap, subst, ◌∙◌, refl, arith, ◌⊎◌, ⊎_elim}
 use Rattle.std.specs.Prelude.{is_none, is_some}
 use Rattle.std.proofs.lemmas.Bool.{and_parts, false≢true}
 use Rattle.fk_num.specs.Word.{Memory}
@@ -18,6 +18,7 @@ use Rattle.fk_machine.specs.Cycle.{turns, turns_of, setting_of, unprinted, after
 use Rattle.fk_sim_nodes.specs.Source.{AllPass, FaultsAfter}
 use Rattle.fk_sim_nodes.specs.Whole.{planned, IsCut}
 use Rattle.fk_sim_match.specs.Stage.{Stage, counts_for}
+use Rattle.fk_sim_heap.specs.Count.{asked_word}
 use Rattle.fk_sim_block.specs.Owner.{Commons, Owner, Doing, core_source}
 use Rattle.fk_sim_block.specs.Stands.{Places}
 use Rattle.fk_sim_block.specs.Node.{Nestings, IsAtRest, root_words, barrier_word, closing_word}
@@ -64,6 +65,10 @@ not_owned tree spaces first i header none lt zero =
 not_owned tree spaces first i header none lt (suc g) =
     ap (λ b. b && is_from (first_of spaces (suc g)) (own_words spaces (suc g) (trees.kind tree (suc g))) i) (none_is_there (tree.nodes (suc g)) (none (suc g) (λ e. omega (arith, e))))
 
+-- none of them counts the words asked for
+not_asked : (spaces : ℕ → Space) (first i : ℕ) → HaveOneHeader spaces first → i < first + 8 → i ≢ asked_word
+not_asked spaces first i header lt e = let within = header.within in omega arith
+
 -- so nobody comes to them
 still_at_rest : (first : ℕ) (before after : Memory) → ((i : ℕ) → i < first + 8 → after i ≡ before i) → IsAtRest first before → IsAtRest first after
 still_at_rest first before after same rest = record {
@@ -74,7 +79,7 @@ still_at_rest first before after same rest = record {
 -- ---- a possible round is no cut
 
 module _ (core : List CoreOp) (image : Image) (setting : Setting) (spaces : ℕ → Space) (stages : List Stage) (s : State Position) (ps : List Owner) (shared : Commons) (leads : JumpsLead core)
-    (order : AreInOrder 0 s.runners) (beside : IsBeside core s ps shared) (possible : is_possible (next core) setting (counts_for stages) s ≡ true) where
+    (order : AreInOrder 0 s.runners) (beside : IsBeside core setting s ps shared) (possible : is_possible (next core) setting (counts_for stages) s ≡ true) where
   no_fault : (f : Option Fault) (site : Fault) → is_none f ≡ true → f ≡ Some site → ⊥
   no_fault f site none e = false≢true (sym (ap (λ x. is_none x) e) ∙ none)
 
@@ -108,7 +113,7 @@ module _ (core : List CoreOp) (image : Image) (places : Places) (nestings : Nest
       (λ c. absurd (no_cut core image setting spaces stages s f.ps f.shared leads f.order f.beside possible (plan_of s.tree spaces nodes).words printed hs t sh cycle.0 c)) cycle.1 in
       still_at_rest first sh.control control_after
       (λ i lt. unowned_words_stay core image places nestings setting (united (plan_of s.tree spaces nodes)) (first_of spaces) t printed stages hs f.ps (λ g. sh.control) sh f.shared i
-      (own_apart s.tree spaces f.before.spaced) f.shows (λ g j own. refl) f.bound going (not_owned s.tree spaces first i header none lt))
+      (own_apart s.tree spaces f.before.spaced) f.shows (λ g j own. refl) f.bound going (not_owned s.tree spaces first i header none lt) (not_asked spaces first i header lt))
       (ready none)
 
   module _ (f : IsFollowed core image places nestings setting spaces s nodes t printed stages hs sh) where
@@ -117,7 +122,7 @@ module _ (core : List CoreOp) (image : Image) (places : Places) (nestings : Nest
     none_comes going ready none =
         still_at_rest first sh.control control_after
         (λ i lt. unowned_words_stay core image places nestings setting (plan_of s.tree spaces nodes) (first_of spaces) t printed stages hs f.ps (λ g. sh.control) sh f.shared i
-        (own_apart s.tree spaces f.before.spaced) f.shows (λ g j own. refl) f.bound going (not_owned s.tree spaces first i header none lt))
+        (own_apart s.tree spaces f.before.spaced) f.shows (λ g j own. refl) f.bound going (not_owned s.tree spaces first i header none lt) (not_asked spaces first i header lt))
         (ready none)
 
     module _ (cycles : Cycles) (firsts : List ℕ) (main : ℕ) (the_law : GroupLaw core image places nestings cycles firsts main) (few : length hs < 2 ^ 31) (ready : IsReadyForGroup s.tree first sh.control) where

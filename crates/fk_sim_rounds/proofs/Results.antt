@@ -1,19 +1,23 @@
 -- The parts of processors in a cycle are a round of the run beside them.
-use Rattle.std.proofs.Common.{◌≡◌, ℕ, zero, suc, ◌+◌, List, [], ◌∷◌, Option, Some, None, sym, ap, subst, ◌∙◌, refl, arith}
+use Rattle.std.proofs.Common.{◌≡◌, ℕ, zero, suc, ◌+◌, ◌<◌, ◌≤◌, List, [], ◌∷◌, length, Option, Some, None, sym, ap, subst, ◌∙◌, refl, arith}
 use Rattle.std.specs.Prelude.{map}
+use Rattle.std.proofs.lemmas.List.{length-map}
 use Rattle.fk_num.specs.Word.{Memory}
 use Rattle.fk_tree.specs.Tree.{Tree}
+use Rattle.fk_meaning_store.specs.Store.{heap_start}
 use Rattle.fk_meaning.specs.Processor.{Setting}
 use Rattle.fk_meaning.specs.Round.{Runner, Fault, State, Round, cut, Acting, Phases, all_requests, asking, settled, tree_phase, result}
 use Rattle.fk_core.specs.declared.op.CoreOp.{CoreOp}
 use Rattle.fk_core.specs.Next.{Position, next}
 use Rattle.fk_sim_nodes.specs.Source.{AllPass, FaultsAfter}
 use Rattle.fk_sim_match.specs.Stage.{Stage, count_for, distance, counts_for}
+use Rattle.fk_sim_heap.specs.Shows.{ShowsTop, number_full}
+use Rattle.fk_sim_heap.proofs.Rounds.{number_is}
 use Rattle.fk_sim_block.specs.Owner.{Commons, commons_of, Owner, Doing, core_source}
 use Rattle.fk_sim_rounds.proofs.Rounds as rounds
 use Rattle.fk_sim_rounds.specs.Next.{JumpsLead, landed, all_landed}
 use Rattle.fk_sim_rounds.specs.After.{actings, runners_of, tree_after, owner_after, owners_after}
-use Rattle.fk_sim_rounds.specs.Beside.{landed_runner, landed_state, HaveHeaps, AreInOrder, IsBeside}
+use Rattle.fk_sim_rounds.specs.Beside.{landed_runner, landed_state, HaveHeaps, notes_of, AreInOrder, IsBeside}
 use Rattle.fk_sim_rounds.specs.Results.{IsAfter, IsFault, CyclesAreResults, CutsAreFaults}
 use Rattle.fk_sim_rounds.proofs.Landed.{results_land}
 
@@ -39,26 +43,50 @@ module _ (core : List CoreOp) where
 
   -- they are those of the store
   owners_are : (number : ℕ) (heaps : ℕ → Memory) (ps : List Owner) (rs : List (Runner Position)) → AreInOrder number rs → runners_of ps ≡ map (landed_runner core) rs → HaveHeaps number heaps ps
-      → ps ≡ rounds.owners heaps (map (landed_runner core) rs)
+      → ps ≡ rounds.owners heaps (notes_of ps) (map (landed_runner core) rs)
   owners_are number heaps [] [] order same own = refl
   owners_are number heaps (p ∷ ps) (r ∷ rs) order same own =
       let first : p.runner ≡ landed_runner core r = cc in
       let rest : runners_of ps ≡ map (landed_runner core) rs = cc in
-      ap (λ h. let q : Owner = record { runner = p.runner; heap = h } in q ∷ ps) (sym own.0 ∙ ap heaps (sym order.0))
-      ∙ ap (λ x. let q : Owner = record { runner = x; heap = heaps r.has.number } in q ∷ ps) first
-      ∙ ap (λ l. rounds.owner heaps (landed_runner core r) ∷ l) (owners_are (suc number) heaps ps rs order.1 rest own.1)
+      ap (λ w. let q : Owner = record { runner = p.runner; heap = record { words = w; full = p.heap.full } } in q ∷ ps) (sym own.0 ∙ ap heaps (sym order.0))
+      ∙ ap (λ x. let q : Owner = record { runner = x; heap = record { words = heaps r.has.number; full = p.heap.full } } in q ∷ ps) first
+      ∙ ap (λ l. rounds.owner heaps p.heap.full (landed_runner core r) ∷ l) (owners_are (suc number) heaps ps rs order.1 rest own.1)
   owners_are number heaps [] (r ∷ rs) order same own = absurd (cc)
   owners_are number heaps (p ∷ ps) [] order same own = absurd (cc)
 
+  -- the heap begins behind the first word of shared data, and few have noted that it is full
+  begins : (setting : Setting) → 0 < heap_start (setting.globals + setting.inputs)
+  begins setting = omega arith
+
+  few_notes : (ps : List Owner) → length ps ≤ 1024 → 0 + length (notes_of ps) ≤ 1024
+  few_notes ps few = let e = length-map ps (λ p. p.heap.full) in omega arith
+
+  many_notes : (ps : List Owner) (rs : List (Runner Position)) → runners_of ps ≡ rs → length (notes_of ps) ≡ length rs
+  many_notes ps rs e = length-map ps (λ p. p.heap.full) ∙ sym (length-map ps (λ p. p.runner)) ∙ ap (λ l. length l) e
+
+  notes_are : (acting : List (Acting Position)) (old new : Tree) (ds : List Doing) → notes_of (all_landed core (map (owner_after acting old new) ds)) ≡ rounds.notes_in ds
+  notes_are acting old new [] = refl
+  notes_are acting old new (d ∷ ds) = ap (λ l. d.heap.full ∷ l) (notes_are acting old new ds)
+
+  as_many : (setting : Setting) (counts : List ℕ) (ps : List Owner) (s : Commons) (ds : List Doing) (s' : Commons) → AllPass (core_source core setting) counts ps s ds s' → length ds ≡ length ps
+  as_many setting [] [] s [] s' all = refl
+  as_many setting (c ∷ counts) (p ∷ ps) s (d ∷ ds) s' all = ap suc (as_many setting counts ps all.0 ds s' all.2)
+  as_many setting counts ps s ds s' all = absurd (assumption all)
+
+  after_many : (acting : List (Acting Position)) (old new : Tree) (ds : List Doing) → length (all_landed core (map (owner_after acting old new) ds)) ≡ length ds
+  after_many acting old new [] = refl
+  after_many acting old new (d ∷ ds) = ap suc (after_many acting old new ds)
+
   -- each does its part of the round
-  pub all_passed : (setting : Setting) (stages : List Stage) (s : State Position) (ps : List Owner) (did : List Doing) (shared shared' : Commons) → AreInOrder 0 s.runners → IsBeside core s ps shared
-      → AllPass (core_source core setting) (counts_for stages) ps shared did shared' → rounds.Passed core setting 0 (counts_for stages) (map (landed_runner core) s.runners) s.store did shared'
+  pub all_passed : (setting : Setting) (stages : List Stage) (s : State Position) (ps : List Owner) (did : List Doing) (shared shared' : Commons) → AreInOrder 0 s.runners → IsBeside core setting s ps shared
+      → AllPass (core_source core setting) (counts_for stages) ps shared did shared' → rounds.Passed core setting 0 (counts_for stages) (map (landed_runner core) s.runners) s.store 0 did shared'
   all_passed setting stages s ps did shared shared' order beside all =
       let round = counts_for stages in
       let runners = map (landed_runner core) s.runners in
       let are = owners_are 0 s.store.heaps ps s.runners order beside.runners beside.heaps in
-      rounds.passed core setting 0 round runners s.store did shared' (counts_are_units stages) (in_order 0 s.runners order)
-      (subst (λ c. AllPass (core_source core setting) round (rounds.owners s.store.heaps runners) c did shared') (sym beside.commons)
+      rounds.passed core setting 0 round (notes_of ps) runners s.store shared.asked 0 did shared' (counts_are_units stages) (in_order 0 s.runners order)
+      (many_notes ps runners beside.runners) (begins setting) (few_notes ps beside.few) (subst (ShowsTop (heap_start (setting.globals + setting.inputs)) s.store.top shared.asked) (sym (number_is (notes_of ps))) beside.top)
+      (subst (λ c. AllPass (core_source core setting) round (rounds.owners s.store.heaps (notes_of ps) runners) c did shared') (sym beside.commons)
       (subst (λ l. AllPass (core_source core setting) round l shared did shared') are all))
 
   settled_are : (acting : List (Acting Position)) (old new : Tree) (ds : List Doing)
@@ -72,11 +100,11 @@ module _ (core : List CoreOp) where
   heaps_are acting old new number heaps (d ∷ ds) own = (own.1, heaps_are acting old new (suc number) heaps ds own.2)
 
 module _ (core : List CoreOp) (setting : Setting) (s : State Position) (ps : List Owner) (shared : Commons) (leads : JumpsLead core) (order : AreInOrder 0 s.runners)
-    (beside : IsBeside core s ps shared) where
+    (beside : IsBeside core setting s ps shared) where
   abbrev landing : State Position
   landing = landed_state core s
 
-  are : ps ≡ rounds.owners s.store.heaps (map (landed_runner core) s.runners)
+  are : ps ≡ rounds.owners s.store.heaps (notes_of ps) (map (landed_runner core) s.runners)
   are = owners_are core 0 s.store.heaps ps s.runners order beside.runners beside.heaps
 
   -- a round of the landed state is one of the state
@@ -108,7 +136,12 @@ module _ (core : List CoreOp) (setting : Setting) (s : State Position) (ps : Lis
           going = sym (ap (λ u. u.fault) same_state);
           runners = settled_are core acting s.tree new did ∙ ap (λ u. u.runners) same_state;
           heaps = subst (λ st. HaveHeaps 0 st.heaps (all_landed core (owners_after s.tree new did))) store_is (heaps_are core acting s.tree new 0 p.store.heaps did p.own);
-          commons = ap commons_of (sym store_is) ∙ p.commons;
+          commons = ap (commons_of shared'.asked) (sym store_is) ∙ p.commons;
+          few =
+              let long : length (all_landed core (owners_after s.tree new did)) ≡ length ps = after_many core acting s.tree new did ∙ as_many core setting round ps shared did shared' all in
+              subst (λ n. n ≤ 1024) (sym long) beside.few;
+          top = subst (λ t. ShowsTop (heap_start (setting.globals + setting.inputs)) t shared'.asked (number_full (notes_of (all_landed core (owners_after s.tree new did))))) (ap (λ st. st.top) store_is)
+              (subst (ShowsTop (heap_start (setting.globals + setting.inputs)) p.store.top shared'.asked) (number_is (rounds.notes_in did) ∙ ap number_full (sym (notes_are core acting s.tree new did))) p.shows);
         };
       }
 
@@ -116,17 +149,19 @@ module _ (core : List CoreOp) (setting : Setting) (s : State Position) (ps : Lis
       → IsFault core setting stages s place site shared'
   is_fault stages place site shared' all =
       let round = counts_for stages in
-      let here = subst (λ c. FaultsAfter (core_source core setting) place site round (rounds.owners s.store.heaps landing.runners) c shared') (sym beside.commons)
+      let here = subst (λ c. FaultsAfter (core_source core setting) place site round (rounds.owners s.store.heaps (notes_of ps) landing.runners) c shared') (sym beside.commons)
       (subst (λ l. FaultsAfter (core_source core setting) place site round l shared shared') are all) in
       let units = counts_are_units stages in
       let numbered = in_order core 0 s.runners order in
-      let whole = rounds.faulted core setting 0 place site round landing.runners s.store shared' units numbered here in
-      let part = rounds.faulted core setting 0 place site (cut (suc place) round) landing.runners s.store shared' (rounds.cut_units (suc place) round units) numbered
-      (rounds.cut_faults core setting place site round (rounds.owners s.store.heaps landing.runners) (commons_of s.store) shared' here) in
+      let few = few_notes core ps beside.few in
+      let shows = subst (ShowsTop (heap_start (setting.globals + setting.inputs)) s.store.top shared.asked) (sym (number_is (notes_of ps))) beside.top in
+      let whole = rounds.faulted core setting 0 place site round (notes_of ps) landing.runners s.store shared.asked 0 shared' units numbered (begins core setting) few shows here in
+      let part = rounds.faulted core setting 0 place site (cut (suc place) round) (notes_of ps) landing.runners s.store shared.asked 0 shared' (rounds.cut_units (suc place) round units) numbered (begins core setting) few shows
+      (rounds.cut_faults core setting place site round (rounds.owners s.store.heaps (notes_of ps) landing.runners) (commons_of shared.asked s.store) shared' here) in
       record {
         whole = faults round whole.fault;
         stopped = faults (cut (suc place) round) part.fault;
-        commons = ap commons_of (sym (ap (λ u. u.store) (same (cut (suc place) round)))) ∙ store_of (requests_of (cut (suc place) round)) ∙ part.commons;
+        commons = ap (commons_of shared'.asked) (sym (ap (λ u. u.store) (same (cut (suc place) round)))) ∙ store_of (requests_of (cut (suc place) round)) ∙ part.commons;
       }
     where
       phase_fault : (r : Phases Position) (f : Fault) → r.fault ≡ Some f → (phase_of r).fault ≡ Some f
@@ -136,8 +171,8 @@ module _ (core : List CoreOp) (setting : Setting) (s : State Position) (ps : Lis
       phase_store r None = refl
       phase_store r (Some f) = refl
 
-      store_of : (r : Phases Position) → commons_of (phase_of r).store ≡ commons_of r.store
-      store_of r = ap commons_of (phase_store r r.fault)
+      store_of : (r : Phases Position) → commons_of shared'.asked (phase_of r).store ≡ commons_of shared'.asked r.store
+      store_of r = ap (commons_of shared'.asked) (phase_store r r.fault)
 
       faults : (round : Round) → (requests_of round).fault ≡ Some (record { site = site; processor = 0 + place })
           → (result (next core) setting round s).fault ≡ Some (record { site = site; processor = place })

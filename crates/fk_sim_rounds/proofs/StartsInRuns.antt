@@ -16,12 +16,11 @@ use Rattle.fk_machine.specs.Cycle.{turns, unprinted}
 use Rattle.fk_sim_nodes.specs.Node.{Member, numbered, of_node, AreAsMany}
 use Rattle.fk_sim_nodes.specs.Source.{AllPass, Passes, Shows}
 use Rattle.fk_sim_nodes.specs.Alone.{later}
-use Rattle.fk_sim_nodes.specs.Whole.{first_of}
 use Rattle.fk_sim_match.specs.Stage.{Stage, Ended, Acts, Meets, IsOver, Pairwise, Remains, count_of_stage, counts_for, kept}
 use Rattle.fk_sim_match.specs.Plan.{Plan, Blocks, AllAct, InLockstep, IsBound}
 use Rattle.fk_sim_match.specs.Cycle.{AllHaveCommitted}
 use Rattle.fk_sim_match.proofs.Left.{first_alike, second_alike, both_alike}
-use Rattle.fk_sim_block.specs.Owner.{Commons, Owner, Doing, number_of, as_part, phases, part, core_source}
+use Rattle.fk_sim_block.specs.Owner.{Commons, Owner, Doing, phases, part, core_source}
 use Rattle.fk_sim_block.specs.Stands.{Places}
 use Rattle.fk_sim_block.specs.Next.{OpAt, step_at}
 use Rattle.fk_sim_block.specs.Node.{Nestings}
@@ -53,7 +52,7 @@ use Rattle.fk_sim_rounds.proofs.Follow.{cut_follows, many_runners, in_order_back
 
 -- who takes the beginning of the group takes it for the tree
 takes_begin : (core : List CoreOp) (setting : Setting) (i : ℕ) (op : CoreOp) (s : Commons) (p : Owner)
-    → as_part (number_of p) (phases core setting s p.heap (taking p.runner (Some (step_at core i op Begin p.runner.left.callers)))) ≡ Passes s (is_due core i op Begin p)
+    → phases core setting s p (taking p.runner (Some (step_at core i op Begin p.runner.left.callers))) ≡ Passes s (is_due core i op Begin p)
 takes_begin core setting i op s p = refl
 
 module _ (core : List CoreOp) (image : Image) (setting : Setting) (plan : Plan) (blocks : Blocks Owner Doing) (i : ℕ) (op : CoreOp) (stands : OpAt core i op Begin) where
@@ -73,7 +72,7 @@ module _ (core : List CoreOp) (image : Image) (setting : Setting) (plan : Plan) 
       let next_is = is_next core image setting plan blocks i op stands p about.0 in
       let one : part core setting 1 s p ≡ Passes pass.0 d = subst (λ y. part core setting (count_of_stage y) s p ≡ Passes pass.0 d) all.0 pass.1 in
       let took : part core setting 1 s p ≡ Passes s (is_due core i op Begin p)
-      = ap (λ n. as_part (number_of p) (phases core setting s p.heap (taking p.runner n))) next_is ∙ takes_begin core setting i op s p in
+      = ap (λ n. phases core setting s p (taking p.runner n)) next_is ∙ takes_begin core setting i op s p in
       let does : d ≡ is_due core i op Begin p = let e = sym one ∙ took in cc in
       ap (λ y. y ∷ ds) does ∙ ap (λ l. is_due core i op Begin p ∷ l) (begun stages ms ps pass.0 s' ds all.1 about.2 pass.2)
   begun stages ms ps s s' ds all about pass = absurd (assumption (all, pass))
@@ -186,7 +185,7 @@ cycles_follow_starts core image places nestings cycles firsts main setting space
                 let back : s.tree ≡ next_state.tree = sym (e ∙ stays) in
                 let owners : all_landed core (owners_after s.tree new whole.did) ≡ f.ps
                 = ap (λ l. all_landed core (map (owner_after (actings whole.did) s.tree new) l)) x.idle ∙ ap (all_landed core) (idle_stay (actings whole.did) s.tree new f.ps) ∙ still_landed core f.ps f.landed in
-                let beside : IsBeside core next_state f.ps whole.store = subst (λ l. IsBeside core next_state l whole.store) owners after.beside in
+                let beside : IsBeside core setting next_state f.ps whole.store = subst (λ l. IsBeside core setting next_state l whole.store) owners after.beside in
                 let before : IsBeforeStart image setting s.tree spaces nodes (later t) done.harts f.ps
                 = record {
                   running = runs_later image setting 1 t f.before.running;

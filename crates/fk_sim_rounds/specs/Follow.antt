@@ -43,7 +43,7 @@ module _ (core : List CoreOp) (image : Image) (places : Places) (nestings : Nest
     pub shared : Commons
     pub before : IsBefore core image setting s.tree spaces nodes t stages hs ps
     pub order : AreInOrder 0 s.runners
-    pub beside : IsBeside core s ps shared
+    pub beside : IsBeside core setting s ps shared
     pub homes : AllHome s.tree spaces 0 ps
     pub shows : Shows (core_source core setting) printed sh shared
     pub bound : IsBound (core_source core setting) image (plan_of s.tree spaces nodes)

@@ -14,7 +14,7 @@ use Rattle.fk_sim_block.specs.Owner.{Owner, number_of}
 use Rattle.fk_sim_block.specs.Next.{OpAt}
 use Rattle.fk_sim_block.specs.Ready.{is_alone, IsReady}
 use Rattle.fk_sim_block.specs.Node.{Nestings}
-use Rattle.fk_sim_block.specs.Lockstep.{IsInStart}
+use Rattle.fk_sim_block.specs.Lockstep.{IsInStart, IsInGroup}
 use Rattle.fk_sim_block.specs.Law.{is_shared_step}
 use Rattle.fk_sim_rounds.specs.Next.{landed, HaveNext}
 use Rattle.fk_sim_rounds.specs.After.{ArePlaces, runners_of}
@@ -33,6 +33,7 @@ pub record IsInStep (core : List CoreOp) (nestings : Nestings) (number : ℕ)
   pub stands : OpAt core p.runner.left.at op operation
   pub ready : IsReady op operation p.runner
   pub may : MayInStep nestings operation p
+  pub group : IsInGroup p
 
 -- Each processor of node g, from a number on, is about to do an operation that it may do, once
 -- jumps have led it there.

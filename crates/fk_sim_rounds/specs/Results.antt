@@ -19,7 +19,7 @@ module _ (core : List CoreOp) (setting : Setting) (stages : List Stage) (s : Sta
   -- The state after the round has the tree after its steps, and matches its processors.
   pub record IsAfter (did : List Doing) (shared : Commons) : Type 0 where
     pub tree : after.tree ≡ tree_after s.tree did
-    pub beside : IsBeside core after
+    pub beside : IsBeside core setting after
         (all_landed core (owners_after s.tree (tree_after s.tree did) did)) shared
 
   -- What the round makes of the processors that match the state: they do their parts one after
@@ -29,7 +29,7 @@ module _ (core : List CoreOp) (setting : Setting) (stages : List Stage) (s : Sta
     pub shared : Commons
     pub store : Commons
     pub order : AreInOrder 0 s.runners
-    pub beside : IsBeside core s ps shared
+    pub beside : IsBeside core setting s ps shared
     pub passes : AllPass (core_source core setting) (counts_for stages) ps shared did store
     pub stay : Pairwise Remains stages afters
 
@@ -39,14 +39,14 @@ module _ (core : List CoreOp) (setting : Setting) (stages : List Stage) (s : Sta
     pub whole : after.fault ≡ Some (record { site = site; processor = place })
     pub stopped : (result (next core) setting (cut (suc place) (counts_for stages)) s).fault
         ≡ Some (record { site = site; processor = place })
-    pub commons : commons_of
+    pub commons : commons_of shared.asked
         (result (next core) setting (cut (suc place) (counts_for stages)) s).store ≡ shared
 
 abbrev pub CyclesAreResults : Type 0
 CyclesAreResults =
     (core : List CoreOp) (setting : Setting) (stages : List Stage) (s : State Position)
     (ps : List Owner) (did : List Doing) (shared shared' : Commons)
-    → JumpsLead core → AreInOrder 0 s.runners → IsBeside core s ps shared
+    → JumpsLead core → AreInOrder 0 s.runners → IsBeside core setting s ps shared
     → AllPass (core_source core setting) (counts_for stages) ps shared did shared'
     → IsAfter core setting stages s did shared'
 
@@ -54,6 +54,6 @@ abbrev pub CutsAreFaults : Type 0
 CutsAreFaults =
     (core : List CoreOp) (setting : Setting) (stages : List Stage) (s : State Position)
     (ps : List Owner) (place site : ℕ) (shared shared' : Commons)
-    → JumpsLead core → AreInOrder 0 s.runners → IsBeside core s ps shared
+    → JumpsLead core → AreInOrder 0 s.runners → IsBeside core setting s ps shared
     → FaultsAfter (core_source core setting) place site (counts_for stages) ps shared shared'
     → IsFault core setting stages s place site shared'

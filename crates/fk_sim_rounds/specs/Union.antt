@@ -54,7 +54,7 @@ pub record IsUnited (core : List CoreOp) (image : Image) (places : Places)
   pub stands : OpAt core i op Begin
   pub about : AllAbout i op Begin ps
   pub order : AreInOrder 0 s.runners
-  pub beside : IsBeside core s ps shared
+  pub beside : IsBeside core setting s ps shared
   pub near : AreNearBegin stages
   pub roots : AreInRoot nestings setting ps
   pub homes : AllHome s.tree spaces 0 ps
