@@ -64,10 +64,11 @@ module _ (core : List CoreOp) (nestings : Nestings) (main : ℕ) (setting : Sett
         op = leads.op;
         operation = leads.operation;
         stands = leads.at;
+        group = record { around = first_level setting p.runner.has.number; further = []; outer = levels.0 };
         ready = ready core nestings main setting s list is h p.runner p.heap at leads;
         may =
             ⊎_elim
-            (λ plain. inl (list.alone (landing core p.runner.left.at) leads.op leads.operation leads.at plain))
+            (λ plain. inl plain)
             (λ step.
             ⊎_elim (λ shared. inr (inl shared))
             (λ ends. inr (inr (

@@ -135,7 +135,7 @@ module _ (core : List CoreOp) (leads : JumpsLead core) (setting : Setting) (s : 
 -- ---- the processors of a machine
 
 -- they are those who stand before the steps of the tree
-pub steppers : (core : List CoreOp) (setting : Setting) (stages : List Stage) (s : State Position) (ps : List Owner) (did : List Doing) (shared shared' : Commons) → AreInOrder 0 s.runners → IsBeside core s ps shared
+pub steppers : (core : List CoreOp) (setting : Setting) (stages : List Stage) (s : State Position) (ps : List Owner) (did : List Doing) (shared shared' : Commons) → AreInOrder 0 s.runners → IsBeside core setting s ps shared
     → AllPass (core_source core setting) (counts_for stages) ps shared did shared' → stepping (next core) setting (counts_for stages) (landed_state core s) ≡ actings did
 steppers core setting stages s ps did shared shared' order beside all =
     let p = all_passed core setting stages s ps did shared shared' order beside all in

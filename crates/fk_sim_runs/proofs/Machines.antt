@@ -61,9 +61,10 @@ module _ (runs_reach : RunsReach) (core : List CoreOp) (main : ℕ) (firsts : Li
       let at : slice_get first.runners number ≡ Some r
       = beginner_at setting (slice_index firsts) (position main []) 0 p number lt ∙ ap (λ k. Some (first_runner setting (slice_index firsts) (position main []) k)) none in
       let within = carries.one_group.begins in
-      reached_processors_have_next core nestings main setting first number r (λ i. 0) carries.one_group (reached [] tt tt refl) at
+      let heap = (beginner setting (slice_index firsts) main number).heap in
+      reached_processors_have_next core nestings main setting first number r heap carries.one_group (reached [] tt tt refl) at
       (λ e. let same : main ≡ length core = ap (λ w. w.at) e in omega (arith, within, same))
 
   pub opens : OpensWith core image places nestings (spaces_of setting) firsts main input p
   opens =
-      openings_are_followed core image places nestings cycles firsts main (spaces_of setting) input p carries.blocks carries.one_group.jumps some few is_input.few begins_at
+      openings_are_followed core image places nestings cycles firsts main (spaces_of setting) input p carries.blocks carries.one_group.jumps some few is_input.few is_input.room begins_at

@@ -2,7 +2,6 @@
 use Rattle.std.proofs.Common.{◌≡◌, ◌≢◌, ◌⊎◌, inl, inr, ⊎_elim, ℕ, zero, suc, ◌<◌, Bool, true, false, List, [], ◌∷◌, Option, Some, refl, sym, ap, ◌∙◌, subst, arith}
 use Rattle.std.specs.Prelude.{slice_get}
 use Rattle.std.proofs.lemmas.Bool.{false≢true}
-use Rattle.fk_num.specs.Word.{Memory}
 use Rattle.fk_meaning_operation.specs.Kinds.{class_of, joint_of}
 use Rattle.fk_meaning_operation.specs.declared.operation.Operation.{Operation}
 use Rattle.fk_meaning_operation.specs.declared.operation.Operation.TheVariants as o
@@ -19,7 +18,7 @@ use Rattle.fk_lockstep.proofs.Round.{at_below}
 use Rattle.fk_lockstep_one_group.specs.Where.{Where, InRoot, Waits, InGroup, InBody, BehindBody, goes, Goes}
 use Rattle.fk_lockstep_one_group.specs.Placed.{where_at, HasLevels, IsPlaced}
 use Rattle.fk_lockstep_one_group.proofs.Moves.{goes_on}
-use Rattle.fk_sim_block.specs.Owner.{Owner}
+use Rattle.fk_sim_block.specs.Owner.{Heaps, Owner}
 use Rattle.fk_sim_block.specs.Next.{step_at}
 use Rattle.fk_sim_block.specs.Ready.{is_no_step, MayDo, IsReady}
 use Rattle.fk_sim_block.specs.Node.{Nestings}
@@ -99,7 +98,7 @@ module _ (core : List CoreOp) (nestings : Nestings) (main : ℕ) (setting : Sett
   pub leads_to : (h : ℕ) (r : Runner Position) → slice_get s.runners h ≡ Some r → r.left ≢ the_end core → Leading core r.left
   leads_to h r at going = ⊎_elim (λ w. leading core list.well_formed.leads_on r.left w.at) (λ e. absurd (going e)) (is.within h r at)
 
-  module _ (h : ℕ) (r : Runner Position) (heap : Memory) (at : slice_get s.runners h ≡ Some r) (leads : Leading core r.left) where
+  module _ (h : ℕ) (r : Runner Position) (heap : Heaps) (at : slice_get s.runners h ≡ Some r) (leads : Leading core r.left) where
     abbrev p : Owner
     p = record { runner = r; heap = heap }
 
@@ -191,8 +190,7 @@ module _ (core : List CoreOp) (nestings : Nestings) (main : ℕ) (setting : Sett
 
     pub next_is : Next
     next_is =
-        ⊎_elim (λ plain. by_itself (inl (list.alone (landing core r.left.at) leads.op operation leads.at plain)))
-        (λ step. by_place placed.place placed.there placed.levels step) does
+        ⊎_elim (λ plain. by_itself (inl plain)) (λ step. by_place placed.place placed.there placed.levels step) does
 
 pub reached_processors_have_next : ReachedProcessorsHaveNext
 reached_processors_have_next core nestings main setting s h r heap list is at going =

@@ -11,6 +11,7 @@ use Rattle.fk_tree.specs.Sound.{is_ascending}
 use Rattle.fk_tree.proofs.Lists.{length-below, below-has}
 use Rattle.fk_tree.proofs.Shapes.{with_other}
 use Rattle.fk_tree.proofs.RootSound.{root_sound}
+use Rattle.fk_meaning_store.specs.Store.{heap_start}
 use Rattle.fk_meaning.specs.Processor.{Setting, setting_of}
 use Rattle.fk_meaning.specs.Round.{Runner, State}
 use Rattle.fk_meaning.specs.Schedule.{beginners}
@@ -27,6 +28,8 @@ use Rattle.fk_sim_nodes.proofs.Between.{words_open_at_zero}
 use Rattle.fk_sim_match.specs.Stage.{Stage, Ended, Acts, Meets, absent, kept, phase_of}
 use Rattle.fk_sim_match.specs.Plan.{Plan, Blocks, IsOpen, phases, phases_from, StandsAt, AllStandAt, Binds}
 use Rattle.fk_sim_match.specs.Change.{IsFresh}
+use Rattle.fk_sim_heap.specs.Shows.{ShowsTop, number_full}
+use Rattle.fk_sim_heap.proofs.Requests.{heaps_begin_uncounted}
 use Rattle.fk_sim_block.specs.Owner.{Owner, Doing, commons_of, core_source}
 use Rattle.fk_sim_block.specs.Stands.{Places}
 use Rattle.fk_sim_block.specs.Block.{IsRunning, beginner}
@@ -41,11 +44,12 @@ use Rattle.fk_sim_rounds.specs.Comes.{IsNode, ComesTo}
 use Rattle.fk_sim_rounds.specs.After.{runners_of, ArePlaces, AllLanded}
 use Rattle.fk_sim_rounds.proofs.Comes.{members_come_to_stages}
 use Rattle.fk_sim_rounds.proofs.Counts.{Fine, AllFine, phases_count, count_is}
-use Rattle.fk_sim_rounds.specs.Beside.{landed_runner, HaveHeaps, AreInOrder}
+use Rattle.fk_sim_rounds.specs.Beside.{landed_runner, HaveHeaps, notes_of, AreInOrder}
 use Rattle.fk_sim_rounds.specs.Homes.{AllHome}
 use Rattle.fk_sim_rounds.specs.Follow.{IsFollowed}
 use Rattle.fk_sim_rounds.proofs.Landed.{landing_twice}
 use Rattle.fk_sim_rounds.proofs.Ended.{harts_end_with_processors}
+use Rattle.fk_sim_runs.specs.Facts.{HasSpace}
 use Rattle.fk_sim_runs.specs.Opening.{AreSoon, OpensWith, OpeningsAreFollowed}
 
 -- ---- lists of one element
@@ -89,7 +93,7 @@ fresh_idle u w member (Meets e v Waiting) fresh = absurd fresh
 fresh_idle u w member (Meets e v (Leaving d)) fresh = absurd fresh
 
 module _ (core : List CoreOp) (image : Image) (places : Places) (nestings : Nestings) (cycles : Cycles) (firsts : List ℕ) (main : ℕ) (spaces : ℕ → Space) (input : List ℕ) (p : ℕ)
-    (the_law : GroupLaw core image places nestings cycles firsts main) (leads : JumpsLead core) (some : 1 ≤ p) (few : p ≤ 1024) (few_inputs : length input ≤ 65536)
+    (the_law : GroupLaw core image places nestings cycles firsts main) (leads : JumpsLead core) (some : 1 ≤ p) (few : p ≤ 1024) (few_inputs : length input ≤ 65536) (room : HasSpace (setting_of p image.globals.items input))
     (has_next : (number : ℕ) → number < p → HasNext core nestings (setting_of p image.globals.items input) (root p) number (landed core (beginner (setting_of p image.globals.items input) (slice_index firsts) main number))) where
   abbrev setting : Setting
   setting = setting_of p image.globals.items input
@@ -252,6 +256,24 @@ module _ (core : List CoreOp) (image : Image) (places : Places) (nestings : Nest
   heaps_are number zero = tt
   heaps_are number (suc n) = (refl, heaps_are (suc number) n)
 
+  openers_many : (number count : ℕ) → length (openers number count) ≡ count
+  openers_many number zero = refl
+  openers_many number (suc n) = ap suc (openers_many (suc number) n)
+
+  -- nobody has noted that the heap is full
+  none_noted : (number count : ℕ) → number_full (notes_of (openers number count)) ≡ 0
+  none_noted number zero = refl
+  none_noted number (suc n) = none_noted (suc number) n
+
+  few_openers : length (openers 0 p) ≤ 1024
+  few_openers = let many = openers_many 0 p in omega (arith, many, few)
+
+  abbrev start : ℕ
+  start = heap_start (setting.globals + setting.inputs)
+
+  top : ShowsTop start first.store.top 0 (number_full (notes_of (openers 0 p)))
+  top = subst (ShowsTop start first.store.top 0) (sym (none_noted 0 p)) (heaps_begin_uncounted start (omega (arith, room)))
+
   all_home : (number count : ℕ) → AllHome (root p) spaces number (openers number count)
   all_home number zero = tt
   all_home number (suc n) = (refl, (refl, size_is), all_home (suc number) n)
@@ -299,7 +321,7 @@ module _ (core : List CoreOp) (image : Image) (places : Places) (nestings : Nest
     followed : IsFollowed core image places nestings setting spaces first (replicate p 0) t [] all.stages (harts p) (machine.unprinted (machine.machine_opening image input p).shared)
     followed = record {
       ps = openers 0 p;
-      shared = commons_of first.store;
+      shared = commons_of 0 first.store;
       before = record {
         running = running;
         sound = root_sound p some;
@@ -311,9 +333,9 @@ module _ (core : List CoreOp) (image : Image) (places : Places) (nestings : Nest
         due = all.due;
       };
       order = in_order 0 p;
-      beside = record { going = refl; runners = runners_are 0 p; heaps = heaps_are 0 p; commons = refl };
+      beside = record { going = refl; runners = runners_are 0 p; heaps = heaps_are 0 p; commons = refl; few = few_openers; top = top };
       homes = all_home 0 p;
-      shows = record { words = refl; output = refl; common = λ i e. absurd (false≢true e) };
+      shows = record { words = refl; output = refl; common = λ i e. refl };
       bound = record {
         as_many = all.many;
         stages_as_many = all.many_stages;
@@ -347,5 +369,5 @@ module _ (core : List CoreOp) (image : Image) (places : Places) (nestings : Nest
       }
 
 pub openings_are_followed : OpeningsAreFollowed
-openings_are_followed core image places nestings cycles firsts main spaces input p the_law leads some few few_inputs has_next =
-    opens_with core image places nestings cycles firsts main spaces input p the_law leads some few few_inputs has_next
+openings_are_followed core image places nestings cycles firsts main spaces input p the_law leads some few few_inputs room has_next =
+    opens_with core image places nestings cycles firsts main spaces input p the_law leads some few few_inputs room has_next

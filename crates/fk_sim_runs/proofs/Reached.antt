@@ -12,6 +12,7 @@ use Rattle.fk_lockstep.proofs.Rounds.{settled_at}
 use Rattle.fk_core.specs.declared.op.CoreOp.{CoreOp}
 use Rattle.fk_core.specs.Next.{Position, position, landing, next, list_opening}
 use Rattle.fk_lockstep.proofs.Round.{first_is, at_below, settled_length}
+use Rattle.fk_lockstep_frames.proofs.Lists.{lists_tell_frames}
 use Rattle.fk_lockstep_one_group.specs.Rounds.{IsSingle, stepping}
 use Rattle.fk_lockstep_one_group.specs.Runs.{AreSingle}
 use Rattle.fk_lockstep_one_group.proofs.Acts.{Acts, acts, stepping_length, result_is}
@@ -23,7 +24,9 @@ use Rattle.fk_sim_rounds.specs.InRange.{ListsStayInRange}
 use Rattle.fk_sim_rounds.proofs.Way.{ended_next}
 use Rattle.fk_sim_block.specs.Node.{Nestings}
 use Rattle.fk_sim_runs.specs.Lists.{IsOfOneGroup}
+use Rattle.fk_sim_runs.specs.Facts.{HasSpace, ReachedStatesHaveNests}
 use Rattle.fk_sim_runs.specs.Reached.{the_end, RunsReach}
+use Rattle.fk_sim_runs.proofs.Trees.{is_space}
 use Rattle.fk_sim_runs.proofs.Ways.{leading, goes_within}
 
 abbrev IsThere : List CoreOp → Position → Type 0
@@ -70,7 +73,8 @@ module _ (core : List CoreOp) (set : Setting) (round : Round) (s : State Positio
       = first_is r (settled_by actors s.tree new a.acting.runner a.acting.due) (sym at ∙ settled_at actors s.tree new actors h a.acting a.at) in
       subst (λ (x : Runner Position). IsThere core x.left) (sym same) (settled_there h a))
 
-module _ (core : List CoreOp) (nestings : Nestings) (main : ℕ) (list : IsOfOneGroup core nestings main) (words firsts input : List ℕ) (p : ℕ) where
+module _ (core : List CoreOp) (nestings : Nestings) (main : ℕ) (list : IsOfOneGroup core nestings main) (words firsts input : List ℕ) (p : ℕ)
+    (room : HasSpace (setting_of p words input)) where
   abbrev set : Setting
   set = setting_of p words input
 
@@ -83,14 +87,14 @@ module _ (core : List CoreOp) (nestings : Nestings) (main : ℕ) (list : IsOfOne
       inl (subst (StaysInList core) (sym b.left) (record { at = list.begins; callers = All-nil (λ i. i < length core) }))
 
   -- behind its operation
-  goes_there : (schedule : Schedule) → ArePossible (next core) set schedule first → (run (next core) set schedule first).fault ≡ None → (h : ℕ) (r : Runner Position)
+  goes_there : (schedule : Schedule) (h : ℕ) (r : Runner Position)
       → slice_get (run (next core) set schedule first).runners h ≡ Some r → IsThere core r.left → (step : Step Position) → next core r.left ≡ Some step → (onward : Bool) → IsThere core (step.rest onward)
-  goes_there schedule possible none h r at there step e onward =
+  goes_there schedule h r at there step e onward =
       ⊎_elim
       (λ w.
       let l = leading core list.well_formed.leads_on r.left w.at in
       let same : step ≡ step_at core (landing core r.left.at) l.op l.operation r.left.callers = first_is _ _ (sym e ∙ l.is_next) in
-      let may = list.may words firsts input p schedule possible none h r l.op l.operation at l.at.stands l.at.is_read in
+      let may = list.may words firsts input p schedule (is_space set room) h r l.op l.operation at l.at.stands l.at.is_read in
       subst (λ (x : Step Position). IsThere core (x.rest onward)) (sym same)
       (goes_within core nestings main list (landing core r.left.at) l.op l.operation r onward l.at may w.callers))
       (λ ended. let clash : None ≡ Some step = sym (ended_next core []) ∙ ap (next core) (sym ended) ∙ e in absurd (cc)) there
@@ -99,8 +103,12 @@ module _ (core : List CoreOp) (nestings : Nestings) (main : ℕ) (list : IsOfOne
   all_there schedule possible single none =
       round_by_round (next core) set first (AreThere core)
       (λ xs round before running' one next_possible there.
-      round_there core set round (run (next core) set xs first) one next_possible (λ h r at here step e onward. goes_there xs before running' h r at here step e onward) there)
+      round_there core set round (run (next core) set xs first) one next_possible (goes_there xs) there)
       [] schedule (are_all (next core) set schedule first possible none) single begin_there
+
+pub reached_states_have_nests : ReachedStatesHaveNests
+reached_states_have_nests core main frames words firsts input p schedule room h r at =
+    lists_tell_frames core main frames words firsts input p schedule (is_space (setting_of p words input) room) h r at
 
 pub runs_reach : ListsStayInRange → RunsReach
 runs_reach stay core nestings main list words firsts input p schedule some given possible single none =
@@ -110,8 +118,8 @@ runs_reach stay core nestings main list words firsts input p schedule some given
       one_program = known.1;
       one_group = known.2;
       beginners = known.3;
-      within = all_there core nestings main list words firsts input p schedule possible single none;
+      within = all_there core nestings main list words firsts input p given.room schedule possible single none;
       depth = λ h r op at stands. list.well_formed.depths words firsts input p schedule possible none h r op at stands;
-      may = λ h r op operation at stands is_read. list.may words firsts input p schedule possible none h r op operation at stands is_read;
+      may = λ h r op operation at stands is_read. list.may words firsts input p schedule (is_space (setting_of p words input) given.room) h r op operation at stands is_read;
       in_range = λ h r at. stay core main words firsts input p schedule given h r at;
     }

@@ -151,7 +151,7 @@ reached_stages_go_on core nestings main setting s stages afters did spaces list 
 -- ---- where all begin
 
 pub united_had_next : UnitedHadNext
-united_had_next core s ps shared i op afters leads beside stands about as_many = by s.runners ps afters beside.runners about as_many
+united_had_next core setting s ps shared i op afters leads beside stands about as_many = by s.runners ps afters beside.runners about as_many
   where
     by : (rs : List (Runner Position)) (qs : List Owner) (as' : List (Option Stage)) → runners_of qs ≡ map (landed_runner core) rs → AllAbout i op o.Begin qs → length as' ≡ length rs → HadNext core as' rs
     by [] qs [] same all long = tt

@@ -66,7 +66,7 @@ module _ (core : List CoreOp) (image : Image) (places : Places) (nestings : Nest
   abbrev sight : (s : State Position) (printed : List ℕ) (m : Machine) → Stands s printed m → Sight
   sight s printed m x = sight_in x.uniting s.tree spaces x.nodes x.stages m.shared.control m.begun
 
-  going_with : (s : State Position) (printed : List ℕ) (m : Machine) (ps : List Owner) (shared : Commons) → IsBeside core s ps shared → Shows (core_source core setting) printed (unprinted m.shared) shared
+  going_with : (s : State Position) (printed : List ℕ) (m : Machine) (ps : List Owner) (shared : Commons) → IsBeside core setting s ps shared → Shows (core_source core setting) printed (unprinted m.shared) shared
       → m.stand ≡ cond (all_done (next core) setting s.runners) Finished Running → IsGoing core setting s printed m
   going_with s printed m ps shared beside shows stand =
       let commons = beside.commons in
@@ -108,7 +108,7 @@ module _ (core : List CoreOp) (image : Image) (places : Places) (nestings : Nest
       → FollowsFault core image places nestings setting spaces s nodes (machines.setting_of m) printed stages m.harts (unprinted m.shared) → IsBroken core setting image s printed m
   breaks s nodes printed stages m running c =
       let step : after_turns m (turns_of m) ≡ cycle m = ap (λ b. cond b (after_turns m (turns_of m)) m) (sym running) in
-      let commons = ap (λ r. commons_of (result (next core) setting r s).store) c.counts ∙ c.fault.commons in
+      let commons = ap (λ r. commons_of c.shared.asked (result (next core) setting r s).store) c.counts ∙ c.fault.commons in
       record {
         stopped = subst (λ r. IsStopped (next core) setting r s) (sym c.counts) c.stopped;
         over = record {

@@ -12,7 +12,7 @@ use Rattle.fk_sim_match.specs.Laws.{HasOneGroup}
 use Rattle.fk_sim_match.proofs.Nodes.{one_group_has_space}
 use Rattle.fk_sim_runs.specs.Facts.{spaces_of, HasSpace, ReachedTreesHaveSpaces}
 
-is_space : (setting : Setting) → HasSpace setting → IsSpace (group_space setting)
+pub is_space : (setting : Setting) → HasSpace setting → IsSpace (group_space setting)
 is_space setting small = record {
   header = omega arith;
   ordered = omega (arith, small);

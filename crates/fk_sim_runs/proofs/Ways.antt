@@ -39,7 +39,7 @@ stays_plain class.Request place to e = refl
 stays_plain class.Tree place to e = absurd (cc)
 
 pub step_of_place : (place : Where) (op : Operation) (onward : Bool) (to : Where) → goes place op onward ≡ Some to → (is_no_step (class_of op) ≡ true) ⊎ StepOf place op
-step_of_place place (o.Leave gives true) onward to e = absurd (cc)
+step_of_place InRoot (o.Leave gives true) onward to e = absurd (cc)
 step_of_place InRoot o.Begin onward to e = inr (inl refl)
 step_of_place InRoot (o.Meet false) onward to e = inr (inr (inl refl))
 step_of_place InRoot o.Halt onward to e = inr (inr (inr refl))
@@ -47,10 +47,13 @@ step_of_place InRoot op onward to e = inl (stays_plain (class_of op) InRoot to e
 step_of_place Waits o.Resume onward to e = inr refl
 step_of_place Waits op onward to e = absurd (cc)
 step_of_place InGroup o.Agree onward to e = inr (inl refl)
+step_of_place InGroup (o.Frame nesting words) onward to e = inr (inl refl)
+step_of_place InGroup o.Block onward to e = inr (inl refl)
 step_of_place InGroup o.Farm onward to e = inr (inl refl)
 step_of_place InGroup o.Seq onward to e = inr (inl refl)
 step_of_place InGroup o.End onward to e = inr (inr refl)
 step_of_place InGroup op onward to e = inl (stays_plain (class_of op) InGroup to e)
+step_of_place InBody (o.Leave gives true) onward to e = absurd (cc)
 step_of_place InBody (o.Meet true) onward to e = inr (inl refl)
 step_of_place InBody (o.Meet false) onward to e = inr (inr refl)
 step_of_place InBody op onward to e = inl (stays_plain (class_of op) InBody to e)

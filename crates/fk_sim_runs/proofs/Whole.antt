@@ -99,7 +99,7 @@ module _ (runs_reach : RunsReach) (runs_reach_rounds : RunsReachRounds) (core : 
         let staged = (many_length nodes m.harts stages f.bound.stages_as_many).1 in
         let many = before.many in
         let runners = are.before.one_group.many in
-        let had = united_had_next core s f.ps f.shared f.i f.op r.afters carries.one_group.jumps f.beside f.stands f.about (omega (arith, kept, staged, many, runners)) in
+        let had = united_had_next core setting s f.ps f.shared f.i f.op r.afters carries.one_group.jumps f.beside f.stands f.about (omega (arith, kept, staged, many, runners)) in
         let go = reached_rounds_go_on core nestings main setting s stages r.afters r.did carries.one_group is_input.room few are round had in
         let tree = (result (next core) setting (counts_for stages) s).tree in
         let behind : IsBehind core nestings setting spaces s stages m r.did r.afters

@@ -35,10 +35,10 @@ HadNext core afters rs = ⊥
 -- All processors had something left to do, where all are about to begin the group of a `start`.
 abbrev pub UnitedHadNext : Type 0
 UnitedHadNext =
-    (core : List CoreOp) (s : State Position) (ps : List Owner) (shared : Commons) (i : ℕ)
-    (op : CoreOp) (afters : List (Option Stage))
-    → JumpsLead core → IsBeside core s ps shared → OpAt core i op Begin → AllAbout i op Begin ps
-    → length afters ≡ length s.runners → HadNext core afters s.runners
+    (core : List CoreOp) (setting : Setting) (s : State Position) (ps : List Owner)
+    (shared : Commons) (i : ℕ) (op : CoreOp) (afters : List (Option Stage))
+    → JumpsLead core → IsBeside core setting s ps shared → OpAt core i op Begin
+    → AllAbout i op Begin ps → length afters ≡ length s.runners → HadNext core afters s.runners
 
 module _ (core : List CoreOp) (setting : Setting) (s : State Position) (stages : List Stage) where
   abbrev pub behind : State Position
@@ -51,7 +51,7 @@ module _ (core : List CoreOp) (setting : Setting) (s : State Position) (stages :
     pub shared : Commons
     pub shared' : Commons
     pub order : AreInOrder 0 s.runners
-    pub beside : IsBeside core s ps shared
+    pub beside : IsBeside core setting s ps shared
     pub possible : is_possible (next core) setting (counts_for stages) s ≡ true
     pub passes : AllPass (core_source core setting) (counts_for stages) ps shared did shared'
 

@@ -1,20 +1,21 @@
 -- What is known of a reached state, in the form that the laws of machines need.
 use Rattle.std.specs.Prelude.{◌≡◌, ◌≢◌, ℕ, ◌+◌, ◌^◌, ◌≤◌, List, length, Some, true, false}
 use Rattle.std.specs.Prelude.{slice_get, ◌⊎◌}
-use Rattle.fk_num.specs.Word.{Memory}
 use Rattle.fk_space.specs.Space.{Space}
 use Rattle.fk_meaning_operation.specs.declared.operation.Operation.TheVariants.{Begin}
 use Rattle.fk_tree.specs.declared.node.Kind.TheVariants.{Lockstep, Asynchronous}
 use Rattle.fk_tree.specs.Tree as trees
 use Rattle.fk_tree.specs.Tree.{Tree}
-use Rattle.fk_meaning.specs.Processor.{Setting, group_space}
+use Rattle.fk_meaning.specs.Processor.{Setting, setting_of, group_space}
 use Rattle.fk_meaning.specs.Round.{Runner, State, is_possible}
+use Rattle.fk_meaning.specs.Schedule.{Schedule, run}
 use Rattle.fk_core.specs.declared.op.CoreOp.{CoreOp}
-use Rattle.fk_core.specs.Next.{Position, next}
+use Rattle.fk_core.specs.Next.{Position, next, list_opening}
+use Rattle.fk_lockstep_frames.specs.Lists.{HasLocalFrames, HasToldFrames}
 use Rattle.fk_sim_nodes.specs.Node.{of_node}
 use Rattle.fk_sim_nodes.specs.Source.{AllPass}
 use Rattle.fk_sim_match.specs.Stage.{Stage, counts_for}
-use Rattle.fk_sim_block.specs.Owner.{Commons, Owner, Doing, core_source}
+use Rattle.fk_sim_block.specs.Owner.{Commons, Heaps, Owner, Doing, core_source}
 use Rattle.fk_sim_block.specs.Node.{Nestings}
 use Rattle.fk_sim_rounds.specs.Next.{landed, HasNext, HaveNext}
 use Rattle.fk_sim_rounds.specs.After.{runners_of, StepsAt, ArePlaces}
@@ -39,12 +40,25 @@ ReachedTreesHaveSpaces =
 
 -- ---- one processor
 
+-- Each processor has the nests that its position tells, where the list tells them. So the words of
+-- its groups are spaces, and the frames of its calls begin where the nests say.
+abbrev pub ReachedStatesHaveNests : Type 0
+ReachedStatesHaveNests =
+    (core : List CoreOp) (main : ℕ) (frames : HasLocalFrames core main)
+    (words firsts input : List ℕ) (p : ℕ) (schedule : Schedule)
+    → let setting = setting_of p words input in
+    HasSpace setting
+    → (h : ℕ) (r : Runner Position)
+    → slice_get (run (next core) setting schedule (list_opening main words firsts input p)).runners
+    h ≡ Some r
+    → HasToldFrames core main frames setting r
+
 -- A processor that isn't at its end is about to do something by itself, with those whom it meets,
 -- or with its group.
 abbrev pub ReachedProcessorsHaveNext : Type 0
 ReachedProcessorsHaveNext =
     (core : List CoreOp) (nestings : Nestings) (main : ℕ) (setting : Setting) (s : State Position)
-    (h : ℕ) (r : Runner Position) (heap : Memory)
+    (h : ℕ) (r : Runner Position) (heap : Heaps)
     → IsOfOneGroup core nestings main → IsReached core setting s → slice_get s.runners h ≡ Some r
     → r.left ≢ the_end core
     → let p : Owner = record { runner = r; heap = heap } in
@@ -76,7 +90,7 @@ ReachedRoundsAreKnown =
     (core : List CoreOp) (nestings : Nestings) (main : ℕ) (setting : Setting) (stages : List Stage)
     (s : State Position) (ps : List Owner) (did : List Doing) (shared shared' : Commons)
     → IsOfOneGroup core nestings main → IsReached core setting s → AreInOrder 0 s.runners
-    → IsBeside core s ps shared
+    → IsBeside core setting s ps shared
     → is_possible (next core) setting (counts_for stages) s ≡ true
     → AllPass (core_source core setting) (counts_for stages) ps shared did shared'
     → IsKnownRound s.tree did ⊎ BeginsGroup s.tree did

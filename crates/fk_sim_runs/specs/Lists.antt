@@ -1,13 +1,11 @@
 -- Lists with one group at a time.
 use Rattle.std.specs.Prelude.{◌≡◌, ℕ, ◌<◌, List, [], length, Bool, true, false, Some, slice_get}
-use Rattle.fk_meaning_operation.specs.Kinds.{class_of}
 use Rattle.fk_meaning_operation.specs.declared.operation.Operation.{Operation}
 use Rattle.fk_core.specs.declared.op.CoreOp.{CoreOp}
 use Rattle.fk_core.specs.Next.{position, landing, is_jump, follows, next}
 use Rattle.fk_core.specs.WellFormed.{IsOperation, IsWellFormed}
 use Rattle.fk_lockstep_one_group.specs.Runs.{AlwaysOneGroup}
 use Rattle.fk_sim_block.specs.Next.{OpAt}
-use Rattle.fk_sim_block.specs.Ready.{is_no_step, is_alone}
 use Rattle.fk_sim_block.specs.Lists.{StaysInList, is_end, AlwaysMay}
 use Rattle.fk_sim_block.specs.Node.{Nestings}
 
@@ -22,10 +20,6 @@ pub record IsOfOneGroup (core : List CoreOp) (nestings : Nestings) (main : ℕ) 
   pub within : (i : ℕ) (op : CoreOp) (operation : Operation) → OpAt core i op operation
       → is_end operation ≡ false
       → (onward : Bool) → StaysInList core (follows core operation i op.target [] onward)
-  -- Local operations and requests have nothing to do with frames of groups, nor with the heap that
-  -- all share.
-  pub alone : (i : ℕ) (op : CoreOp) (operation : Operation) → OpAt core i op operation
-      → is_no_step (class_of operation) ≡ true → is_alone operation ≡ true
   -- No frame has a saved level: around a group there is the root alone.
   pub levels : (i : ℕ) → nestings.levels i ≡ 0
   -- In every such run the members of a group in lockstep are at one index, and so are those who

@@ -15,6 +15,7 @@ use Rattle.fk_sim_block.specs.Law.{Cycles, GroupLaw}
 use Rattle.fk_sim_rounds.specs.Next.{JumpsLead, landed, HasNext}
 use Rattle.fk_sim_rounds.specs.Comes.{IsSoon}
 use Rattle.fk_sim_rounds.specs.Machines.{GoesWith}
+use Rattle.fk_sim_runs.specs.Facts.{HasSpace}
 
 -- Each hart is near its first commit, or near the word where it meets others.
 abbrev pub AreSoon : List Stage → Type 0
@@ -31,13 +32,13 @@ pub record OpensWith (core : List CoreOp) (image : Image) (places : Places) (nes
       (machine.machine_opening image input p)
 
 -- A machine follows the first state if each processor is about to do an operation that it may do by
--- itself, or by meeting the others.
+-- itself, or by meeting the others, and shared data has room for the globals and the input.
 abbrev pub OpeningsAreFollowed : Type 0
 OpeningsAreFollowed =
     (core : List CoreOp) (image : Image) (places : Places) (nestings : Nestings) (cycles : Cycles)
     (firsts : List ℕ) (main : ℕ) (spaces : ℕ → Space) (input : List ℕ) (p : ℕ)
     → GroupLaw core image places nestings cycles firsts main → JumpsLead core → 1 ≤ p → p ≤ 1024
-    → length input ≤ 65536
+    → length input ≤ 65536 → HasSpace (setting_of p image.globals.items input)
     → ((number : ℕ) → number < p → HasNext core nestings (setting_of p image.globals.items input)
     (root p) number (landed core (beginner (setting_of p image.globals.items input)
     (slice_index firsts) main number)))

@@ -6,7 +6,8 @@ ghost use Rattle.fk_sim_runs.specs.Begins.{ReachedBeginnersLandAtOneIndex, Reach
 ghost use Rattle.fk_sim_runs.specs.Behind.{UnitedHadNext, RunsReachRounds, ReachedRoundsGoOn};
 ghost use Rattle.fk_sim_runs.specs.Behind.{ReachedStagesGoOn};
 ghost use Rattle.fk_sim_runs.specs.Facts.{ReachedTreesHaveSpaces, ReachedProcessorsHaveNext};
-ghost use Rattle.fk_sim_runs.specs.Facts.{ReachedGroupsHaveNext, ReachedRoundsAreKnown};
+ghost use Rattle.fk_sim_runs.specs.Facts.{ReachedStatesHaveNests, ReachedGroupsHaveNext};
+ghost use Rattle.fk_sim_runs.specs.Facts.{ReachedRoundsAreKnown};
 ghost use Rattle.fk_sim_runs.specs.Ready.{ReachedCyclesStayReady, ReachedStartsFindHeaders};
 ghost use Rattle.fk_sim_runs.specs.Opening.{OpeningsAreFollowed};
 ghost use Rattle.fk_sim_runs.specs.Pace.{PacesGoOn, PacesAreKept};
@@ -28,6 +29,12 @@ pub fn runs_reach()
 /// The tree of a reached state is sound, and its nodes own words apart.
 pub fn reached_trees_have_spaces()
     ensures { ReachedTreesHaveSpaces }
+{}
+
+/// In every run each processor has the nests that its position tells, where the list tells them. The
+/// words of its groups are spaces, and the frames of its calls begin where the nests say.
+pub fn reached_states_have_nests()
+    ensures { ReachedStatesHaveNests }
 {}
 
 /// A processor that isn't at its end in a reached state is about to do an operation by itself, with
@@ -106,7 +113,8 @@ pub fn reached_starts_find_headers()
 
 /// A machine of an image that has the law of blocks of groups follows the core run from its first
 /// cycle on: each of its harts is at most 254 private instructions before its first commit, 251
-/// before it arrives where it meets others, or 211 at `start`.
+/// before it arrives where it meets others, or 211 at `start`. No word of the global heap has been
+/// asked for.
 pub fn openings_are_followed()
     ensures { OpeningsAreFollowed }
 {}
