@@ -18,7 +18,7 @@ use Rattle.fk_types_rules.proofs.Counting.{one-same, by_node, by, times, node_ti
 use Rattle.fk_lockstep_structure.specs.Inner.{is_own}
 use Rattle.fk_check_laws.proofs.Each.{Each, each_map}
 
-each_append : {X : Type 0} (P : X → Type 0) (xs ys : List X) → Each P xs → Each P ys → Each P (xs ++ ys)
+pub each_append : {X : Type 0} (P : X → Type 0) (xs ys : List X) → Each P xs → Each P ys → Each P (xs ++ ys)
 each_append P [] ys h g = g
 each_append P (x ∷ xs) ys h g = (h.0, each_append P xs ys h.1 g)
 
@@ -121,7 +121,7 @@ module _ (told : Told) where
       (wider (statement_indices body) (Node spot.at ∷ more) (frames_in told (deeper level) body) (λ at h. under spot.at at more (f at h)) deep)
 
   mutual
-    in_statement : (level : ℕ) (x : Statement) → Each (Within (statement_indices x)) (frames_in told level x)
+    pub in_statement : (level : ℕ) (x : Statement) → Each (Within (statement_indices x)) (frames_in told level x)
     in_statement level (p.Block list) = in_statements level list
     in_statement level (p.If spot condition first) =
         one_body spot level first (tree_indices condition ++ statement_indices first) (λ at h. right at (tree_indices condition) (statement_indices first) h)
@@ -174,7 +174,7 @@ module _ (told : Told) where
     in_statement level (p.Continue spot) = tt
     in_statement level (p.Return spot value) = tt
 
-    in_statements : (level : ℕ) (xs : Statements) → Each (Within (statements_indices xs)) (all_frames_in told level xs)
+    pub in_statements : (level : ℕ) (xs : Statements) → Each (Within (statements_indices xs)) (all_frames_in told level xs)
     in_statements level p.no_statements = tt
     in_statements level (p.statement first others) =
         let i = statement_indices first in
@@ -183,7 +183,7 @@ module _ (told : Told) where
         (wider i (i ++ j) (frames_in told level first) (λ at h. left at i j h) (in_statement level first))
         (wider j (i ++ j) (all_frames_in told level others) (λ at h. right at i j h) (in_statements level others))
 
-  -- a frame of a function has words
+  -- a frame of a function has words, and is on level 0
   pub record IsOwn (items : List ItemTree) (r : Region) : Type 0 where
     pub function : FunctionTree
     pub index : ℕ
@@ -192,17 +192,18 @@ module _ (told : Told) where
     pub has : function.body ≡ Some body
     pub same : r.at ≡ function.name.at
     pub words : (own_words told function.parameters body == 0) ≡ false
+    pub level : r.level ≡ 0
 
   abbrev pub OfText : List ItemTree → Region → Type 0
   OfText items r = Within (bodies items) r ⊎ IsOwn items r
 
   behind : (item : ItemTree) (items : List ItemTree) (r : Region) → OfText items r → OfText (item ∷ items) r
   behind (p.StructItem name members) items r (inl w) = inl w
-  behind (p.StructItem name members) items r (inr o) = inr (record { function = o.function; index = o.index; there = o.there; body = o.body; has = o.has; same = o.same; words = o.words })
+  behind (p.StructItem name members) items r (inr o) = inr (record { function = o.function; index = o.index; there = o.there; body = o.body; has = o.has; same = o.same; words = o.words; level = o.level })
   behind (p.VariablesItem variables) items r (inl w) = inl w
-  behind (p.VariablesItem variables) items r (inr o) = inr (record { function = o.function; index = o.index; there = o.there; body = o.body; has = o.has; same = o.same; words = o.words })
+  behind (p.VariablesItem variables) items r (inr o) = inr (record { function = o.function; index = o.index; there = o.there; body = o.body; has = o.has; same = o.same; words = o.words; level = o.level })
   behind (p.FunctionItem f) items r (inl w) = inl (w.0, right r.at (body_indices f.body) (bodies items) w.1)
-  behind (p.FunctionItem f) items r (inr o) = inr (record { function = o.function; index = suc o.index; there = o.there; body = o.body; has = o.has; same = o.same; words = o.words })
+  behind (p.FunctionItem f) items r (inr o) = inr (record { function = o.function; index = suc o.index; there = o.there; body = o.body; has = o.has; same = o.same; words = o.words; level = o.level })
 
   of_function : (f : FunctionTree) (items : List ItemTree) (body : Option Statements) → f.body ≡ body → Each (OfText (p.FunctionItem f ∷ items)) (body_frames told f.name.at f.parameters body)
   of_function f items None has = tt
@@ -215,7 +216,7 @@ module _ (told : Told) where
       own : (b : Bool) → (own_words told f.parameters body == 0) ≡ b
           → Each (OfText (p.FunctionItem f ∷ items)) (if b then [] else record { at = f.name.at; part = 0; level = 0; words = min (own_words told f.parameters body) (last_word + 1) } ∷ [])
       own true e = tt
-      own false e = (inr (record { function = f; index = 0; there = refl; body = body; has = has; same = refl; words = e }), tt)
+      own false e = (inr (record { function = f; index = 0; there = refl; body = body; has = has; same = refl; words = e; level = refl }), tt)
 
   pub of_text : (items : List ItemTree) → Each (OfText items) (regions_of told items)
   of_text [] = tt

@@ -22,7 +22,7 @@ pub mod Programs
 pub mod RegionTokens
 pub mod SharingTokens
 pub mod Spelled
-mod PlacedNotes
+pub mod PlacedNotes
 pub mod PlacedStatements
 pub mod Returning
 pub mod NoForks

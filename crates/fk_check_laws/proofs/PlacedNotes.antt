@@ -1,11 +1,15 @@
--- What the notes of a valid program say of its tokens, and what is known of the tokens themselves.
-use Rattle.std.proofs.Common.{◌≡◌, inl, inr, ℕ, ◌<◌, ◌≤◌, true, List, [], ◌∷◌, length, Option, Some, slice_get, refl, sym, ap, subst, ◌∙◌, arith}
+-- What the notes of a program that keeps all rules say of its tokens, and what is known of the tokens of a valid one.
+use Rattle.std.proofs.Common.{◌≡◌, inl, inr, ℕ, ◌<◌, ◌≤◌, true, List, [], ◌∷◌, length, codes, Option, Some, slice_get, refl, sym, ap, subst, ◌∙◌, arith}
 use Rattle.std.proofs.lemmas.Bool.{cases_lt, false≢true}
+use Rattle.std.proofs.lemmas.Slice.Eq.{bytes_eq-Decides}
 use Rattle.fk_syntax.specs.declared.facts.Facts.{Facts}
 use Rattle.fk_syntax.specs.declared.facts.Note.{Note}
-use Rattle.fk_syntax.specs.Program.{ProgramTree}
+use Rattle.fk_syntax.specs.declared.program.Mode.{Mode}
+use Rattle.fk_syntax.specs.declared.program.Mode.TheVariants.{Async}
+use Rattle.fk_syntax.specs.Program.{FunctionTree, ProgramTree, FunctionItem}
 use Rattle.fk_syntax.specs.Nodes.{items_indices}
 use Rattle.fk_check_rules.specs.declared.rule.Rule.{Rule}
+use Rattle.fk_check_rules.specs.declared.rule.Rule.TheVariants as rules
 use Rattle.fk_sharing_class.specs.declared.thing.Thing.{Thing}
 use Rattle.fk_sharing_class.specs.Things.{Tells}
 use Rattle.fk_regions.specs.declared.around.Region.TheVariants.{Synchronous}
@@ -18,6 +22,7 @@ use Rattle.fk_sharing.specs.Broken as sb
 use Rattle.fk_sharing.specs.Broken.{SplitsAt}
 use Rattle.fk_sharing.proofs.Lockstep.{splits-synchronous}
 use Rattle.fk_meaning_forms.specs.Tables.{Tables, no_note, note}
+use Rattle.fk_meaning_forms.specs.Program.{is_main}
 use Rattle.fk_layout.specs.Layout.{tables_by}
 use Rattle.fk_types_rules.proofs.Counting.{times, node_times, contained, node-once, node-below}
 use Rattle.fk_check_laws.specs.Correct.{IsCorrect}
@@ -27,46 +32,59 @@ use Rattle.fk_check_laws.specs.Valid.{IsValid}
 use Rattle.fk_check_laws.proofs.RegionTokens as regions
 use Rattle.fk_check_laws.proofs.SharingTokens as sharing
 
-module _ (program : ProgramTree) (facts : Facts) (valid : IsValid program facts) where
-  abbrev pub tables : Tables
-  tables = tables_by program facts
+module _ (program : ProgramTree) (facts : Facts) (valid : IsCorrect program facts) where
+  abbrev T : Tables
+  T = tables_by program facts
 
-  abbrev pub correct : IsCorrect program facts
-  correct = record { well_formed = valid.well_formed; small = valid.small; known = valid.known }
+  many : length facts.notes.items ≡ program.tokens
+  many = valid.known.sharing.length ∙ valid.known.regions.length ∙ valid.known.types.known.tokens
 
-  sync_from : (at : ℕ) → at < program.tokens → IsSynchronous program at → (note tables at).sync ≡ true
-  sync_from at low h = let n = note_at program facts correct at low in ap (λ (m : Note). m.sync) n.is ∙ n.sync_is.1 h
+  sync_from : (at : ℕ) → at < program.tokens → IsSynchronous program at → (note T at).sync ≡ true
+  sync_from at low h = let n = note_at program facts valid at low in ap (λ (m : Note). m.sync) n.is ∙ n.sync_is.1 h
 
-  pub splits_from : (at : ℕ) → (note tables at).splits ≡ true → SplitsAt program at
+  pub splits_from : (at : ℕ) → (note T at).splits ≡ true → SplitsAt program at
   splits_from at is = elim (cases_lt at program.tokens) [
-    | inl low ↦ let n = note_at program facts correct at low in n.splits_is.0 (sym (ap (λ (m : Note). m.splits) n.is) ∙ is)
+    | inl low ↦ let n = note_at program facts valid at low in n.splits_is.0 (sym (ap (λ (m : Note). m.splits) n.is) ∙ is)
     | inr past ↦ absurd (false≢true (sym (ap (λ (m : Note). m.splits) (nth_past no_note facts.notes.items at (omega (arith, past, many)))) ∙ is))
   ]
-    where
-      many : length facts.notes.items ≡ program.tokens
-      many = valid.known.sharing.length ∙ valid.known.regions.length ∙ valid.known.types.known.tokens
 
-  sync_to : (at : ℕ) → (note tables at).sync ≡ true → IsSynchronous program at
+  sync_to : (at : ℕ) → (note T at).sync ≡ true → IsSynchronous program at
   sync_to at is = elim (cases_lt at program.tokens) [
-    | inl low ↦ let n = note_at program facts correct at low in n.sync_is.0 (sym (ap (λ (m : Note). m.sync) n.is) ∙ is)
+    | inl low ↦ let n = note_at program facts valid at low in n.sync_is.0 (sym (ap (λ (m : Note). m.sync) n.is) ∙ is)
     | inr past ↦ absurd (false≢true (sym (ap (λ (m : Note). m.sync) (nth_past no_note facts.notes.items at (omega (arith, past, many)))) ∙ is))
   ]
-    where
-      many : length facts.notes.items ≡ program.tokens
-      many = valid.known.sharing.length ∙ valid.known.regions.length ∙ valid.known.types.known.tokens
 
   -- ---- the tokens by which regions are told
 
   region_nodes : (at : ℕ) → times regions.place at (r.tokens program) ≤ node_times at (items_indices program.items)
   region_nodes at = (regions.of_items ◌∷◌ [] program.items).count at
 
-  region_same : (i j : ℕ) (x y : Theirs program facts correct) → slice_get (r.tokens program) i ≡ Some x → slice_get (r.tokens program) j ≡ Some y → x.spot.at ≡ y.spot.at → x ≡ y
+  region_same : (i j : ℕ) (x y : Theirs program facts valid) → slice_get (r.tokens program) i ≡ Some x → slice_get (r.tokens program) j ≡ Some y → x.spot.at ≡ y.spot.at → x ≡ y
   region_same i j x y is other same =
       same_at regions.place (r.tokens program) (λ at. omega (arith, region_nodes at, node-once at (items_indices program.items) valid.well_formed.distinct)) i j x y is other same
 
-  region_low : (i : ℕ) (x : Theirs program facts correct) → slice_get (r.tokens program) i ≡ Some x → x.spot.at < program.tokens
+  region_low : (i : ℕ) (x : Theirs program facts valid) → slice_get (r.tokens program) i ≡ Some x → x.spot.at < program.tokens
   region_low i x is = node-below program.tokens x.spot.at (items_indices program.items) valid.well_formed.below
       (omega (arith, region_nodes x.spot.at, contained regions.place (r.tokens program) x (among (r.tokens program) i x is)))
+
+  -- a token is where its note says
+  sync_region : (i : ℕ) (x : Theirs program facts valid) → slice_get (r.tokens program) i ≡ Some x → IsSynchronous program x.spot.at → region x.around ≡ Synchronous
+  sync_region i x is h = subst (λ (y : Theirs program facts valid). region y.around ≡ Synchronous) (region_same h.0 i h.1 x h.2 is h.3) h.4
+
+  pub split_region : (i : ℕ) (x : Theirs program facts valid) → slice_get (r.tokens program) i ≡ Some x → (note T x.spot.at).splits ≡ true → region x.around ≡ Synchronous
+  split_region i x is e = sync_region i x is (splits-synchronous program x.spot.at (splits_from x.spot.at e))
+
+  -- `main` is asynchronous
+  pub async_by : (f : FunctionTree) (index : ℕ) → slice_get program.items index ≡ Some (FunctionItem f) → is_main f ≡ true → (mode : Mode) → f.mode ≡ mode → (mode ≡ Async → ⊥) → ⊥
+  async_by f index there main mode is other = valid.known.types.kept f.name.place rules.NoMain
+      (inl (inr (inr (inr (inr (refl, inr (index, f, there, ((bytes_eq-Decides f.name.bytes (codes "main")).0 main, (λ both. other (sym is ∙ both.1))), refl)))))))
+
+module _ (program : ProgramTree) (facts : Facts) (valid : IsValid program facts) where
+  abbrev pub tables : Tables
+  tables = tables_by program facts
+
+  abbrev pub correct : IsCorrect program facts
+  correct = record { well_formed = valid.well_formed; small = valid.small; known = valid.known }
 
   -- it breaks no rule, and is noted where it stands
   pub record IsRight (x : Theirs program facts correct) : Type 0 where
@@ -78,13 +96,9 @@ module _ (program : ProgramTree) (facts : Facts) (valid : IsValid program facts)
   right : (i : ℕ) (x : Theirs program facts correct) → slice_get (r.tokens program) i ≡ Some x → IsRight x
   right i x is = record {
     unbroken = unmisplaced program facts correct i x is;
-    sync = λ e. sync_from x.spot.at (region_low i x is) (i, x, is, refl, e);
-    alone = λ e.
-        let h = splits-synchronous program x.spot.at (splits_from x.spot.at e) in
-        subst (λ (y : Theirs program facts correct). region y.around ≡ Synchronous) (region_same h.0 i h.1 x h.2 is h.3) h.4;
-    agrees = λ e.
-        let h = sync_to x.spot.at e in
-        subst (λ (y : Theirs program facts correct). region y.around ≡ Synchronous) (region_same h.0 i h.1 x h.2 is h.3) h.4;
+    sync = λ e. sync_from program facts correct x.spot.at (region_low program facts correct i x is) (i, x, is, refl, e);
+    alone = split_region program facts correct i x is;
+    agrees = λ e. sync_region program facts correct i x is (sync_to program facts correct x.spot.at e);
   }
 
   pub all_right : Each IsRight (r.tokens program)

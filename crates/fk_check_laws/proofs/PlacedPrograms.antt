@@ -1,8 +1,7 @@
 -- The functions of a valid program are in place.
-use Rattle.std.proofs.Common.{◌≡◌, ◌≢◌, ◌⊎◌, inl, inr, ℕ, suc, Bool, true, false, not, List, [], ◌∷◌, ◌++◌, codes, Option, Some, None, slice_get, refl, sym, ap, subst, ◌∙◌}
+use Rattle.std.proofs.Common.{◌≡◌, ◌≢◌, ◌⊎◌, inl, inr, ℕ, suc, Bool, true, false, not, List, [], ◌∷◌, ◌++◌, Option, Some, None, slice_get, refl, sym, ap, subst, ◌∙◌}
 use Rattle.std.specs.Prelude.{◌==◌, is_some, if◌then◌else◌}
 use Rattle.std.proofs.lemmas.Bool.{false≢true, false_from_ne_true, and_parts, not-true, eqb-true}
-use Rattle.std.proofs.lemmas.Slice.Eq.{bytes_eq-Decides}
 use Rattle.fk_syntax.specs.declared.facts.Facts.{Facts}
 use Rattle.fk_syntax.specs.declared.program.Mode.{Mode}
 use Rattle.fk_syntax.specs.declared.program.Mode.TheVariants.{Sync, Async, Straight}
@@ -41,7 +40,7 @@ use Rattle.fk_check_laws.proofs.Typed.{Unbroken}
 use Rattle.fk_check_laws.proofs.Notes.{among}
 use Rattle.fk_check_laws.proofs.Main.{there_is_main}
 use Rattle.fk_check_laws.proofs.Things.{thing, thing_tells}
-use Rattle.fk_check_laws.proofs.PlacedNotes.{tables, correct, all_right, all_ours}
+use Rattle.fk_check_laws.proofs.PlacedNotes.{async_by, tables, correct, all_right, all_ours}
 use Rattle.fk_check_laws.proofs.Named.{env, unbroken_pieces}
 use Rattle.fk_check_laws.proofs.Declared.{function_number}
 use Rattle.fk_check_laws.proofs.Returning.{statements_return}
@@ -182,17 +181,13 @@ module _ (program : ProgramTree) (facts : Facts) (valid : IsValid program facts)
       (subst (λ (holder : gh.Holder). Each (Right program facts valid functions) (r.statements_tokens ◌∷◌ (holder ∷ []) k.body)) (held_by f false is) k.tokens) k.ours k.marks k.parts
 
   -- `main` is asynchronous
-  async_by : (f : FunctionTree) (index : ℕ) → slice_get program.items index ≡ Some (FunctionItem f) → is_main f ≡ true → (mode : Mode) → f.mode ≡ mode → (mode ≡ Async → ⊥) → ⊥
-  async_by f index there main mode is other = valid.known.types.kept f.name.place rules.NoMain
-      (inl (inr (inr (inr (inr (refl, inr (index, f, there, ((bytes_eq-Decides f.name.bytes (codes "main")).0 main, (λ both. other (sym is ∙ both.1))), refl)))))))
-
   main_async : (f : FunctionTree) (index : ℕ) → slice_get program.items index ≡ Some (FunctionItem f) → is_main f ≡ true → f.mode ≡ Async
   main_async f index there main = by f.mode refl
     where
       by : (mode : Mode) → f.mode ≡ mode → mode ≡ Async
-      by Sync is = absurd (async_by f index there main Sync is (λ e. cc))
+      by Sync is = absurd (async_by program facts (correct program facts valid) f index there main Sync is (λ e. cc))
       by Async is = refl
-      by Straight is = absurd (async_by f index there main Straight is (λ e. cc))
+      by Straight is = absurd (async_by program facts (correct program facts valid) f index there main Straight is (λ e. cc))
 
   good_main : (f : FunctionTree) (k : IsFine f) → is_main f ≡ true → Good (OfMain true) true k.body
   good_main f k main =

@@ -330,7 +330,7 @@ module _ (program : ProgramTree) (facts : Facts) (valid : IsValid program facts)
   splits_here : (held : (ℕ → Option Thing) → List hh.Holder) (shared : (ℕ → Option Thing) → Bool) (spot : Spot) → Decider held shared spot → is_split spot ≡ true
       → (thing : ℕ → Option Thing) × Tells program thing × (sa.splits (sa.region (held thing)) (shared thing) ≡ true)
   splits_here held shared spot decider e =
-      let h' = splits_from program facts valid spot.at e in
+      let h' = splits_from program facts proper spot.at e in
       let one = decider h'.0 in
       (h'.0, h'.1, subst (λ (y : Ours program facts valid). sb.is_splitting (sa.region y.around) y.word ≡ true) (one.same h'.2 h'.3 h'.4 h'.5) h'.6)
 

@@ -262,12 +262,14 @@ module _ (program : ProgramTree) (facts : Facts) (valid : IsValid program facts)
     functions_inner gs a.1,
   )
 
+pub valid_programs_are_inner : (program : ProgramTree) (facts : Facts) → IsValid program facts → FunctionsInner (tables_by program facts) (may_call program) (functions_of program.items)
+valid_programs_are_inner program facts valid = functions_inner program facts valid (functions_of program.items) (fine program facts valid)
+
 pub valid_programs_have_one_space : ValidProgramsHaveOneSpace
 valid_programs_have_one_space program facts valid none setting schedule words firsts input processors some possible right' =
     let tables' = tables_by program facts in
     let placed = valid_programs_are_in_place program facts valid in
-    let framed = programs_are_framed tables' program (may_call program) placed
-    (functions_inner program facts valid (functions_of program.items) (fine program facts valid)) none in
+    let framed = programs_are_framed tables' program (may_call program) placed (valid_programs_are_inner program facts valid) none in
     groups_have_one_space Work (next_in tables' program) all_outs (main_work tables' program) (programs_follow tables' program (may_call program) placed)
     (fork_counts (gives_of tables' program (may_call program) placed)) (none_pending tables' program (may_call program) placed) (programs_are_counted tables' program (may_call program) placed)
     depth refl (code_is_framed (may_call program) (bodies_of tables' program) (main_of tables' program) framed)

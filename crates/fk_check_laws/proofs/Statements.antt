@@ -1,5 +1,5 @@
 -- The statements of a correct program fit, where their loops' conditions begin with an operation.
-use Rattle.std.proofs.Common.{◌≡◌, ℕ, Bool, true, List, [], ◌∷◌, ◌++◌, Option, Some, None, slice_get, inl, inr, refl}
+use Rattle.std.proofs.Common.{◌≡◌, ℕ, Bool, true, List, [], ◌∷◌, Option, Some, None, slice_get, inl, inr, refl}
 use Rattle.std.specs.Prelude.{Contains}
 use Rattle.fk_syntax.specs.declared.facts.Facts.{Facts}
 use Rattle.fk_syntax.specs.Tree.{TypeTree, Tree}

@@ -23,10 +23,10 @@ separated_hold h = of_making _ (of_then h (of_many (of_making _ (of_then always 
 pub length_has : (l : ℕ) → Holds (length_of l) IsWord
 length_has l = of_making _ (of_then always (of_then of_number always)) (λ x h. h.1.0)
 
-accepted_holds : {A : Type 0} {test : A → Bool} {L : Language A} {P : A → Type 0} → Holds L P → Holds (accepted test L) P
+pub accepted_holds : {A : Type 0} {test : A → Bool} {L : Language A} {P : A → Type 0} → Holds L P → Holds (accepted test L) P
 accepted_holds h = record { holds = λ s a is g. h.holds s a is.0 g }
 
-not_before_holds : {A : Type 0} {k : _} {L : Language A} {P : A → Type 0} → Holds L P → Holds (not_before k L) P
+pub not_before_holds : {A : Type 0} {k : _} {L : Language A} {P : A → Type 0} → Holds L P → Holds (not_before k L) P
 not_before_holds h = record { holds = λ s a is g. h.holds s a is.0 g }
 
 module _ (has : Parts) (read : AreRead has) where

@@ -4,14 +4,14 @@ use Rattle.std.specs.Prelude.{All}
 use Rattle.std.proofs.lemmas.Simd.{map-map}
 use Rattle.std.proofs.lemmas.List.Kept.{AllPairs-cons}
 use Rattle.std.proofs.lemmas.List.Elements.{All-nil, All-cons}
-use Rattle.fk_syntax.specs.Program.{ItemTree}
+use Rattle.fk_syntax.specs.Program.{ItemTree, ProgramTree}
 use Rattle.fk_lex.specs.Reading.{Spelled}
 use Rattle.fk_lex.specs.declared.token.TokenKind.TheVariants as kind
 use Rattle.fk_parse_combinators.specs.Languages.{Stretch, numbered}
 use Rattle.fk_parse_combinators.proofs.Uses.{places}
 use Rattle.fk_expr.specs.Grammar.{base}
 use Rattle.fk_parse.specs.Items as g
-use Rattle.fk_parse.specs.Parses.{SpellsItems}
+use Rattle.fk_parse.specs.Parses.{SpellsItems, SpellsProgram}
 use Rattle.fk_parse_laws.specs.Order.{body_tokens, item_tokens, frame_tokens, Ascend}
 use Rattle.fk_parse_laws.proofs.Ordered as ordered
 use Rattle.fk_parse_laws.proofs.Picked.{picked_all, picked_pairs}
@@ -90,6 +90,11 @@ tokens_above tokens items r =
     let same : map (λ t. t.at) (numbered 0 tokens) ≡ places r.stretch = ap (map (λ t. t.at)) r.is ∙ map-map (λ t. t.at) (λ m. m.token) r.stretch in
     picked_all (λ (n : ℕ). n) (λ n. 0 < n) (frame_tokens items) (behind (places r.stretch))
     (among_others r.spelled.0 r.stretch items r.spelled.1) (subst (λ ns. All (λ n. 0 < n) (behind ns)) same (others_above tokens))
+
+-- the tokens of a program at which frames may stand ascend behind the first one
+pub all_ascend : (tokens : List Spelled) (program : ProgramTree) → SpellsProgram tokens program → Ascend (0 ∷ frame_tokens program.items)
+all_ascend tokens program d =
+    AllPairs-cons (λ x y. x < y) 0 (frame_tokens program.items) (tokens_above tokens program.items d.items) (tokens_ascend tokens program.items d.items)
 
 pub frames_stand_behind_first : FramesStandBehindFirst
 frames_stand_behind_first told tokens program d = ordered.frames_above told program.items 0 (tokens_above tokens program.items d.items)

@@ -1,8 +1,9 @@
--- What is so of each value of a language, where the tokens of its stretch are good.
-use Rattle.std.proofs.Common.{◌≡◌, inl, inr, ℕ, List, [], ◌∷◌, ◌++◌, Option, Some, None, sym, ap, subst}
+-- What is so of each value of a language, where the tokens of its stretch are good, and on few levels.
+use Rattle.std.proofs.Common.{◌≡◌, inl, inr, ℕ, ◌≤◌, List, [], ◌∷◌, ◌++◌, Option, Some, None, sym, ap, subst}
 use Rattle.std.specs.Prelude.{Bool, All}
 use Rattle.fk_lex.specs.declared.token.TokenKind.{TokenKind}
 use Rattle.fk_lex.specs.declared.token.TokenKind.TheVariants as kind
+use Rattle.fk_parse_combinators.specs.declared.limits.TheConstants.{LEVELS}
 use Rattle.fk_parse_combinators.specs.Languages.{Stretch, Language, nothing, token, telling, ◌then◌, ◌or◌, making, many, maybe}
 use Rattle.fk_expr.specs.Kinds.{number_told}
 use Rattle.fk_parse_laws.specs.Every.{Always}
@@ -16,15 +17,15 @@ IsGood other bytes = Unit {0}
 
 abbrev pub Good : Stretch → Type 0
 Good [] = Unit {0}
-Good (m ∷ s) = IsGood m.token.kind m.token.bytes × Good s
+Good (m ∷ s) = IsGood m.token.kind m.token.bytes × (m.level ≤ LEVELS) × Good s
 
 good_front : (s t : Stretch) → Good (s ++ t) → Good s
 good_front [] t h = tt
-good_front (m ∷ s) t h = (h.0, good_front s t h.1)
+good_front (m ∷ s) t h = (h.0, h.1, good_front s t h.2)
 
 good_back : (s t : Stretch) → Good (s ++ t) → Good t
 good_back [] t h = h
-good_back (m ∷ s) t h = good_back s t h.1
+good_back (m ∷ s) t h = good_back s t h.2
 
 pub record Holds {A : Type 0} (L : Language A) (P : A → Type 0) : Type 0 where
   pub holds : (s : Stretch) (a : A) → L s a → Good s → P a
@@ -87,3 +88,7 @@ of_number = record { holds = λ s x is g. number_word x.0.kind x.0.bytes x.1 (su
 
 pub of_text : {l : ℕ} → Holds (token l kind.Text) (λ t. All IsWord t.bytes)
 of_text = record { holds = λ s t is g. subst (λ k. IsGood k t.bytes) is.1 (subst Good is.0 g).0 }
+
+-- the level of a token is low
+pub of_level : {l : ℕ} {is : TokenKind} → Holds (token l is) (λ t. l ≤ LEVELS)
+of_level = record { holds = λ s t is g. (subst Good is.0 g).1 }

@@ -5,8 +5,9 @@ pub mod Bodies
 pub mod WordsInPrograms
 mod TrimPrograms
 mod Picked
-mod Ordered
+pub mod Ordered
 mod Listed
 mod Behind
 mod Statements
-mod FramesInPrograms
+pub mod FramesInPrograms
+pub mod Levels

@@ -1,8 +1,11 @@
 -- The numbers of the program of a text are words.
-use Rattle.std.proofs.Common.{ℕ, ◌+◌, List, [], ◌∷◌, ◌++◌, subst}
+use Rattle.std.proofs.Common.{ℕ, ◌+◌, ◌≤◌, List, [], ◌∷◌, ◌++◌, subst}
+use Rattle.std.proofs.lemmas.List.Elements.{All-head, All-tail}
 use Rattle.fk_syntax.specs.Program.{DeclaredTree, ItemTree}
 use Rattle.fk_lex.specs.Reading.{Spelled, Tokens}
-use Rattle.fk_parse_combinators.specs.Languages.{Placed, numbered, Stretch, tokens_of}
+use Rattle.fk_parse_combinators.specs.declared.limits.TheConstants.{LEVELS}
+use Rattle.fk_parse_combinators.specs.Languages.{Placed, Marked, numbered, Stretch, tokens_of}
+use Rattle.fk_parse_combinators.specs.Reads.{IsShallow}
 use Rattle.fk_parse_declarations.specs.Grammar.{separated, member_name, member, joined_lists, parameter, parameters}
 use Rattle.fk_parse.specs.Items.{struct_item, function_item, item}
 use Rattle.fk_parse.specs.Parses.{SpellsItems}
@@ -83,14 +86,14 @@ numbered_good : (at : ℕ) (tokens : List Spelled) → Each (λ (t : Spelled). I
 numbered_good at [] h = tt
 numbered_good at (token ∷ tokens) h = (h.0, numbered_good (at + 1) tokens h.1)
 
-stretch_good : (s : Stretch) → Each IsGoodPlaced (tokens_of s) → Good s
-stretch_good [] h = tt
-stretch_good (m ∷ s) h = (h.0, stretch_good s h.1)
+stretch_good : (s : Stretch) → Each IsGoodPlaced (tokens_of s) → IsShallow s → Good s
+stretch_good [] h low = tt
+stretch_good (m ∷ s) h low = (h.0, All-head (λ (n : Marked). n.level ≤ LEVELS) m s low, stretch_good s h.1 (All-tail (λ (n : Marked). n.level ≤ LEVELS) m s low))
 
 -- the tokens of a stretch that spells the items of a text are good
 pub items_good : (source : List ℕ) (tokens : List Spelled) (items : List ItemTree) → Tokens source tokens → (spelled : SpellsItems (numbered 0 tokens) items) → Good spelled.stretch
 items_good source tokens items lexed spelled =
-    stretch_good spelled.stretch (subst (Each IsGoodPlaced) spelled.is (numbered_good 0 tokens (tokens_good source tokens lexed)))
+    stretch_good spelled.stretch (subst (Each IsGoodPlaced) spelled.is (numbered_good 0 tokens (tokens_good source tokens lexed))) spelled.shallow
 
 pub texts_have_words : TextsHaveWords
 texts_have_words source tokens program lexed spelled =

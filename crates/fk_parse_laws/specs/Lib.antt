@@ -2,4 +2,5 @@ pub mod Every
 pub mod Words
 pub mod Trim
 pub mod Order
+pub mod Levels
 pub mod Program

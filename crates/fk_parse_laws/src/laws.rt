@@ -1,9 +1,10 @@
-//! Laws of the numbers, the trees and the order of texts.
+//! Laws of the numbers, the trees, the order and the levels of texts.
 
 ghost use Rattle.fk_parse_laws.specs.Words.{TextsHaveWords};
 ghost use Rattle.fk_parse_laws.specs.Trim.{TextsAreTrim};
 ghost use Rattle.fk_parse_laws.specs.Order.{FramesInOrder};
 ghost use Rattle.fk_parse_laws.specs.Program.{FramesStandInOrder, FramesStandBehindFirst};
+ghost use Rattle.fk_parse_laws.specs.Levels.{TextsAreShallow};
 
 /// If the tokens of a text spell a program, its numbers are below 2^32: values, characters, lengths
 /// and the bytes of its texts.
@@ -32,4 +33,10 @@ pub fn frames_stand_in_order()
 /// No group frame is at the first token of a program.
 pub fn frames_stand_behind_first()
     ensures { FramesStandBehindFirst }
+{}
+
+/// The group frames of each text are on at most 128 levels, whatever its types are and wherever
+/// groups split.
+pub fn texts_are_shallow()
+    ensures { TextsAreShallow }
 {}
