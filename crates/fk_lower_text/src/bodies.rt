@@ -9,13 +9,13 @@ ghost use Rattle.fk_meaning_forms.specs.Code as c;
 ghost use Rattle.fk_meaning_forms.specs.Code.{size, numbered};
 ghost use Rattle.fk_meaning_forms.specs.Program.{functions_of};
 ghost use Rattle.fk_layout_walk.specs.Known.{IsSound};
-ghost use Rattle.fk_layout_walk_statements.specs.Texts.{functions_in, code_in};
+ghost use Rattle.fk_layout_walk_statements.specs.Texts.{functions_in, code_in, sites_of_text};
 ghost use Rattle.fk_lower.specs.Building.{has_site};
 ghost use Rattle.fk_lower.specs.View.{part_of};
 ghost use Rattle.fk_lower.specs.BuilderView.{event_of, block_code, IsBlockMeasured};
 ghost use Rattle.fk_lower.specs.Lowered.{AreMeasured};
 ghost use Rattle.fk_lower_text.specs.Whole.{IsPlain};
-ghost use Rattle.fk_lower_text.specs.Laid.{codes_of, laid, CanBeLaid};
+ghost use Rattle.fk_lower_text.specs.Laid.{codes_of, laid, sizes, CanBeLaid};
 
 use crate::main_entry::binding_of;
 use crate::noting::events_of;
@@ -28,8 +28,8 @@ use std::alloc::Global;
 #[derive(Drop)]
 pub(crate) struct Bodies {
     alloc: Global,
-    // The site of the next operation.
-    site: u32,
+    /// The site of the next operation.
+    pub(crate) site: u32,
     pub(crate) blocks: Vec<Block>,
 }
 
@@ -151,6 +151,9 @@ impl Bodies {
             (function_of whole.now ∷ fs)
             ≡ codes_of self.new.blocks.items
             ++ laid known.now (length self.new.blocks.items) self.new.site fs) }
+        ensures sites { OnOk result ((fs : List FunctionTree)
+            → self.old.site + sizes known.now (function_of whole.now ∷ fs)
+            ≡ self.new.site + sizes known.now fs) }
         ensures measured { AreMeasured (map part_of self.new.blocks.items) }
         ensures refused { IfErr result (λ fault. fault ≡ LowerFault.Memory) }
     {
@@ -176,6 +179,9 @@ impl Bodies {
             (functions_of (item_of whole.now ∷ others))
             ≡ codes_of self.new.blocks.items
             ++ laid known.now (length self.new.blocks.items) self.new.site (functions_of others)) }
+        ensures sites { OnOk result ((others : List ItemTree)
+            → self.old.site + sizes known.now (functions_of (item_of whole.now ∷ others))
+            ≡ self.new.site + sizes known.now (functions_of others)) }
         ensures measured { AreMeasured (map part_of self.new.blocks.items) }
         ensures refused { IfErr result (λ fault. fault ≡ LowerFault.Memory) }
     {
@@ -199,6 +205,7 @@ impl Bodies {
         requires laid { CanBeLaid known.now 0 0 (functions_in known.now) }
         ensures codes { IfOk result (λ bodies.
             codes_of bodies.blocks.items ≡ laid known.now 0 0 (functions_in known.now)) }
+        ensures sites { IfOk result (λ bodies. bodies.site ≡ length (sites_of_text known.now)) }
         ensures measured { IfOk result (λ bodies. AreMeasured (map part_of bodies.blocks.items)) }
         ensures refused { IfErr result (λ fault. fault ≡ LowerFault.Memory) }
     {

@@ -11,7 +11,6 @@ ghost use Rattle.fk_lower_text.specs.Depths as d;
 ghost use Rattle.fk_lower_text.specs.Telling.{told_depth, through_functions};
 
 use crate::height::Height;
-use fk_layout::count_sites;
 use fk_layout_walk::{Event, Mark, ProgramTables, Visitor};
 use fk_layout_walk_statements::function;
 use fk_lower::LowerFault;
@@ -80,19 +79,24 @@ impl Visitor for Depths {
 }
 
 /// The number of values that the running call has before each operation of a text, in the order of
-/// the text. It takes time and memory linear in the text.
+/// the text. `sites` is the number of its operations. It takes time and memory linear in the text.
 ///
 /// # Errors
 ///
 /// `Memory` if there isn't enough memory.
-pub(crate) fn depths_of(alloc: Global, known: &ProgramTables) -> Result<Vec<u32>, LowerFault>
-    requires { IsSound known.now }
+pub(crate) fn depths_of(
+    alloc: Global,
+    known: &ProgramTables,
+    sites: u32,
+) -> Result<Vec<u32>, LowerFault>
+    requires sound { IsSound known.now }
+    requires counted { sites ≡ length (sites_of_text known.now) }
     ensures depths { HaveOpenings known.now (functions_in known.now)
         → 2 * length (sites_of_text known.now) < 2 ^ 32
         → IfOk result (λ depths. depths.items ≡ d.depths_of known.now (functions_in known.now)) }
     ensures refused { IfErr result (λ fault. fault ≡ LowerFault.Memory) }
 {
-    let Ok(told) = vec![in alloc; 0; count_sites(known) as usize] else {
+    let Ok(told) = vec![in alloc; 0; sites as usize] else {
         return Err(LowerFault::Memory);
     };
     let mut depths = Depths {

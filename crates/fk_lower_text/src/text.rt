@@ -44,7 +44,7 @@ pub fn lower_text(alloc: Global, known: &ProgramTables) -> Result<Lowered, Lower
 {
     let bodies = Bodies::of(alloc, known)?;
     let blocks: &[Block] = &bodies.blocks;
-    let depths = depths_of(alloc, known)?;
+    let depths = depths_of(alloc, known, bodies.site)?;
     let lowered = lower(alloc, blocks, &depths)?;
     Ok(lowered)
 }

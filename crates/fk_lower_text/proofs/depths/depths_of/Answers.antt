@@ -20,6 +20,6 @@ returns-clause-depths c w few =
     let e : last ≡ through_functions known first fs =
     sym (at_drop_all (λ (l : List Item). through_functions known last (functions_of (map item_of l))) known.items.now c.loop-item.item-index c.loop-item-test.false)
     ∙ c.loop-item.invariant in
-    let n = c.count_sites.ensures in
+    let n = c.requires.counted in
     let m = c.in-Ok.ensures.len in
     all_told known fs w (omega (arith, few, each known fs)) first last e refl (omega (arith, few, n, m, each known fs))

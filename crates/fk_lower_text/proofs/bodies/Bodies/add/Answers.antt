@@ -2,7 +2,7 @@ use Rattle.std.proofs.Common.{◌+◌, length, ap, ◌∙◌, arith}
 use Rattle.fk_syntax.specs.ProgramView.{function_of}
 use Rattle.fk_meaning_forms.specs.Code.{size}
 use Rattle.fk_layout_walk_statements.specs.Texts.{code_in}
-use Rattle.fk_lower_text.specs.Laid.{codes_of}
+use Rattle.fk_lower_text.specs.Laid.{codes_of, sizes}
 use Rattle.fk_lower_text.proofs.Keeping.{rest_laid, one_laid}
 use Rattle.fk_lower_text.proofs.bodies.Bodies.add.Goals as goal
 
@@ -42,3 +42,9 @@ returns-clause-codes c fs =
     one_laid c.args.known.now (function_of c.args.whole.now) fs (codes_of old.blocks.items) (codes_of mid.blocks.items) (codes_of new.blocks.items)
     (length old.blocks.items) old.site mid.site c.binding_of.result (length new.blocks.items) new.site
     c.binding_of.ensures c.in_ok-reach.ensures.codes c.reach.ensures.site c.in_ok-push.ensures.codes (omega (arith, n, m)) c.in_ok-push.ensures.site
+
+pub returns-clause-sites : goal.returns-clause-sites
+returns-clause-sites c fs =
+    let s = c.reach.ensures.site in
+    let t = c.in_ok-push.ensures.site in
+    omega (arith, s, t)
