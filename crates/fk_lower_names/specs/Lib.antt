@@ -1,0 +1,4 @@
+pub mod OpenFrames
+pub mod WordRoom
+pub mod WordLaws
+pub mod Proper
