@@ -1,24 +1,11 @@
 -- Code of which all operations are of some kind, told along it.
-use Rattle.std.proofs.Common.{◌≡◌, suc, Bool, true, List, [], ◌∷◌, ◌++◌, All, arith}
+use Rattle.std.proofs.Common.{◌≡◌, ℕ, suc, ◌+◌, Bool, true, List, [], ◌∷◌, ◌++◌, All, arith}
 use Rattle.fk_meaning_operation.specs.declared.operation.Operation.{Operation}
-use Rattle.fk_meaning_forms.specs.Code.{Code, done, perform, choose, while, until, turn, again, quit, break, continue, call, ends}
+use Rattle.fk_meaning_forms.specs.Code.{Code, done, perform, choose, while, until, turn, again, quit, break, continue, call, ends, size, numbered}
 use Rattle.fk_compile_text.specs.Built.{operations}
+use Rattle.fk_lower_laws.specs.Unsplit.{AllOf}
 
 module _ (which : Operation → Bool) where
-  abbrev pub AllOf : {A : Type 0} → Code A → Type 0
-  AllOf done = Unit {0}
-  AllOf (perform t op rest) = (which op ≡ true) × AllOf rest
-  AllOf (choose t op a b rest) = (which op ≡ true) × AllOf a × AllOf b × AllOf rest
-  AllOf (while test body step rest) = AllOf test × AllOf body × AllOf step × AllOf rest
-  AllOf (until body test rest) = AllOf body × AllOf test × AllOf rest
-  AllOf (turn test body step rest) = AllOf test × AllOf body × AllOf step × AllOf rest
-  AllOf (again test body step rest) = AllOf test × AllOf body × AllOf step × AllOf rest
-  AllOf (quit t op rest) = (which op ≡ true) × AllOf rest
-  AllOf (break rest) = AllOf rest
-  AllOf (continue rest) = AllOf rest
-  AllOf (call t op f opening rest) = (which op ≡ true) × AllOf opening × AllOf rest
-  AllOf (ends t op rest) = (which op ≡ true) × AllOf rest
-
   -- all of a list are so, told of the first one and the others
   abbrev pub EachOf : List Operation → Type 0
   EachOf [] = Unit {0}
@@ -36,7 +23,7 @@ module _ (which : Operation → Bool) where
   back [] ys h = h
   back (x ∷ xs) ys h = back xs ys h.1
 
-  pub along : {A : Type 0} (code : Code A) → EachOf (operations code) → AllOf code
+  pub along : {A : Type 0} (code : Code A) → EachOf (operations code) → AllOf which code
   along done h = tt
   along (perform t op rest) h = (h.0, along rest h.1)
   along (choose t op a b rest) h =
@@ -85,3 +72,39 @@ module _ (which : Operation → Bool) where
     along rest (back (operations opening) (operations rest) h.1),
   )
   along (ends t op rest) h = (h.0, along rest h.1)
+
+-- so is code whose operations get numbers
+pub numbered_so : (which : Operation → Bool) {A : Type 0} (code : Code A) (n : ℕ) → AllOf which code → AllOf which (numbered n code)
+numbered_so which done n h = tt
+numbered_so which (perform t op rest) n h = (h.0, numbered_so which rest (suc n) h.1)
+numbered_so which (choose t op a b rest) n h = (
+  h.0,
+  numbered_so which a (suc n) h.1,
+  numbered_so which b (suc n + size a) h.2,
+  numbered_so which rest (suc n + size a + size b) h.3,
+)
+numbered_so which (while a b c rest) n h = (
+  numbered_so which a n h.0,
+  numbered_so which b (n + size a) h.1,
+  numbered_so which c (n + size a + size b) h.2,
+  numbered_so which rest (n + size a + size b + size c) h.3,
+)
+numbered_so which (until a b rest) n h =
+    (numbered_so which a n h.0, numbered_so which b (n + size a) h.1, numbered_so which rest (n + size a + size b) h.2)
+numbered_so which (turn a b c rest) n h = (
+  numbered_so which a n h.0,
+  numbered_so which b (n + size a) h.1,
+  numbered_so which c (n + size a + size b) h.2,
+  numbered_so which rest (n + size a + size b + size c) h.3,
+)
+numbered_so which (again a b c rest) n h = (
+  numbered_so which a n h.0,
+  numbered_so which b (n + size a) h.1,
+  numbered_so which c (n + size a + size b) h.2,
+  numbered_so which rest (n + size a + size b + size c) h.3,
+)
+numbered_so which (quit t op rest) n h = (h.0, numbered_so which rest (suc n) h.1)
+numbered_so which (break rest) n h = numbered_so which rest n h
+numbered_so which (continue rest) n h = numbered_so which rest n h
+numbered_so which (call t op f opening rest) n h = (h.0, numbered_so which opening (suc n) h.1, numbered_so which rest (suc n + size opening) h.2)
+numbered_so which (ends t op rest) n h = (h.0, numbered_so which rest (suc n) h.1)

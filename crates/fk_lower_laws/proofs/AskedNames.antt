@@ -1,5 +1,5 @@
 -- How the names in a program stand.
-use Rattle.std.proofs.Common.{◌≡◌, ◌⊎◌, inl, inr, ℕ, zero, suc, ◌+◌, ◌*◌, ◌<◌, ◌≤◌, Bool, true, false, List, [], ◌∷◌, flat_map, codes, Option, Some, None, slice_get, Contains, refl, sym, ap, subst, ◌∙◌, arith}
+use Rattle.std.proofs.Common.{◌≡◌, ◌⊎◌, inl, inr, ℕ, zero, suc, ◌+◌, ◌*◌, ◌<◌, ◌≤◌, Bool, true, false, List, codes, Option, Some, None, slice_get, Contains, refl, sym, ap, subst, ◌∙◌, arith}
 use Rattle.std.specs.Prelude.{◌==◌, is_some, map, if◌then◌else◌}
 use Rattle.std.specs.Option.{option_map}
 use Rattle.std.proofs.lemmas.Bool.{false≢true, eq-eqb, ne_eqb}
@@ -22,17 +22,20 @@ use Rattle.fk_types_names.specs.Means.{Means, MeansAt, predeclared}
 use Rattle.fk_types_operators.specs.declared.values.ExpressionType.{ExpressionType}
 use Rattle.fk_types_operators.specs.declared.values.ExpressionType.TheVariants.{Stored, Computed, Nothing}
 use Rattle.fk_types_operators.specs.Values.{result_of}
-use Rattle.fk_types_obligations.specs.Pieces as q
-use Rattle.fk_types_obligations.specs.Pieces.{PieceTree, pieces}
-use Rattle.fk_types_rules.proofs.Pieces.{declared_by_piece, of_items}
 use Rattle.fk_types_judgments.specs.Names.{Result, Pointed, Meant, Kept, Constant, Called, Main, Undeclared, Always, Typed, IsDeclared, HasDeclaredType, is_text, predeclared_meant, input}
 use Rattle.fk_types_judgments.specs.Typing.{name_type, struct_of_root}
 use Rattle.fk_sharing_class.specs.declared.thing.Thing.TheVariants.{PrivateVariable}
 use Rattle.fk_sharing.specs.Tokens.{is_struct}
 use Rattle.fk_meaning_forms.specs.declared.tables.Home.{Home}
 use Rattle.fk_meaning_forms.specs.declared.tables.Home.TheVariants as h
-use Rattle.fk_meaning_forms.specs.Tables.{no_binding, note, slot, kind_at, is_array}
-use Rattle.fk_check_laws.proofs.Each.{Each, one_of, of_each}
+use Rattle.fk_meaning_forms.specs.Tables.{no_binding, note, slot, region, kind_at, is_array}
+use Rattle.fk_types_structs.specs.Sizes.{HasTypeWords}
+use Rattle.fk_lockstep_frames.specs.Nests.{Nest}
+use Rattle.fk_core_typing.specs.declared.constants.Constant.TheVariants.{Number, FrameWord}
+use Rattle.fk_lower_names.proofs.Given.{IsGiven, words_declared, noted_at}
+use Rattle.fk_lower_names.proofs.NotedTypes.{kind_is, kind_words, array_is}
+use Rattle.fk_lower_names.specs.OpenFrames.{IsOpen, IsOpenAt, BindsOpen, words_of}
+use Rattle.fk_check_laws.proofs.Each.{of_each}
 use Rattle.fk_check_laws.proofs.Typed.{Unbroken, IsGood}
 use Rattle.fk_check_laws.proofs.Named.{IsKnown, meant_at, declared_low}
 use Rattle.fk_check_laws.proofs.Declared.{IsHomeFor, header_at}
@@ -42,11 +45,11 @@ use Rattle.fk_lockstep_structure.specs.Valued.{predeclared_gives}
 use Rattle.fk_lower_laws.specs.Ways.{Way, Valued, Array, Word, Function, placed_way, predeclared_way, named_way}
 use Rattle.fk_lower_laws.specs.Asked.{NameAsks}
 use Rattle.fk_lower_laws.specs.Typed.{IsWayOf, IsNoWord}
-use Rattle.fk_lower_laws.proofs.Sizes.{IsSound, has_sound}
-use Rattle.fk_lower_laws.proofs.Tokens.{IsSoundType, kind_is, kind_words, array_is}
+use Rattle.fk_lower_names.proofs.Sizes.{IsSound, has_sound}
+use Rattle.fk_lower_laws.proofs.Tokens.{IsSoundType}
 use Rattle.fk_lower_laws.proofs.Places.{lies_within}
 use Rattle.fk_lower_laws.proofs.Addresses.{room_may}
-use Rattle.fk_lower_laws.proofs.Valid.{IsGiven, about, words_declared, is_scalar, IsPiece, are_pieces}
+use Rattle.fk_lower_laws.proofs.Valid.{about, is_scalar}
 
 module _ (structs : List StructTree) where
   -- a type that is spelled by words that aren't those of a struct
@@ -91,28 +94,8 @@ module _ (program : ProgramTree) (facts : Facts) (given : IsGiven program facts)
   abbrev bound : Named → ℕ
   bound name = (note tables name.at).binding
 
-  abbrev pub Stood : Way → ExpressionType → Type 0
-  Stood w type = IsWayOf Room w type
-
-  -- ---- what is declared is noted
-
-  abbrev NotedDeclared : DeclarationTree → Type 0
-  NotedDeclared (Variable x) = Noting (record { at = x.name.at; type = option_map Stored (type_declared structs x) })
-  NotedDeclared (Header f) = Unit {0}
-
-  noted_by : (ps : List PieceTree) → Each (IsPiece program facts given) ps → Each NotedDeclared (flat_map declared_by_piece ps)
-  noted_by [] k = tt
-  noted_by (q.FileVariable x ∷ ps) k = (k.0.notes.0, noted_by ps k.1)
-  noted_by (q.Variable x ∷ ps) k = (k.0.notes.0, noted_by ps k.1)
-  noted_by (q.Parameter x ∷ ps) k = (k.0.notes.0, noted_by ps k.1)
-  noted_by (q.Header f ∷ ps) k = (tt, noted_by ps k.1)
-  noted_by (q.Used role value ∷ ps) k = noted_by ps k.1
-  noted_by (q.Return result spot value ∷ ps) k = noted_by ps k.1
-
-  noted_at : (number : ℕ) (x : DeclaredTree) → slice_get (declarations program) number ≡ Some (Variable x)
-      → Noting (record { at = x.name.at; type = option_map Stored (type_declared structs x) })
-  noted_at number x is = one_of NotedDeclared (declarations program)
-      (subst (Each NotedDeclared) (of_items program.items).declared (noted_by (pieces program) (are_pieces program facts given))) number (Variable x) is
+  abbrev pub Stood : List Nest → Way → ExpressionType → Type 0
+  Stood nests w type = IsWayOf (Room nests) w type
 
   -- ---- a variable stands by its home
 
@@ -123,11 +106,32 @@ module _ (program : ProgramTree) (facts : Facts) (given : IsGiven program facts)
     pub home : IsHomeFor x.shared (slot tables number).home
 
   module _ (number : ℕ) (x : DeclaredTree) (type : DataType) (v : IsVariable number x type) where
-    global : (slot tables number).home ≡ h.Global → Room (0x10000000 + 4 * (slot tables number).index) type
-    global e =
-        let words = words_declared program facts given x type v.right v.is in
-        let noted = subst (λ o. Noting (record { at = x.name.at; type = option_map Stored o })) v.is (noted_at number x v.there) in
-        let same = kind_words structs type (kind_at tables x.name.at) words.0 words.1 words.3 (kind_is program facts given.correct x.name.at (Stored type) noted) in
+    -- the words of its type, as the tables tell them
+    words : (w : ℕ) × HasTypeWords structs type w × (1 ≤ w) × (w ≤ 524288)
+    words = words_declared program facts given x type v.right v.is
+
+    same : (kind_at tables x.name.at).words ≡ words.0
+    same =
+        let noted = subst (λ o. Noting (record { at = x.name.at; type = option_map Stored o })) v.is (noted_at program facts given number x v.there) in
+        kind_words structs type (kind_at tables x.name.at) words.0 words.1 words.3 (kind_is program facts given.correct x.name.at (Stored type) noted)
+
+    -- its words, in a frame that is open
+    in_frame : (nests : List Nest) (r : ℕ) (first : ℕ) → IsOpen nests (region tables r) first (words_of program tables (slice_get (declarations program) number))
+        → Room nests (FrameWord (region tables r).level first) type
+    in_frame nests r first is_open =
+        let told : words_of program tables (slice_get (declarations program) number) ≡ words.0 = ap (words_of program tables) v.there ∙ same in
+        record {
+          words = words.0;
+          region = (region tables r).words;
+          has = words.1;
+          some = words.2;
+          few = words.3;
+          frame = is_open.frame;
+          within = λ small. (let fits = is_open.ends small in omega (arith, told, fits));
+        }
+
+    global : (nests : List Nest) → (slot tables number).home ≡ h.Global → Room nests (Number (0x10000000 + 4 * (slot tables number).index)) type
+    global nests e =
         record {
           index = (slot tables number).index;
           words = words.0;
@@ -136,8 +140,8 @@ module _ (program : ProgramTree) (facts : Facts) (given : IsGiven program facts)
           within = omega (arith, lies_within program facts given.correct given.fits number x v.there e, same);
         }
 
-    in_word : x.shared ≡ false → Stood Word (Stored type)
-    in_word private =
+    in_word : (nests : List Nest) → x.shared ≡ false → Stood nests Word (Stored type)
+    in_word nests private =
         let plain = is_scalar program facts given number x v.there private in
         let none = no_struct structs x.kind.base x.kind.stars x.length type plain.1 v.is in
         (ap is_some (none.0 ∙ plain.0), none.1)
@@ -145,27 +149,30 @@ module _ (program : ProgramTree) (facts : Facts) (given : IsGiven program facts)
     word_is : (i : ℕ) → i ≤ 524288 → word (0x10000000 + 4 * i) ≡ 0x10000000 + 4 * i
     word_is i low = omega (arith, low)
 
-    by_home : (shared : Bool) → x.shared ≡ shared → (home : Home) → (slot tables number).home ≡ home → IsHomeFor shared home → (name : Named) (at : ℕ)
-        → NameAsks tables functions places at (placed_way home (slot tables number).index name) × Stood (placed_way home (slot tables number).index name) (Stored type)
-    by_home true is h.Global e home name at =
-        let room = global e in
+    by_home : (nests : List Nest) (shared : Bool) → x.shared ≡ shared → (home : Home) → (slot tables number).home ≡ home → IsHomeFor shared home
+        → IsOpenAt program tables nests home (slot tables number).index (words_of program tables (slice_get (declarations program) number)) → (name : Named) (at : ℕ)
+        → NameAsks tables functions places nests at (placed_way tables home (slot tables number).index name) × Stood nests (placed_way tables home (slot tables number).index name) (Stored type)
+    by_home nests true is h.Global e home is_open name at =
+        let room = global nests e in
         let few = room.within in
-        let same : word (0x10000000 + 4 * (slot tables number).index) ≡ 0x10000000 + 4 * (slot tables number).index = word_is (slot tables number).index (omega (arith, few)) in
-        let here = subst (λ a. Room a type) (sym same) room in
-        (room_may structs _ type here, here)
-    by_home true is (h.Group r') e home name at = (tt, tt)
-    by_home true is h.FilePrivate e home name at = absurd home
-    by_home true is h.Private e home name at = absurd home
-    by_home true is h.NoWord e home name at = absurd home
-    by_home false is h.FilePrivate e home name at = (tt, in_word is)
-    by_home false is h.Private e home name at = (tt, in_word is)
-    by_home false is h.Global e home name at = absurd home
-    by_home false is (h.Group r') e home name at = absurd home
-    by_home false is h.NoWord e home name at = absurd home
+        let one : word (0x10000000 + 4 * (slot tables number).index) ≡ 0x10000000 + 4 * (slot tables number).index = word_is (slot tables number).index (omega (arith, few)) in
+        let here = subst (λ a. Room nests (Number a) type) (sym one) room in
+        (room_may structs nests (Number (word (0x10000000 + 4 * (slot tables number).index))) type here, here)
+    by_home nests true is (h.Group r) e home is_open name at =
+        let here = in_frame nests r (slot tables number).index is_open in
+        (room_may structs nests (FrameWord (region tables r).level (slot tables number).index) type here, here)
+    by_home nests true is h.FilePrivate e home is_open name at = absurd home
+    by_home nests true is h.Private e home is_open name at = absurd home
+    by_home nests true is h.NoWord e home is_open name at = absurd home
+    by_home nests false is h.FilePrivate e home is_open name at = (tt, in_word nests is)
+    by_home nests false is h.Private e home is_open name at = (tt, in_word nests is)
+    by_home nests false is h.Global e home is_open name at = absurd home
+    by_home nests false is (h.Group r') e home is_open name at = absurd home
+    by_home nests false is h.NoWord e home is_open name at = absurd home
 
-    pub variable_stands : (name : Named) (at : ℕ)
-        → let w = placed_way (slot tables number).home (slot tables number).index name in NameAsks tables functions places at w × Stood w (Stored type)
-    variable_stands name at = by_home x.shared refl (slot tables number).home refl v.home name at
+    pub variable_stands : (nests : List Nest) → BindsOpen program tables nests number → (name : Named) (at : ℕ)
+        → let w = placed_way tables (slot tables number).home (slot tables number).index name in NameAsks tables functions places nests at w × Stood nests w (Stored type)
+    variable_stands nests is_open name at = by_home nests x.shared refl (slot tables number).home refl v.home is_open name at
 
   -- ---- what a name means
 
@@ -237,10 +244,10 @@ module _ (program : ProgramTree) (facts : Facts) (given : IsGiven program facts)
     picked_first true x y e = refl
     picked_first false x y e = absurd (false≢true e)
 
-    pub way_declared : (number : ℕ) → bound name ≡ number → number < no_binding → way_of ≡ placed_way (slot tables number).home (slot tables number).index name
+    pub way_declared : (number : ℕ) → bound name ≡ number → number < no_binding → way_of ≡ placed_way tables (slot tables number).home (slot tables number).index name
     way_declared number binds low =
         picked (bound name == no_binding) _ _ (ne_eqb (bound name) no_binding (λ e. omega (arith, e, binds, low)))
-        ∙ ap (λ (n : ℕ). placed_way (slot tables n).home (slot tables n).index name) binds
+        ∙ ap (λ (n : ℕ). placed_way tables (slot tables n).home (slot tables n).index name) binds
 
     pub way_predeclared : bound name ≡ no_binding → way_of ≡ predeclared_way name
     way_predeclared binds = picked_first (bound name == no_binding) _ _ (eq-eqb (bound name) no_binding binds)
@@ -248,29 +255,29 @@ module _ (program : ProgramTree) (facts : Facts) (given : IsGiven program facts)
     pub way_function : MeansFunction name → way_of ≡ Function name
     way_function f =
         way_declared f.number f.binds f.low
-        ∙ ap (λ (home : Home). placed_way home (slot tables f.number).index name) (header_at program facts given.correct f.number f.function f.there).0
+        ∙ ap (λ (home : Home). placed_way tables home (slot tables f.number).index name) (header_at program facts given.correct f.number f.function f.there).0
 
   -- ---- a name that has a type
 
-  abbrev NameStands : Named → ExpressionType → Type 0
-  NameStands name type = NameAsks tables functions places name.at (way_of name) × Stood (way_of name) type
+  abbrev NameStands : List Nest → Named → ExpressionType → Type 0
+  NameStands nests name type = NameAsks tables functions places nests name.at (way_of name) × Stood nests (way_of name) type
 
   no_type : (is_main : Bool) (other : Meant) (type : ExpressionType) → name_type other ≡ None → name_type (if is_main then Main else other) ≡ Some type → ⊥
   no_type true other type none e = cc
   no_type false other type none e = let clash = sym none ∙ e in cc
 
-  predeclared_stands : (name : Named) → Contains predeclared name.bytes → (type : ExpressionType) → name_type (predeclared_meant name.bytes) ≡ Some type
+  predeclared_stands : (nests : List Nest) (name : Named) → Contains predeclared name.bytes → (type : ExpressionType) → name_type (predeclared_meant name.bytes) ≡ Some type
       → ((t' : DataType) → type ≡ Stored t' → is_some t'.length ≡ true → is_array tables name.at ≡ true)
-      → NameAsks tables functions places name.at (predeclared_way name) × Stood (predeclared_way name) type
-  predeclared_stands name there type e array = by (predeclared_meant name.bytes) e (predeclared_so name there)
+      → NameAsks tables functions places nests name.at (predeclared_way name) × Stood nests (predeclared_way name) type
+  predeclared_stands nests name there type e array = by (predeclared_meant name.bytes) e (predeclared_so name there)
     where
-      by : (meant : Meant) → name_type meant ≡ Some type → IsSo name meant → NameAsks tables functions places name.at (predeclared_way name) × Stood (predeclared_way name) type
+      by : (meant : Meant) → name_type meant ≡ Some type → IsSo name meant → NameAsks tables functions places nests name.at (predeclared_way name) × Stood nests (predeclared_way name) type
       by (Called parameters result) e' so = absurd (cc)
-      by (Constant value) e' so = subst (λ (w : Way). NameAsks tables functions places name.at w × Stood w type) (sym so) (tt, subst (Stood Valued) (same_Some _ type e') tt)
+      by (Constant value) e' so = subst (λ (w : Way). NameAsks tables functions places nests name.at w × Stood nests w type) (sym so) (tt, subst (Stood nests Valued) (same_Some _ type e') tt)
       by (Kept (Some t)) e' so =
           let same = same_Some _ type e' in
           let long = subst (λ (x : DataType). is_some x.length ≡ true) (sym so.1) refl in
-          subst (λ (w : Way). NameAsks tables functions places name.at w × Stood w type) (sym so.0) (array t (sym same) long, subst (Stood Array) same long)
+          subst (λ (w : Way). NameAsks tables functions places nests name.at w × Stood nests w type) (sym so.0) (array t (sym same) long, subst (Stood nests Array) same long)
       by (Kept None) e' so = absurd so
       by Main e' so = absurd so
       by Undeclared e' so = absurd so
@@ -279,18 +286,18 @@ module _ (program : ProgramTree) (facts : Facts) (given : IsGiven program facts)
       → is_some t'.length ≡ true → is_array tables name.at ≡ true
   stored_array name type noted t' same some = array_is program facts given.correct name.at t' (subst (λ x. Noting (record { at = name.at; type = Some x })) same noted) some
 
-  pub name_stands : (name : Named) → IsUsed name → Noting (record { at = name.at; type = name_type (env.meant name) })
-      → (type : ExpressionType) → name_type (env.meant name) ≡ Some type → NameStands name type
-  name_stands name used noted type e = elim (means_one name used) [
+  pub name_stands : (nests : List Nest) (name : Named) → IsUsed name → BindsOpen program tables nests (bound name) → Noting (record { at = name.at; type = name_type (env.meant name) })
+      → (type : ExpressionType) → name_type (env.meant name) ≡ Some type → NameStands nests name type
+  name_stands nests name used is_open noted type e = elim (means_one name used) [
     | inl v ↦
-        let here = variable_stands v.number v.variable v.type v.known name name.at in
+        let here = variable_stands v.number v.variable v.type v.known nests (subst (BindsOpen program tables nests) v.binds is_open) name name.at in
         let same : Stored v.type ≡ type = same_Some _ type (sym (ap name_type v.meant) ∙ e) in
-        subst (λ (w : Way). NameAsks tables functions places name.at w × Stood w type) (sym (way_declared name v.number v.binds v.low))
-        (here.0, subst (Stood _) same here.1)
+        subst (λ (w : Way). NameAsks tables functions places nests name.at w × Stood nests w type) (sym (way_declared name v.number v.binds v.low))
+        (here.0, subst (Stood nests _) same here.1)
     | inr (inl f) ↦ absurd (no_type (is_text f.function.name.bytes (codes "main")) (Called (map Typed f.is.0) (Always (option_map result_of f.is.1))) type refl (sym (ap name_type f.is.3) ∙ e))
     | inr (inr p) ↦
-        subst (λ (w : Way). NameAsks tables functions places name.at w × Stood w type) (sym (way_predeclared name p.binds))
-        (predeclared_stands name p.there type (sym (ap name_type p.meant) ∙ e)
+        subst (λ (w : Way). NameAsks tables functions places nests name.at w × Stood nests w type) (sym (way_predeclared name p.binds))
+        (predeclared_stands nests name p.there type (sym (ap name_type p.meant) ∙ e)
         (stored_array name type (subst (λ o. Noting (record { at = name.at; type = o })) e noted)))
   ]
 
@@ -332,7 +339,7 @@ module _ (program : ProgramTree) (facts : Facts) (given : IsGiven program facts)
       by false false false true = tt
       by false false false false = tt
 
-  shared_word : (home : Home) (index : ℕ) (name : Named) → IsHomeFor true home → IsNoWord (placed_way home index name)
+  shared_word : (home : Home) (index : ℕ) (name : Named) → IsHomeFor true home → IsNoWord (placed_way tables home index name)
   shared_word h.Global index name is = tt
   shared_word (h.Group r') index name is = tt
   shared_word h.FilePrivate index name is = is
@@ -347,6 +354,6 @@ module _ (program : ProgramTree) (facts : Facts) (given : IsGiven program facts)
     | inr (inr p) ↦ subst IsNoWord (sym (way_predeclared name p.binds)) (no_predeclared_word name)
   ]
     where
-      by : (v : MeansVariable name) (b : Bool) → v.variable.shared ≡ b → IsHomeFor b (slot tables v.number).home → IsNoWord (placed_way (slot tables v.number).home (slot tables v.number).index name)
+      by : (v : MeansVariable name) (b : Bool) → v.variable.shared ≡ b → IsHomeFor b (slot tables v.number).home → IsNoWord (placed_way tables (slot tables v.number).home (slot tables v.number).index name)
       by v true is home = shared_word (slot tables v.number).home (slot tables v.number).index name home
       by v false is home = absurd (shared ((thing_tells program given.correct.well_formed name.at PrivateVariable).1 (v.number, v.variable, v.means, v.known.there, is)))

@@ -30,6 +30,7 @@ use Rattle.fk_types_judgments.specs.Broken.{is_no_function, is_wrong_count}
 use Rattle.fk_meaning_forms.specs.Tables.{no_binding, note}
 use Rattle.fk_meaning_forms.specs.Statements.{is_nothing}
 use Rattle.fk_meaning_forms.specs.Program.{functions_of, with_body, binding_of, signature_of, signature_in, is_main}
+use Rattle.fk_lockstep_frames.specs.Nests.{Nest}
 use Rattle.fk_core_liveness.specs.declared.places.FunctionKind.{FunctionKind}
 use Rattle.fk_core_liveness.specs.declared.places.FunctionKind.TheVariants as pl
 use Rattle.fk_core_flat.specs.Fitting.{is_defined, NameFits}
@@ -38,9 +39,10 @@ use Rattle.fk_check_laws.proofs.Named.{known}
 use Rattle.fk_check_laws.proofs.Declared.{function_number}
 use Rattle.fk_check_laws.proofs.Bodies.{takes_of}
 use Rattle.fk_lockstep_structure.specs.Valued.{AreEnough, predeclared_gives}
+use Rattle.fk_lower_names.proofs.Given.{IsGiven}
 use Rattle.fk_lower_laws.specs.Ways.{Way, Valued, Absent, Function, result, predeclared_way, place_gives, called_way}
 use Rattle.fk_lower_laws.specs.Asked.{IsCalled, TakesAll, NameTakes, NameAsks, CallAsks, place_by, place_in}
-use Rattle.fk_lower_laws.proofs.Valid.{IsGiven, about}
+use Rattle.fk_lower_laws.proofs.Valid.{about}
 use Rattle.fk_lower_laws.proofs.AskedNames as n
 use Rattle.fk_lower_laws.proofs.Members.{map_some}
 use Rattle.fk_lower_laws.proofs.AskedNames.{Gives, IsSo, predeclared_so, MeansFunction, means_one, way_of, way_predeclared, way_function}
@@ -69,11 +71,11 @@ enough (x ∷ xs) (t.tree first others) before many = enough xs others (also bef
 pub header_same : (f g : FunctionTree) → Some (Header f) ≡ Some (Header g) → f ≡ g
 header_same f g same = cc
 
-module _ (program : ProgramTree) (facts : Facts) (given : IsGiven program facts) where
+module _ (program : ProgramTree) (facts : Facts) (given : IsGiven program facts) (nests : List Nest) where
   open about program facts given use {env, tables, functions, places, IsUsed}
 
   abbrev Stood : Way → ExpressionType → Type 0
-  Stood w type = n.Stood program facts given w type
+  Stood w type = n.Stood program facts given nests w type
 
   -- ---- the function of a binding
 
@@ -161,7 +163,7 @@ module _ (program : ProgramTree) (facts : Facts) (given : IsGiven program facts)
 
   abbrev CallStands : Named → Trees → ExpressionType → Type 0
   CallStands name es type =
-      NameAsks tables functions places name.at (way_of program facts given name) × CallAsks tables functions places (way_of program facts given name) es
+      NameAsks tables functions places nests name.at (way_of program facts given name) × CallAsks tables functions places nests (way_of program facts given name) es
       × Stood (called_way tables places (way_of program facts given name)) type
 
   abbrev bound : Named → ℕ
@@ -169,10 +171,10 @@ module _ (program : ProgramTree) (facts : Facts) (given : IsGiven program facts)
 
   -- of a function, by its name's way
   by_way : (name : Named) (es : Trees) (type : ExpressionType) → way_of program facts given name ≡ Function name
-      → NameTakes tables functions places (bound name == no_binding) name es
+      → NameTakes tables functions places nests (bound name == no_binding) name es
       → Stood (result (if bound name == no_binding then predeclared_gives name else place_gives (places (bound name)))) type → CallStands name es type
   by_way name es type same takes stood =
-      subst (λ (w : Way). NameAsks tables functions places name.at w × CallAsks tables functions places w es × Stood (called_way tables places w) type) (sym same) (tt, takes, stood)
+      subst (λ (w : Way). NameAsks tables functions places nests name.at w × CallAsks tables functions places nests w es × Stood (called_way tables places w) type) (sym same) (tt, takes, stood)
 
   called : (main : Bool) (f : FunctionTree) → is_main f ≡ false → (b : ℕ) → IsPlace b f → IsCalled (places b)
   called main f other b is = subst IsCalled (sym (is.place ∙ ap (λ (c : Bool). if c then pl.Main else pl.Called (not (is_nothing f.result))) other)) tt
@@ -213,13 +215,13 @@ module _ (program : ProgramTree) (facts : Facts) (given : IsGiven program facts)
         let many = eqb-true (count_of args) (length (map Typed parameters)) parts.1 in
         let long = length-map parameters Typed in
         let same = f.is.2.same in
-        let takes : TakesAll tables functions places (bound name) es = record {
+        let takes : TakesAll tables functions places nests (bound name) es = record {
           called = called true f.function parts.0 (bound name) at;
           enough = subst (λ s. AreEnough s es) (sym (ap (λ s. s.parameters) at.signature)) (enough f.function.parameters es no_terms (omega (arith, many, long, same)));
         } in
         let place = at.place ∙ ap (λ (c : Bool). if c then pl.Main else pl.Called (not (is_nothing f.function.result))) parts.0 in
         by_way name es type (way_function program facts given name f)
-        (subst (λ (c : Bool). NameTakes tables functions places c name es) (sym other) takes)
+        (subst (λ (c : Bool). NameTakes tables functions places nests c name es) (sym other) takes)
         (subst (λ (c : Bool). Stood (result (if c then predeclared_gives name else place_gives (places (bound name)))) type) (sym other)
         (subst (λ (x : FunctionKind). Stood (result (place_gives x)) type) (sym place) (gives_as result' f.is.2.gives parts.2)))
 
@@ -269,7 +271,7 @@ module _ (program : ProgramTree) (facts : Facts) (given : IsGiven program facts)
             let none : (bound name == no_binding) ≡ true = subst (λ b. (b == no_binding) ≡ true) (sym p.binds) refl in
             let g = predeclared_call name p.there (count_of args) fit first type (sym (ap (λ (m : Meant). call_type m (count_of args) fit first) p.meant) ∙ h) in
             by_way name es type (way_predeclared program facts given name p.binds ∙ g.0)
-            (subst (λ (c : Bool). NameTakes tables functions places c name es) (sym none)
+            (subst (λ (c : Bool). NameTakes tables functions places nests c name es) (sym none)
             (subst (λ (c : Bool). NameFits tables functions (is_defined tables (functions_of program.items)) c name es) none takes))
             (subst (λ (c : Bool). Stood (result (if c then predeclared_gives name else place_gives (places (bound name)))) type) (sym none) g.1)
       ]

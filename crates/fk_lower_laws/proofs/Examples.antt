@@ -23,8 +23,10 @@ use Rattle.fk_compile_text.specs.Built.{operations_of}
 use Rattle.fk_compile_text.specs.Plain.{is_plain, ArePlain}
 use Rattle.fk_core_liveness.specs.declared.places.FunctionKind.TheVariants.{Main}
 use Rattle.fk_core_typing.specs.Typed.{AreTyped}
+use Rattle.fk_core_typing.specs.declared.constants.Constant.{Constant as Address}
+use Rattle.fk_lower_laws.proofs.Unsplit.{are_unsplit}
 use Rattle.fk_lower_laws.specs.Ways.{Word, way}
-use Rattle.fk_lower_laws.specs.Asked.{Asked, place_of, ProgramAsked}
+use Rattle.fk_lower_laws.specs.Asked.{Asked, place_of, frame_of, ProgramAsked}
 use Rattle.fk_lower_laws.specs.Typed.{IsWayOf, Known}
 use Rattle.fk_lower_laws.proofs.Along.{EachOf}
 use Rattle.fk_lower_laws.proofs.Mains.{main_has_its_place}
@@ -67,22 +69,30 @@ tables = record {
 
 asked : ProgramAsked tables program
 asked = (
-  ((refl, (tt, refl)), tt),
+  refl,
   (
+    (((refl, (tt, refl)), tt), (refl, tt)),
+    (λ other. record { level = tt; parameters = (tt, tt) }),
     (
-      ((tt, tt, tt), tt),
       (
-        (tt, tt, tt, refl),
         (
-          (((refl, (refl, tt)), tt, (tt, (record { called = tt; enough = tt }, (tt, refl, tt), tt)), refl), refl),
+          ((tt, tt, tt), tt),
           (
-            ((refl, tt, ((refl, tt), refl), refl), refl),
-            (((tt, (refl, (refl, refl, tt), tt)), refl), ((tt, tt), tt)),
+            (tt, tt, tt, tt),
+            (
+              (((refl, (refl, tt)), tt, (tt, (record { called = tt; enough = tt }, (tt, refl, tt), tt)), refl), refl),
+              (
+                ((refl, tt, ((refl, tt), refl), refl), refl),
+                (((tt, (refl, (refl, refl, tt), tt)), refl), ((tt, tt), tt)),
+              ),
+            ),
           ),
         ),
+        (tt, (refl, (tt, (tt, (tt, ((refl, refl, tt, tt), tt)))))),
       ),
+      (λ other. record { level = tt; parameters = tt }),
+      tt,
     ),
-    tt,
   ),
 )
 
@@ -95,8 +105,8 @@ are_plain : ArePlain tables program
 are_plain = all_of (operations_of tables program)
     (refl, (refl, (refl, (refl, (refl, (refl, (refl, (refl, (refl, (refl, (refl, (refl, (refl, (refl, (refl, (refl, (refl, (refl, (refl, (refl, (refl, (refl, (refl, (refl, (refl, (refl, (refl, (refl, (refl, (refl, (refl, (refl, (refl, (refl, (refl, (refl, tt))))))))))))))))))))))))))))))))))))
 
-typed : AreTyped (place_of tables program) (bodies_of tables program)
-typed = forms_are_typed tables program asked are_plain
+typed : AreTyped (place_of tables program) (frame_of tables program) (bodies_of tables program)
+typed = forms_are_typed tables program asked (are_unsplit tables program are_plain)
 
 begins : place_of tables program (main_of tables program) ≡ Main
 begins = (main_has_its_place tables program (inr (inl refl)) (refl, (refl, tt))).0
@@ -111,12 +121,12 @@ sum = t.Chain n (t.link (sp 0 1 1) g.Plus (t.Number (sp 0 1 1) 1 false) t.no_lin
 abbrev functions : (binding : ℕ) → Signature
 functions = signature_in tables (functions_of program.items)
 
-abbrev Room : (address : ℕ) → DataType → Type 0
+abbrev Room : Address → DataType → Type 0
 Room address type = false ≡ true
 
-sum_known : Known Room env tables functions (place_of tables program) sum
+sum_known : Known Room env tables functions (place_of tables program) [] sum
 sum_known = ((λ type is. (tt, subst (IsWayOf Room Word) (same_Some _ _ is) (refl, refl))), (tt, tt, tt))
 
-sum_asked : Asked tables functions (place_of tables program) sum × IsWayOf Room (way tables (place_of tables program) sum) (Computed Int)
+sum_asked : Asked tables functions (place_of tables program) [] sum × IsWayOf Room (way tables (place_of tables program) sum) (Computed Int)
 sum_asked =
-    typed_is_asked (λ address type. false) (λ address type room. absurd (false≢true room)) env tables functions (place_of tables program) sum sum_known (Computed Int) refl
+    typed_is_asked [] (λ address type. false) (λ address type room. absurd (false≢true room)) env tables functions (place_of tables program) sum sum_known (Computed Int) refl

@@ -9,7 +9,7 @@ use Rattle.fk_syntax.specs.declared.place.Spot.{Spot}
 use Rattle.fk_syntax.specs.declared.sign.Sign.{Sign}
 use Rattle.fk_syntax.specs.declared.sign.Sign.TheVariants as g
 use Rattle.fk_syntax.specs.Tree as t
-use Rattle.fk_syntax.specs.Tree.{Tree, Links, Trees, Suffixes}
+use Rattle.fk_syntax.specs.Tree.{Named, Tree, Links, Trees, Suffixes}
 use Rattle.fk_syntax.specs.Program.{ProgramTree}
 use Rattle.fk_check_rules.specs.declared.rule.Rule.TheVariants as rules
 use Rattle.fk_types_structs.specs.declared.types.DataType.{DataType}
@@ -37,12 +37,16 @@ use Rattle.fk_parse_laws.specs.Every.{TreeHas, LinksHave, TreesHave, SuffixesHav
 use Rattle.fk_parse_laws.specs.Trim.{nonempty_lists}
 use Rattle.fk_check_laws.proofs.Each.{Each, front_of, rest_of}
 use Rattle.fk_check_laws.proofs.Read.{Any}
+use Rattle.fk_meaning_forms.specs.Tables.{note}
+use Rattle.fk_lockstep_frames.specs.Nests.{Nest}
+use Rattle.fk_lower_names.proofs.Given.{IsGiven, words_of}
+use Rattle.fk_lower_names.specs.OpenFrames.{BindsOpen}
 use Rattle.fk_lower_laws.specs.Ways.{Way, Valued, Unchecked, Constant, Function, gives, result, prefix_way, joined_way, call_gives, called_way, dotted_way, way, chain_way, suffixed_way}
 use Rattle.fk_lower_laws.specs.Asked.{CallAsks, Asked}
 use Rattle.fk_lower_laws.specs.Typed.{IsWayOf, CommaIs, IsNoWord, PrefixIs, Known, LinksKnown, SuffixesKnown, AllKnown}
 use Rattle.fk_lower_laws.proofs.Typing.{is_use, uncalled}
 use Rattle.fk_lower_laws.proofs.Tokens.{IsSoundType, void_is}
-use Rattle.fk_lower_laws.proofs.Valid.{IsGiven, about, words_of}
+use Rattle.fk_lower_laws.proofs.Valid.{about}
 use Rattle.fk_lower_laws.proofs.AskedNames.{name_stands, name_sound, no_word}
 use Rattle.fk_lower_laws.proofs.Members.{member_sound, member_room}
 use Rattle.fk_lower_laws.proofs.Calls.{call_stands}
@@ -199,8 +203,12 @@ module _ (structs : List StructTree) where
   of_number true type h = of_value Unsigned type (same_Some _ type h)
   of_number false type h = of_value Int type (same_Some _ type h)
 
-module _ (program : ProgramTree) (facts : Facts) (given : IsGiven program facts) where
-  open about program facts given use {env, tables, functions, places, thing, Room, Kept as K, Referred as R, Noting as N, IsUsed as Used}
+module _ (program : ProgramTree) (facts : Facts) (given : IsGiven program facts) (nests : List Nest) where
+  open about program facts given use {env, tables, functions, places, thing, Room, Kept as K, Referred as R, Noting as N, IsUsed}
+
+  -- a name is used, and is open in the nests
+  abbrev pub Used : Named → Type 0
+  Used name = IsUsed name × BindsOpen program tables nests (note tables name.at).binding
 
   abbrev pub SoundOf : Term → Type 0
   SoundOf term = Sound env.structs (type_of env term)
@@ -227,10 +235,10 @@ module _ (program : ProgramTree) (facts : Facts) (given : IsGiven program facts)
   sound_term (e.Choose spot condition first second) o type h = of_branched env.structs (value_in (type_of env condition)) _ _ type h
 
   -- a call gives a value or nothing
-  sound_called : (x : Way) (type : ExpressionType) → IsWayOf Room (called_way tables places x) type → IsSoundType env.structs type
+  sound_called : (x : Way) (type : ExpressionType) → IsWayOf (Room nests) (called_way tables places x) type → IsSoundType env.structs type
   sound_called (Function name) type stands = by (call_gives tables places name) type stands
     where
-      by : (b : Bool) (type' : ExpressionType) → IsWayOf Room (result b) type' → IsSoundType env.structs type'
+      by : (b : Bool) (type' : ExpressionType) → IsWayOf (Room nests) (result b) type' → IsSoundType env.structs type'
       by true (Computed v) h = tt
       by true (Stored x) h = absurd h
       by true Nothing h = tt
@@ -284,7 +292,7 @@ module _ (program : ProgramTree) (facts : Facts) (given : IsGiven program facts)
 
   -- ---- commas and addresses
 
-  comma_is : (sign : Sign) (before : Term) (at : ℕ) → N (record { at = at; type = type_of env before }) → SoundOf before → CommaIs Room env tables functions places sign before at
+  comma_is : (sign : Sign) (before : Term) (at : ℕ) → N (record { at = at; type = type_of env before }) → SoundOf before → CommaIs (Room nests) env tables functions places nests sign before at
   comma_is g.Comma before at noted' sound = λ type typed some.
       void_is program facts given.correct (words_of program facts given) at type (subst (λ o. N (record { at = at; type = o })) typed noted') (sound type typed) some
   comma_is sign before at noted' sound = tt
@@ -324,7 +332,7 @@ module _ (program : ProgramTree) (facts : Facts) (given : IsGiven program facts)
 
   -- an expression whose address is taken is no private variable
   no_word_tree : (x : Tree) → TreeHas nonempty_lists x → Told Any Used x → (s.named_thing thing x ≡ Some PrivateVariable → ⊥) → IsNoWord (way tables places x)
-  no_word_tree (t.Variable name) trim told h = no_word program facts given name told h
+  no_word_tree (t.Variable name) trim told h = no_word program facts given name told.0 h
   no_word_tree (t.Prefix spot sign operand) trim told h = no_word_prefix sign
   no_word_tree (t.Chain first t.no_links) trim told h = absurd trim.0
   no_word_tree (t.Chain first (t.link spot sign right others)) trim told h =
@@ -358,18 +366,18 @@ module _ (program : ProgramTree) (facts : Facts) (given : IsGiven program facts)
   abbrev Callable : (asked : Type 0) → Term → Way → Type 0
   Callable A before x =
       (spot : Spot) (es : Trees) (type : ExpressionType) → type_of env (e.Call spot before (with_arguments no_terms es)) ≡ Some type
-      → A × CallAsks tables functions places x es × IsWayOf Room (called_way tables places x) type
+      → A × CallAsks tables functions places nests x es × IsWayOf (Room nests) (called_way tables places x) type
 
   uncallable : (A : Type 0) (before : Term) (x : Way) → is_use before ≡ false → Callable A before x
   uncallable A before x unused spot es type h =
       let args = with_arguments no_terms es in
       absurd (uncalled env before (type_of env before) (count_of args) (do_all_fit env (parameters_of (called_as env before (type_of env before))) args) (first_value env args) type unused h)
 
-  uncallable_tree : (x : Tree) → is_use (term_of x) ≡ false → Callable (Asked tables functions places x) (term_of x) (way tables places x)
-  uncallable_tree x unused = uncallable (Asked tables functions places x) (term_of x) (way tables places x) unused
+  uncallable_tree : (x : Tree) → is_use (term_of x) ≡ false → Callable (Asked tables functions places nests x) (term_of x) (way tables places x)
+  uncallable_tree x unused = uncallable (Asked tables functions places nests x) (term_of x) (way tables places x) unused
 
-  callable : (x : Tree) → TreeHas nonempty_lists x → Told Any Used x → Callable (Asked tables functions places x) (term_of x) (way tables places x)
-  callable (t.Variable name) trim told = λ spot es type h. call_stands program facts given spot name told es type h
+  callable : (x : Tree) → TreeHas nonempty_lists x → Told Any Used x → Callable (Asked tables functions places nests x) (term_of x) (way tables places x)
+  callable (t.Variable name) trim told = λ spot es type h. call_stands program facts given nests spot name told.0 es type h
   callable (t.Prefix spot sign operand) trim told = uncallable_tree (t.Prefix spot sign operand) (prefix_use spot sign (term_of operand))
   callable (t.Chain first t.no_links) trim told = absurd trim.0
   callable (t.Chain first (t.link spot sign right others)) trim told = uncallable_tree (t.Chain first (t.link spot sign right others)) (links_use (joined_term spot sign (term_of first) (term_of right)) others (joined_use spot sign (term_of first) (term_of right)))
@@ -392,7 +400,7 @@ module _ (program : ProgramTree) (facts : Facts) (given : IsGiven program facts)
   -- ---- expressions
 
   abbrev KnownTree : Tree → Type 0
-  KnownTree x = Known Room env tables functions places x
+  KnownTree x = Known (Room nests) env tables functions places nests x
 
   -- all of the block are over what else there is, as suffixes are over what stands before them
   module _ (around : List Holder) where
@@ -403,8 +411,8 @@ module _ (program : ProgramTree) (facts : Facts) (given : IsGiven program facts)
       known (t.Puts spot text) other trim told k c h = (tt, sound_term (e.Puts spot) tt)
       known (t.Sizeof spot type) other trim told k c h = (tt, sound_term (e.Sizeof spot type) tt)
       known (t.Variable name) other trim told k c h = (
-        (λ type typed. name_stands program facts given name told h.0 type typed),
-        (λ type typed. name_sound program facts given name told type typed),
+        (λ type typed. name_stands program facts given nests name told.0 told.1 h.0 type typed),
+        (λ type typed. name_sound program facts given name told.0 type typed),
       )
       known (t.GroupNumber spot) other trim told k c h = (tt, sound_term (e.GroupNumber spot) tt)
       known (t.GroupRank spot) other trim told k c h = (tt, sound_term (e.GroupRank spot) tt)
@@ -424,7 +432,7 @@ module _ (program : ProgramTree) (facts : Facts) (given : IsGiven program facts)
           let rest = all.1 r.1 in
           ((r.0, rest.0), rest.1)
       known (t.Postfix x suffixes) other trim told k c h =
-          let A = Asked tables functions places x in
+          let A = Asked tables functions places nests x in
           let c' = subst (λ at. Each R (suffixes_references at suffixes)) (same_token x) (rest_of R (tree_references x) (suffixes_references (main_token x) suffixes) c) in
           let all = suffixes_known A (term_of x) (way tables places x) (token x) (own_tree x) suffixes trim.2 told.1 (is_shared thing x) (is_call_shared thing x)
           (rest_of K (s.tree_tokens thing around x) _ k) c' h in
@@ -454,7 +462,7 @@ module _ (program : ProgramTree) (facts : Facts) (given : IsGiven program facts)
 
       links_known : (other : Type 0) (before : Term) (at : ℕ) → Own before at → (x : Links) → LinksHave nonempty_lists x → LinksTold Any Used x → (shared : Bool)
           → Each K (s.links_tokens thing around shared x) → Each R (links_references x) → Each N (noted env (with_links before x))
-          → Each N (noted env before) × (SoundOf before → LinksKnown Room env tables functions places before at x × SoundOf (with_links before x))
+          → Each N (noted env before) × (SoundOf before → LinksKnown (Room nests) env tables functions places nests before at x × SoundOf (with_links before x))
       links_known other before at own t.no_links trim told shared k c h = (h, (λ sound. (tt, sound)))
       links_known other before at own (t.link spot sign right others) trim told shared k c h =
           let j = joined_term spot sign before (term_of right) in
@@ -469,7 +477,7 @@ module _ (program : ProgramTree) (facts : Facts) (given : IsGiven program facts)
           (hb, (λ sound. ((r.0, comma_is sign before at (own hb) sound, more.0), more.1)))
 
       arguments_known : (x : Trees) (other : Type 0) (before : Terms) → TreesHave nonempty_lists x → AllTold Any Used x → Each K (s.trees_tokens thing around x) → Each R (trees_references x)
-          → Each N (all_noted env (with_arguments before x)) → Each N (all_noted env before) × AllKnown Room env tables functions places x
+          → Each N (all_noted env (with_arguments before x)) → Each N (all_noted env before) × AllKnown (Room nests) env tables functions places nests x
       arguments_known t.no_trees other before trim told k c h = (h, tt)
       arguments_known (t.tree first others) other before trim told k c h =
           let ks = s.tree_tokens thing around first in
@@ -480,7 +488,7 @@ module _ (program : ProgramTree) (facts : Facts) (given : IsGiven program facts)
       suffixes_known : (A : Type 0) (before : Term) (y : Way) (at : ℕ) → Own before at → (x : Suffixes) → SuffixesHave nonempty_lists x → SuffixesTold Any Used x → (shared called : Bool)
           → Each K (s.suffixes_tokens thing around shared called x) → Each R (suffixes_references at x) → Each N (noted env (with_suffixes before x))
           → Each N (noted env before)
-          × (SoundOf before → Callable A before y → SuffixesKnown Room env tables functions places A before y x × SoundOf (with_suffixes before x))
+          × (SoundOf before → Callable A before y → SuffixesKnown (Room nests) env tables functions places nests A before y x × SoundOf (with_suffixes before x))
       suffixes_known A before y at own t.no_suffixes trim told shared called k c h = (h, (λ sound calls. (tt, sound)))
       suffixes_known A before y at own (t.index spot by others) trim told shared called k c h =
           let j = e.Index spot before (term_of by) in
@@ -509,7 +517,7 @@ module _ (program : ProgramTree) (facts : Facts) (given : IsGiven program facts)
           let rest = suffixes_known A j (dotted_way tables places name.at y) spot.at (λ i. last_own (noted env before) _ i) others trim.1 told _ _ k.1 c.1 h in
           let hb = front_of N (noted env before) _ rest.0 in
           let more = rest.1 (sound_term j tt) (uncallable A j (dotted_way tables places name.at y) refl) in
-          (hb, (λ sound calls. ((member_room program facts given at spot before name c.0 (own hb), more.0), more.1)))
+          (hb, (λ sound calls. ((member_room program facts given nests at spot before name c.0 (own hb), more.0), more.1)))
       suffixes_known A before y at own (t.arrow spot name others) trim told shared called k c h =
           let j = e.Through spot before name in
           let rest = suffixes_known A j Unchecked spot.at (λ i. last_own (noted env before) _ i) others trim.1 told _ _ k.1 c.1 h in

@@ -1,7 +1,7 @@
 -- The code of expressions names words that are there before code that does, where each name that is used means a declaration with
 -- its word.
-use Rattle.std.proofs.Common.{◌≡◌, ℕ, suc, ◌≤◌, Bool, true, false, true≢false, List, [], ◌∷◌, length, Option, Some, None, sym, refl, subst}
-use Rattle.std.specs.Prelude.{◌==◌, ◌*◌, ◌||◌, codes, if◌then◌else◌}
+use Rattle.std.proofs.Common.{◌≡◌, ℕ, suc, ◌≤◌, ◌+◌, Bool, true, false, List, [], ◌∷◌, length, Option, Some, None, sym, refl, subst, arith}
+use Rattle.std.specs.Prelude.{◌==◌, ◌*◌, ◌^◌, ◌<◌, ◌||◌, codes, if◌then◌else◌}
 use Rattle.fk_num.specs.declared.operator.Op.TheVariants as f
 use Rattle.fk_syntax.specs.declared.place.Place.{Place}
 use Rattle.fk_syntax.specs.declared.place.Spot.{Spot}
@@ -31,21 +31,21 @@ use Rattle.fk_meaning_forms.specs.Signs.{operator_of, is_shift, move_of}
 use Rattle.fk_meaning_forms.specs.Texts.{text_of}
 use Rattle.fk_meaning_forms.specs.Expressions.{Coded, nowhere, plain, ResultLocation, OnList, AtAddress, InWord, ToCall, Evaluation, token, spot_of, is_name, Signature, put_bytes, moved, agreed, checked, valued, addressed, fetched, assigned, value_of, dropped, predeclared, placed, variable, operate, updated, one, prefixed, truth, logical, chosen, joined, assignment, member, is_deep, indexed, dotted, pointed, step_back, raised, arguments, framed, parameters, called, multiprefix, with_one, called_predeclared, calling, evaluated, linked, suffixed, all_evaluated, value}
 use Rattle.fk_meaning_forms.specs.Statements.{used, used_or, value_or, part_frame}
-use Rattle.fk_core_flat.specs.Shape.{is_done}
+use Rattle.fk_layout_sizes.specs.Places.{filling}
 use Rattle.fk_meaning.specs.Calls.{takes_two, TakesEnough, CallFits, LinksFit, FirstFits, SuffixesFit, AllFit}
 use Rattle.fk_meaning.proofs.Spine.{both_ways}
 use Rattle.fk_meaning.proofs.Kept.{is_predeclared, entered}
 use Rattle.fk_core_flat.specs.Fitting.{NameFits, Takes, Fits, OptionFits}
-use Rattle.fk_compile_text.specs.Plain.{is_plain}
-use Rattle.fk_lower_laws.proofs.Along.{AllOf}
 use Rattle.fk_check_laws.proofs.Each.{Each, front_of, rest_of, three_of}
-use Rattle.fk_lower_laws.specs.Named.{HasWord, IsNamed}
+use Rattle.fk_lower_names.specs.WordRoom.{IsSmall, HasSmallFrames}
+use Rattle.fk_lower_laws.specs.Named.{HasWord, IsNamed, HasParameters}
+use Rattle.fk_lower_laws.specs.Rooms.{Opens}
 use Rattle.fk_lower_laws.proofs.Ok.{names_none, HasItsWord, freely, gets, sets, Ok, ended, on, branch, enters}
 
-module _ (tables : Tables) (functions : (binding : ℕ) → Signature) (has_body : (binding : ℕ) → Bool) (firsts words : ℕ)
-    (room : (binding : ℕ) → length (functions binding).parameters ≤ 56) where
+module _ (tables : Tables) (functions : (binding : ℕ) → Signature) (has_body : (binding : ℕ) → Bool) (firsts : ℕ) (all most : ℕ → ℕ) (words : ℕ)
+    (room : (binding : ℕ) → HasParameters (all binding) (most binding) (functions binding).parameters) (small : HasSmallFrames tables) where
   abbrev pub Fine : Coded → Type 0
-  Fine code = Ok firsts words code
+  Fine code = Ok firsts all most words code
 
   abbrev StandsThere : ResultLocation → Type 0
   StandsThere (InWord variable) = HasItsWord firsts words variable
@@ -144,18 +144,18 @@ module _ (tables : Tables) (functions : (binding : ℕ) → Signature) (has_body
       by false false false true = (goes refl (p (AtAddress false (spot_of name)) tt))
       by false false false false = p (ToCall name) tt
 
-  places : (home : Home) (i : ℕ) (name : Named) → HasWord tables firsts words home i → Good (placed tables functions home i name)
-  places h.Global i name asks k p = (goes refl (p (AtAddress false (spot_of name)) tt))
-  places h.FilePrivate i name asks k p = p (InWord (v.OfFile i)) asks
-  places h.Private i name asks k p = p (InWord (v.Private i)) asks
-  places (h.Group r) i name asks k p = (goes refl (p (AtAddress false (spot_of name)) tt))
-  places h.NoWord i name asks k p = p (ToCall name) tt
+  places : (home : Home) (i : ℕ) (name : Named) → HasWord tables firsts words home i → i < 2 ^ 21 → Good (placed tables functions home i name)
+  places h.Global i name asks low k p = (goes refl (p (AtAddress false (spot_of name)) tt))
+  places h.FilePrivate i name asks low k p = p (InWord (v.OfFile i)) asks
+  places h.Private i name asks low k p = p (InWord (v.Private i)) asks
+  places (h.Group r) i name asks low k p = on low (p (AtAddress false (spot_of name)) tt)
+  places h.NoWord i name asks low k p = p (ToCall name) tt
 
   names : (name : Named) → IsNamed tables firsts words (Uses name) → Good (variable tables functions name)
   names name asks k p =
       let b = (note tables name.at).binding in
       by (b == no_binding) (predeclared tables functions name k) (placed tables functions (slot tables b).home (slot tables b).index name k)
-      (predeclares name k p) (λ h. places (slot tables b).home (slot tables b).index name h k p) asks
+      (predeclares name k p) (λ h. places (slot tables b).home (slot tables b).index name h (small.places b) k p) asks
     where
       by : {A : Type 0} (is : Bool) (c d : Coded) → Fine c → (A → Fine d) → (is ≡ false → A) → Fine (if is then c else d)
       by true c d p q asks' = p
@@ -266,33 +266,48 @@ module _ (tables : Tables) (functions : (binding : ℕ) → Signature) (has_body
       let others = arguments tables functions ys es rest in
       value_is e good.0 (agreed y.shared others) (agrees y.shared others (takes ys es good.1 rest p))
 
-  frames : (r : Option Region) (place : Place) → Keeps (framed tables functions r place)
-  frames None place rest p = p
-  frames (Some r) place rest p = (goes refl p)
+  frames : (r : Option Region) → IsSmall r → (place : Place) → Keeps (framed tables functions r place)
+  frames None low place rest p = p
+  frames (Some r) low place rest p = on low p
 
-  puts_none : (i : ℕ) (xs : List DeclaredTree) → AllOf is_plain (parameters tables functions i xs) → (first : ℕ) → is_done (numbered first (parameters tables functions i xs)) ≡ true
-  puts_none i [] all first = refl
-  puts_none i (y ∷ ys) all first =
+  -- the opening of a call gets and puts each `sh` parameter, from the private word of its number
+  filling_few : (xs : List DeclaredTree) → filling xs ≤ 2
+  filling_few [] = omega arith
+  filling_few (y ∷ ys) = by y.shared (filling_few ys)
+    where
+      by : (b : Bool) → filling ys ≤ 2 → (if b then 2 else filling ys) ≤ 2
+      by true few = omega arith
+      by false few = few
+
+  puts_parameters : (own m i : ℕ) (xs : List DeclaredTree) → i + length xs ≤ own → filling xs ≤ m → (first : ℕ) → Opens firsts own m 0 (numbered first (parameters tables functions i xs))
+  puts_parameters own m i [] fits few first = omega arith
+  puts_parameters own m i (y ∷ ys) fits few first =
       let others = parameters tables functions (suc i) ys in
       let shared = plain (o.Get (n.FrameAddress 0 (slot tables (note tables y.name.at).binding).index)) (plain (o.Get (n.Value (v.Private i))) (plain o.Write (plain o.DropLast others))) in
-      by y.shared shared others (λ b. absurd (true≢false (sym b.0))) (λ b. puts_none (suc i) ys b first) all
+      by y.shared shared others few
+      (λ two.
+      let inner = filling_few ys in
+      let rest = puts_parameters own m (suc i) ys (omega (arith, fits)) (omega (arith, two, inner)) (suc (suc (suc (suc first)))) in
+      (small.places (note tables y.name.at).binding, omega arith, (omega (arith, fits), omega (arith, two), (tt, two, (tt, omega (arith, two), rest)))))
+      (λ less. puts_parameters own m (suc i) ys (omega (arith, fits)) less first)
     where
-      by : (b : Bool) (c d : Coded) → (AllOf is_plain c → is_done (numbered first c) ≡ true) → (AllOf is_plain d → is_done (numbered first d) ≡ true)
-          → AllOf is_plain (if b then c else d) → is_done (numbered first (if b then c else d)) ≡ true
-      by true c d f g all' = f all'
-      by false c d f g all' = g all'
+      by : (b : Bool) (c d : Coded) → (if b then 2 else filling ys) ≤ m → (2 ≤ m → Opens firsts own m 0 (numbered first c)) → (filling ys ≤ m → Opens firsts own m 0 (numbered first d))
+          → Opens firsts own m 0 (numbered first (if b then c else d))
+      by true c d few' f g = f few'
+      by false c d few' f g = g few'
 
-  opens_empty : (r : Option Region) (place : Place) (xs : List DeclaredTree) → AllOf is_plain (framed tables functions r place (parameters tables functions 0 xs))
-      → (first : ℕ) → is_done (numbered first (framed tables functions r place (parameters tables functions 0 xs))) ≡ true
-  opens_empty (Some r) place xs all first = absurd (true≢false (sym all.0))
-  opens_empty None place xs all first = puts_none 0 xs all first
+  opens : (own m : ℕ) (r : Option Region) → IsSmall r → (place : Place) (xs : List DeclaredTree) → HasParameters own m xs → (first : ℕ)
+      → Opens firsts own m 0 (numbered first (framed tables functions r place (parameters tables functions 0 xs)))
+  opens own m None low place xs has first = puts_parameters own m 0 xs (let fits = has.own in omega (arith, fits)) has.values first
+  opens own m (Some r) low place xs has first =
+      (low, omega arith, puts_parameters own m 0 xs (let fits = has.own in omega (arith, fits)) has.values (suc first))
 
   calls : (name : Named) (es : List Evaluation) → AllGood es → Good (called tables functions name es)
   calls name es good k p =
       let b = (note tables name.at).binding in
       let function = functions b in
       takes function.parameters es good (entered tables functions name (k OnList))
-      (enters (opens_empty (frame_at tables function.at 0) name.place function.parameters) (room b) (p OnList tt))
+      (enters (opens (all b) (most b) (frame_at tables function.at 0) (small.frames function.at 0) name.place function.parameters (room b)) (room b).few (p OnList tt))
 
   both_good : (name : Named) (by : Multiprefix) (a b : Evaluation) (es : List Evaluation) → Good a → Good b → Good (multiprefix tables functions name by (a ∷ b ∷ es))
   both_good name by a b es good_a good_b k p =
@@ -506,4 +521,4 @@ module _ (tables : Tables) (functions : (binding : ℕ) → Signature) (has_body
   gives_or absent keeps (Some e) fits asks rest p = values_kept e fits asks rest p
 
   pub part_frames : (spot : Spot) (number : ℕ) → Keeps (part_frame tables functions spot number)
-  part_frames spot number rest p = frames (frame_at tables spot.at number) spot.place rest p
+  part_frames spot number rest p = frames (frame_at tables spot.at number) (small.frames spot.at number) spot.place rest p

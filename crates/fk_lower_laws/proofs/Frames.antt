@@ -16,8 +16,8 @@ use Rattle.fk_core_typing.specs.Values.{State}
 use Rattle.fk_core_typing.specs.Typed.{Typed}
 use Rattle.fk_lower_laws.specs.Rooms.{ahead_in}
 use Rattle.fk_lower_laws.specs.Ways.{place_gives}
-use Rattle.fk_lower_laws.specs.Asked.{place_by, place_in}
-use Rattle.fk_compile_text.specs.Plain.{is_plain}
+use Rattle.fk_lower_laws.specs.Asked.{place_by, place_in, frame_for}
+use Rattle.fk_lower_laws.specs.Unsplit.{is_unsplit}
 use Rattle.fk_lower_laws.proofs.Along.{EachOf, front, back, along}
 use Rattle.fk_lower_laws.specs.Named.{words_in}
 use Rattle.fk_lower_laws.specs.Room.{HasFew, own_words, HaveRoom}
@@ -67,34 +67,37 @@ module _ (tables : Tables) (items : List ItemTree) where
     abbrev places' : (binding : ℕ) → FunctionKind
     places' b = place_in tables everyone b
 
+    abbrev frames' : (binding : ℕ) → Option ℕ
+    frames' b = frame_for tables (signature_in tables everyone) places' b
+
     function_few : (f : FunctionTree) (first : ℕ) (l : Option State) (s e : State) → IsShaped has_body false (numbered first (code_of tables everyone f))
-        → Typed places' l s (numbered first (code_of tables everyone f)) e → EachOf is_plain (operations (code_of tables everyone f))
+        → Typed places' frames' l s (numbered first (code_of tables everyone f)) e → EachOf is_unsplit (operations (code_of tables everyone f))
         → HasFew places' (values_of tables items f) 0 (numbered first (code_of tables everyone f))
     function_few f first l s e shaped typed all =
         let code = code_of tables everyone f in
         let functions = signature_in tables everyone in
         let most = values_of tables items f in
         lows functions places' most code beginning first refl
-        (counted functions places' (agree_in tables everyone) has_body code first false l s e shaped typed (along is_plain code all))
+        (counted functions places' frames' (agree_in tables everyone) has_body code first false l s e shaped typed (along is_unsplit code all))
         (low most (places functions beginning code) (omega arith))
 
-    pub bodies_few : (fs : List FunctionTree) (first b : ℕ) (l : Option State) (s e : State) → EachOf is_plain (operations_in tables everyone fs)
-        → IsShaped has_body false (body_in tables everyone first fs b) → Typed places' l s (body_in tables everyone first fs b) e
+    pub bodies_few : (fs : List FunctionTree) (first b : ℕ) (l : Option State) (s e : State) → EachOf is_unsplit (operations_in tables everyone fs)
+        → IsShaped has_body false (body_in tables everyone first fs b) → Typed places' frames' l s (body_in tables everyone first fs b) e
         → HasFew places' (words_in tables (values_of tables items) fs b) 0 (body_in tables everyone first fs b)
     bodies_few [] first b l s e all shaped typed = omega arith
     bodies_few (f ∷ fs) first b l s e all shaped typed =
         by (binding_of tables f == b)
-        (bodies_few fs (first + size (code_of tables everyone f)) b l s e (back is_plain (operations (code_of tables everyone f)) (operations_in tables everyone fs) all))
+        (bodies_few fs (first + size (code_of tables everyone f)) b l s e (back is_unsplit (operations (code_of tables everyone f)) (operations_in tables everyone fs) all))
         shaped typed
       where
         by : (is : Bool)
             → (IsShaped has_body false (body_in tables everyone (first + size (code_of tables everyone f)) fs b)
-            → Typed places' l s (body_in tables everyone (first + size (code_of tables everyone f)) fs b) e
+            → Typed places' frames' l s (body_in tables everyone (first + size (code_of tables everyone f)) fs b) e
             → HasFew places' (words_in tables (values_of tables items) fs b) 0 (body_in tables everyone (first + size (code_of tables everyone f)) fs b))
             → IsShaped has_body false (if is then numbered first (code_of tables everyone f) else body_in tables everyone (first + size (code_of tables everyone f)) fs b)
-            → Typed places' l s (if is then numbered first (code_of tables everyone f) else body_in tables everyone (first + size (code_of tables everyone f)) fs b) e
+            → Typed places' frames' l s (if is then numbered first (code_of tables everyone f) else body_in tables everyone (first + size (code_of tables everyone f)) fs b) e
             → HasFew places' (if is then values_of tables items f else words_in tables (values_of tables items) fs b) 0
             (if is then numbered first (code_of tables everyone f) else body_in tables everyone (first + size (code_of tables everyone f)) fs b)
         by true more shaped' typed' =
-            function_few f first l s e shaped' typed' (front is_plain (operations (code_of tables everyone f)) (operations_in tables everyone fs) all)
+            function_few f first l s e shaped' typed' (front is_unsplit (operations (code_of tables everyone f)) (operations_in tables everyone fs) all)
         by false more shaped' typed' = more shaped' typed'

@@ -12,10 +12,11 @@ use Rattle.fk_core.proofs.Leading.{op_stops}
 use Rattle.fk_core_flat.specs.Flat.{extent}
 use Rattle.fk_core_flat.specs.Laws.{AreShaped, IsFlat}
 use Rattle.fk_compile_text.specs.Built.{operations_of}
-use Rattle.fk_compile_text.specs.Plain.{is_plain, ArePlain}
+use Rattle.fk_compile_text.specs.Plain.{is_plain}
+use Rattle.fk_lower_laws.specs.Unsplit.{AreUnsplit}
 use Rattle.fk_core_typing.specs.Laws.{IsTypedList}
 use Rattle.fk_core_typing.proofs.LeadingWithin.{typed_lists_lead_within, entries_are_within}
-use Rattle.fk_lower_laws.specs.Asked.{place_of, ProgramAsked}
+use Rattle.fk_lower_laws.specs.Asked.{place_of, frame_of, ProgramAsked}
 use Rattle.fk_lower_laws.proofs.TypedPrograms.{forms_are_typed}
 use Rattle.fk_lower_laws.specs.FreeLaws.{ListsArePlain, ListsGoOnWithin}
 use Rattle.fk_lower_laws.proofs.Items.{OperationAt, JumpAt}
@@ -54,9 +55,9 @@ pub lists_are_plain : ListsArePlain
 lists_are_plain tables program core entry plain flat = of_list is_plain tables program core entry plain flat
 
 -- the list of a program is one of well typed functions
-pub typed_list : (tables : Tables) (program : ProgramTree) (core : List CoreOp) (entry : ℕ → ℕ) → ProgramAsked tables program → ArePlain tables program
+pub typed_list : (tables : Tables) (program : ProgramTree) (core : List CoreOp) (entry : ℕ → ℕ) → ProgramAsked tables program → AreUnsplit tables program
     → AreShaped (bodies_of tables program) → IsFlat (bodies_of tables program) core entry
-    → IsTypedList (bodies_of tables program) core entry (place_of tables program)
+    → IsTypedList (bodies_of tables program) core entry (place_of tables program) (frame_of tables program)
 typed_list tables program core entry asked plain shaped flat = record {
   shaped = shaped;
   flat = flat;
@@ -68,6 +69,6 @@ pub lists_go_on_within : ListsGoOnWithin
 lists_go_on_within tables program core entry asked plain shaped flat has_main =
     let typed = typed_list tables program core entry asked plain shaped flat in
     record {
-      begins = entries_are_within (bodies_of tables program) core entry (place_of tables program) typed (main_of tables program) has_main;
-      leads = typed_lists_lead_within (bodies_of tables program) core entry (place_of tables program) typed;
+      begins = entries_are_within (bodies_of tables program) core entry (place_of tables program) (frame_of tables program) typed (main_of tables program) has_main;
+      leads = typed_lists_lead_within (bodies_of tables program) core entry (place_of tables program) (frame_of tables program) typed;
     }

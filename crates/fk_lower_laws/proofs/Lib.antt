@@ -1,4 +1,6 @@
 pub mod Along
+mod Unsplit
+mod Shallow
 mod TypedOk
 mod Acting
 mod TypedForms
@@ -7,22 +9,9 @@ pub mod TypedPrograms
 pub mod Mains
 pub mod Typing
 mod Examples
-mod InExpressions
-mod InStatements
-mod Whole
-pub mod WordNumbers
-mod References
-pub mod Near
-pub mod Regions
-pub mod Taken
-mod Walk
-pub mod WordSlots
-pub mod WordRoom
 pub mod Bindings
 pub mod Firsts
 pub mod Laid
-mod Proper
-mod Sizes
 mod Tokens
 mod Places
 mod Scalars
@@ -33,6 +22,8 @@ mod Calls
 mod Members
 mod Expressions
 mod Statements
+mod FrameLevels
+mod Parts
 pub mod Programs
 pub mod Ok
 mod Forms
@@ -47,15 +38,10 @@ mod Living
 pub mod Suiting
 pub mod Values
 pub mod Functions
-pub mod Nested
 pub mod Slots
-pub mod Outer
-pub mod Referring
 pub mod Names
 pub mod Own
 pub mod Room
-pub mod Numbers
-pub mod Texts
 mod Heights
 pub mod TallLists
 pub mod Lists

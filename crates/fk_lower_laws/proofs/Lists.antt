@@ -1,10 +1,10 @@
 -- What is asked of the list of a program follows from the text.
-use Rattle.std.proofs.Common.{◌≡◌, ℕ, Bool, true, false, List, [], ◌∷◌, refl, sym, subst}
+use Rattle.std.proofs.Common.{◌≡◌, ℕ, Bool, true, false, List, [], ◌∷◌, None, refl, sym, ap, subst}
 use Rattle.std.specs.Prelude.{◌==◌, ◌||◌, if◌then◌else◌}
 use Rattle.std.proofs.lemmas.List.{length-map}
 use Rattle.fk_syntax.specs.Program.{FunctionTree}
-use Rattle.fk_meaning_forms.specs.Tables.{Tables}
-use Rattle.fk_meaning_forms.specs.Program.{functions_of, binding_of, bodies_of, main_of}
+use Rattle.fk_meaning_forms.specs.Tables.{Tables, frame_at}
+use Rattle.fk_meaning_forms.specs.Program.{functions_of, binding_of, signature_in, bodies_of, main_of}
 use Rattle.fk_layout_globals.specs.Constants.{told}
 use Rattle.fk_layout_globals.specs.Rows.{first_of}
 use Rattle.fk_layout_globals.specs.Variables.{variables_of}
@@ -18,7 +18,7 @@ use Rattle.fk_core_flat.specs.Fitting.{is_defined}
 use Rattle.fk_core_flat.proofs.Programs.{forms_are_shaped, functions_are_closed}
 use Rattle.fk_check_laws.proofs.Programs.{correct_programs_fit}
 use Rattle.fk_core_typing.proofs.Knowing.{typed_lists_know}
-use Rattle.fk_lower_laws.specs.Asked.{place_by, place_in, place_of}
+use Rattle.fk_lower_laws.specs.Asked.{place_by, place_in, place_of, frame_with, frame_of}
 use Rattle.fk_lower_laws.proofs.Programs.{correct_programs_are_asked, mains_have_their_place}
 use Rattle.fk_lower_laws.proofs.Free.{typed_list, lists_are_plain, lists_go_on_within}
 use Rattle.fk_lower_laws.proofs.Suiting.{live_words_suit}
@@ -34,13 +34,15 @@ use Rattle.fk_lower_text.specs.Depths.{depths_of}
 use Rattle.fk_layout.specs.Refusal.{Fits}
 use Rattle.fk_parse_laws.specs.Trim.{ProgramIsTrim}
 use Rattle.fk_compile_text.specs.Plain.{ArePlain}
+use Rattle.fk_lower_laws.specs.Unsplit.{AreUnsplit}
+use Rattle.fk_lower_laws.proofs.Unsplit.{are_unsplit, unsplit_bodies}
 use Rattle.fk_core_flat.specs.Fitting.{ProgramFits}
 use Rattle.fk_check_laws.specs.Correct.{IsCorrect}
 use Rattle.fk_core_typing.specs.Typed.{AreTyped}
 use Rattle.fk_core_typing.specs.Laws.{IsTypedList, HasHeightsOf}
 use Rattle.fk_core_typing.proofs.Depths.{typed_lists_have_depths}
 use Rattle.fk_lower_laws.proofs.TypedPrograms.{forms_are_typed}
-use Rattle.fk_lower_laws.specs.Proper.{ProgramIsProper}
+use Rattle.fk_lower_names.specs.Proper.{ProgramIsProper}
 use Rattle.fk_lower_laws.specs.LoweringLaws.{IsKnownOf}
 use Rattle.fk_lower_laws.proofs.TallLists.{lists_have_heights}
 use Rattle.fk_lower_laws.specs.Laws.{CorrectListsAreSteady, CorrectListsHaveFrames, LoweredListsCanHaveGroups}
@@ -55,13 +57,18 @@ is_there tables (f ∷ fs) b is = by (binding_of tables f == b) (is_there tables
     by true others is = refl
     by false others is = others is
 
+-- `main` takes no group frame
+no_frame : (tables : Tables) (program : ProgramTree) (b : ℕ) → place_of tables program b ≡ Main → frame_of tables program b ≡ None
+no_frame tables program b is =
+    ap (λ kind. frame_with kind (frame_at tables (signature_in tables (functions_of program.items) b).at 0)) is
+
 typed_of : (program : ProgramTree) (facts : Facts) → IsCorrect program facts → ProgramIsTrim program → ProgramIsProper program
     → let tables = tables_by program facts in
     Fits tables program.items → ArePlain tables program
-    → (core : List CoreOp) (entry : (binding : ℕ) → ℕ) → IsFlat (bodies_of tables program) core entry → IsTypedList (bodies_of tables program) core entry (place_of tables program)
+    → (core : List CoreOp) (entry : (binding : ℕ) → ℕ) → IsFlat (bodies_of tables program) core entry → IsTypedList (bodies_of tables program) core entry (place_of tables program) (frame_of tables program)
 typed_of program facts valid trim proper fits plain core entry flat =
     let tables = tables_by program facts in
-    typed_list tables program core entry (correct_programs_are_asked program facts valid trim proper fits) plain (forms_are_shaped tables program (correct_programs_fit program facts valid trim)) flat
+    typed_list tables program core entry (correct_programs_are_asked program facts valid trim proper fits) (are_unsplit tables program plain) (forms_are_shaped tables program (correct_programs_fit program facts valid trim)) flat
 
 pub correct_lists_are_steady : CorrectListsAreSteady
 correct_lists_are_steady program facts valid trim proper fits plain core entry flat =
@@ -73,10 +80,11 @@ correct_lists_are_steady program facts valid trim proper fits plain core entry f
     let place = (mains_have_their_place program facts valid).0 in
     let closed = functions_are_closed tables program fitting main (is_there tables (functions_of program.items) main place) in
     let typed = typed_of program facts valid trim proper fits plain core entry flat in
+    let known = typed_lists_know (bodies_of tables program) core entry (place_of tables program) (frame_of tables program) typed main place (no_frame tables program main place) in
     record {
-      within = lists_go_on_within tables program core entry asked plain shaped flat closed;
+      within = lists_go_on_within tables program core entry asked (are_unsplit tables program plain) shaped flat closed;
       plain = lists_are_plain tables program core entry plain flat;
-      may = knowledge_is_enough core (entry main) (typed_lists_know (bodies_of tables program) core entry (place_of tables program) typed main place);
+      may = knowledge_is_enough core (entry main) known.0 known.1;
     }
 
 pub correct_lists_have_frames : CorrectListsHaveFrames
@@ -86,12 +94,13 @@ correct_lists_have_frames program facts valid trim proper fits plain core entry 
     let place = (mains_have_their_place program facts valid).0 in
     let typed = typed_of program facts valid trim proper fits plain core entry lowered.flat in
     let count = length-map (variables_of false program.items) (first_of (told facts.notes.items facts.kinds.items)) in
-    let suits = live_words_suit (bodies_of tables program) core entry (place_of tables program) (file_privates program.items) typed lowered.tall
-    (correct_programs_have_room program facts valid trim proper fits plain) (words_in kept) lowered.live lowered.least main place in
+    let suits = live_words_suit (bodies_of tables program) core entry (place_of tables program) (frame_of tables program) (file_privates program.items) typed lowered.tall
+    (correct_programs_have_room program facts valid trim proper fits (are_unsplit tables program plain)) (unsplit_bodies tables program (are_unsplit tables program plain))
+    (words_in kept) lowered.live lowered.least main place (no_frame tables program main place) in
     record {
-      frames = record { keeps = words_in kept; is_main = suits.0; of_file = file_privates program.items };
+      frames = record { keeps = words_in kept; is_main = suits.0; group = suits.1; of_file = file_privates program.items };
       of_file = sym count;
-      suits = suits.1;
+      suits = suits.2;
       keeps = λ index word held. held;
     }
 
@@ -103,11 +112,11 @@ module _ (program : ProgramTree) (facts : Facts) (known : ProgramTables) (of : I
   tall core told =
       let tables = tables_by program facts in
       let fitting = correct_programs_fit program facts valid trim in
-      let typed = forms_are_typed tables program (correct_programs_are_asked program facts valid trim proper fits) plain in
+      let typed = forms_are_typed tables program (correct_programs_are_asked program facts valid trim proper fits) (are_unsplit tables program plain) in
       subst
       (λ (t : Tables).
-      ProgramFits t program → ArePlain t program → AreTyped (place_of t program) (bodies_of t program) → HasHeightsOf (bodies_of t program) core (place_of t program))
-      of.tables (λ f b t. lists_have_heights known program core (sym of.items) f b t told) fitting plain typed
+      ProgramFits t program → AreUnsplit t program → AreTyped (place_of t program) (frame_of t program) (bodies_of t program) → HasHeightsOf (bodies_of t program) core (place_of t program))
+      of.tables (λ f b t. lists_have_heights known program core (sym of.items) f b t told) fitting (are_unsplit tables program plain) typed
 
 pub lowered_lists_can_have_groups : LoweredListsCanHaveGroups
 lowered_lists_can_have_groups program facts known of valid trim proper fits plain core entry flat told =
@@ -116,7 +125,7 @@ lowered_lists_can_have_groups program facts known of valid trim proper fits plai
     let place = (mains_have_their_place program facts valid).0 in
     let typed = typed_of program facts valid trim proper fits plain core entry flat in
     let high = tall program facts known of valid trim proper fits plain core told in
-    let deep = typed_lists_have_depths (bodies_of tables program) core entry (place_of tables program) typed high main place in
+    let deep = typed_lists_have_depths (bodies_of tables program) core entry (place_of tables program) (frame_of tables program) typed high main place in
     record {
       depths = local_depths_are_depths core (entry main) deep;
       enough = λ i op operation stands is_read. (deep.fits i op operation stands is_read).0;

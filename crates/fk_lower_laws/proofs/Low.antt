@@ -13,17 +13,16 @@ use Rattle.fk_core_liveness.specs.declared.places.FunctionKind.{FunctionKind}
 use Rattle.fk_core_liveness.specs.declared.places.FunctionKind.TheVariants.{Called}
 use Rattle.fk_core_flat.specs.Items.{into, way_of}
 use Rattle.fk_core_flat.specs.Shape.{IsShaped}
-use Rattle.fk_compile_text.specs.Plain.{is_plain}
+use Rattle.fk_lower_laws.specs.Unsplit.{is_unsplit, AllOf}
 use Rattle.fk_core_typing.specs.Values.{State}
 use Rattle.fk_core_typing.specs.Values as w
 use Rattle.fk_core_typing.specs.Typed.{Typed}
 use Rattle.fk_core_typing.specs.Heights.{raised, results_of, height}
-use Rattle.fk_lower_laws.proofs.Along.{AllOf}
 use Rattle.fk_check_laws.proofs.Each.{Each, three_of, four_of}
 use Rattle.fk_lower_laws.specs.Room.{HasFew}
 
 -- an operation that is plain leaves as many values on both ways
-leaves_so : (op : Operation) (onward : Bool) → is_plain op ≡ true → leaves op onward ≡ pushes op
+leaves_so : (op : Operation) (onward : Bool) → is_unsplit op ≡ true → leaves op onward ≡ pushes op
 leaves_so (o.Split by) onward e = absurd (true≢false (sym e))
 leaves_so op onward e = refl
 
@@ -55,15 +54,15 @@ module _ (functions : (binding : ℕ) → Signature) (place_of : (binding : ℕ)
   -- code of operations that are plain, whose calls give what is told of the functions
   abbrev pub Counted : Coded → Type 0
   Counted done = Unit {0}
-  Counted (perform t op rest) = (is_plain op ≡ true) × Counted rest
-  Counted (choose t op a b rest) = (is_plain op ≡ true) × Counted a × Counted b × Counted rest
+  Counted (perform t op rest) = (is_unsplit op ≡ true) × Counted rest
+  Counted (choose t op a b rest) = (is_unsplit op ≡ true) × Counted a × Counted b × Counted rest
   Counted (while test body step rest) = Counted test × Counted body × Counted step × Counted rest
   Counted (until body test rest) = Counted body × Counted test × Counted rest
-  Counted (quit t op rest) = (is_plain op ≡ true) × Counted rest
+  Counted (quit t op rest) = (is_unsplit op ≡ true) × Counted rest
   Counted (break rest) = Counted rest
   Counted (continue rest) = Counted rest
   Counted (call t op f opening rest) = (pushes op ≡ 0) × (results_of (place_of f) ≡ z.results (functions f).void) × Counted rest
-  Counted (ends t op rest) = (is_plain op ≡ true) × Counted rest
+  Counted (ends t op rest) = (is_unsplit op ≡ true) × Counted rest
   Counted code = ⊥
 
   called : ((f : ℕ) (gives : Bool) → place_of f ≡ Called gives → gives ≡ not (functions f).void)
@@ -74,42 +73,42 @@ module _ (functions : (binding : ℕ) → Signature) (place_of : (binding : ℕ)
       same true = refl
       same false = refl
 
-  pub counted : ((f : ℕ) (gives : Bool) → place_of f ≡ Called gives → gives ≡ not (functions f).void) → (has_body : ℕ → Bool)
+  pub counted : (frame_of : ℕ → Option ℕ) → ((f : ℕ) (gives : Bool) → place_of f ≡ Called gives → gives ≡ not (functions f).void) → (has_body : ℕ → Bool)
       → (code : Coded) (n : ℕ) (i : Bool) (l : Option State) (s e : State)
-      → IsShaped has_body i (numbered n code) → Typed place_of l s (numbered n code) e → AllOf is_plain code → Counted code
-  counted agree has done n i l s e sh ty b = tt
-  counted agree has (perform t op rest) n i l s e sh ty b = (b.0, counted agree has rest (suc n) i l (w.behind op true s) e sh.1 ty.1 b.1)
-  counted agree has (choose t op x y rest) n i l s e sh ty b = (
+      → IsShaped has_body i (numbered n code) → Typed place_of frame_of l s (numbered n code) e → AllOf is_unsplit code → Counted code
+  counted frame_of agree has done n i l s e sh ty b = tt
+  counted frame_of agree has (perform t op rest) n i l s e sh ty b = (b.0, counted frame_of agree has rest (suc n) i l (w.behind op true s) e sh.1 ty.1 b.1)
+  counted frame_of agree has (choose t op x y rest) n i l s e sh ty b = (
     b.0,
-    counted agree has x (suc n) i l (w.behind op true s) ty.1 sh.1 ty.2 b.1,
-    counted agree has y (suc n + size x) i l (w.behind op false s) ty.1 sh.2 ty.3 b.2,
-    counted agree has rest (suc n + size x + size y) i l ty.1 e sh.3 ty.4 b.3,
+    counted frame_of agree has x (suc n) i l (w.behind op true s) ty.1 sh.1 ty.2 b.1,
+    counted frame_of agree has y (suc n + size x) i l (w.behind op false s) ty.1 sh.2 ty.3 b.2,
+    counted frame_of agree has rest (suc n + size x + size y) i l ty.1 e sh.3 ty.4 b.3,
   )
-  counted agree has (while test body step rest) n i l s e sh ty b = (
-    counted agree has test n true (Some ty.0) ty.0 ty.0 sh.2 ty.2 b.0,
-    counted agree has body (n + size test) true (Some ty.0) ty.0 ty.0 sh.3 ty.3 b.1,
-    counted agree has step (n + size test + size body) true (Some ty.0) ty.0 ty.0 sh.4 ty.4 b.2,
-    counted agree has rest (n + size test + size body + size step) i l ty.0 e sh.5 ty.5 b.3,
+  counted frame_of agree has (while test body step rest) n i l s e sh ty b = (
+    counted frame_of agree has test n true (Some ty.0) ty.0 ty.0 sh.2 ty.2 b.0,
+    counted frame_of agree has body (n + size test) true (Some ty.0) ty.0 ty.0 sh.3 ty.3 b.1,
+    counted frame_of agree has step (n + size test + size body) true (Some ty.0) ty.0 ty.0 sh.4 ty.4 b.2,
+    counted frame_of agree has rest (n + size test + size body + size step) i l ty.0 e sh.5 ty.5 b.3,
   )
-  counted agree has (until body test rest) n i l s e sh ty b = (
-    counted agree has body n true (Some ty.0) ty.0 ty.0 sh.1 ty.2 b.0,
-    counted agree has test (n + size body) true (Some ty.0) ty.0 ty.0 sh.2 ty.3 b.1,
-    counted agree has rest (n + size body + size test) i l ty.0 e sh.3 ty.4 b.2,
+  counted frame_of agree has (until body test rest) n i l s e sh ty b = (
+    counted frame_of agree has body n true (Some ty.0) ty.0 ty.0 sh.1 ty.2 b.0,
+    counted frame_of agree has test (n + size body) true (Some ty.0) ty.0 ty.0 sh.2 ty.3 b.1,
+    counted frame_of agree has rest (n + size body + size test) i l ty.0 e sh.3 ty.4 b.2,
   )
-  counted agree has (turn test body step rest) n i l s e sh ty b = absurd sh
-  counted agree has (again test body step rest) n i l s e sh ty b = absurd sh
-  counted agree has (quit t op rest) n i l s e sh ty b = (b.0, counted agree has rest (suc n) i l (w.behind op true s) e sh.2 ty.2 b.1)
-  counted agree has (break rest) n i l s e sh ty b = counted agree has rest n i l s e sh.1 ty.1 b
-  counted agree has (continue rest) n i l s e sh ty b = counted agree has rest n i l s e sh.1 ty.1 b
-  counted agree has (call t op f opening rest) n i l s e sh ty b = (
+  counted frame_of agree has (turn test body step rest) n i l s e sh ty b = absurd sh
+  counted frame_of agree has (again test body step rest) n i l s e sh ty b = absurd sh
+  counted frame_of agree has (quit t op rest) n i l s e sh ty b = (b.0, counted frame_of agree has rest (suc n) i l (w.behind op true s) e sh.2 ty.2 b.1)
+  counted frame_of agree has (break rest) n i l s e sh ty b = counted frame_of agree has rest n i l s e sh.1 ty.1 b
+  counted frame_of agree has (continue rest) n i l s e sh ty b = counted frame_of agree has rest n i l s e sh.1 ty.1 b
+  counted frame_of agree has (call t op f opening rest) n i l s e sh ty b = (
     pushes_none op sh.0,
     called agree f ty.1 ty.2,
-    counted agree has rest (suc n + size opening) i l (w.behind_call (takes op) ty.1 s) e sh.3 ty.4 b.2,
+    counted frame_of agree has rest (suc n + size opening) i l (w.behind_call (takes op) ty.1 s) e sh.3 ty.4 b.2,
   )
-  counted agree has (ends t op rest) n i l s e sh ty b = (b.0, counted agree has rest (suc n) i l (w.behind op true s) e sh.1 ty.2 b.1)
+  counted frame_of agree has (ends t op rest) n i l s e sh ty b = (b.0, counted frame_of agree has rest (suc n) i l (w.behind op true s) e sh.1 ty.2 b.1)
 
   -- where so many values stand as are told of a place, so many stand behind an operation, a call and code as are told
-  pub raised_so : (op : Operation) (onward : Bool) → is_plain op ≡ true → (p : At) {h : ℕ} → h ≡ p.values → raised h op onward ≡ (behind_operation p op).values
+  pub raised_so : (op : Operation) (onward : Bool) → is_unsplit op ≡ true → (p : At) {h : ℕ} → h ≡ p.values → raised h op onward ≡ (behind_operation p op).values
   raised_so op onward e p same = ap (λ k. raised k op onward) same ∙ ap (λ k. p.values - takes op + k) (leaves_so op onward e)
 
   pub called_so : (op : Operation) (f : ℕ) → pushes op ≡ 0 → results_of (place_of f) ≡ z.results (functions f).void → (p : At) {h : ℕ} → h ≡ p.values

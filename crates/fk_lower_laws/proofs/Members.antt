@@ -1,5 +1,5 @@
 -- A member of a struct at a constant address has its words there; and members have types that may be declared.
-use Rattle.std.proofs.Common.{◌≡◌, ℕ, zero, suc, ◌+◌, ◌*◌, ◌%◌, ◌^◌, ◌≤◌, false, Option, Some, None, slice_get, refl, sym, ap, subst, ◌∙◌, arith}
+use Rattle.std.proofs.Common.{◌≡◌, ℕ, zero, suc, ◌+◌, ◌*◌, ◌/◌, ◌%◌, ◌^◌, ◌≤◌, false, List, Option, Some, None, slice_get, refl, sym, ap, subst, ◌∙◌, arith}
 use Rattle.std.specs.Prelude.{is_some, if◌then◌else◌}
 use Rattle.std.specs.Option.{option_map, option_and_then}
 use Rattle.std.proofs.lemmas.List.{length-map}
@@ -28,10 +28,15 @@ use Rattle.fk_types_judgments.specs.Typing.{type_of, struct_of, struct_of_root, 
 use Rattle.fk_meaning_forms.specs.Tables.{note}
 use Rattle.fk_check_laws.proofs.Typed.{Unbroken}
 use Rattle.fk_check_laws.proofs.Notes.{binding_is}
+use Rattle.fk_types_judgments.specs.Term as e
+use Rattle.fk_num.specs.Word.{word}
+use Rattle.fk_lockstep_frames.specs.Nests.{Nest}
+use Rattle.fk_core_typing.specs.declared.constants.Constant.TheVariants.{Number, FrameWord}
+use Rattle.fk_lower_names.proofs.Given.{IsGiven, words_of}
 use Rattle.fk_lower_laws.specs.Typed.{MemberIs}
-use Rattle.fk_lower_laws.proofs.Sizes.{IsSound, first_within, has_sound, member_lies}
+use Rattle.fk_lower_names.proofs.Sizes.{IsSound, first_within, has_sound, one_size, member_lies}
 use Rattle.fk_lower_laws.proofs.Tokens.{IsSoundType}
-use Rattle.fk_lower_laws.proofs.Valid.{IsGiven, about}
+use Rattle.fk_lower_laws.proofs.Valid.{about}
 
 then_some : {X Y : Type 0} (f : X → Option Y) (o : Option X) (y : Y) → option_and_then f o ≡ Some y → (x : X) × (o ≡ Some x) × (f x ≡ Some y)
 then_some f None y h = absurd (cc)
@@ -60,6 +65,9 @@ stored_same x y h = cc
 behind : (address index offset binding : ℕ) → address ≡ 0x10000000 + 4 * index → binding ≡ capped offset → index + offset ≤ 524288
     → (address + (4 * binding) % 2 ^ 32) % 2 ^ 32 ≡ 0x10000000 + 4 * (index + offset)
 behind address index offset binding at same few = omega (arith, at, same, few)
+
+behind_in_frame : (first offset binding : ℕ) → binding ≡ capped offset → offset ≤ 524288 → first + word (4 * binding) / 4 ≡ first + offset
+behind_in_frame first offset binding same few = omega (arith, same, few)
 
 module _ (program : ProgramTree) (facts : Facts) (given : IsGiven program facts) where
   open about program facts given use {env, structs, tables, functions, places, Room, Referred, Noting}
@@ -95,26 +103,65 @@ module _ (program : ProgramTree) (facts : Facts) (given : IsGiven program facts)
       let one : has.type ≡ m.1 = same_Some has.type m.1 (sym has.is ∙ m.4.is) in
       subst (IsSoundType structs) (sym m.3) (λ some. subst (IsSound structs) one has.sound)
 
-  pub member_room : (at : ℕ) (spot : Spot) (before : Term) (name : Named) → Referred (Member at false name)
-      → Noting (record { at = at; type = type_of env before })
-      → MemberIs Room env tables functions places spot before name
-  member_room at spot before name referred noted address type member typed has room =
+  -- where a member lies in a struct with its words
+  record IsIn (type member : DataType) (name : Named) (words : ℕ) : Type 0 where
+    offset : ℕ
+    own : ℕ
+    has : HasTypeWords structs member own
+    some : 1 ≤ own
+    within : offset + own ≤ words
+    binding : (note tables name.at).binding ≡ capped offset
+
+  member_in : (at : ℕ) (spot : Spot) (before : Term) (name : Named) → Referred (Member at false name)
+      → Noting (record { at = at; type = type_of env before }) → (type member : DataType) → type_of env before ≡ Some (Stored type)
+      → type_of env (e.Member spot before name) ≡ Some (Stored member) → (words : ℕ) → HasTypeWords structs type words → IsIn type member name words
+  member_in at spot before name referred noted type member typed has words size =
       let m = member_is (option_and_then struct_of (type_of env before)) name (Stored member) has in
       let index : struct_of (Stored type) ≡ Some m.0 = sym (ap (option_and_then struct_of) typed) ∙ m.2 in
       let x = m.4 in
       let one : m.1 ≡ member = sym (stored_same member m.1 m.3) in
-      let words = subst (λ t. HasTypeWords structs t room.words) (whole_is type m.0 index) room.has in
-      let lies = member_lies structs m.0 x.place x.struct x.declared member room.words x.at x.there (x.is ∙ ap Some one) words in
+      let whole' = subst (λ t. HasTypeWords structs t words) (whole_is type m.0 index) size in
+      let lies = member_lies structs m.0 x.place x.struct x.declared member words x.at x.there (x.is ∙ ap Some one) whole' in
       let low = references_below program given.correct.well_formed (Member at false name) referred in
       let here = subst (λ o. Noting (record { at = at; type = o })) typed noted in
-      let binding = binding_is program facts given.correct name.at (capped lies.offset) low
-      (b.refers (Member at false name) (capped lies.offset) referred refl (b.member at false name (Stored type) m.0 x.place lies.offset here index x.named lies.lies)) in
-      let inner = lies.within in
+      let sound = has_sound structs x.declared x.right in
+      let same : sound.type ≡ member = same_Some sound.type member (sym sound.is ∙ x.is ∙ ap Some one) in
+      let own = words_of program facts given member (subst (IsSound structs) same sound.sound) in
+      record {
+        offset = lies.offset;
+        own = lies.own;
+        has = lies.has;
+        some = subst (λ w. 1 ≤ w) (one_size structs member own.0 lies.own own.1 lies.has) own.2;
+        within = lies.within;
+        binding = binding_is program facts given.correct name.at (capped lies.offset) low
+            (b.refers (Member at false name) (capped lies.offset) referred refl (b.member at false name (Stored type) m.0 x.place lies.offset here index x.named lies.lies));
+      }
+
+  pub member_room : (nests : List Nest) (at : ℕ) (spot : Spot) (before : Term) (name : Named) → Referred (Member at false name)
+      → Noting (record { at = at; type = type_of env before })
+      → MemberIs (Room nests) env tables functions places nests spot before name
+  member_room nests at spot before name referred noted (Number address) type member typed has room =
+      let x = member_in at spot before name referred noted type member typed has room.words room.has in
+      let inner = x.within in
       let outer = room.within in
       record {
-        index = room.index + lies.offset;
-        words = lies.own;
-        is = behind address room.index lies.offset (note tables name.at).binding room.is binding (omega (arith, inner, outer));
-        has = lies.has;
+        index = room.index + x.offset;
+        words = x.own;
+        is = behind address room.index x.offset (note tables name.at).binding room.is x.binding (omega (arith, inner, outer));
+        has = x.has;
         within = omega (arith, inner, outer);
+      }
+  member_room nests at spot before name referred noted (FrameWord nesting first) type member typed has room =
+      let x = member_in at spot before name referred noted type member typed has room.words room.has in
+      let inner = x.within in
+      let few = room.few in
+      let is = behind_in_frame first x.offset (note tables name.at).binding x.binding (omega (arith, inner, few)) in
+      record {
+        words = x.own;
+        region = room.region;
+        has = x.has;
+        some = x.some;
+        few = omega (arith, inner, few);
+        frame = room.frame;
+        within = λ small. (let fits = room.within small in omega (arith, is, inner, fits));
       }

@@ -1,6 +1,6 @@
 -- The code of statements and functions names words that are there, where each name that is used means a declaration with its word.
-use Rattle.std.proofs.Common.{◌≡◌, ℕ, ◌≤◌, Bool, true, false, true≢false, List, [], ◌∷◌, length, Option, Some, None, refl}
-use Rattle.std.specs.Prelude.{◌==◌, if◌then◌else◌}
+use Rattle.std.proofs.Common.{◌≡◌, ℕ, Bool, true, false, true≢false, List, [], ◌∷◌, Option, Some, None, refl}
+use Rattle.std.specs.Prelude.{◌==◌, ◌^◌, ◌<◌, if◌then◌else◌}
 use Rattle.fk_syntax.specs.declared.place.Spot.{Spot}
 use Rattle.fk_syntax.specs.Tree.{Named, Tree}
 use Rattle.fk_syntax.specs.Program as m
@@ -20,14 +20,15 @@ use Rattle.fk_meaning_forms.specs.Expressions.{Coded, nowhere, plain, agreed, Si
 use Rattle.fk_meaning_forms.specs.Statements.{Inside, is_scalar, used_or, value_or, declared, all_declared, part_frame, leaving, tested, looping, left_by, executed, all_executed, end_of, body_of}
 use Rattle.fk_core_flat.specs.Fitting.{Fits, OptionFits, OptionConditionFits, VariablesFit, StatementFits, StatementsFit}
 use Rattle.fk_check_laws.proofs.Each.{Each, front_of, two_of, three_of, four_of}
-use Rattle.fk_lower_laws.specs.Named.{HasWord, IsNamed}
+use Rattle.fk_lower_names.specs.WordRoom.{HasSmallFrames}
+use Rattle.fk_lower_laws.specs.Named.{HasWord, IsNamed, HasParameters}
 use Rattle.fk_lower_laws.proofs.Ok.{names_none, freely, sets, Ok, ended, on, branch, looped, looped_first, quits, broken, continued, left}
 use Rattle.fk_lower_laws.proofs.Forms as e
 
-module _ (tables : Tables) (functions : (binding : ℕ) → Signature) (has_body : (binding : ℕ) → Bool) (firsts words : ℕ)
-    (room : (binding : ℕ) → length (functions binding).parameters ≤ 56) where
+module _ (tables : Tables) (functions : (binding : ℕ) → Signature) (has_body : (binding : ℕ) → Bool) (firsts : ℕ) (all most : ℕ → ℕ) (words : ℕ)
+    (room : (binding : ℕ) → HasParameters (all binding) (most binding) (functions binding).parameters) (small : HasSmallFrames tables) where
   abbrev Fine : Coded → Type 0
-  Fine code = Ok firsts words code
+  Fine code = Ok firsts all most words code
 
   abbrev Keeps : (Coded → Coded) → Type 0
   Keeps f = (rest : Coded) → Fine rest → Fine (f rest)
@@ -44,23 +45,23 @@ module _ (tables : Tables) (functions : (binding : ℕ) → Signature) (has_body
 
   -- of expressions
   does : {op : Operation} {rest : Coded} → names_none op ≡ true → Fine rest → Fine (plain op rest)
-  does is q = e.goes tables functions has_body firsts words room is q
+  does is q = e.goes tables functions has_body firsts all most words room small is q
 
   values : (x : Tree) → Fits tables functions has_body x → Scoped (tree_marks x) → Keeps (value tables functions x)
-  values x fits asks = e.values_kept tables functions has_body firsts words room x fits asks
+  values x fits asks = e.values_kept tables functions has_body firsts all most words room small x fits asks
 
   given_or : (absent : Coded → Coded) → Keeps absent → (x : Option Tree) → OptionFits tables functions has_body x → Scoped (optional_marks x)
       → Keeps (value_or tables functions absent x)
-  given_or absent keeps x fits asks = e.gives_or tables functions has_body firsts words room absent keeps x fits asks
+  given_or absent keeps x fits asks = e.gives_or tables functions has_body firsts all most words room small absent keeps x fits asks
 
   any : (b : Bool) (c d : Coded) → Fine c → Fine d → Fine (if b then c else d)
-  any b c d p q = e.either tables functions has_body firsts words room b c d p q
+  any b c d p q = e.either tables functions has_body firsts all most words room small b c d p q
 
   agreeing : (sync : Bool) → Keeps (agreed sync)
-  agreeing sync rest q = e.agrees tables functions has_body firsts words room sync rest q
+  agreeing sync rest q = e.agrees tables functions has_body firsts all most words room small sync rest q
 
   framed_part : (spot : Spot) (number : ℕ) → Keeps (part_frame tables functions spot number)
-  framed_part spot number code q = e.part_frames tables functions has_body firsts words room spot number code q
+  framed_part spot number code q = e.part_frames tables functions has_body firsts all most words room small spot number code q
 
   -- ---- declarations
 
@@ -74,12 +75,12 @@ module _ (tables : Tables) (functions : (binding : ℕ) → Signature) (has_body
     gives : (code : Coded) → Fine code → Fine (value_or tables functions (plain (o.Push 0)) first code)
     gives code q = given_or (plain (o.Push 0)) (λ rest' q'. does refl q') first fits asks code q
 
-    stores : (home : Home) (i : ℕ) (name : Named) → HasWord tables firsts words home i → Fine rest → Fine (placed tables functions home i name (stored first rest))
-    stores h.Global i name has q = does refl (gives _ (does refl (does refl q)))
-    stores h.FilePrivate i name has q = gives _ (on (sets firsts words (v.OfFile i) has) (does refl q))
-    stores h.Private i name has q = gives _ (on (sets firsts words (v.Private i) has) (does refl q))
-    stores (h.Group r) i name has q = does refl (gives _ (does refl (does refl q)))
-    stores h.NoWord i name has q = gives _ (does refl q)
+    stores : (home : Home) (i : ℕ) (name : Named) → HasWord tables firsts words home i → i < 2 ^ 21 → Fine rest → Fine (placed tables functions home i name (stored first rest))
+    stores h.Global i name has low q = does refl (gives _ (does refl (does refl q)))
+    stores h.FilePrivate i name has low q = gives _ (on (sets firsts words (v.OfFile i) has) (does refl q))
+    stores h.Private i name has low q = gives _ (on (sets firsts words (v.Private i) has) (does refl q))
+    stores (h.Group r) i name has low q = on low (gives _ (does refl (does refl q)))
+    stores h.NoWord i name has low q = gives _ (does refl q)
 
   second : (is : Bool) (c d : Coded) → is ≡ false → Fine d → Fine (if is then c else d)
   second true c d is q = absurd (true≢false is)
@@ -93,7 +94,7 @@ module _ (tables : Tables) (functions : (binding : ℕ) → Signature) (has_body
       by true =
           let b = (note tables x.name.at).binding in
           second (b == no_binding) (predeclared tables functions x.name (stored x.first rest)) (placed tables functions (slot tables b).home (slot tables b).index x.name (stored x.first rest)) asks.0.0
-          (stores x.first fits asks.1 rest (slot tables b).home (slot tables b).index x.name asks.0.1 q)
+          (stores x.first fits asks.1 rest (slot tables b).home (slot tables b).index x.name asks.0.1 (small.places b) q)
 
   all_declare : (xs : List DeclaredTree) → VariablesFit tables functions has_body xs → Scoped (variables_marks xs) → Keeps (all_declared tables functions xs)
   all_declare [] fits asks rest q = q
@@ -145,7 +146,7 @@ module _ (tables : Tables) (functions : (binding : ℕ) → Signature) (has_body
     statement : (i : Inside) (in_loop : Bool) (s : Statement) → StatementFits tables functions has_body in_loop s → Scoped (statement_marks s)
         → Keeps (executed tables functions i s)
     statement i l m.Empty fits asks rest q = q
-    statement i l (m.Expression x) fits asks rest q = e.uses tables functions has_body firsts words room x fits asks rest q
+    statement i l (m.Expression x) fits asks rest q = e.uses tables functions has_body firsts all most words room small x fits asks rest q
     statement i l (m.Block statements) fits asks rest q = all_statements i l statements fits (inside (statements_marks statements) asks) rest q
     statement i l (m.Declare variables) fits asks rest q = all_declare variables fits asks rest q
     statement i l (m.If spot condition first) fits asks rest q =
@@ -186,10 +187,10 @@ module _ (tables : Tables) (functions : (binding : ℕ) → Signature) (has_body
         let ms = four_of Is (optional_marks before) (optional_marks condition) (optional_marks after) (scope (statement_marks body)) asks in
         let runs = statement i true body fits.3 (inside (statement_marks body) ms.3) in
         let loop = c.while (tested tables functions spot condition) (executed tables functions i body done) (used_or tables functions after done) in
-        e.uses_or tables functions has_body firsts words room before fits.0 ms.0 (looping tables functions spot loop rest)
+        e.uses_or tables functions has_body firsts all most words room small before fits.0 ms.0 (looping tables functions spot loop rest)
         (loops spot loop
         (λ rest' q'. looped (tests spot condition (condition_fits condition fits.1) ms.1) (runs done ended)
-        (e.uses_or tables functions has_body firsts words room after fits.2 ms.2 done ended) q') rest q)
+        (e.uses_or tables functions has_body firsts all most words room small after fits.2 ms.2 done ended) q') rest q)
     statement i l (m.Start spot count body) fits asks rest q =
         let ms = two_of Is (optional_marks count) (scope (statement_marks body)) asks in
         let run = executed tables functions i body in

@@ -26,6 +26,8 @@ use Rattle.fk_meaning_forms.specs.Program.{functions_of, with_body, is_main}
 use Rattle.fk_layout_slots.specs.Told.{Told}
 use Rattle.fk_layout_slots.specs.Places.{none_taken}
 use Rattle.fk_layout_slots.specs.Slots.{item_slots, items_slots, behind_item}
+use Rattle.std.proofs.Math.Nat.{le-max_left}
+use Rattle.fk_layout_sizes.specs.Places.{filling}
 use Rattle.fk_layout.specs.Frames.{file_privates, values_of, nesting_of, private_words}
 use Rattle.fk_layout.specs.Layout.{told_by}
 use Rattle.fk_layout.specs.Refusal.{Fits}
@@ -42,8 +44,8 @@ use Rattle.fk_lower_laws.proofs.Firsts.{small}
 use Rattle.fk_lower_laws.specs.Room.{own_words}
 use Rattle.fk_lower_laws.specs.Named.{HasWord, IsBound, HasItsWord, IsNamed, AreNamed, FunctionNames, FunctionsName}
 use Rattle.fk_lower_laws.proofs.Slots.{IsBelow, Below, own_slots}
-use Rattle.fk_lower_laws.proofs.Outer.{front_get, in_middle, as_many, IsOfFile, OfFile, outer_items}
-use Rattle.fk_lower_laws.proofs.Referring.{IsReferred, all_referred}
+use Rattle.fk_lower_names.proofs.Outer.{front_get, in_middle, as_many, IsOfFile, OfFile, outer_items}
+use Rattle.fk_lower_names.proofs.Referring.{IsReferred, all_referred}
 
 module _ (program : ProgramTree) (facts : Facts) (valid : IsCorrect program facts) (trim : ItemsAreTrim program.items)
     (fits : Fits (tables program facts valid) program.items) where
@@ -196,7 +198,7 @@ module _ (program : ProgramTree) (facts : Facts) (valid : IsCorrect program fact
       → let f : FunctionTree = record { mode = mode; result = result; name = name; parameters = parameters; body = body } in
       (file : _) (pre post : List MarkTree) (spre spost : List Slot) → length spre ≡ length (declared_in pre) → IsLevel pre
       → marks ≡ pre ++ (function_marks f ++ post) → T.slots ≡ spre ++ (item_slots told file (FunctionItem f) ++ spost)
-      → IsSmall f → Each (IsReferred program trim) (function_marks f) → FunctionNames T firsts (own_words T program.items f) f
+      → IsSmall f → Each (IsReferred program trim) (function_marks f) → FunctionNames T firsts (own_words T program.items f) (values_of T program.items f) f
   function_by mode result name parameters None some file pre post spre spost first level marks_are slots_are few refers = absurd (false≢true some)
   function_by mode result name parameters (Some body) some file pre post spre spost first level marks_are slots_are few refers =
       let f : FunctionTree = record { mode = mode; result = result; name = name; parameters = parameters; body = Some body } in
@@ -206,7 +208,11 @@ module _ (program : ProgramTree) (facts : Facts) (valid : IsCorrect program fact
       let own = own_slots told file parameters body (omega (arith, low)) in
       let inner = variables_marks parameters ++ body_marks (Some body) in
       record {
-        room = (let count = own.1 in omega (arith, count, low));
+        room = record {
+          few = (let count = own.1 in omega (arith, count, low));
+          own = own.1;
+          values = le-max_left (filling parameters) _;
+        };
         names = all_named words pre (function_marks f) post spre (item_slots told file item) spost first (as_many told file item) level (tt, own.0) marks_are slots_are
             inner 2 (λ k x is. let sum : 2 + k ≡ suc (suc k) = omega arith in ap (slice_get (function_marks f)) sum ∙ front_get inner (Closes ∷ []) k (slice_get_within inner k x is) ∙ is)
             (front_of (IsReferred program trim) inner (Closes ∷ []) refers.1.1);
@@ -214,7 +220,7 @@ module _ (program : ProgramTree) (facts : Facts) (valid : IsCorrect program fact
 
   all_functions : (xs : List ItemTree) (file : _) (pre : List MarkTree) (spre : List Slot) → length spre ≡ length (declared_in pre) → IsLevel pre
       → marks ≡ pre ++ items_marks xs → T.slots ≡ spre ++ items_slots told file xs → Each (IsReferred program trim) (items_marks xs)
-      → Each IsSmall (functions_of xs) → FunctionsName T (own_words T program.items) firsts (functions_of xs)
+      → Each IsSmall (functions_of xs) → FunctionsName T (own_words T program.items) (values_of T program.items) firsts (functions_of xs)
   all_functions [] file pre spre first level ms ss refers few = tt
   all_functions (StructItem name members ∷ xs) file pre spre first level ms ss refers few = all_functions xs file pre spre first level ms ss refers few
   all_functions (VariablesItem variables ∷ xs) file pre spre first level ms ss refers few =
@@ -230,8 +236,8 @@ module _ (program : ProgramTree) (facts : Facts) (valid : IsCorrect program fact
       (ss ∙ sym (append_assoc spre (item_slots told file x) (items_slots told (behind_item told file x) xs))) (rest_of (IsReferred program trim) (item_marks x) (items_marks xs) refers) few')
     where
       by : (o : Option Statements) → f.body ≡ o → Each IsSmall (with_body f o (functions_of xs))
-          → (Each IsSmall (functions_of xs) → FunctionsName T (own_words T program.items) firsts (functions_of xs))
-          → FunctionsName T (own_words T program.items) firsts (with_body f o (functions_of xs))
+          → (Each IsSmall (functions_of xs) → FunctionsName T (own_words T program.items) (values_of T program.items) firsts (functions_of xs))
+          → FunctionsName T (own_words T program.items) (values_of T program.items) firsts (with_body f o (functions_of xs))
       by None has few' others = others few'
       by (Some body) has few' others = (
         function_by f.mode f.result f.name f.parameters f.body (subst IsSome (sym has) refl) file pre (items_marks xs) spre (items_slots told (behind_item told file (FunctionItem f)) xs) first level ms ss few'.0
@@ -239,7 +245,7 @@ module _ (program : ProgramTree) (facts : Facts) (valid : IsCorrect program fact
         others few'.1,
       )
 
-  pub functions_name : FunctionsName T (own_words T program.items) firsts (functions_of program.items)
+  pub functions_name : FunctionsName T (own_words T program.items) (values_of T program.items) firsts (functions_of program.items)
   functions_name =
       all_functions program.items none_taken [] [] refl (record { even = refl }) refl refl (all_referred program trim)
       (small T program.items (functions_of program.items) fits.frames)

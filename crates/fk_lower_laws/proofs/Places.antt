@@ -22,10 +22,10 @@ use Rattle.fk_check_laws.proofs.Each.{Each, each}
 use Rattle.fk_check_laws.proofs.Notes.{tables, nth_at}
 use Rattle.fk_check_laws.proofs.Declared.{Beside, beside_at, Declared, MayHaveHome, IsWholeItem, item_homes, item_length}
 use Rattle.fk_check_laws.proofs.Homes.{back_get}
-use Rattle.fk_lower_laws.proofs.Regions.{join}
-use Rattle.fk_lower_laws.proofs.Walk.{Joins, of_body, of_header}
-use Rattle.fk_lower_laws.proofs.WordRoom.{total_words}
-use Rattle.fk_lower_laws.proofs.WordSlots.{words_of, all_words, file_words}
+use Rattle.fk_lower_names.proofs.Regions.{join}
+use Rattle.fk_lower_names.proofs.Walk.{Joins, of_body, of_header}
+use Rattle.fk_lower_names.proofs.WordRoom.{total_words}
+use Rattle.fk_lower_names.proofs.WordSlots.{words_of, all_words, file_words}
 
 -- ---- slots beside declarations
 

@@ -26,8 +26,8 @@ use Rattle.fk_check_laws.specs.Correct.{IsCorrect}
 use Rattle.fk_check_laws.proofs.Each.{Each, front_of, rest_of, one_of}
 use Rattle.fk_check_laws.proofs.Typed.{Unbroken}
 use Rattle.fk_check_laws.proofs.Named.{env, unbroken_pieces}
-use Rattle.fk_lower_laws.proofs.Regions.{join}
-use Rattle.fk_lower_laws.specs.Proper.{AreWithoutLengths, ItemsAreProper}
+use Rattle.fk_lower_names.proofs.Regions.{join}
+use Rattle.fk_lower_names.specs.Proper.{AreWithoutLengths, ItemsAreProper}
 
 abbrev pub IsScalar : DeclaredTree → Type 0
 IsScalar x = x.shared ≡ false → (x.length ≡ None) × (is_struct x.kind ≡ false)

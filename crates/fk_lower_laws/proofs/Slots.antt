@@ -10,8 +10,8 @@ use Rattle.fk_layout_slots.specs.Places.{none_taken, within, behind_private, beh
 use Rattle.fk_layout_slots.specs.Slots.{taken_first, at_end, body_slots}
 use Rattle.fk_layout_slots.proofs.Alike.{same_privates}
 use Rattle.fk_check_laws.proofs.Each.{Each, each_map}
-use Rattle.fk_lower_laws.proofs.Regions.{join}
-use Rattle.fk_lower_laws.proofs.Walk.{Joins, of_statements, of_body}
+use Rattle.fk_lower_names.proofs.Regions.{join}
+use Rattle.fk_lower_names.proofs.Walk.{Joins, of_statements, of_body}
 
 -- a word of a function is below this number. No variable of a function lies in the file's words
 abbrev pub IsBelow : (count : ℕ) → Home → (index : ℕ) → Type 0

@@ -25,40 +25,43 @@ use Rattle.fk_sim_block.specs.Next.{OpAt}
 use Rattle.fk_sim_block.specs.Stands.{Frames, HasRoom, ahead}
 use Rattle.fk_sim_block.specs.Suits as b
 use Rattle.fk_sim_block.specs.Suits.{writes, nothing, Flows}
-use Rattle.fk_core_typing.specs.Values.{bare, behind}
+use Rattle.fk_core_typing.specs.Values.{Place, with_frame, entered, bare, behind, MayBeIn}
 use Rattle.fk_core_typing.specs.Heights.{raised, HasHeights}
 use Rattle.fk_core_typing.specs.Laws.{IsTypedList, HasHeightsOf}
 use Rattle.fk_core_typing.proofs.Rising.{rises}
 use Rattle.fk_core_typing.proofs.System.{System, Judged, IsLawful}
 use Rattle.fk_core_typing.proofs.Sound.{Comes, IsSound}
 use Rattle.fk_core_typing.proofs.Valued.{same_ways}
-use Rattle.fk_core_typing.proofs.Knowing.{label_done}
+use Rattle.fk_core_typing.proofs.Knowing.{label_done, same_function}
 use Rattle.fk_core_typing.proofs.Listed.{state, at_end, entries, of_jump, of_operation, goes_on}
 use Rattle.fk_lower_laws.specs.Rooms.{HasWord, ahead_in, HaveRoom}
 use Rattle.fk_lower_laws.specs.Suiting.{LiveWordsSuit}
-use Rattle.fk_lower_laws.proofs.Sized.{Sized, sized, sizing, sizing_lawful, all_sized}
+use Rattle.fk_lower_laws.specs.Unsplit.{is_unsplit, AllOf}
+use Rattle.fk_lower_laws.proofs.Shallow.{IsShallow, number_if, frame_told, takes_frame, told_named, told_taken, told_own, told_before}
+use Rattle.fk_lower_laws.proofs.Sized.{Sized, sized, granted, sizing, sizing_lawful, all_sized}
 use Rattle.fk_lower_laws.proofs.Living.{behind_either, kept_before, read_before, jump_before}
 
-module _ (bodies : ℕ → Code ℕ) (core : List CoreOp) (entry : ℕ → ℕ) (place_of : ℕ → FunctionKind) (firsts : ℕ)
-    (typed : IsTypedList bodies core entry place_of) (tall : HasHeightsOf bodies core place_of) (fit : HaveRoom bodies place_of firsts) where
+module _ (bodies : ℕ → Code ℕ) (core : List CoreOp) (entry : ℕ → ℕ) (place_of : ℕ → FunctionKind) (frame_of : ℕ → Option ℕ) (firsts : ℕ)
+    (typed : IsTypedList bodies core entry place_of frame_of) (tall : HasHeightsOf bodies core place_of) (fit : HaveRoom bodies place_of firsts)
+    (unsplit : (f : ℕ) → AllOf is_unsplit (bodies f)) where
   abbrev sys : System
-  sys = sizing firsts place_of fit.words fit.most
+  sys = sizing firsts place_of frame_of fit.words fit.most
 
   abbrev lawful : IsLawful sys place_of
-  lawful = sizing_lawful firsts place_of fit.words fit.most
+  lawful = sizing_lawful firsts place_of frame_of fit.words fit.most
 
   judged : (f : ℕ) → (end : Sized) × Judged sys None (sys.first f) (bodies f) end
   judged f = (
     sized (typed.typed f).0 (fit.words f) (fit.most f),
-    all_sized firsts place_of fit.words fit.most (fit.words f) (fit.most f) (λ g. is_closed (bodies g)) (bodies f) false None None
-        (bare (place_of f)) (typed.typed f).0 (typed.shaped f).0 tt (fit.room f) (typed.typed f).1 (fit.own f) (fit.few f),
+    all_sized firsts place_of frame_of fit.words fit.most fit.room (fit.words f) (fit.most f) (λ g. is_closed (bodies g)) (bodies f) false None None
+        (bare (with_frame (place_of f) (frame_of f))) (typed.typed f).0 (typed.shaped f).0 tt (fit.room f) (unsplit f) tt (typed.typed f).1 (fit.own f) (fit.few f),
   )
 
   abbrev bare_main : Sized
-  bare_main = sized (bare Main) 0 0
+  bare_main = sized (bare (entered Main)) 0 0
 
   abbrev at : ℕ → Sized
-  at = state bodies core entry place_of typed sys lawful judged bare_main
+  at = state bodies core entry place_of frame_of typed sys lawful judged bare_main
 
   heights : true ≡ true → (f : ℕ) → HasHeights place_of tall.depth 0 (bodies f)
   heights z = tall.heights
@@ -77,12 +80,12 @@ module _ (bodies : ℕ → Code ℕ) (core : List CoreOp) (entry : ℕ → ℕ) 
   same op s way e f = ap (λ x. sized x s.words s.most) (same_ways op s.state way e f)
 
   sound_at : (i : ℕ) (op : CoreOp) (operation : Operation) → OpAt core i op operation → Sounds i op.site operation op.target
-  sound_at i op operation stands = of_operation bodies core entry place_of typed sys lawful judged bare_main true tall.depth heights i op operation stands.stands stands.is_read
+  sound_at i op operation stands = of_operation bodies core entry place_of frame_of typed sys lawful judged bare_main true tall.depth heights i op operation stands.stands stands.is_read
 
   onto : (op : Operation) (i m target : ℕ) → is_ordinary op ≡ true → Sounds i m op target → (onward : Bool)
       → ComesTo (sys.behind op onward (at i)) (follows core op i target [] onward).at
   onto op i m target r s onward =
-      goes_on bodies core entry place_of typed sys lawful judged bare_main true tall.depth heights op (at i) i target (way_of op) refl r (same op (at i)) s.goes onward
+      goes_on bodies core entry place_of frame_of typed sys lawful judged bare_main true tall.depth heights op (at i) i target (way_of op) refl r (same op (at i)) s.goes onward
 
   -- where a call is entered, where it goes on behind it
   record Called' (arguments i : ℕ) : Type 0 where
@@ -147,7 +150,7 @@ module _ (bodies : ℕ → Code ℕ) (core : List CoreOp) (entry : ℕ → ℕ) 
       by_jump : (op : CoreOp) (b : Bool) → slice_get core i ≡ Some op → is_jump op ≡ b
           → (if b then own op.target word else asked_by core own (operation_of op.kind op.number) i op.target word) ≡ true → own i word ≡ true
       by_jump op true s j e =
-          transported (at i) i op.target word refl (of_jump bodies core entry place_of typed sys lawful judged bare_main true tall.depth heights i op s j) e
+          transported (at i) i op.target word refl (of_jump bodies core entry place_of frame_of typed sys lawful judged bare_main true tall.depth heights i op s j) e
       by_jump op false s j e = by_operation op (operation_of op.kind op.number) s j refl e
 
       by_op : (op : Option CoreOp) → slice_get core i ≡ op → asked_of core own op i word ≡ true → own i word ≡ true
@@ -156,7 +159,16 @@ module _ (bodies : ℕ → Code ℕ) (core : List CoreOp) (entry : ℕ → ℕ) 
 
   module _ (keeps : (index word : ℕ) → Bool) (live : IsLive core keeps) (least : IsLeast core keeps) where
     abbrev frames : Frames
-    frames = record { keeps = keeps; is_main = λ index. is_main_place (at index).state.place; of_file = firsts }
+    frames = record {
+      keeps = keeps;
+      is_main = λ index. is_main_place (at index).state.place.function;
+      group = λ index. frame_told (at index).state.place.nests;
+      of_file = firsts;
+    }
+
+    -- where a call goes on, the frame is told that is told in the state in which it comes there
+    told_there : (s : Sized) (j number : ℕ) → ComesTo s j → frame_told (at j).state.place.nests ≡ Some number → frame_told s.state.place.nests ≡ Some number
+    told_there s j number c e = subst (λ (p : Place). frame_told p.nests ≡ Some number) (sym c.grants.state.place) e
 
     ahead_is : (place : FunctionKind) → ahead frames (is_main_place place) ≡ ahead_in firsts place
     ahead_is Main = refl
@@ -166,15 +178,20 @@ module _ (bodies : ℕ → Code ℕ) (core : List CoreOp) (entry : ℕ → ℕ) 
     few : (i word : ℕ) → keeps i word ≡ true → word < (at i).words
     few i word k = ltb-true word (at i).words (least own own_live i word k)
 
-    flows : (s : Sized) (written : (word : ℕ) → Bool) (i j : ℕ) → s.state.place ≡ (at i).state.place
-        → ((word : ℕ) → keeps j word ≡ true → written word ≡ false → keeps i word ≡ true) → ComesTo s j → Flows core frames written i j
-    flows s written i j p h c = record { main = ap is_main_place (sym c.grants.state.place ∙ p); kept = h }
+    flows : (s : Sized) (written : (word : ℕ) → Bool) (i j : ℕ) → s.state.place.function ≡ (at i).state.place.function
+        → ((word : ℕ) → keeps j word ≡ true → written word ≡ false → keeps i word ≡ true)
+        → ((number : ℕ) → frame_told s.state.place.nests ≡ Some number → frame_told (at i).state.place.nests ≡ Some number) → ComesTo s j → Flows core frames written i j
+    flows s written i j p h g c = record {
+      main = ap is_main_place (sym (granted s.state (at j).state c.grants.state) ∙ p);
+      kept = h;
+      group = λ number e. g number (told_there s j number c e);
+    }
 
     -- there is room for one value more, as behind each call
-    room_at : (i j depth : ℕ) → ahead_in firsts (at i).state.place + 8 + (at i).words + (at i).most ≤ 64
-        → (at j).words ≡ (at i).words → (at j).state.place ≡ (at i).state.place → depth ≤ suc (at i).most → HasRoom frames j depth
+    room_at : (i j depth : ℕ) → ahead_in firsts (at i).state.place.function + 8 + (at i).words + (at i).most ≤ 64
+        → (at j).words ≡ (at i).words → (at j).state.place.function ≡ (at i).state.place.function → depth ≤ suc (at i).most → HasRoom frames j depth
     room_at i j depth room words place low =
-        let a : ahead frames (is_main_place (at j).state.place) ≡ ahead_in firsts (at i).state.place = ahead_is (at j).state.place ∙ ap (ahead_in firsts) place in
+        let a : ahead frames (is_main_place (at j).state.place.function) ≡ ahead_in firsts (at i).state.place.function = ahead_is (at j).state.place.function ∙ ap (ahead_in firsts) place in
         record {
           header = omega (arith, a, room, low);
           kept = λ word k. (let f = few j word k in omega (arith, a, room, low, f, words));
@@ -189,48 +206,64 @@ module _ (bodies : ℕ → Code ℕ) (core : List CoreOp) (entry : ℕ → ℕ) 
     grown : (op : Operation) (i : ℕ) → length (behind op true (at i).state).values ≤ (at i).most → raised (count i) op true ≤ (at i).most
     grown op i a = let e = rises op true (at i).state in omega (arith, e, a)
 
-    there : (known : OwnValue) (i : ℕ) (op : CoreOp) → OpAt core i op (o.Get known) → HasWord firsts (at i).words (o.Get known)
-        → ahead_in firsts (at i).state.place + 8 + (at i).words + (at i).most ≤ 64 → b.IsThere core frames known i
-    there (n.Value (v.Private word)) i op stands h room =
+    there : (known : OwnValue) (i : ℕ) (op : CoreOp) → OpAt core i op (o.Get known) → MayBeIn (o.Get known) (at i).state.place → IsShallow (at i).state.place.nests
+        → HasWord firsts (at i).words (o.Get known) → ahead_in firsts (at i).state.place.function + 8 + (at i).words + (at i).most ≤ 64 → b.IsThere core frames known i
+    there (n.Value (v.Private word)) i op stands may deep h room =
         let low : word < (at i).words = h in read_before core keeps live i op word stands (omega (arith, low, room))
-    there (n.Value (v.OfFile word)) i op stands h room = h
-    there known i op stands h room = tt
+    there (n.Value (v.OfFile word)) i op stands may deep h room = h
+    there (n.FrameAddress number word) i op stands may deep h room = (told_named (at i).state.place.nests deep number word may, h)
+    there known i op stands may deep h room = tt
 
     place : (operation : Operation) (i : ℕ) (op : CoreOp) → OpAt core i op operation → Sounds i op.site operation op.target → b.HasPlace core frames operation i (count i)
     place (o.Push x) i op stands s = has_room i op.site (o.Push x) op.target (suc (count i)) s (let a = grown (o.Push x) i s.may.roomy in omega (arith, a))
     place o.CopyLast i op stands s = has_room i op.site o.CopyLast op.target (suc (count i)) s (let a = grown o.CopyLast i s.may.roomy in omega (arith, a))
     place (o.Get known) i op stands s =
-        (there known i op stands s.may.there s.may.room, has_room i op.site (o.Get known) op.target (suc (count i)) s (let a = grown (o.Get known) i s.may.roomy in omega (arith, a)))
+        (there known i op stands s.may.may.place s.may.shallow s.may.there s.may.room, has_room i op.site (o.Get known) op.target (suc (count i)) s (let a = grown (o.Get known) i s.may.roomy in omega (arith, a)))
     place (o.Set (v.Private word)) i op stands s =
-        let a = ahead_is (at i).state.place in
+        let a = ahead_is (at i).state.place.function in
         let r = s.may.room in
         let l = s.may.low in
         let t : word < (at i).words = s.may.there in
         omega (arith, a, r, l, t)
     place (o.Set (v.OfFile word)) i op stands s = s.may.there
+    place (o.Leave gives true) i op stands s = subst (λ (p : Place). frame_told p.nests ≡ Some 0) (sym s.goes.1) (told_own s.goes.0 s.goes.2)
+    place (o.Frame number words) i op stands s = s.may.there
     place operation i op stands s = tt
 
-    ordinary : (op : Operation) (i target : ℕ) → is_ordinary op ≡ true
+    ordinary : (op : Operation) (i target : ℕ) → is_ordinary op ≡ true → takes_frame op ≡ false
         → ((onward : Bool) → Flows core frames (writes op) i (follows core op i target [] onward).at)
         → b.GoesOn core frames op i target (count i)
-    ordinary (o.Enter x) i target r h = absurd (cc)
-    ordinary (o.Leave gives framed) i target r h = absurd (cc)
-    ordinary o.Halt i target r h = absurd (cc)
-    ordinary op i target r h = h
+    ordinary (o.Enter x) i target r f h = absurd (cc)
+    ordinary (o.Leave gives framed) i target r f h = absurd (cc)
+    ordinary o.Halt i target r f h = absurd (cc)
+    ordinary (o.Frame number words) i target r f h = absurd (cc)
+    ordinary op i target r f h = h
 
-    by_ordinary : (operation : Operation) (i : ℕ) (op : CoreOp) → OpAt core i op operation → is_ordinary operation ≡ true → Sounds i op.site operation op.target
+    by_ordinary : (operation : Operation) (i : ℕ) (op : CoreOp) → OpAt core i op operation → is_ordinary operation ≡ true → takes_frame operation ≡ false → Sounds i op.site operation op.target
         → b.GoesOn core frames operation i op.target (count i)
-    by_ordinary operation i op stands r s =
-        ordinary operation i op.target r (λ onward. flows (sys.behind operation onward (at i)) (writes operation) i (follows core operation i op.target [] onward).at refl
+    by_ordinary operation i op stands r f s =
+        ordinary operation i op.target r f (λ onward. flows (sys.behind operation onward (at i)) (writes operation) i (follows core operation i op.target [] onward).at (same_function operation onward (at i).state.place)
         (λ word k u. kept_before core keeps live i op operation stands word (behind_either core keeps operation i op.target word r onward k) u)
+        (λ number e. told_before operation s.may.unsplit f onward (at i).state.place s.may.may.place s.may.shallow number e)
         (onto operation i op.site op.target r s onward))
+
+    takes : (number words i : ℕ) (op : CoreOp) → OpAt core i op (o.Frame number words) → Sounds i op.site (o.Frame number words) op.target → b.TakesFrame core frames number i (suc i)
+    takes number words i op stands s =
+        let operation = o.Frame number words in
+        let c : ComesTo (sys.behind operation true (at i)) (suc i) = onto operation i op.site op.target refl s true in
+        record {
+          main = ap is_main_place (sym (granted (behind operation true (at i).state) (at (suc i)).state c.grants.state) ∙ same_function operation true (at i).state.place);
+          kept = λ word k. kept_before core keeps live i op operation stands word (behind_either core keeps operation i op.target word refl true k) refl;
+          group = λ told e. told_taken number words (at i).state.place.nests s.may.may.place told (told_there (sys.behind operation true (at i)) (suc i) told c e);
+        }
 
     calls : (arguments i : ℕ) (op : CoreOp) → OpAt core i op (o.Enter arguments) → Sounds i op.site (o.Enter arguments) op.target → b.Calls core frames arguments i (count i)
     calls arguments i op stands s =
         let c = called arguments i op.site op.target s in
         record {
           few = c.few;
-          inside = ap is_main_place (sym c.begins.grants.state.place);
+          inside = ap is_main_place (sym (granted _ _ c.begins.grants.state));
+          none = ap (λ (p : Place). frame_told p.nests) (sym c.begins.grants.state.place);
           kept = λ word k. (
               let below = few (suc i) word k in
               let same : fit.words c.function ≡ (at (suc i)).words = c.begins.grants.words in
@@ -238,16 +271,17 @@ module _ (bodies : ℕ → Code ℕ) (core : List CoreOp) (entry : ℕ → ℕ) 
               omega (arith, below, same, room)
               );
           back = flows (sys.behind_call (o.Enter arguments) c.gives (at i)) nothing i (behind_jump core (suc i)) refl
-              (λ word k u. kept_before core keeps live i op (o.Enter arguments) stands word k refl) c.on;
+              (λ word k u. kept_before core keeps live i op (o.Enter arguments) stands word k refl) (λ number e. e) c.on;
           room = room_at i (behind_jump core (suc i)) (suc (count i - arguments)) s.may.room (sym c.on.grants.words)
-              (sym c.on.grants.state.place) (let a = s.may.low in omega (arith, a));
+              (sym (granted _ _ c.on.grants.state)) (let a = s.may.low in omega (arith, a));
         }
 
     goes : (operation : Operation) (i : ℕ) (op : CoreOp) → OpAt core i op operation → Sounds i op.site operation op.target → b.GoesOn core frames operation i op.target (count i)
     goes (o.Enter arguments) i op stands s = calls arguments i op stands s
-    goes (o.Leave gives framed) i op stands s = ap is_main_place s.goes
-    goes o.Halt i op stands s = ap is_main_place s.goes
-    goes operation i op stands s = by_ordinary operation i op stands refl s
+    goes (o.Leave gives framed) i op stands s = ap (λ (p : Place). is_main_place p.function) s.goes.1
+    goes o.Halt i op stands s = ap (λ (p : Place). is_main_place p.function) s.goes
+    goes (o.Frame number words) i op stands s = takes number words i op stands s
+    goes operation i op stands s = by_ordinary operation i op stands refl refl s
 
     fits : (i : ℕ) (op : CoreOp) (operation : Operation) → OpAt core i op operation → b.Fits core frames i op operation
     fits i op operation stands =
@@ -263,15 +297,23 @@ module _ (bodies : ℕ → Code ℕ) (core : List CoreOp) (entry : ℕ → ℕ) 
 
     jumps : (i : ℕ) (op : CoreOp) → slice_get core i ≡ Some op → is_jump op ≡ true → Flows core frames nothing i op.target
     jumps i op e z =
-        flows (at i) nothing i op.target refl (λ word k u. jump_before core keeps live i op e z word k)
-        (of_jump bodies core entry place_of typed sys lawful judged bare_main true tall.depth heights i op e z)
+        flows (at i) nothing i op.target refl (λ word k u. jump_before core keeps live i op e z word k) (λ number h. h)
+        (of_jump bodies core entry place_of frame_of typed sys lawful judged bare_main true tall.depth heights i op e z)
 
     begins : (main : ℕ) → place_of main ≡ Main → (is_done (bodies main) ≡ true) ⊎ (is_closed (bodies main) ≡ true) → frames.is_main (entry main) ≡ true
     begins main is (inl d) =
-        ap (λ i. is_main_place (at i).state.place) (typed.flat.begins main ∙ label_done (bodies main) None (typed.flat.place main) (length core) d)
-        ∙ ap (λ (s : Sized). is_main_place s.state.place) (at_end bodies core entry place_of typed sys lawful judged bare_main)
+        ap (λ i. is_main_place (at i).state.place.function) (typed.flat.begins main ∙ label_done (bodies main) None (typed.flat.place main) (length core) d)
+        ∙ ap (λ (s : Sized). is_main_place s.state.place.function) (at_end bodies core entry place_of frame_of typed sys lawful judged bare_main)
     begins main is (inr c) =
-        ap is_main_place (sym (entries bodies core entry place_of typed sys lawful judged bare_main true tall.depth heights main c).grants.state.place ∙ is)
+        ap is_main_place (sym (granted _ _ (entries bodies core entry place_of frame_of typed sys lawful judged bare_main true tall.depth heights main c).grants.state) ∙ is)
+
+    untold : (main : ℕ) → frame_of main ≡ None → (is_done (bodies main) ≡ true) ⊎ (is_closed (bodies main) ≡ true) → frames.group (entry main) ≡ None
+    untold main none (inl d) =
+        ap (λ i. frame_told (at i).state.place.nests) (typed.flat.begins main ∙ label_done (bodies main) None (typed.flat.place main) (length core) d)
+        ∙ ap (λ (s : Sized). frame_told s.state.place.nests) (at_end bodies core entry place_of frame_of typed sys lawful judged bare_main)
+    untold main none (inr c) =
+        ap (λ (p : Place). frame_told p.nests) (sym (entries bodies core entry place_of frame_of typed sys lawful judged bare_main true tall.depth heights main c).grants.state.place)
+        ∙ ap (λ frame. number_if frame 0) none
 
     few_firsts : (main : ℕ) → place_of main ≡ Main → firsts ≤ 56
     few_firsts main is =
@@ -280,12 +322,14 @@ module _ (bodies : ℕ → Code ℕ) (core : List CoreOp) (entry : ℕ → ℕ) 
         omega (arith, a, e)
 
 pub live_words_suit : LiveWordsSuit
-live_words_suit bodies core entry place_of firsts typed tall fit keeps live least main is = (
-  λ index. is_main_place (at bodies core entry place_of firsts typed tall fit index).state.place,
+live_words_suit bodies core entry place_of frame_of firsts typed tall fit unsplit keeps live least main is none = (
+  λ index. is_main_place (at bodies core entry place_of frame_of firsts typed tall fit unsplit index).state.place.function,
+  λ index. frame_told (at bodies core entry place_of frame_of firsts typed tall fit unsplit index).state.place.nests,
   record {
-    begins = begins bodies core entry place_of firsts typed tall fit keeps live least main is (typed.shaped main).1;
-    few = few_firsts bodies core entry place_of firsts typed tall fit keeps live least main is;
-    jumps = jumps bodies core entry place_of firsts typed tall fit keeps live least;
-    fits = fits bodies core entry place_of firsts typed tall fit keeps live least;
+    begins = begins bodies core entry place_of frame_of firsts typed tall fit unsplit keeps live least main is (typed.shaped main).1;
+    none = untold bodies core entry place_of frame_of firsts typed tall fit unsplit keeps live least main none (typed.shaped main).1;
+    few = few_firsts bodies core entry place_of frame_of firsts typed tall fit unsplit keeps live least main is;
+    jumps = jumps bodies core entry place_of frame_of firsts typed tall fit unsplit keeps live least;
+    fits = fits bodies core entry place_of frame_of firsts typed tall fit unsplit keeps live least;
   },
 )

@@ -1,7 +1,7 @@
 -- The code of expressions is well typed before code that is.
 use Rattle.std.proofs.Common.{◌≡◌, ℕ, zero, suc, ◌+◌, ◌≤◌, Bool, true, false, List, [], ◌∷◌, ◌++◌, length, drop, replicate, Option, Some, None, refl, sym, subst, ap, ◌∙◌, arith}
-use Rattle.std.specs.Prelude.{◌==◌, ◌*◌, ◌||◌, not, codes, if◌then◌else◌}
-use Rattle.std.proofs.lemmas.Bool.{false≢true}
+use Rattle.std.specs.Prelude.{◌==◌, ◌*◌, ◌/◌, ◌%◌, ◌||◌, not, codes, if◌then◌else◌}
+use Rattle.std.proofs.lemmas.Bool.{false≢true, eq-eqb}
 use Rattle.fk_num.specs.declared.operator.Op.TheVariants as f
 use Rattle.fk_core_typing.specs.LocalDepths.{results}
 use Rattle.fk_syntax.specs.declared.place.Place as y
@@ -25,21 +25,26 @@ use Rattle.fk_meaning_forms.specs.declared.tables.Region.{Region}
 use Rattle.fk_meaning_forms.specs.declared.signs.Move.{Move}
 use Rattle.fk_meaning_forms.specs.declared.signs.Move.TheVariants.{Forth, Back, NoMove}
 use Rattle.fk_meaning_forms.specs.Code.{done, perform, choose, call}
-use Rattle.fk_meaning_forms.specs.Tables.{Tables, no_binding, note, kind_at, is_array, is_void, is_unsigned, slot, frame_at}
+use Rattle.fk_meaning_forms.specs.Tables.{Tables, no_binding, note, kind_at, is_array, is_void, is_unsigned, slot, region, frame_at}
 use Rattle.fk_meaning_forms.specs.Signs.{operator_of, is_shift, move_of}
 use Rattle.fk_meaning_forms.specs.Texts.{text_of}
 use Rattle.fk_meaning_forms.specs.Expressions.{Coded, nowhere, plain, ResultLocation, OnList, AtAddress, InWord, ToCall, Evaluation, token, spot_of, is_name, Signature, put_bytes, moved, agreed, checked, valued, addressed, fetched, assigned, value_of, dropped, predeclared, placed, variable, operate, updated, one, prefixed, truth, logical, chosen, joined, assignment, member, is_deep, indexed, dotted, pointed, step_back, raised, arguments, framed, parameters, called, multiprefix, with_one, called_predeclared, calling, evaluated, linked, suffixed, all_evaluated}
 use Rattle.fk_meaning.specs.Calls.{takes_two, TakesEnough}
 use Rattle.fk_core_liveness.specs.declared.places.FunctionKind.{FunctionKind}
 use Rattle.fk_core_liveness.specs.declared.places.FunctionKind.TheVariants.{Main, Called}
-use Rattle.fk_core_typing.specs.AddressValues.{constants}
-use Rattle.fk_core_typing.specs.Values.{Value, Unknown, Usable, Shared, State}
+use Rattle.fk_core_typing.specs.AddressValues.{joined_constant}
+use Rattle.fk_core_typing.specs.declared.constants.Constant.{Constant as Address}
+use Rattle.fk_core_typing.specs.declared.constants.Constant.TheVariants.{Number, FrameWord}
+use Rattle.fk_lockstep_frames.specs.Nests.{OfFunction, has_word}
+use Rattle.fk_num.specs.Word.{word}
+use Rattle.fk_core_typing.specs.Values.{Value, Unknown, Usable, Shared, Place, with_frame, entered, State, bare}
 use Rattle.fk_core_typing.proofs.Granting.{none_asked, good_as_itself, as_long}
 use Rattle.fk_lockstep_structure.specs.Valued.{AreEnough, predeclared_gives}
-use Rattle.fk_lower_laws.specs.Ways.{Way, Valued, Absent, Unchecked, Constant, Array, Grouped, Word, Function, gives, result, place_gives, predeclared_way, placed_way, prefix_way, joined_way, named_way, called_way, dotted_way, way, chain_way, suffixed_way}
-use Rattle.fk_lower_laws.specs.Asked.{IsTarget, HasAddress, PrefixAsks, IsCalled, NameAsks, DotAsks, JoinAsks, TakesAll, NameTakes, CallAsks, Asked, LinksAsked, SuffixesAsked, AllAsked}
-use Rattle.fk_lower_laws.proofs.TypedOk.{level, noted, Acts, Ok, as_unknown, weaken, ended, on, not_plain, branch, enters}
-use Rattle.fk_lower_laws.proofs.Acting.{simply, push, push_address, push_offset, add_offset, join, copy, check, check_shared, read, write, combine, get, set, drop_last, apply, index, agree}
+use Rattle.fk_lower_laws.specs.Ways.{Way, Valued, Absent, Unchecked, Constant, Array, Word, Function, gives, result, place_gives, predeclared_way, placed_way, prefix_way, joined_way, behind_member, named_way, called_way, dotted_way, way, chain_way, suffixed_way}
+use Rattle.fk_lower_laws.specs.Parts.{HasLevel}
+use Rattle.fk_lower_laws.specs.Asked.{IsTarget, HasAddress, PrefixAsks, IsCalled, NameAsks, DotAsks, JoinAsks, TakesAll, NameTakes, CallAsks, Asked, LinksAsked, SuffixesAsked, AllAsked, IsOpenIf, AreOpen, Opens, frame_with, frame_for}
+use Rattle.fk_lower_laws.proofs.TypedOk.{level, noted, Acts, Ok, as_unknown, weaken, ended, on, splits_not, branch, enters}
+use Rattle.fk_lower_laws.proofs.Acting.{simply, push, push_address, push_offset, add_offset, join, copy, check, check_shared, read, write, combine, get, get_own, takes_frame, set, drop_last, apply, index, agree}
 
 -- values with one more, of which nothing is known, or without
 abbrev pub after : Bool → List Value → List Value
@@ -83,19 +88,23 @@ pushed_results : (gives : Bool) (vs : List Value) → replicate (results gives) 
 pushed_results true vs = refl
 pushed_results false vs = refl
 
-module _ (tables : Tables) (functions : (binding : ℕ) → Signature) (place_of : (binding : ℕ) → FunctionKind) (p : FunctionKind) where
+module _ (tables : Tables) (functions : (binding : ℕ) → Signature) (place_of : (binding : ℕ) → FunctionKind)
+    (opens : (binding : ℕ) (gives : Bool) → place_of binding ≡ Called gives → Opens tables (place_of binding) (functions binding)) (p : Place) where
+  abbrev frame_of : ℕ → Option ℕ
+  frame_of = frame_for tables functions place_of
+
   abbrev pub Fine : Option State → List Value → Coded → State → Type 0
-  Fine l vs code e = Ok place_of l (level p vs) code e
+  Fine l vs code e = Ok place_of frame_of l (level p vs) code e
 
   -- code before code that needs other values
   abbrev pub Leads : (before after : List Value) → (Coded → Coded) → Type 0
   Leads us ws f = (l : Option State) (rest : Coded) (e : State) → Fine l ws rest e → Fine l us (f rest) e
 
-  pub either : {l : Option State} {t e : State} (b : Bool) (c d : Coded) → Ok place_of l t c e → Ok place_of l t d e → Ok place_of l t (if b then c else d) e
+  pub either : {l : Option State} {t e : State} (b : Bool) (c d : Coded) → Ok place_of frame_of l t c e → Ok place_of frame_of l t d e → Ok place_of frame_of l t (if b then c else d) e
   either true c d h k = h
   either false c d h k = k
 
-  chosen_first : {l : Option State} {t e : State} (b : Bool) (c d : Coded) → b ≡ true → Ok place_of l t c e → Ok place_of l t (if b then c else d) e
+  chosen_first : {l : Option State} {t e : State} (b : Bool) (c d : Coded) → b ≡ true → Ok place_of frame_of l t c e → Ok place_of frame_of l t (if b then c else d) e
   chosen_first true c d is h = h
   chosen_first false c d is h = absurd (false≢true is)
 
@@ -106,7 +115,6 @@ module _ (tables : Tables) (functions : (binding : ℕ) → Signature) (place_of
   stood Unchecked vs = level p (Unknown ∷ vs)
   stood (Constant address) vs = noted p address vs
   stood Array vs = level p (Unknown ∷ vs)
-  stood Grouped vs = level p (Unknown ∷ vs)
   stood Word vs = level p vs
   stood (Function name) vs = level p vs
 
@@ -122,7 +130,7 @@ module _ (tables : Tables) (functions : (binding : ℕ) → Signature) (place_of
 
   abbrev pub Good : Evaluation → Way → Type 0
   Good s w = (l : Option State) (vs : List Value) (k : ResultLocation → Coded) (e : State)
-      → ((st : ResultLocation) → IsOf w st → Ok place_of l (stood w vs) (k st) e) → Fine l vs (s k) e
+      → ((st : ResultLocation) → IsOf w st → Ok place_of frame_of l (stood w vs) (k st) e) → Fine l vs (s k) e
 
   -- code that pushes a value or none
   abbrev pub Pushes : Bool → (Coded → Coded) → Type 0
@@ -132,13 +140,17 @@ module _ (tables : Tables) (functions : (binding : ℕ) → Signature) (place_of
   pub forgets : {l : Option State} {e : State} {code : Coded} (v : Value) (vs : List Value) → Fine l (Unknown ∷ vs) code e → Fine l (v ∷ vs) code e
   forgets v vs q = weaken (record { place = refl; values = (as_unknown v, good_as_itself vs); constants = none_asked _ }) q
 
-  unnoted : {l : Option State} {e : State} {code : Coded} (c : ℕ) (vs : List Value) → Fine l (Shared ∷ vs) code e → Ok place_of l (noted p c vs) code e
-  unnoted c vs q = weaken (record { place = refl; values = good_as_itself (Shared ∷ vs); constants = none_asked _ }) q
+  unnoted_in : {l : Option State} {e : State} {code : Coded} (q : Place) (c : Address) (vs : List Value) → Ok place_of frame_of l (level q (Shared ∷ vs)) code e
+      → Ok place_of frame_of l (noted q c vs) code e
+  unnoted_in q c vs fine = weaken (record { place = refl; values = good_as_itself (Shared ∷ vs); constants = none_asked _ }) fine
+
+  unnoted : {l : Option State} {e : State} {code : Coded} (c : Address) (vs : List Value) → Fine l (Shared ∷ vs) code e → Ok place_of frame_of l (noted p c vs) code e
+  unnoted c vs q = unnoted_in p c vs q
 
   puts : (bytes : List ℕ) (vs : List Value) → Leads vs vs (put_bytes bytes)
   puts [] vs l rest e q = q
   puts (b ∷ bytes) vs l rest e q =
-      on (push b) (on (simply p true o.PrintByte (Unknown ∷ vs) (omega arith) (omega arith) (λ ws. tt) (λ c ws. refl)) (puts bytes vs l rest e q))
+      on (push b) (on (simply p true o.PrintByte (Unknown ∷ vs) tt (omega arith) (omega arith) (λ ws. tt) (λ ns c ws. refl)) (puts bytes vs l rest e q))
 
   operator : (sign : Sign) (unsigned : Bool) (vs : List Value) → Acts true (operator_of sign unsigned) (level p (Unknown ∷ Unknown ∷ vs)) (level p (Unknown ∷ vs))
   operator g.Minus unsigned vs = join _ _
@@ -155,7 +167,7 @@ module _ (tables : Tables) (functions : (binding : ℕ) → Signature) (place_of
 
   -- where the result of an expression is
   values : (w : Way) (st : ResultLocation) → IsOf w st → (l : Option State) (vs : List Value) (rest : Coded) (e : State) → Fine l (after (gives w) vs) rest e
-      → Ok place_of l (stood w vs) (valued tables functions st rest) e
+      → Ok place_of frame_of l (stood w vs) (valued tables functions st rest) e
   values Valued OnList i l vs rest e q = q
   values Absent OnList i l vs rest e q = q
   values Unchecked (AtAddress true spot) i l vs rest e q =
@@ -163,12 +175,12 @@ module _ (tables : Tables) (functions : (binding : ℕ) → Signature) (place_of
   values (Constant c) (AtAddress false spot) i l vs rest e q =
       either (is_array tables spot.at) rest (plain o.Read rest) (unnoted c vs (forgets Shared vs q)) (unnoted c vs (on (read Shared refl) q))
   values Array (AtAddress false spot) i l vs rest e q = chosen_first (is_array tables spot.at) rest (plain o.Read rest) i q
-  values Word (InWord variable) i l vs rest e q = on (get (n.Value variable)) q
+  values Word (InWord variable) i l vs rest e q = on (get (n.Value variable) refl) q
   values (Function name) (ToCall other) i l vs rest e q = q
   values w st i l vs rest e q = absurd i
 
   addresses : (w : Way) → HasAddress w → (st : ResultLocation) → IsOf w st → (l : Option State) (vs : List Value) (rest : Coded) (e : State) → Fine l (Unknown ∷ vs) rest e
-      → Ok place_of l (stood w vs) (addressed tables functions st rest) e
+      → Ok place_of frame_of l (stood w vs) (addressed tables functions st rest) e
   addresses Unchecked has (AtAddress true spot) i l vs rest e q = on check (forgets Usable vs q)
   addresses (Constant c) has (AtAddress false spot) i l vs rest e q = unnoted c vs (forgets Shared vs q)
   addresses Array has (AtAddress false spot) i l vs rest e q = q
@@ -179,7 +191,7 @@ module _ (tables : Tables) (functions : (binding : ℕ) → Signature) (place_of
   addresses w has st i l vs rest e q = absurd i
 
   pub holds : (w : Way) → IsTarget w → (st : ResultLocation) → IsOf w st → (l : Option State) (vs : List Value) (rest : Coded) (e : State) → Fine l (held w vs) rest e
-      → Ok place_of l (stood w vs) (addressed tables functions st rest) e
+      → Ok place_of frame_of l (stood w vs) (addressed tables functions st rest) e
   holds Unchecked is (AtAddress true spot) i l vs rest e q = on check q
   holds (Constant c) is (AtAddress false spot) i l vs rest e q = unnoted c vs q
   holds Word is (InWord variable) i l vs rest e q = q
@@ -190,10 +202,10 @@ module _ (tables : Tables) (functions : (binding : ℕ) → Signature) (place_of
   holds w is st i l vs rest e q = absurd i
 
   fetches : (w : Way) → IsTarget w → (st : ResultLocation) → IsOf w st → (l : Option State) (vs : List Value) (rest : Coded) (e : State) → Fine l (Unknown ∷ held w vs) rest e
-      → Ok place_of l (stood w vs) (fetched tables functions st rest) e
+      → Ok place_of frame_of l (stood w vs) (fetched tables functions st rest) e
   fetches Unchecked is (AtAddress true spot) i l vs rest e q = on check (on copy (on (read Usable refl) q))
   fetches (Constant c) is (AtAddress false spot) i l vs rest e q = unnoted c vs (on copy (on (read Shared refl) q))
-  fetches Word is (InWord variable) i l vs rest e q = on (get (n.Value variable)) q
+  fetches Word is (InWord variable) i l vs rest e q = on (get (n.Value variable) refl) q
   fetches Valued is st i l vs rest e q = absurd is
   fetches Absent is st i l vs rest e q = absurd is
   fetches Array is st i l vs rest e q = absurd is
@@ -225,12 +237,12 @@ module _ (tables : Tables) (functions : (binding : ℕ) → Signature) (place_of
   drops false false is vs l rest e q = absurd (false≢true is)
 
   -- names
-  predeclares : (name : Named) → NameAsks tables functions place_of name.at (predeclared_way name) → Good (predeclared tables functions name) (predeclared_way name)
+  predeclares : (name : Named) → NameAsks tables functions place_of p.nests name.at (predeclared_way name) → Good (predeclared tables functions name) (predeclared_way name)
   predeclares name =
       by (is_name name (codes "__PROC_NR__")) (is_name name (codes "__STARTED_PROCS__")) (is_name name (codes "__inputs")) (is_name name (codes "__input"))
     where
       by : (a b c d : Bool)
-          → NameAsks tables functions place_of name.at (if a then Valued else if b then Valued else if c then Valued else if d then Array else Function name)
+          → NameAsks tables functions place_of p.nests name.at (if a then Valued else if b then Valued else if c then Valued else if d then Array else Function name)
           → Good (λ k.
           if a then plain (o.Get n.ProcessorNumber) (k OnList)
           else if b then plain (o.Get n.Processors) (k OnList)
@@ -238,28 +250,28 @@ module _ (tables : Tables) (functions : (binding : ℕ) → Signature) (place_of
           else if d then plain (o.Get n.InputAddress) (k (AtAddress false (spot_of name)))
           else k (ToCall name))
           (if a then Valued else if b then Valued else if c then Valued else if d then Array else Function name)
-      by true b c d asks l vs k e q = on (get n.ProcessorNumber) (q OnList tt)
-      by false true c d asks l vs k e q = on (get n.Processors) (q OnList tt)
-      by false false true d asks l vs k e q = on (get n.InputLength) (q OnList tt)
-      by false false false true asks l vs k e q = on (get n.InputAddress) (q (AtAddress false (spot_of name)) asks)
+      by true b c d asks l vs k e q = on (get n.ProcessorNumber refl) (q OnList tt)
+      by false true c d asks l vs k e q = on (get n.Processors refl) (q OnList tt)
+      by false false true d asks l vs k e q = on (get n.InputLength refl) (q OnList tt)
+      by false false false true asks l vs k e q = on (get n.InputAddress refl) (q (AtAddress false (spot_of name)) asks)
       by false false false false asks l vs k e q = q (ToCall name) refl
 
-  places : (home : Home) (i : ℕ) (name : Named) → NameAsks tables functions place_of name.at (placed_way home i name) → Good (placed tables functions home i name) (placed_way home i name)
+  places : (home : Home) (i : ℕ) (name : Named) → NameAsks tables functions place_of p.nests name.at (placed_way tables home i name) → Good (placed tables functions home i name) (placed_way tables home i name)
   places h.Global i name asks l vs k e q = on (push_address (0x10000000 + 4 * i) asks) (q (AtAddress false (spot_of name)) tt)
   places h.FilePrivate i name asks l vs k e q = q (InWord (v.OfFile i)) tt
   places h.Private i name asks l vs k e q = q (InWord (v.Private i)) tt
-  places (h.Group r) i name asks l vs k e q = not_plain refl
+  places (h.Group r) i name asks l vs k e q = on (get_own (region tables r).level i asks) (q (AtAddress false (spot_of name)) tt)
   places h.NoWord i name asks l vs k e q = q (ToCall name) refl
 
-  pub names : (name : Named) → NameAsks tables functions place_of name.at (named_way tables place_of name) → Good (variable tables functions name) (named_way tables place_of name)
+  pub names : (name : Named) → NameAsks tables functions place_of p.nests name.at (named_way tables place_of name) → Good (variable tables functions name) (named_way tables place_of name)
   names name =
       let b = (note tables name.at).binding in
       by (b == no_binding) (predeclared tables functions name) (placed tables functions (slot tables b).home (slot tables b).index name)
-      (predeclared_way name) (placed_way (slot tables b).home (slot tables b).index name)
+      (predeclared_way name) (placed_way tables (slot tables b).home (slot tables b).index name)
       (predeclares name) (places (slot tables b).home (slot tables b).index name)
     where
-      by : (is : Bool) (s r : Evaluation) (w x : Way) → (NameAsks tables functions place_of name.at w → Good s w) → (NameAsks tables functions place_of name.at x → Good r x)
-          → NameAsks tables functions place_of name.at (if is then w else x) → Good (λ k. if is then s k else r k) (if is then w else x)
+      by : (is : Bool) (s r : Evaluation) (w x : Way) → (NameAsks tables functions place_of p.nests name.at w → Good s w) → (NameAsks tables functions place_of p.nests name.at x → Good r x)
+          → NameAsks tables functions place_of p.nests name.at (if is then w else x) → Good (λ k. if is then s k else r k) (if is then w else x)
       by true s r w x a b asks = a asks
       by false s r w x a b asks = b asks
 
@@ -298,53 +310,29 @@ module _ (tables : Tables) (functions : (binding : ℕ) → Signature) (place_of
   truths : (s : Evaluation) → Pushes true (value_of tables functions s) → Pushes true (truth tables functions s)
   truths s good vs l rest e q = good vs l (plain (o.Push 0) (plain (o.Binary f.Ne false) rest)) e (on (push 0) (on (join f.Ne false) q))
 
-  -- the others have the value of the whole
-  abbrev Parts : SplitKind → Type 0
-  Parts by = (vs : List Value) → Acts true (o.Split by) (level p (Unknown ∷ vs)) (level p vs) × Acts false (o.Split by) (level p (Unknown ∷ vs)) (level p (Unknown ∷ vs))
-
-  and_then : Parts AndThen
-  and_then vs = (
-    simply p true (o.Split AndThen) (Unknown ∷ vs) (omega arith) (omega arith) (λ ws. tt) (λ c ws. refl),
-    simply p false (o.Split AndThen) (Unknown ∷ vs) (omega arith) (omega arith) (λ ws. tt) (λ c ws. refl),
-  )
-
-  or_else : Parts OrElse
-  or_else vs = (
-    simply p true (o.Split OrElse) (Unknown ∷ vs) (omega arith) (omega arith) (λ ws. tt) (λ c ws. refl),
-    simply p false (o.Split OrElse) (Unknown ∷ vs) (omega arith) (omega arith) (λ ws. tt) (λ c ws. refl),
-  )
-
   pub branches : (onward other : Bool) (vs : List Value) → Acts other (o.Branch onward) (level p (Unknown ∷ vs)) (level p vs)
-  branches onward other vs = simply p other (o.Branch onward) (Unknown ∷ vs) (omega arith) (omega arith) (λ ws. tt) (λ c ws. refl)
-
-  pub part_ends : (vs : List Value) → Acts true o.End (level p vs) (level p vs)
-  part_ends vs = simply p true o.End vs (omega arith) (omega arith) (λ ws. tt) (λ c ws. refl)
+  branches onward other vs = simply p other (o.Branch onward) (Unknown ∷ vs) tt (omega arith) (omega arith) (λ ws. tt) (λ ns c ws. refl)
 
   pub resumes : (vs : List Value) → Acts true o.Resume (level p vs) (level p vs)
-  resumes vs = simply p true o.Resume vs (omega arith) (omega arith) (λ ws. tt) (λ c ws. refl)
+  resumes vs = simply p true o.Resume vs tt (omega arith) (omega arith) (λ ws. tt) (λ ns c ws. refl)
 
-  logicals : (spot : Spot) (by : SplitKind) → Parts by → (onward : Bool) (other : ℕ) (a b : Evaluation) → Pushes true (value_of tables functions a) → Pushes true (value_of tables functions b)
+  logicals : (spot : Spot) (by : SplitKind) (onward : Bool) (other : ℕ) (a b : Evaluation) → Pushes true (value_of tables functions a) → Pushes true (value_of tables functions b)
       → Good (logical tables functions spot by onward other a b) Valued
-  logicals spot by parts onward other a b good_a good_b l vs k e q =
+  logicals spot by onward other a b good_a good_b l vs k e q =
       let here = note tables spot.at in
       let parted = choose spot.place (o.Split by) (truth tables functions b (plain o.End done)) done (plain o.Resume (k OnList)) in
       let branched = choose nowhere (o.Branch onward) (truth tables functions b done) (plain (o.Push other) done) (k OnList) in
       good_a vs l (if here.splits then parted else agreed here.sync branched) e
       (either here.splits parted (agreed here.sync branched)
-      (branch (parts vs).0 (parts vs).1 (truths b good_b vs l (plain o.End done) (level p (Unknown ∷ vs)) (on (part_ends (Unknown ∷ vs)) ended)) ended
-      (on (resumes (Unknown ∷ vs)) (q OnList tt)))
+      (splits_not refl)
       (agrees here.sync vs l branched e
       (branch (branches onward true vs) (branches onward false vs) (truths b good_b vs l done (level p (Unknown ∷ vs)) ended) (on (push other) ended) (q OnList tt))))
 
   -- what stands as a value or none
   on_list : (b : Bool) (l : Option State) (vs : List Value) (k : ResultLocation → Coded) (e : State)
-      → ((st : ResultLocation) → IsOf (result b) st → Ok place_of l (stood (result b) vs) (k st) e) → Fine l (after b vs) (k OnList) e
+      → ((st : ResultLocation) → IsOf (result b) st → Ok place_of frame_of l (stood (result b) vs) (k st) e) → Fine l (after b vs) (k OnList) e
   on_list true l vs k e q = q OnList tt
   on_list false l vs k e q = q OnList tt
-
-  divides : (onward : Bool) (vs : List Value) → Acts onward (o.Split IfElse) (level p (Unknown ∷ vs)) (level p vs)
-  divides true vs = simply p true (o.Split IfElse) (Unknown ∷ vs) (omega arith) (omega arith) (λ ws. tt) (λ c ws. refl)
-  divides false vs = simply p false (o.Split IfElse) (Unknown ∷ vs) (omega arith) (omega arith) (λ ws. tt) (λ c ws. refl)
 
   chooses : (spot : Spot) (c a b : Evaluation) (v : Bool) → Pushes true (value_of tables functions c) → Pushes v (value_of tables functions a) → Pushes v (value_of tables functions b)
       → Good (chosen tables functions spot c a b) (result v)
@@ -356,22 +344,20 @@ module _ (tables : Tables) (functions : (binding : ℕ) → Signature) (place_of
       let goes_on : Fine l (after v vs) (k OnList) e = on_list v l vs k e q in
       good_c vs l (if here.splits then parted else agreed here.sync branched) e
       (either here.splits parted (agreed here.sync branched)
-      (branch (divides true vs) (divides false vs)
-      (good_a vs l (plain o.End done) whole (on (part_ends (after v vs)) ended)) (good_b vs l (plain o.End done) whole (on (part_ends (after v vs)) ended))
-      (on (resumes (after v vs)) goes_on))
+      (splits_not refl)
       (agrees here.sync vs l branched e
       (branch (branches true true vs) (branches true false vs) (good_a vs l done whole ended) (good_b vs l done whole ended) goes_on)))
 
-  joins : (spot : Spot) (sign : Sign) (a : Evaluation) (w : Way) → Good a w → (left : ℕ) (b : Evaluation) (x : Way) → Good b x → (right : ℕ) → JoinAsks tables functions place_of sign w left x
+  joins : (spot : Spot) (sign : Sign) (a : Evaluation) (w : Way) → Good a w → (left : ℕ) (b : Evaluation) (x : Way) → Good b x → (right : ℕ) → JoinAsks tables functions place_of p.nests sign w left x
       → Good (joined tables functions spot sign a left b right) (joined_way sign x)
   joins spot g.Comma a w good_a left b x good_b right is l vs k e q =
       value_is a w good_a vs l (dropped tables functions left (value_of tables functions b (k OnList))) e
       (drops (is_void tables left) (gives w) is vs l (value_of tables functions b (k OnList)) e
       (value_is b x good_b vs l (k OnList) e (on_list (gives x) l vs k e q)))
   joins spot g.AndAnd a w good_a left b x good_b right is l vs k e q =
-      logicals spot AndThen and_then true 0 a b (a_value a w good_a is.0) (a_value b x good_b is.1) l vs k e q
+      logicals spot AndThen true 0 a b (a_value a w good_a is.0) (a_value b x good_b is.1) l vs k e q
   joins spot g.OrOr a w good_a left b x good_b right is l vs k e q =
-      logicals spot OrElse or_else false 1 a b (a_value a w good_a is.0) (a_value b x good_b is.1) l vs k e q
+      logicals spot OrElse false 1 a b (a_value a w good_a is.0) (a_value b x good_b is.1) l vs k e q
   joins spot sign a w good_a left b x good_b right is l vs k e q =
       a_value a w good_a is.0 vs l (value_of tables functions b (operate tables functions sign left right (k OnList))) e
       (a_value b x good_b is.1 (Unknown ∷ vs) l (operate tables functions sign left right (k OnList)) e
@@ -394,15 +380,26 @@ module _ (tables : Tables) (functions : (binding : ℕ) → Signature) (place_of
       let element = plain (o.Index (4 * (kind_at tables spot.at).words)) (k (AtAddress true spot)) in
       good vs l (value_of tables functions by element) e (good_by (Unknown ∷ vs) l element e (on (index _) (q (AtAddress true spot) tt)))
 
-  dots : (spot : Spot) (at : ℕ) (s : Evaluation) (w : Way) → Good s w → DotAsks tables functions place_of at w → Good (dotted tables functions spot at s) (dotted_way tables place_of at w)
+  -- a member has a known address behind that of its struct
+  fourths : (n : ℕ) → (word (4 * n) % 4 == 0) ≡ true
+  fourths n = eq-eqb (word (4 * n) % 4) 0 (omega arith)
+
+  joins_member : (at : ℕ) (c : Address) → joined_constant f.Add false (Some c) (Some (Number (word (4 * (note tables at).binding)))) ≡ Some (behind_member tables place_of at c)
+  joins_member at (Number address) = refl
+  joins_member at (FrameWord nesting first) =
+      let bytes = word (4 * (note tables at).binding) in
+      ap (λ (whole : Bool). if whole then Some (FrameWord nesting (first + bytes / 4)) else None) (fourths (note tables at).binding)
+
+  dots : (spot : Spot) (at : ℕ) (s : Evaluation) (w : Way) → Good s w → DotAsks tables functions place_of p.nests at w → Good (dotted tables functions spot at s) (dotted_way tables place_of at w)
   dots spot at s w good is l vs k e q =
       good l vs (λ st. member tables functions at (k (AtAddress (is_deep tables functions st) spot))) e (λ st i. by w is q st i)
     where
-      by : (w : Way) → DotAsks tables functions place_of at w
-          → ((st : ResultLocation) → IsOf (dotted_way tables place_of at w) st → Ok place_of l (stood (dotted_way tables place_of at w) vs) (k st) e)
-          → (st : ResultLocation) → IsOf w st → Ok place_of l (stood w vs) (member tables functions at (k (AtAddress (is_deep tables functions st) spot))) e
+      by : (w : Way) → DotAsks tables functions place_of p.nests at w
+          → ((st : ResultLocation) → IsOf (dotted_way tables place_of at w) st → Ok place_of frame_of l (stood (dotted_way tables place_of at w) vs) (k st) e)
+          → (st : ResultLocation) → IsOf w st → Ok place_of frame_of l (stood w vs) (member tables functions at (k (AtAddress (is_deep tables functions st) spot))) e
       by Unchecked is q (AtAddress true other) i = on (push _) (on (join f.Add false) (q (AtAddress true spot) tt))
-      by (Constant c) is q (AtAddress false other) i = on (push_offset c _) (on (add_offset c _ is) (q (AtAddress false spot) tt))
+      by (Constant c) is q (AtAddress false other) i =
+          on (push_offset c (4 * (note tables at).binding)) (on (add_offset c (word (4 * (note tables at).binding)) (behind_member tables place_of at c) (joins_member at c) is) (q (AtAddress false spot) tt))
       by Valued is q st i = absurd is
       by Absent is q st i = absurd is
       by Array is q st i = absurd is
@@ -420,7 +417,7 @@ module _ (tables : Tables) (functions : (binding : ℕ) → Signature) (place_of
       (λ st. plain (o.Push (step_back tables functions at)) (plain (operator_of back false) (k OnList))) e
       (λ st i. by st i)
     where
-      by : (st : ResultLocation) → IsOf Valued st → Ok place_of l (level p (Unknown ∷ vs)) (plain (o.Push (step_back tables functions at)) (plain (operator_of back false) (k OnList))) e
+      by : (st : ResultLocation) → IsOf Valued st → Ok place_of frame_of l (level p (Unknown ∷ vs)) (plain (o.Push (step_back tables functions at)) (plain (operator_of back false) (k OnList))) e
       by st i = on (push _) (on (operator back false vs) (q OnList tt))
 
   -- calls
@@ -437,18 +434,28 @@ module _ (tables : Tables) (functions : (binding : ℕ) → Signature) (place_of
       let more = arguments tables functions xs (all_evaluated tables functions others) rest in
       good.0 vs l (agreed x.shared more) e (agrees x.shared vs l more e (takes_all xs others enough good.1 (Unknown ∷ vs) l rest e q))
 
-  -- the beginning of a call has nothing to do with values
-  opens : (q : FunctionKind) (i : ℕ) (xs : List DeclaredTree) → Ok place_of None (level q []) (parameters tables functions i xs) (level q [])
-  opens q i [] = ended
-  opens q i (x ∷ xs) = either x.shared _ (parameters tables functions (suc i) xs) (not_plain refl) (opens q (suc i) xs)
+  -- the opening of a call
+  puts_parameters : (q : Place) (i : ℕ) (xs : List DeclaredTree) → AreOpen tables q.nests xs → Ok place_of frame_of None (level q []) (parameters tables functions i xs) (level q [])
+  puts_parameters q i [] opens' = ended
+  puts_parameters q i (x ∷ xs) opens' =
+      let others = parameters tables functions (suc i) xs in
+      let shared = plain (o.Get (n.FrameAddress 0 (slot tables (note tables x.name.at).binding).index)) (plain (o.Get (n.Value (v.Private i))) (plain o.Write (plain o.DropLast others))) in
+      by x.shared shared others opens'.0
+      (λ is.
+      on (get_own 0 (slot tables (note tables x.name.at).binding).index is)
+      (unnoted_in q (FrameWord 0 (slot tables (note tables x.name.at).binding).index) [] (on (get (n.Value (v.Private i)) refl) (on (write Shared refl) (on drop_last (puts_parameters q (suc i) xs opens'.1))))))
+      (puts_parameters q (suc i) xs opens'.1)
+    where
+      by : (b : Bool) (c d : Coded) → IsOpenIf tables q.nests b x → (has_word q.nests 0 (slot tables (note tables x.name.at).binding).index ≡ true → Ok place_of frame_of None (level q []) c (level q []))
+          → Ok place_of frame_of None (level q []) d (level q []) → Ok place_of frame_of None (level q []) (if b then c else d) (level q [])
+      by true c d is f g = f is
+      by false c d is f g = g
 
-  pub frame_of : (q : FunctionKind) (vs : List Value) (levels words : ℕ) → Acts true (o.Frame levels words) (level q vs) (level q vs)
-  frame_of q vs levels words = simply q true (o.Frame levels words) vs (omega arith) (omega arith) (λ ws. tt) (λ c ws. refl)
-
-  pub frames : {q : FunctionKind} {l : Option State} {vs : List Value} {e : State} {code : Coded} (r : Option Region) (place : y.Place) → Ok place_of l (level q vs) code e
-      → Ok place_of l (level q vs) (framed tables functions r place code) e
-  frames None place h = h
-  frames {q = q} {vs = vs} (Some r) place h = on (frame_of q vs r.level r.words) h
+  opening : (gives : Bool) (r : Option Region) (place : y.Place) (xs : List DeclaredTree) → HasLevel 0 r → AreOpen tables (OfFunction (frame_with (Called gives) r) ∷ []) xs
+      → Ok place_of frame_of None (bare (entered (Called gives))) (framed tables functions r place (parameters tables functions 0 xs)) (bare (with_frame (Called gives) (frame_with (Called gives) r)))
+  opening gives None place xs level' opens' = puts_parameters (entered (Called gives)) 0 xs opens'
+  opening gives (Some r) place xs level' opens' =
+      on (takes_frame (entered (Called gives)) r.level r.words (OfFunction None) [] refl level' refl) (puts_parameters (with_frame (Called gives) (Some r.words)) 0 xs opens')
 
   enters_function : (name : Named) (q : FunctionKind) → place_of (note tables name.at).binding ≡ q → IsCalled q
       → (vs : List Value) (l : Option State) (rest : Coded) (e : State) → Fine l (after (place_gives q) vs) rest e
@@ -462,11 +469,15 @@ module _ (tables : Tables) (functions : (binding : ℕ) → Signature) (place_of
       enters b is
       (λ s g'.
       let long = sym (as_long s.values (stacked n vs) g'.values) in
-      record { values = subst (λ h. n ≤ h) long (stacked_many n vs); looks = subst (λ h. n ≤ h) long (stacked_many n vs); asks = tt })
-      (frames (frame_at tables (functions (note tables name.at).binding).at 0) name.place (opens (Called b) 0 xs))
+      record { place = tt; values = subst (λ h. n ≤ h) long (stacked_many n vs); looks = subst (λ h. n ≤ h) long (stacked_many n vs); asks = tt })
+      (subst (λ (kind : FunctionKind). Ok place_of frame_of None (bare (entered (Called b))) (framed tables functions (frame_at tables (functions (note tables name.at).binding).at 0) name.place (parameters tables functions 0 xs))
+      (bare (with_frame (Called b) (frame_with kind (frame_at tables (functions (note tables name.at).binding).at 0))))) (sym is)
+      (let has = opens (note tables name.at).binding b is in
+      opening b (frame_at tables (functions (note tables name.at).binding).at 0) name.place xs has.level
+      (subst (λ (kind : FunctionKind). AreOpen tables (OfFunction (frame_with kind (frame_at tables (functions (note tables name.at).binding).at 0)) ∷ []) xs) is has.parameters)))
       (subst (λ ws. Fine l ws rest e) (sym (ap (λ ws. replicate (results b) Unknown ++ ws) (unstacked n vs) ∙ pushed_results b vs)) q)
 
-  calls : (name : Named) (es : Trees) → TakesAll tables functions place_of (note tables name.at).binding es → AllGood es
+  calls : (name : Named) (es : Trees) → TakesAll tables functions place_of p.nests (note tables name.at).binding es → AllGood es
       → Good (called tables functions name (all_evaluated tables functions es)) (result (place_gives (place_of (note tables name.at).binding)))
   calls name es taken good l vs k e q =
       let b = (note tables name.at).binding in
@@ -497,15 +508,15 @@ module _ (tables : Tables) (functions : (binding : ℕ) → Signature) (place_of
         else if c then with_one tables functions (plain o.Take) es k
         else if d then with_one tables functions (plain o.Heap) es k
         else with_one tables functions (λ rest. plain o.Agree (plain o.Block rest)) es k)
-    with_ones one' true b c d = one' false (plain o.PrintNumber) (λ l' rest e' q. on (simply p true o.PrintNumber (Unknown ∷ vs) (omega arith) (omega arith) (λ ws. tt) (λ c ws. refl)) q)
-    with_ones one' false true c d = one' false (plain o.PrintByte) (λ l' rest e' q. on (simply p true o.PrintByte (Unknown ∷ vs) (omega arith) (omega arith) (λ ws. tt) (λ c ws. refl)) q)
-    with_ones one' false false true d = one' true (plain o.Take) (λ l' rest e' q. on (simply p true o.Take (Unknown ∷ vs) (omega arith) (omega arith) (λ ws. tt) (λ c ws. refl)) q)
-    with_ones one' false false false true = one' true (plain o.Heap) (λ l' rest e' q. on (simply p true o.Heap (Unknown ∷ vs) (omega arith) (omega arith) (λ ws. tt) (λ c ws. refl)) q)
+    with_ones one' true b c d = one' false (plain o.PrintNumber) (λ l' rest e' q. on (simply p true o.PrintNumber (Unknown ∷ vs) tt (omega arith) (omega arith) (λ ws. tt) (λ ns c ws. refl)) q)
+    with_ones one' false true c d = one' false (plain o.PrintByte) (λ l' rest e' q. on (simply p true o.PrintByte (Unknown ∷ vs) tt (omega arith) (omega arith) (λ ws. tt) (λ ns c ws. refl)) q)
+    with_ones one' false false true d = one' true (plain o.Take) (λ l' rest e' q. on (simply p true o.Take (Unknown ∷ vs) tt (omega arith) (omega arith) (λ ws. tt) (λ ns c ws. refl)) q)
+    with_ones one' false false false true = one' true (plain o.Heap) (λ l' rest e' q. on (simply p true o.Heap (Unknown ∷ vs) tt (omega arith) (omega arith) (λ ws. tt) (λ ns c ws. refl)) q)
     with_ones one' false false false false =
-        one' true (λ rest. plain o.Agree (plain o.Block rest)) (λ l' rest e' q. on agree (on (simply p true o.Block (Unknown ∷ vs) (omega arith) (omega arith) (λ ws. tt) (λ c ws. refl)) q))
+        one' true (λ rest. plain o.Agree (plain o.Block rest)) (λ l' rest e' q. on agree (on (simply p true o.Block (Unknown ∷ vs) tt (omega arith) (omega arith) (λ ws. tt) (λ ns c ws. refl)) q))
 
     sizes : (is x : Bool) (code : Coded) → (is ≡ false → Goal x code) → Goal (is || x) (if is then plain (o.Get n.GroupSize) (k OnList) else code)
-    sizes true x code h q = on (get n.GroupSize) q
+    sizes true x code h q = on (get n.GroupSize refl) q
     sizes false x code h q = h refl q
 
     multiprefixes : (a b c d x : Bool) → ((a || (b || (c || d))) ≡ true → (by : Multiprefix) → Goal true (multiprefix tables functions name by es k))
@@ -557,20 +568,20 @@ module _ (tables : Tables) (functions : (binding : ℕ) → Signature) (place_of
       (λ not_two not_size. one_good (evaluated tables functions first) (evaluated tables functions second ∷ es) good.0 l vs k e)
       (on_list (predeclared_gives name) l vs k e q)
 
-  called_by : (name : Named) (es : Trees) → AllGood es → (is : Bool) → NameTakes tables functions place_of is name es
+  called_by : (name : Named) (es : Trees) → AllGood es → (is : Bool) → NameTakes tables functions place_of p.nests is name es
       → Good (λ k. if is then called_predeclared tables functions name (all_evaluated tables functions es) k else called tables functions name (all_evaluated tables functions es) k)
       (result (if is then predeclared_gives name else place_gives (place_of (note tables name.at).binding)))
   called_by name es good true taken = calls_predeclared name es good taken
   called_by name es good false taken = calls name es taken good
 
-  call_is : (s : Evaluation) (w : Way) → Good s w → (es : Trees) → CallAsks tables functions place_of w es → AllGood es
+  call_is : (s : Evaluation) (w : Way) → Good s w → (es : Trees) → CallAsks tables functions place_of p.nests w es → AllGood es
       → Good (λ j. s (calling tables functions (all_evaluated tables functions es) j)) (called_way tables place_of w)
   call_is s (Function name) good es asks all l vs k e q =
       good l vs (calling tables functions (all_evaluated tables functions es) k) e (λ st i. by st i)
     where
-      by : (st : ResultLocation) → IsOf (Function name) st → Ok place_of l (level p vs) (calling tables functions (all_evaluated tables functions es) k st) e
+      by : (st : ResultLocation) → IsOf (Function name) st → Ok place_of frame_of l (level p vs) (calling tables functions (all_evaluated tables functions es) k st) e
       by (ToCall other) i =
-          subst (λ x. Ok place_of l (level p vs) (calling tables functions (all_evaluated tables functions es) k (ToCall x)) e) i
+          subst (λ x. Ok place_of frame_of l (level p vs) (calling tables functions (all_evaluated tables functions es) k (ToCall x)) e) i
           (called_by name es all ((note tables name.at).binding == no_binding) asks l vs k e q)
       by OnList i = absurd i
       by (AtAddress deep spot) i = absurd i
@@ -578,13 +589,13 @@ module _ (tables : Tables) (functions : (binding : ℕ) → Signature) (place_of
   call_is s w good es asks all l vs k e q = absurd asks
 
   mutual
-    pub tree_good : (x : Tree) → Asked tables functions place_of x → Good (evaluated tables functions x) (way tables place_of x)
+    pub tree_good : (x : Tree) → Asked tables functions place_of p.nests x → Good (evaluated tables functions x) (way tables place_of x)
     tree_good (t.Number spot number unsigned) asks l vs k e q = on (push number) (q OnList tt)
     tree_good (t.Puts spot text) asks l vs k e q = puts (text_of text) vs l (k OnList) e (q OnList tt)
     tree_good (t.Sizeof spot type) asks l vs k e q = on (push _) (q OnList tt)
     tree_good (t.Variable name) asks l vs k e q = names name asks l vs k e q
-    tree_good (t.GroupNumber spot) asks l vs k e q = on (get n.GroupNumber) (q OnList tt)
-    tree_good (t.GroupRank spot) asks l vs k e q = on (get n.Rank) (q OnList tt)
+    tree_good (t.GroupNumber spot) asks l vs k e q = on (get n.GroupNumber refl) (q OnList tt)
+    tree_good (t.GroupRank spot) asks l vs k e q = on (get n.Rank refl) (q OnList tt)
     tree_good (t.Prefix spot sign operand) asks l vs k e q =
         prefixes spot sign (evaluated tables functions operand) (way tables place_of operand) (tree_good operand asks.0) asks.1 (token operand) l vs k e q
     tree_good (t.Cast spot type operand) asks l vs k e q =
@@ -603,14 +614,14 @@ module _ (tables : Tables) (functions : (binding : ℕ) → Signature) (place_of
         (subst (λ b. Pushes b (value_of tables functions (evaluated tables functions second))) asks.4
         (value_is (evaluated tables functions second) (way tables place_of second) (tree_good second asks.3))) l vs k e q
 
-    links_good : (s : Evaluation) (w : Way) → Good s w → (at : ℕ) (x : Links) → LinksAsked tables functions place_of w at x → Good (linked tables functions s at x) (chain_way tables place_of w x)
+    links_good : (s : Evaluation) (w : Way) → Good s w → (at : ℕ) (x : Links) → LinksAsked tables functions place_of p.nests w at x → Good (linked tables functions s at x) (chain_way tables place_of w x)
     links_good s w good at t.no_links asks = good
     links_good s w good at (t.link spot sign right others) asks =
         links_good (joined tables functions spot sign s at (evaluated tables functions right) (token right)) (joined_way sign (way tables place_of right))
         (joins spot sign s w good at (evaluated tables functions right) (way tables place_of right) (tree_good right asks.0) (token right) asks.1)
         spot.at others asks.2
 
-    suffixes_good : (s : Evaluation) (w : Way) → Good s w → (at : ℕ) (x : Suffixes) → SuffixesAsked tables functions place_of w x → Good (suffixed tables functions s at x) (suffixed_way tables place_of w x)
+    suffixes_good : (s : Evaluation) (w : Way) → Good s w → (at : ℕ) (x : Suffixes) → SuffixesAsked tables functions place_of p.nests w x → Good (suffixed tables functions s at x) (suffixed_way tables place_of w x)
     suffixes_good s w good at t.no_suffixes asks = good
     suffixes_good s w good at (t.index spot by others) asks =
         suffixes_good (indexed tables functions spot s (evaluated tables functions by)) Unchecked
@@ -628,7 +639,7 @@ module _ (tables : Tables) (functions : (binding : ℕ) → Signature) (place_of
     suffixes_good s w good at (t.down spot others) asks =
         suffixes_good (raised tables functions g.Minus g.Plus s at) Valued (raises g.Minus g.Plus s w good asks.0 at) spot.at others asks.1
 
-    all_good : (x : Trees) → AllAsked tables functions place_of x → AllGood x
+    all_good : (x : Trees) → AllAsked tables functions place_of p.nests x → AllGood x
     all_good t.no_trees asks = tt
     all_good (t.tree first others) asks =
         (a_value (evaluated tables functions first) (way tables place_of first) (tree_good first asks.0) asks.1, all_good others asks.2)

@@ -4,7 +4,6 @@ use Rattle.std.specs.Prelude.{not, ◌&&◌, is_some, if◌then◌else◌}
 use Rattle.std.specs.Option.{option_map, option_and_then}
 use Rattle.std.proofs.lemmas.Bool.{false≢true, and_parts}
 use Rattle.std.proofs.lemmas.Option.{same_Some}
-use Rattle.fk_meaning_store.specs.Serve.{may_use}
 use Rattle.fk_syntax.specs.declared.place.Spot.{Spot}
 use Rattle.fk_syntax.specs.declared.sign.Sign.{Sign}
 use Rattle.fk_syntax.specs.declared.sign.Sign.TheVariants as g
@@ -26,7 +25,10 @@ use Rattle.fk_types_judgments.specs.Typing.{type_of, value_in, operand_in, compu
 use Rattle.fk_meaning_forms.specs.Tables.{Tables}
 use Rattle.fk_meaning_forms.specs.Expressions.{Signature, token}
 use Rattle.fk_core_liveness.specs.declared.places.FunctionKind.{FunctionKind}
-use Rattle.fk_lower_laws.specs.Ways.{Way, Valued, Absent, Unchecked, Constant, Array, Grouped, Word, Function, gives, result, prefix_way, joined_way, behind_member, called_way, dotted_way, way, chain_way, suffixed_way}
+use Rattle.fk_lower_laws.specs.Ways.{Way, Valued, Absent, Unchecked, Constant, Array, Word, Function, gives, result, prefix_way, joined_way, behind_member, called_way, dotted_way, way, chain_way, suffixed_way}
+use Rattle.fk_lockstep_frames.specs.Nests.{Nest}
+use Rattle.fk_core_typing.specs.declared.constants.Constant.{Constant as Address}
+use Rattle.fk_core_typing.specs.AddressValues.{is_address}
 use Rattle.fk_lower_laws.specs.Asked.{IsTarget, HasAddress, PrefixAsks, DotAsks, JoinAsks, CallAsks, Asked, LinksAsked, SuffixesAsked, AllAsked}
 use Rattle.fk_lower_laws.specs.Typed.{IsNothing, IsWayOf, CommaIs, IsNoWord, PrefixIs, MemberIs, Known, LinksKnown, SuffixesKnown, AllKnown, TypedIsAsked}
 
@@ -155,7 +157,7 @@ uncalled env (e.Use name) T count fit first U n h = false≢true (sym n)
 uncalled env before None count fit first U n h = cc
 uncalled env before (Some type) count fit first U n h = cc
 
-module _ (Room : (address : ℕ) → DataType → Type 0) where
+module _ (Room : Address → DataType → Type 0) where
   stands_unchecked : (T : ExpressionType) → IsStored T → IsWayOf Room Unchecked T
   stands_unchecked (Stored type) s = tt
   stands_unchecked (Computed value) s = absurd s
@@ -177,7 +179,6 @@ module _ (Room : (address : ℕ) → DataType → Type 0) where
   gives_by Unchecked (Stored type) s = refl
   gives_by (Constant address) (Stored type) s = refl
   gives_by Array (Stored type) s = refl
-  gives_by Grouped (Stored type) s = refl
   gives_by Word (Stored type) s = refl
   gives_by w T s = absurd s
 
@@ -185,7 +186,6 @@ module _ (Room : (address : ℕ) → DataType → Type 0) where
   is_target Unchecked T i n s = tt
   is_target (Constant address) T i n s = tt
   is_target Word T i n s = tt
-  is_target Grouped T i n s = tt
   is_target Array (Stored type) i n s = absurd (false≢true (sym n ∙ s))
   is_target Valued (Stored type) i n s = absurd s
   is_target Absent (Stored type) i n s = absurd s
@@ -196,7 +196,6 @@ module _ (Room : (address : ℕ) → DataType → Type 0) where
   has_address Unchecked T i n s = tt
   has_address (Constant address) T i n s = tt
   has_address Array T i n s = tt
-  has_address Grouped T i n s = tt
   has_address Word T i n s = absurd n
   has_address Valued (Stored type) i n s = absurd s
   has_address Absent (Stored type) i n s = absurd s
@@ -208,7 +207,6 @@ module _ (Room : (address : ℕ) → DataType → Type 0) where
   left_stands Absent Nothing T h s = subst (IsWayOf Room Absent) (same_Some _ _ h) tt
   left_stands Unchecked (Stored type) T h s = let m = map_some Computed (value_stored type) T h in stands_valued m.0 T m.2
   left_stands (Constant address) (Stored type) T h s = let m = map_some Computed (value_stored type) T h in stands_valued m.0 T m.2
-  left_stands Grouped (Stored type) T h s = let m = map_some Computed (value_stored type) T h in stands_valued m.0 T m.2
   left_stands Array (Stored type) T h s = let m = map_some Computed (value_stored type) T h in stands_valued m.0 T m.2
   left_stands Word (Stored type) T h s = let m = map_some Computed (value_stored type) T h in stands_valued m.0 T m.2
   left_stands w r T h s = absurd s
@@ -259,11 +257,11 @@ module _ (Room : (address : ℕ) → DataType → Type 0) where
         let r = valued A term w is a.0 a.1 in
         (r.0, r.1, stands_valued m.0 T m.2)
 
-    module _ (tables : Tables) (functions : (binding : ℕ) → Signature) (place_of : (binding : ℕ) → FunctionKind)
-        (may : (address : ℕ) (type : DataType) → Room address type → may_use true address ≡ true) where
-      join_is : (spot : Spot) (sign : Sign) (A : Type 0) (l : Term) (w : Way) → Is A l w → (at : ℕ) → CommaIs Room env tables functions place_of sign l at
+    module _ (tables : Tables) (functions : (binding : ℕ) → Signature) (place_of : (binding : ℕ) → FunctionKind) (nests : List Nest)
+        (may : (address : Address) (type : DataType) → Room address type → is_address true nests (Some address) ≡ true) where
+      join_is : (spot : Spot) (sign : Sign) (A : Type 0) (l : Term) (w : Way) → Is A l w → (at : ℕ) → CommaIs Room env tables functions place_of nests sign l at
           → (B : Type 0) (r : Term) (x : Way) → Is B r x → (T : ExpressionType) → type_of env (joined_term spot sign l r) ≡ Some T
-          → A × B × JoinAsks tables functions place_of sign w at x × IsWayOf Room (joined_way sign x) T
+          → A × B × JoinAsks tables functions place_of nests sign w at x × IsWayOf Room (joined_way sign x) T
       join_is spot g.Comma A l w is at comma B r x also' T h =
           let s = last_some (type_of env l) (type_of env r) T h in
           let a = is s.0 s.2 in
@@ -277,8 +275,8 @@ module _ (Room : (address : ℕ) → DataType → Type 0) where
           (a.0, b.0, (a.1, b.1), stands_valued m.0 T m.2)
 
       -- members
-      dot_is : (spot : Spot) (name : Named) (A : Type 0) (term : Term) (w : Way) → Is A term w → MemberIs Room env tables functions place_of spot term name → (T : ExpressionType)
-          → type_of env (e.Member spot term name) ≡ Some T → A × DotAsks tables functions place_of name.at w × IsWayOf Room (dotted_way tables place_of name.at w) T
+      dot_is : (spot : Spot) (name : Named) (A : Type 0) (term : Term) (w : Way) → Is A term w → MemberIs Room env tables functions place_of nests spot term name → (T : ExpressionType)
+          → type_of env (e.Member spot term name) ≡ Some T → A × DotAsks tables functions place_of nests name.at w × IsWayOf Room (dotted_way tables place_of name.at w) T
       dot_is spot name A term w is has T h =
           let a = then_some (λ i. option_and_then (λ place. option_map Stored (env.member_type i place)) (member_named env.structs i name.bytes)) (option_and_then struct_of (type_of env term)) T h in
           let b = then_some struct_of (type_of env term) a.0 a.1 in
@@ -288,9 +286,8 @@ module _ (Room : (address : ℕ) → DataType → Type 0) where
         where
           by : (w : Way) (U : ExpressionType) (i : ℕ) (T : ExpressionType) → type_of env term ≡ Some U → struct_of U ≡ Some i
               → type_of env (e.Member spot term name) ≡ Some T → IsStored T → IsWayOf Room w U
-              → DotAsks tables functions place_of name.at w × IsWayOf Room (dotted_way tables place_of name.at w) T
+              → DotAsks tables functions place_of nests name.at w × IsWayOf Room (dotted_way tables place_of name.at w) T
           by Unchecked U i T typed in_struct member stored s = (tt, stands_unchecked T stored)
-          by Grouped U i T typed in_struct member stored s = (tt, stands_unchecked T stored)
           by (Constant address) (Stored type) i (Stored other) typed in_struct member stored s =
               let room = has address type other typed member s in
               (may (behind_member tables place_of name.at address) other room, room)
@@ -310,7 +307,7 @@ module _ (Room : (address : ℕ) → DataType → Type 0) where
 
       -- all of the block are over what else there is, as links and suffixes are over what stands before them
       mutual
-        pub tree_is : (x : Tree) (other : Type 0) → Known Room env tables functions place_of x → Is (Asked tables functions place_of x) (term_of x) (way tables place_of x)
+        pub tree_is : (x : Tree) (other : Type 0) → Known Room env tables functions place_of nests x → Is (Asked tables functions place_of nests x) (term_of x) (way tables place_of x)
         tree_is (t.Number spot value true) other k T h = (tt, stands_valued Unsigned T (same_Some _ _ h))
         tree_is (t.Number spot value false) other k T h = (tt, stands_valued Int T (same_Some _ _ h))
         tree_is (t.Puts spot text) other k T h = (tt, subst (IsWayOf Room Absent) (same_Some _ _ h) tt)
@@ -319,61 +316,61 @@ module _ (Room : (address : ℕ) → DataType → Type 0) where
         tree_is (t.GroupNumber spot) other k T h = (tt, stands_valued Int T (same_Some _ _ h))
         tree_is (t.GroupRank spot) other k T h = (tt, stands_valued Int T (same_Some _ _ h))
         tree_is (t.Prefix spot sign x) other k T h =
-            let r = prefix_is spot sign (Asked tables functions place_of x) (term_of x) (way tables place_of x) (tree_is x (Unit {0}) k.0) k.1 T h in
+            let r = prefix_is spot sign (Asked tables functions place_of nests x) (term_of x) (way tables place_of x) (tree_is x (Unit {0}) k.0) k.1 T h in
             ((r.0, r.1), r.2)
         tree_is (t.Cast spot type x) other k T h =
             let c = cast_some (type_spelled env.structs type None) (value_in (type_of env (term_of x))) T h in
-            (valued (Asked tables functions place_of x) (term_of x) (way tables place_of x) (tree_is x (Unit {0}) k) c.0 c.1, stands_valued c.2 T c.3)
+            (valued (Asked tables functions place_of nests x) (term_of x) (way tables place_of x) (tree_is x (Unit {0}) k) c.0 c.1, stands_valued c.2 T c.3)
         tree_is (t.Chain first links) other k T h =
-            let r = links_are (Asked tables functions place_of first) (term_of first) (way tables place_of first) (tree_is first (Unit {0}) k.0) (token first) links k.1 T h in
+            let r = links_are (Asked tables functions place_of nests first) (term_of first) (way tables place_of first) (tree_is first (Unit {0}) k.0) (token first) links k.1 T h in
             ((r.0, r.1), r.2)
         tree_is (t.Postfix whole suffixes) other k T h =
-            let r = suffixes_are (Asked tables functions place_of whole) (Asked tables functions place_of whole) (term_of whole) (way tables place_of whole) (λ named a. a)
+            let r = suffixes_are (Asked tables functions place_of nests whole) (Asked tables functions place_of nests whole) (term_of whole) (way tables place_of whole) (λ named a. a)
             (tree_is whole (Unit {0}) k.0) suffixes k.1 T h in
             ((r.0, r.1), r.2)
         tree_is (t.Assign spot sign x y) other k T h =
             let n = if_none (is_no_target env (term_of x)) (assigned sign (type_of env (term_of x)) (operand_in (is_zero (term_of y)) (type_of env (term_of y)))) T h in
             let s = assigned_some sign (type_of env (term_of x)) (operand_in (is_zero (term_of y)) (type_of env (term_of y))) T n.1 in
             let a = tree_is x (Unit {0}) k.0 s.0 s.2 in
-            let b = operand (Asked tables functions place_of y) (term_of y) (way tables place_of y) (tree_is y (Unit {0}) k.1) s.1 s.3 in
+            let b = operand (Asked tables functions place_of nests y) (term_of y) (way tables place_of y) (tree_is y (Unit {0}) k.1) s.1 s.3 in
             ((a.0, is_target (way tables place_of x) s.0 (target_stored env (term_of x) s.0 n.0 s.2) s.4 a.1, b.0, b.1), stands_valued s.5 T s.6)
         tree_is (t.Choose spot c x y) other k T h =
             let s = branched_some (value_in (type_of env (term_of c))) (operand_in (is_zero (term_of x)) (type_of env (term_of x))) (operand_in (is_zero (term_of y)) (type_of env (term_of y))) T h in
-            let d = valued (Asked tables functions place_of c) (term_of c) (way tables place_of c) (tree_is c (Unit {0}) k.0) s.0 s.3 in
-            let a = operand (Asked tables functions place_of x) (term_of x) (way tables place_of x) (tree_is x (Unit {0}) k.1) s.1 s.4 in
-            let b = operand (Asked tables functions place_of y) (term_of y) (way tables place_of y) (tree_is y (Unit {0}) k.2) s.2 s.5 in
+            let d = valued (Asked tables functions place_of nests c) (term_of c) (way tables place_of c) (tree_is c (Unit {0}) k.0) s.0 s.3 in
+            let a = operand (Asked tables functions place_of nests x) (term_of x) (way tables place_of x) (tree_is x (Unit {0}) k.1) s.1 s.4 in
+            let b = operand (Asked tables functions place_of nests y) (term_of y) (way tables place_of y) (tree_is y (Unit {0}) k.2) s.2 s.5 in
             ((d.0, d.1, a.0, b.0, b.1 ∙ sym a.1), subst (λ v. IsWayOf Room (result v) T) (sym a.1) (stands_valued s.6 T s.7))
 
-        links_are : (A : Type 0) (before : Term) (w : Way) → Is A before w → (at : ℕ) (x : Links) → LinksKnown Room env tables functions place_of before at x → (T : ExpressionType)
-            → type_of env (with_links before x) ≡ Some T → A × LinksAsked tables functions place_of w at x × IsWayOf Room (chain_way tables place_of w x) T
+        links_are : (A : Type 0) (before : Term) (w : Way) → Is A before w → (at : ℕ) (x : Links) → LinksKnown Room env tables functions place_of nests before at x → (T : ExpressionType)
+            → type_of env (with_links before x) ≡ Some T → A × LinksAsked tables functions place_of nests w at x × IsWayOf Room (chain_way tables place_of w x) T
         links_are A before w is at t.no_links k T h = let r = is T h in (r.0, tt, r.1)
         links_are A before w is at (t.link spot sign right others) k T h =
-            let r = links_are (A × Asked tables functions place_of right × JoinAsks tables functions place_of sign w at (way tables place_of right))
+            let r = links_are (A × Asked tables functions place_of nests right × JoinAsks tables functions place_of nests sign w at (way tables place_of right))
             (joined_term spot sign before (term_of right)) (joined_way sign (way tables place_of right))
             (λ U typed.
-            let j = join_is spot sign A before w is at k.1 (Asked tables functions place_of right) (term_of right) (way tables place_of right) (tree_is right (Unit {0}) k.0) U typed in
+            let j = join_is spot sign A before w is at k.1 (Asked tables functions place_of nests right) (term_of right) (way tables place_of right) (tree_is right (Unit {0}) k.0) U typed in
             ((j.0, j.1, j.2), j.3))
             spot.at others k.2 T h in
             (r.0.0, (r.0.1, r.0.2, r.1), r.2)
 
         -- what is asked before, and with what stands before the suffixes
         suffixes_are : (A B : Type 0) (before : Term) (w : Way) → (is_use before ≡ true → A → B) → Is B before w → (x : Suffixes)
-            → SuffixesKnown Room env tables functions place_of A before w x → (T : ExpressionType)
-            → type_of env (with_suffixes before x) ≡ Some T → B × SuffixesAsked tables functions place_of w x × IsWayOf Room (suffixed_way tables place_of w x) T
+            → SuffixesKnown Room env tables functions place_of nests A before w x → (T : ExpressionType)
+            → type_of env (with_suffixes before x) ≡ Some T → B × SuffixesAsked tables functions place_of nests w x × IsWayOf Room (suffixed_way tables place_of w x) T
         suffixes_are A B before w named is t.no_suffixes k T h = let r = is T h in (r.0, tt, r.1)
         suffixes_are A B before w named is (t.index spot by others) k T h =
-            let r = suffixes_are A (B × (gives w ≡ true) × Asked tables functions place_of by × (gives (way tables place_of by) ≡ true))
+            let r = suffixes_are A (B × (gives w ≡ true) × Asked tables functions place_of nests by × (gives (way tables place_of by) ≡ true))
             (e.Index spot before (term_of by)) Unchecked (λ other. absurd (false≢true other))
             (λ U typed.
             let s = element_some (value_in (type_of env before)) (value_in (type_of env (term_of by))) U typed in
             let a = valued B before w is s.0 s.2 in
-            let b = valued (Asked tables functions place_of by) (term_of by) (way tables place_of by) (tree_is by (Unit {0}) k.0) s.1 s.3 in
+            let b = valued (Asked tables functions place_of nests by) (term_of by) (way tables place_of by) (tree_is by (Unit {0}) k.0) s.1 s.3 in
             ((a.0, a.1, b.0, b.1), stands_unchecked U (pointed_stored s.0 U s.4)))
             others k.1 T h in
             (r.0.0, (r.0.1, r.0.2, r.0.3, r.1), r.2)
         suffixes_are A B before w named is (t.call spot given others) k T h =
             let args = with_arguments no_terms given in
-            let r = suffixes_are A (B × CallAsks tables functions place_of w given × AllAsked tables functions place_of given)
+            let r = suffixes_are A (B × CallAsks tables functions place_of nests w given × AllAsked tables functions place_of nests given)
             (e.Call spot before args) (called_way tables place_of w) (λ other. absurd (false≢true other))
             (λ U typed.
             let c = k.1 U typed in
@@ -390,7 +387,7 @@ module _ (Room : (address : ℕ) → DataType → Type 0) where
                 by true e' = named e' a
                 by false e' = absurd (never e')
         suffixes_are A B before w named is (t.dot spot name others) k T h =
-            let r = suffixes_are A (B × DotAsks tables functions place_of name.at w) (e.Member spot before name) (dotted_way tables place_of name.at w) (λ other. absurd (false≢true other))
+            let r = suffixes_are A (B × DotAsks tables functions place_of nests name.at w) (e.Member spot before name) (dotted_way tables place_of name.at w) (λ other. absurd (false≢true other))
             (λ U typed. let d = dot_is spot name B before w is k.0 U typed in ((d.0, d.1), d.2))
             others k.1 T h in
             (r.0.0, (r.0.1, r.1), r.2)
@@ -411,16 +408,16 @@ module _ (Room : (address : ℕ) → DataType → Type 0) where
             (λ U typed. let c = count_is spot false B before w is U typed in ((c.0, c.1), c.2)) others k T h in
             (r.0.0, (r.0.1, r.1), r.2)
 
-        all_are : (ps : List Parameter) (x : Trees) (other : Type 0) → AllKnown Room env tables functions place_of x → (before : Terms) → do_all_fit env ps (with_arguments before x) ≡ true
-            → (do_all_fit env ps before ≡ true) × AllAsked tables functions place_of x
+        all_are : (ps : List Parameter) (x : Trees) (other : Type 0) → AllKnown Room env tables functions place_of nests x → (before : Terms) → do_all_fit env ps (with_arguments before x) ≡ true
+            → (do_all_fit env ps before ≡ true) × AllAsked tables functions place_of nests x
         all_are ps t.no_trees other k before fit = (fit, tt)
         all_are ps (t.tree first others) other k before fit =
             let r = all_are ps others (Unit {0}) k.1 (also before (term_of first)) fit in
             let p = and_parts (do_all_fit env ps before) _ r.0 in
             let v = fits_value (slice_get ps (count_of before)) (operand_in (is_zero (term_of first)) (type_of env (term_of first))) p.1 in
-            let a = operand (Asked tables functions place_of first) (term_of first) (way tables place_of first) (tree_is first (Unit {0}) k.0) v.0 v.1 in
+            let a = operand (Asked tables functions place_of nests first) (term_of first) (way tables place_of first) (tree_is first (Unit {0}) k.0) v.0 v.1 in
             (p.0, (a.0, a.1, r.1))
 
 pub typed_is_asked : TypedIsAsked
-typed_is_asked has_room may env tables functions place_of x k T h =
-    tree_is (λ address type. has_room address type ≡ true) env tables functions place_of may x (Unit {0}) k T h
+typed_is_asked nests has_room may env tables functions place_of x k T h =
+    tree_is (λ address type. has_room address type ≡ true) env tables functions place_of nests may x (Unit {0}) k T h

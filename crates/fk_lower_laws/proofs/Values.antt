@@ -3,17 +3,16 @@ use Rattle.std.proofs.Common.{◌≤◌, List, [], ◌∷◌, None, arith}
 use Rattle.fk_syntax.specs.Program.{FunctionTree, ItemTree}
 use Rattle.fk_meaning_forms.specs.Tables.{Tables}
 use Rattle.fk_meaning_forms.specs.Program.{functions_of}
-use Rattle.fk_layout.specs.Frames.{values_of, private_words}
+use Rattle.fk_layout.specs.Frames.{private_words}
 use Rattle.fk_layout.specs.Layout.{tables_by}
 use Rattle.fk_check_laws.proofs.Each.{Each}
 use Rattle.fk_check_laws.proofs.Programs.{correct_programs_fit}
 use Rattle.fk_core_flat.proofs.Programs.{forms_are_shaped}
 use Rattle.fk_compile_text.specs.Built.{operations_of}
-use Rattle.fk_compile_text.specs.Plain.{is_plain}
+use Rattle.fk_lower_laws.specs.Unsplit.{is_unsplit}
 use Rattle.fk_lower_laws.proofs.Along.{each_of}
 use Rattle.fk_lower_laws.proofs.TypedPrograms.{forms_are_typed}
 use Rattle.fk_lower_laws.proofs.Firsts.{small}
-use Rattle.fk_lower_laws.specs.Named.{words_in}
 use Rattle.fk_lower_laws.specs.Room.{HaveRoom}
 use Rattle.fk_lower_laws.proofs.Frames.{rooms, bodies_few}
 use Rattle.fk_lower_laws.proofs.Programs.{correct_programs_are_asked}
@@ -31,10 +30,9 @@ values_have_room program facts valid trim proper fits built =
     let typed = forms_are_typed tables program (correct_programs_are_asked program facts valid trim proper fits) built in
     let shaped = forms_are_shaped tables program (correct_programs_fit program facts valid trim) in
     record {
-      most = words_in tables (values_of tables items) fs;
       room = λ b. rooms tables items 64 (omega arith) fs b (each_has_room tables items fs (small tables items fs fits.frames));
       few = λ b.
           let own = typed b in
           let shape = shaped b in
-          bodies_few tables items _ fs 0 b None _ own.0 (each_of is_plain (operations_of tables program) built) shape.0 own.1;
+          bodies_few tables items _ fs 0 b None _ own.0 (each_of is_unsplit (operations_of tables program) built) shape.0 own.1;
     }

@@ -9,7 +9,7 @@ use Rattle.fk_layout.specs.Refusal.{Fits}
 use Rattle.fk_parse_laws.specs.Trim.{ProgramIsTrim}
 use Rattle.fk_check_laws.specs.Correct.{IsCorrect}
 use Rattle.fk_lower_laws.specs.Asked.{place_of, ProgramAsked}
-use Rattle.fk_lower_laws.specs.Proper.{ProgramIsProper}
+use Rattle.fk_lower_names.specs.Proper.{ProgramIsProper}
 
 abbrev pub CorrectProgramsAreAsked : Type 0
 CorrectProgramsAreAsked =

@@ -1,5 +1,5 @@
 -- The lists of programs that keep all rules and have a layout.
-use Rattle.std.specs.Prelude.{ℕ, ◌≤◌, List, length}
+use Rattle.std.specs.Prelude.{ℕ, List, length}
 use Rattle.fk_syntax.specs.declared.facts.Facts.{Facts}
 use Rattle.fk_syntax.specs.Program.{ProgramTree}
 use Rattle.fk_meaning_forms.specs.Tables.{Tables}
@@ -22,7 +22,7 @@ use Rattle.fk_parse_laws.specs.Trim.{ProgramIsTrim}
 use Rattle.fk_check_laws.specs.Correct.{IsCorrect}
 use Rattle.fk_core_typing.specs.Laws.{HasHeightsOf}
 use Rattle.fk_lower_laws.specs.Asked.{place_of}
-use Rattle.fk_lower_laws.specs.Proper.{ProgramIsProper}
+use Rattle.fk_lower_names.specs.Proper.{ProgramIsProper}
 use Rattle.fk_lower_laws.specs.LoweringLaws.{IsKnownOf}
 use Rattle.fk_lower_laws.specs.Certain.{IsSteady, HasEnough, HasFrames}
 

@@ -1,11 +1,10 @@
 pub mod Ways
+pub mod Parts
+pub mod Unsplit
 pub mod Asked
 pub mod Typed
 pub mod TypedLaws
-pub mod WordRoom
-pub mod WordLaws
 pub mod LoweringLaws
-pub mod Proper
 pub mod AskedLaws
 pub mod Room
 pub mod Rooms
@@ -13,7 +12,6 @@ pub mod Suiting
 pub mod FreeLaws
 pub mod Named
 pub mod RoomLaws
-pub mod NumberLaws
 pub mod HeightLaws
 pub mod Certain
 pub mod Laws

@@ -1,7 +1,6 @@
 -- Expressions that have a type, and what else is required of them: of their names, members and
 -- calls.
-use Rattle.std.specs.Prelude.{◌≡◌, ℕ, Bool, true, false, Some, None, is_some}
-use Rattle.fk_meaning_store.specs.Serve.{may_use}
+use Rattle.std.specs.Prelude.{◌≡◌, ℕ, Bool, true, false, List, Some, None, is_some}
 use Rattle.fk_syntax.specs.declared.place.Spot.{Spot}
 use Rattle.fk_syntax.specs.declared.sign.Sign.{Sign}
 use Rattle.fk_syntax.specs.declared.sign.Sign.TheVariants as g
@@ -18,7 +17,10 @@ use Rattle.fk_types_judgments.specs.Typing.{type_of, struct_of_root, left_of}
 use Rattle.fk_meaning_forms.specs.Tables.{Tables, is_void}
 use Rattle.fk_meaning_forms.specs.Expressions.{Signature, token}
 use Rattle.fk_core_liveness.specs.declared.places.FunctionKind.{FunctionKind}
-use Rattle.fk_lower_laws.specs.Ways.{Way, Valued, Absent, Unchecked, Constant, Array, Grouped, Word}
+use Rattle.fk_lockstep_frames.specs.Nests.{Nest}
+use Rattle.fk_core_typing.specs.declared.constants.Constant.{Constant as Address}
+use Rattle.fk_core_typing.specs.AddressValues.{is_address}
+use Rattle.fk_lower_laws.specs.Ways.{Way, Valued, Absent, Unchecked, Constant, Array, Word}
 use Rattle.fk_lower_laws.specs.Ways.{behind_member, named_way, called_way, dotted_way, way}
 use Rattle.fk_lower_laws.specs.Asked.{CallAsks, NameAsks, Asked}
 
@@ -35,8 +37,8 @@ abbrev pub PrefixIs : Sign → Way → Type 0
 PrefixIs g.Ampersand w = IsNoWord w
 PrefixIs sign w = Unit {0}
 
--- For a condition of room for what is stored at a constant address.
-module _ (Room : (address : ℕ) → DataType → Type 0) where
+-- For a condition of room for what is stored at a known address.
+module _ (Room : Address → DataType → Type 0) where
   -- An expression of a type is in such a way. What is in a private word is no array and no struct.
   abbrev pub IsWayOf : Way → ExpressionType → Type 0
   IsWayOf Valued (Computed value) = Unit {0}
@@ -44,18 +46,17 @@ module _ (Room : (address : ℕ) → DataType → Type 0) where
   IsWayOf Unchecked (Stored type) = Unit {0}
   IsWayOf (Constant address) (Stored type) = Room address type
   IsWayOf Array (Stored type) = is_some type.length ≡ true
-  IsWayOf Grouped (Stored type) = Unit {0}
   IsWayOf Word (Stored type) = (is_some type.length ≡ false)
       × (struct_of_root type.root type.stars ≡ None)
   IsWayOf w type = ⊥
 
   module _ (env : Env) (tables : Tables) (functions : (binding : ℕ) → Signature)
-      (place_of : (binding : ℕ) → FunctionKind) where
+      (place_of : (binding : ℕ) → FunctionKind) (nests : List Nest) where
     -- A name is as its type says, and has what is asked of it.
     abbrev pub NameIs : Named → Type 0
     NameIs name =
         (type : ExpressionType) → type_of env (e.Use name) ≡ Some type
-        → NameAsks tables functions place_of name.at (named_way tables place_of name)
+        → NameAsks tables functions place_of nests name.at (named_way tables place_of name)
         × IsWayOf (named_way tables place_of name) type
 
     -- A type is noted at the token of what a comma drops, which is no struct.
@@ -68,7 +69,7 @@ module _ (Room : (address : ℕ) → DataType → Type 0) where
     -- A member has room if its struct has.
     abbrev pub MemberIs : Spot → Term → Named → Type 0
     MemberIs spot before name =
-        (address : ℕ) (type member : DataType) → type_of env before ≡ Some (Stored type)
+        (address : Address) (type member : DataType) → type_of env before ≡ Some (Stored type)
         → type_of env (e.Member spot before name) ≡ Some (Stored member)
         → Room address type → Room (behind_member tables place_of name.at address) member
 
@@ -80,7 +81,7 @@ module _ (Room : (address : ℕ) → DataType → Type 0) where
       Known (t.Cast spot type operand) = Known operand
       Known (t.Chain first links) = Known first × LinksKnown (term_of first) (token first) links
       Known (t.Postfix whole suffixes) = Known whole
-          × SuffixesKnown (Asked tables functions place_of whole) (term_of whole)
+          × SuffixesKnown (Asked tables functions place_of nests whole) (term_of whole)
           (way tables place_of whole) suffixes
       Known (t.Assign spot sign target value) = Known target × Known value
       Known (t.Choose spot condition first second) = Known condition × Known first × Known second
@@ -101,7 +102,7 @@ module _ (Room : (address : ℕ) → DataType → Type 0) where
           AllKnown given
           × ((type : ExpressionType)
           → type_of env (e.Call spot before (with_arguments no_terms given)) ≡ Some type
-          → A × CallAsks tables functions place_of w given
+          → A × CallAsks tables functions place_of nests w given
           × IsWayOf (called_way tables place_of w) type)
           × SuffixesKnown A (e.Call spot before (with_arguments no_terms given))
           (called_way tables place_of w) others
@@ -122,11 +123,12 @@ module _ (Room : (address : ℕ) → DataType → Type 0) where
 -- An expression that has a type is as well typed code asks, and is as its type says.
 abbrev pub TypedIsAsked : Type 0
 TypedIsAsked =
-    (has_room : (address : ℕ) → DataType → Bool)
-    → ((address : ℕ) (type : DataType) → has_room address type ≡ true → may_use true address ≡ true)
+    (nests : List Nest) (has_room : Address → DataType → Bool)
+    → ((address : Address) (type : DataType) → has_room address type ≡ true
+    → is_address true nests (Some address) ≡ true)
     → (env : Env) (tables : Tables) (functions : (binding : ℕ) → Signature)
     (place_of : (binding : ℕ) → FunctionKind) (x : Tree)
-    → Known (λ address type. has_room address type ≡ true) env tables functions place_of x
+    → Known (λ address type. has_room address type ≡ true) env tables functions place_of nests x
     → (type : ExpressionType) → type_of env (term_of x) ≡ Some type
-    → Asked tables functions place_of x
+    → Asked tables functions place_of nests x
     × IsWayOf (λ address type'. has_room address type' ≡ true) (way tables place_of x) type

@@ -1,5 +1,5 @@
 -- Where the result of an expression is when its operations are done, told of its tree.
-use Rattle.std.specs.Prelude.{ℕ, ◌+◌, ◌*◌, ◌==◌, Bool, true, false, codes, if◌then◌else◌}
+use Rattle.std.specs.Prelude.{ℕ, ◌+◌, ◌*◌, ◌/◌, ◌==◌, Bool, true, false, codes, if◌then◌else◌}
 use Rattle.fk_num.specs.Word.{word}
 use Rattle.fk_num.specs.Op.{applied}
 use Rattle.fk_num.specs.declared.operator.Op.TheVariants as f
@@ -9,9 +9,11 @@ use Rattle.fk_syntax.specs.Tree as t
 use Rattle.fk_syntax.specs.Tree.{Named, Tree, Links, Suffixes}
 use Rattle.fk_meaning_forms.specs.declared.tables.Home.{Home}
 use Rattle.fk_meaning_forms.specs.declared.tables.Home.TheVariants as h
-use Rattle.fk_meaning_forms.specs.Tables.{Tables, no_binding, note, slot}
+use Rattle.fk_meaning_forms.specs.Tables.{Tables, no_binding, note, slot, region}
 use Rattle.fk_meaning_forms.specs.Expressions.{is_name}
 use Rattle.fk_lockstep_structure.specs.Valued.{predeclared_gives}
+use Rattle.fk_core_typing.specs.declared.constants.Constant.{Constant as Address}
+use Rattle.fk_core_typing.specs.declared.constants.Constant.TheVariants.{Number, FrameWord}
 use Rattle.fk_core_liveness.specs.declared.places.FunctionKind.{FunctionKind}
 use Rattle.fk_core_liveness.specs.declared.places.FunctionKind.TheVariants.{Main, Called}
 
@@ -19,12 +21,12 @@ pub data Way : Type 0 where
   -- It has a value, or none.
   Valued : Way
   Absent : Way
-  -- It is at an address that is checked before it is used; at a constant address, which needs no
-  -- check; at the address of an array, which is its value; or in a group frame.
+  -- It is at an address that is checked before it is used; at a known address, which needs no check:
+  -- a constant, or that of a word of a group frame; or at the address of an array, which is its
+  -- value.
   Unchecked : Way
-  Constant : (address : ℕ) → Way
+  Constant : (address : Address) → Way
   Array : Way
-  Grouped : Way
   -- It is in a private word, or is the name of a function.
   Word : Way
   Function : (name : Named) → Way
@@ -43,7 +45,7 @@ abbrev pub place_gives : FunctionKind → Bool
 place_gives Main = false
 place_gives (Called gives) = gives
 
--- The ways of predeclared names, and of variables by their homes.
+-- The ways of predeclared names.
 abbrev pub predeclared_way : Named → Way
 predeclared_way name =
     if is_name name (codes "__PROC_NR__") then Valued
@@ -51,13 +53,6 @@ predeclared_way name =
     else if is_name name (codes "__inputs") then Valued
     else if is_name name (codes "__input") then Array
     else Function name
-
-abbrev pub placed_way : Home → (index : ℕ) → Named → Way
-placed_way h.Global i name = Constant (word (0x10000000 + 4 * i))
-placed_way h.FilePrivate i name = Word
-placed_way h.Private i name = Word
-placed_way (h.Group r) i name = Grouped
-placed_way h.NoWord i name = Function name
 
 -- A dereference is at its address. What other signs give is a value.
 abbrev pub prefix_way : Sign → Way
@@ -69,12 +64,20 @@ abbrev pub joined_way : Sign → (right : Way) → Way
 joined_way g.Comma right = result (gives right)
 joined_way sign right = Valued
 
+-- The ways of variables by their homes.
+abbrev pub placed_way : Tables → Home → (index : ℕ) → Named → Way
+placed_way tables h.Global i name = Constant (Number (word (0x10000000 + 4 * i)))
+placed_way tables h.FilePrivate i name = Word
+placed_way tables h.Private i name = Word
+placed_way tables (h.Group r) i name = Constant (FrameWord (region tables r).level i)
+placed_way tables h.NoWord i name = Function name
+
 module _ (tables : Tables) (place_of : (binding : ℕ) → FunctionKind) where
   abbrev pub named_way : Named → Way
   named_way name =
       let b = (note tables name.at).binding in
       if b == no_binding then predeclared_way name
-      else placed_way (slot tables b).home (slot tables b).index name
+      else placed_way tables (slot tables b).home (slot tables b).index name
 
   abbrev pub call_gives : Named → Bool
   call_gives name =
@@ -86,8 +89,11 @@ module _ (tables : Tables) (place_of : (binding : ℕ) → FunctionKind) where
   called_way way = Absent
 
   -- A member comes after the beginning of its struct by as many words as the note of its name says.
-  abbrev pub behind_member : (at address : ℕ) → ℕ
-  behind_member at address = applied f.Add address (word (4 * (note tables at).binding))
+  abbrev pub behind_member : (at : ℕ) → Address → Address
+  behind_member at (Number address) =
+      Number (applied f.Add address (word (4 * (note tables at).binding)))
+  behind_member at (FrameWord nesting first) =
+      FrameWord nesting (first + word (4 * (note tables at).binding) / 4)
 
   abbrev pub dotted_way : (at : ℕ) → Way → Way
   dotted_way at (Constant address) = Constant (behind_member at address)

@@ -3,23 +3,20 @@
 
 ghost use Rattle.fk_lower_laws.specs.TypedLaws.{FormsAreTyped, MainHasItsPlace};
 ghost use Rattle.fk_lower_laws.specs.Typed.{TypedIsAsked};
-ghost use Rattle.fk_lower_laws.specs.WordLaws.{MembersAreClose, NumbersHaveRoom};
 ghost use Rattle.fk_lower_laws.specs.LoweringLaws.{BindingsGoUp, TextsCanBeLaid, FirstsAreFew};
-ghost use Rattle.fk_lower_laws.specs.Proper.{TextsAreProper};
 ghost use Rattle.fk_lower_laws.specs.AskedLaws.{CorrectProgramsAreAsked, MainsHaveTheirPlace};
 ghost use Rattle.fk_lower_laws.specs.FreeLaws.{FlatListsAreApart, ListsArePlain, ListsGoOnWithin};
 ghost use Rattle.fk_lower_laws.specs.Suiting.{LiveWordsSuit};
 ghost use Rattle.fk_lower_laws.specs.RoomLaws.{ValuesHaveRoom, NamesHaveWords};
 ghost use Rattle.fk_lower_laws.specs.RoomLaws.{CorrectProgramsHaveRoom};
 ghost use Rattle.fk_lower_laws.specs.Named.{CodeNamesWords};
-ghost use Rattle.fk_lower_laws.specs.NumberLaws.{OperationsHaveNumbers};
 ghost use Rattle.fk_lower_laws.specs.HeightLaws.{ListsHaveHeights};
 ghost use Rattle.fk_lower_laws.specs.Laws.{CorrectListsAreSteady, CorrectListsHaveFrames};
 ghost use Rattle.fk_lower_laws.specs.Laws.{LoweredListsCanHaveGroups};
 
-/// The code of a program of which all operations are plain is well typed, if there is a value
-/// wherever one is needed, and a place where something is assigned, each call has its arguments,
-/// and `break` and `continue` are in loops.
+/// The code of a program in which no group splits is well typed, if there is a value wherever one is
+/// needed, and a place where something is assigned, each call has its arguments, each word of a
+/// group frame is named where the frame is taken, and `break` and `continue` are in loops.
 pub fn forms_are_typed()
     ensures { FormsAreTyped }
 {}
@@ -34,19 +31,6 @@ pub fn main_has_its_place()
 /// its members and its calls are.
 pub fn typed_is_asked()
     ensures { TypedIsAsked }
-{}
-
-/// The members in a program that keeps all rules are near the first words of their structs, and no
-/// function has too many parameters.
-pub fn members_are_close()
-    ensures { MembersAreClose }
-{}
-
-/// Each number that an operation of a program takes has room in a word, if the program keeps all
-/// rules and has a layout, and the numbers written in its text have room: addresses, the words
-/// before members and those of types, places and counts of arguments.
-pub fn numbers_have_room()
-    ensures { NumbersHaveRoom }
 {}
 
 /// The bindings of the functions go up in the order of the text, from 0 on.
@@ -64,11 +48,6 @@ pub fn texts_can_be_laid()
 /// frame of `main`, which has at most 64, and 8 others besides them.
 pub fn firsts_are_few()
     ensures { FirstsAreFew }
-{}
-
-/// The structs of a text have members, and its parameters no lengths.
-pub fn texts_are_proper()
-    ensures { TextsAreProper }
 {}
 
 /// A program that keeps all rules, as a text spells it, and has a layout, has a value wherever one
@@ -94,53 +73,48 @@ pub fn lists_are_plain()
     ensures { ListsArePlain }
 {}
 
-/// The flat list of a program with well typed code, of which all operations are plain, goes on
-/// within itself: its jumps lead to operations, only an end goes on outside it, and its `main`
-/// begins in it.
+/// The flat list of a program with well typed code, in which no group splits, goes on within
+/// itself: its jumps lead to operations, only an end goes on outside it, and its `main` begins in
+/// it.
 pub fn lists_go_on_within()
     ensures { ListsGoOnWithin }
 {}
 
-/// A flat list of well typed functions, whose private words and values have room in frames, suits
-/// frames that keep its live words.
+/// A flat list of well typed functions in which no group splits, whose private words and values have
+/// room in frames, suits frames that keep its live words. The header of a call tells the group frame
+/// of the part that it is in.
 pub fn live_words_suit()
     ensures { LiveWordsSuit }
 {}
 
 /// A program that keeps all rules, as a text spells it, and has a layout, has room in the frame of
-/// each function for its private words and for its values, if all operations are plain.
+/// each function for its private words and for its values, if no group splits.
 pub fn values_have_room()
     ensures { ValuesHaveRoom }
 {}
 
-/// The code of a program of which all operations are plain names private words that exist, and its
-/// calls have few arguments and begin with nothing, if the names of its text have their words.
+/// The code of a program names private words that exist, and its calls have few arguments and room
+/// for their openings, if the names of its text have their words. The words of group frames that it
+/// names are below 2^21 if its frames are small.
 pub fn code_names_words()
     ensures { CodeNamesWords }
 {}
 
-/// A program that keeps all rules and has a layout has code that names private words that exist, if
-/// all operations are plain: each is below the number of its function's own words, or among those
-/// of file scope.
+/// A program that keeps all rules and has a layout has code that names private words that exist:
+/// each is below the number of its function's own words, or among those of file scope.
 pub fn names_have_words()
     ensures { NamesHaveWords }
 {}
 
 /// A program that keeps all rules, as a text spells it, and has a layout, has room in the frame of
-/// each function for its private words and its values, and for a result after each call, if all
-/// operations are plain.
+/// each function for its private words and its values, and for a result after each call, if no group
+/// splits.
 pub fn correct_programs_have_room()
     ensures { CorrectProgramsHaveRoom }
 {}
 
-/// Each operation of a program that keeps all rules and has a layout has a number, if all are
-/// plain: each private word that it names is among the 56 of its function or of file scope.
-pub fn operations_have_numbers()
-    ensures { OperationsHaveNumbers }
-{}
-
 /// A list whose operations have the depths that a text gives for their sites has the heights of the
-/// text's code, if that is well typed and all its operations are plain.
+/// text's code, if that is well typed and no group splits.
 pub fn lists_have_heights()
     ensures { ListsHaveHeights }
 {}

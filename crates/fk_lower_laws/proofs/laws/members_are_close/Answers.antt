@@ -1,5 +1,0 @@
-use Rattle.fk_lower_laws.proofs.Near.{all_near}
-use Rattle.fk_lower_laws.proofs.laws.members_are_close.Goals as goal
-
-pub returns : goal.returns
-returns c = all_near

@@ -1,5 +1,0 @@
-use Rattle.fk_lower_laws.proofs.WordRoom.{numbers_have_room}
-use Rattle.fk_lower_laws.proofs.laws.numbers_have_room.Goals as goal
-
-pub returns : goal.returns
-returns c = numbers_have_room

@@ -1,5 +1,0 @@
-use Rattle.fk_lower_laws.proofs.Proper.{texts_are_proper}
-use Rattle.fk_lower_laws.proofs.laws.texts_are_proper.Goals as goal
-
-pub returns : goal.returns
-returns c = texts_are_proper
