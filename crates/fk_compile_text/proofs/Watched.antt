@@ -5,30 +5,26 @@ use Rattle.std.proofs.lemmas.List.Sums.{AllPass-from_list_all}
 use Rattle.fk_syntax.specs.Program.{FunctionTree, ItemTree, ProgramTree}
 use Rattle.fk_meaning_operation.specs.declared.operation.Operation.{Operation}
 use Rattle.fk_meaning_operation.specs.declared.operation.Operation.TheVariants as o
-use Rattle.fk_meaning_operation.specs.declared.operation.OwnValue.{OwnValue}
-use Rattle.fk_meaning_operation.specs.declared.operation.OwnValue.TheVariants as k
+use Rattle.fk_meaning_operation.specs.declared.operation.SplitKind.{SplitKind}
 use Rattle.fk_meaning_forms.specs.Code.{done, perform, choose, while, until, turn, again, quit, break, continue, call, ends}
 use Rattle.fk_meaning_forms.specs.Expressions.{Coded, Signature}
 use Rattle.fk_meaning_forms.specs.Program as p
 use Rattle.fk_meaning_forms.specs.Tables.{Tables}
 use Rattle.fk_layout_walk.specs.declared.known.ProgramTables as w
 use Rattle.fk_layout_walk.specs.Known.{tables_of, items_in, functions_of}
-use Rattle.fk_layout_walk.specs.Shown.{shown, shown_known}
+use Rattle.fk_layout_walk.specs.Shown.{shown}
 use Rattle.fk_layout_walk.specs.Through.{through}
 use Rattle.fk_layout_walk_statements.specs.Texts.{functions_in, code_in, through_all}
 use Rattle.fk_compile_text.specs.Built.{operations, operations_in, operations_of}
 use Rattle.fk_compile_text.specs.Plain.{is_plain, ArePlain}
 use Rattle.fk_compile_text.specs.Building.{building_after, no_mark}
 use Rattle.fk_compile_text.specs.declared.building.Building.{Building}
-use Rattle.fk_compile_text.proofs.Elements.{one_fails}
+use Rattle.fk_compile_text.proofs.BesideSplits.{split_among}
+use Rattle.fk_compile_text.proofs.SplitStatements.{unsplit_texts_are_plain}
 
 -- an operation is built as it is shown
-known_as_shown : (known : OwnValue) → is_plain (o.Get (shown_known known)) ≡ is_plain (o.Get known)
-known_as_shown (k.FrameAddress nesting word) = refl
-known_as_shown known = refl
-
 as_shown : (op : Operation) → is_plain (shown op) ≡ is_plain op
-as_shown (o.Get known) = known_as_shown known
+as_shown (o.Get known) = refl
 as_shown op = refl
 
 -- what is so of all before, and of these
@@ -125,6 +121,8 @@ module _ (known : w.ProgramTables) (tables : Tables) (tree : ProgramTree) (same_
   pub all_built : list_all is_plain (operations_in (tables_of known) (functions_in known) (functions_in known)) ≡ true → ArePlain tables tree
   all_built is = AllPass-from_list_all is_plain (operations_of tables tree) (told true is)
 
-  pub one_unbuilt : list_all is_plain (operations_in (tables_of known) (functions_in known) (functions_in known)) ≡ false
-      → (op : Operation) × Contains (operations_of tables tree) op × (is_plain op ≡ false)
-  one_unbuilt is = one_fails is_plain (operations_of tables tree) (told false is)
+  pub one_splits : list_all is_plain (operations_in (tables_of known) (functions_in known) (functions_in known)) ≡ false
+      → (by : SplitKind) × Contains (operations_of tables tree) (o.Split by)
+  one_splits is =
+      let fs = p.functions_of tree.items in
+      split_among (operations_of tables tree) (unsplit_texts_are_plain tables fs fs) (told false is)

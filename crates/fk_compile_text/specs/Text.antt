@@ -19,9 +19,10 @@ use Rattle.fk_layout_lookup.specs.Lookup.{Tells}
 use Rattle.fk_layout_lookup.specs.declared.lookup.Lookup.{Lookup}
 use Rattle.fk_layout_walk.specs.Known.{tables_of, items_in}
 use Rattle.fk_layout_walk.specs.declared.known.ProgramTables.{ProgramTables}
-use Rattle.fk_meaning_operation.specs.declared.operation.Operation.{Operation}
+use Rattle.fk_meaning_operation.specs.declared.operation.Operation.TheVariants.{Split}
+use Rattle.fk_meaning_operation.specs.declared.operation.SplitKind.{SplitKind}
 use Rattle.fk_compile_text.specs.Built.{operations_of}
-use Rattle.fk_compile_text.specs.Plain.{is_plain, ArePlain}
+use Rattle.fk_compile_text.specs.Plain.{ArePlain}
 
 -- A text has tokens, and the tree is theirs.
 pub record HasTree (source : List ℕ) (tree : ProgramTree) : Type 0 where
@@ -86,12 +87,11 @@ pub record IsBuilt (source : List ℕ) : Type 0 where
   pub laid : HasLayout source
   pub built : ArePlain (tables_by laid.tree laid.facts) laid.tree
 
--- A text has a layout, and one of its operations isn't built.
+-- A text has a layout, and one of its operations is a split.
 pub record IsNotBuilt (source : List ℕ) : Type 0 where
   pub laid : HasLayout source
-  pub operation : Operation
-  pub among : Contains (operations_of (tables_by laid.tree laid.facts) laid.tree) operation
-  pub unbuilt : is_plain operation ≡ false
+  pub by : SplitKind
+  pub among : Contains (operations_of (tables_by laid.tree laid.facts) laid.tree) (Split by)
 
 -- the lookup tells the functions and the group frames of this tree, as these facts have them
 abbrev pub Finds : ProgramTree → Facts → Lookup → Type 0

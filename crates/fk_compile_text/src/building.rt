@@ -9,23 +9,13 @@ ghost use Rattle.fk_compile_text.specs.Plain.{is_plain};
 
 use fk_layout_walk::{Event, Mark, ProgramTables, Visitor};
 use fk_layout_walk_statements::text;
-use fk_meaning_operation::{Operation, OwnValue as Pushed};
+use fk_meaning_operation::Operation;
 
-/// Whether an operation is built. It isn't if it splits a group or tests a split loop, uses a group
-/// frame, takes a block of the group's space, or is `shmalloc`.
+/// Whether an operation is built. It isn't if it splits a group or tests a split loop.
 pub fn is_plain(operation: Operation) -> bool
     ensures { result ≡ is_plain operation }
 {
-    !matches!(
-        operation,
-        Operation::Get(Pushed::FrameAddress(_, _))
-            | Operation::Leave { framed: true, .. }
-            | Operation::Heap
-            | Operation::Frame { .. }
-            | Operation::Block
-            | Operation::Split(_)
-            | Operation::Shrink
-    )
+    !matches!(operation, Operation::Split(_) | Operation::Shrink)
 }
 
 /// A visitor that finds whether all operations are built.

@@ -45,9 +45,8 @@ pub enum Refusal {
     /// The text has this many bytes, more than 1,048,576.
     #[error("a text of {0} bytes is too long")]
     SourceTooLong(u64),
-    /// The text is one of the language, but has an operation that isn't built: one that splits a
-    /// group (`fork`, a private condition in a synchronous region), a group's frame (`sh` variables
-    /// and parameters of functions and bodies), `shalloc`, or `shmalloc`.
+    /// The text is one of the language, but has a split, which isn't built: a `fork`, or a private
+    /// condition in a synchronous region.
     #[error("not built")]
     NotBuilt,
     /// There isn't enough memory for the image.

@@ -6,7 +6,7 @@ use Rattle.fk_layout.specs.Refusal.{Fits}
 use Rattle.fk_compile_text.specs.declared.refusal.Refusal.TheVariants.{NotBuilt}
 use Rattle.fk_compile_text.specs.Refusal.{IsRefusedText}
 use Rattle.fk_compile_text.specs.Text.{IsChecked}
-use Rattle.fk_compile_text.proofs.Watched.{one_unbuilt}
+use Rattle.fk_compile_text.proofs.Watched.{one_splits}
 use Rattle.fk_compile_text.proofs.built.test_built.Goals as goal
 
 pub returns-clause-refused : goal.returns-clause-refused
@@ -17,7 +17,7 @@ returns-clause-refused c =
     (λ refusal. (source : List ℕ) → length source ≤ 1048576 → IsChecked source tree facts → Fits (tables_by tree facts) tree.items → IsRefusedText source refusal)
     (λ refusal told source short checked fits.
     let found =
-    one_unbuilt c.tables.result (tables_by tree facts) tree c.tables.ensures.tables c.tables.ensures.items (sym c.are_built.ensures ∙ told.0) in
+    one_splits c.tables.result (tables_by tree facts) tree c.tables.ensures.tables c.tables.ensures.items (sym c.are_built.ensures ∙ told.0) in
     subst (IsRefusedText source) (sym told.1)
-    (short, record { laid = record { tree = tree; facts = facts; checked = checked; fits = fits }; operation = found.0; among = found.1; unbuilt = found.2 }))
+    (short, record { laid = record { tree = tree; facts = facts; checked = checked; fits = fits }; by = found.0; among = found.1 }))
     c.told_by.ensures.not_built
