@@ -2,11 +2,10 @@
 use Rattle.std.proofs.Common.{◌≡◌, ℕ, suc, ◌<◌, ◌≤◌, List, [], length, true, false, arith, refl, inl, inr}
 use Rattle.std.proofs.lemmas.Option.{slice_get_within}
 use Rattle.std.proofs.lemmas.List.Elements.{All-head}
-use Rattle.fk_meaning_operation.specs.declared.operation.OwnValue.TheVariants.{FrameAddress}
 use Rattle.fk_meaning_operation.specs.declared.operation.Multiprefix.{Multiprefix}
 use Rattle.fk_meaning_operation.specs.declared.operation.Multiprefix.TheVariants.{MpAdd, MpMax, MpAnd, MpOr}
 use Rattle.fk_meaning_operation.specs.declared.operation.Operation.{Operation}
-use Rattle.fk_meaning_operation.specs.declared.operation.Operation.TheVariants.{Get, Branch, Leave, Enter, Combine, Heap, Begin, Agree, Frame, Block, Split, Shrink, End, Resume, Farm, Seq, Meet, Halt}
+use Rattle.fk_meaning_operation.specs.declared.operation.Operation.TheVariants.{Branch, Enter, Combine, Begin, Agree, Frame, Block, Split, Shrink, End, Resume, Farm, Seq, Meet, Halt}
 use Rattle.fk_core.specs.declared.op.CoreOp.{CoreOp}
 use Rattle.fk_core.specs.Next.{behind_jump}
 use Rattle.fk_core_flat.specs.Items.{straight, way_of}
@@ -30,16 +29,13 @@ combine_alone MpAnd = refl
 combine_alone MpOr = refl
 
 own_block : (operation : Operation) → is_plain operation ≡ true → HasOwnBlock operation
-own_block (Get (FrameAddress nesting word)) plain = never plain
-own_block (Leave gives true) plain = never plain
-own_block Heap plain = never plain
-own_block (Frame nesting words) plain = never plain
-own_block Block plain = never plain
 own_block (Split split) plain = never plain
 own_block Shrink plain = never plain
 own_block Halt plain = inr (inl refl)
 own_block Begin plain = inr (inr refl)
 own_block Agree plain = inr (inr refl)
+own_block (Frame nesting words) plain = inr (inr refl)
+own_block Block plain = inr (inr refl)
 own_block Farm plain = inr (inr refl)
 own_block Seq plain = inr (inr refl)
 own_block End plain = inr (inr refl)
@@ -57,6 +53,8 @@ target_within core leads i op Farm stands none target = (leads.within i op Farm 
 target_within core leads i op Seq stands none target = (leads.within i op Seq stands.stands stands.is_read refl false).at
 target_within core leads i op End stands none target = (leads.within i op End stands.stands stands.is_read refl false).at
 target_within core leads i op Agree stands none target = let e = none refl in let within = slice_get_within core i op stands.stands in omega (arith, e, within)
+target_within core leads i op (Frame nesting words) stands none target = let e = none refl in let within = slice_get_within core i op stands.stands in omega (arith, e, within)
+target_within core leads i op Block stands none target = let e = none refl in let within = slice_get_within core i op stands.stands in omega (arith, e, within)
 target_within core leads i op Resume stands none target = let e = none refl in let within = slice_get_within core i op stands.stands in omega (arith, e, within)
 target_within core leads i op (Meet closing) stands none target = let e = none refl in let within = slice_get_within core i op stands.stands in omega (arith, e, within)
 target_within core leads i op operation stands none target = never target

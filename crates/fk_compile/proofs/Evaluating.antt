@@ -1,5 +1,5 @@
 -- An expression that is as well typed code asks it leaves one value or none.
-use Rattle.std.proofs.Common.{◌≡◌, ℕ, Bool, true, false, refl, sym, ap, ◌∙◌, subst}
+use Rattle.std.proofs.Common.{◌≡◌, ℕ, Bool, true, false, List, refl, sym, ap, ◌∙◌, subst}
 use Rattle.std.specs.Prelude.{◌==◌, not, codes, if◌then◌else◌}
 use Rattle.fk_syntax.specs.declared.sign.Sign.{Sign}
 use Rattle.fk_syntax.specs.declared.sign.Sign.TheVariants as g
@@ -15,6 +15,8 @@ use Rattle.fk_meaning_forms.specs.Expressions.{Signature, is_name, token}
 use Rattle.fk_core_liveness.specs.declared.places.FunctionKind.{FunctionKind}
 use Rattle.fk_lockstep_structure.specs.Valued as c
 use Rattle.fk_lockstep_structure.specs.Valued.{Evaluates, LinksEvaluate, SuffixesEvaluate, AllEvaluate}
+use Rattle.fk_lockstep_frames.specs.Nests.{Nest}
+use Rattle.fk_core_typing.specs.declared.constants.Constant.{Constant as Address}
 use Rattle.fk_lower_laws.specs.Ways as w
 use Rattle.fk_lower_laws.specs.Asked as a
 use Rattle.fk_lower_laws.specs.Asked.{Asked, LinksAsked, SuffixesAsked, AllAsked}
@@ -29,7 +31,6 @@ coarse w.Absent = c.Absent
 coarse w.Unchecked = c.Placed
 coarse (w.Constant address) = c.Placed
 coarse w.Array = c.Placed
-coarse w.Grouped = c.Placed
 coarse w.Word = c.Word
 coarse (w.Function name) = c.Function name
 
@@ -50,14 +51,12 @@ target_same : (x : w.Way) → a.IsTarget x → c.IsTarget (coarse x)
 target_same w.Unchecked h = tt
 target_same (w.Constant address) h = tt
 target_same w.Word h = tt
-target_same w.Grouped h = tt
 target_same x h = absurd h
 
 address_same : (x : w.Way) → a.HasAddress x → c.HasAddress (coarse x)
 address_same w.Unchecked h = tt
 address_same (w.Constant address) h = tt
 address_same w.Array h = tt
-address_same w.Grouped h = tt
 address_same x h = absurd h
 
 has_same : (x : w.Way) (y : c.Way) → y ≡ coarse x → w.gives x ≡ true → c.gives y ≡ true
@@ -81,14 +80,14 @@ predeclared_same name = by (is_name name (codes "__PROC_NR__")) (is_name name (c
     by false false false true = refl
     by false false false false = refl
 
-placed_same : (home : Home) (i : ℕ) (name : Named) → c.placed_way home name ≡ coarse (w.placed_way home i name)
-placed_same h.Global i name = refl
-placed_same h.FilePrivate i name = refl
-placed_same h.Private i name = refl
-placed_same (h.Group r) i name = refl
-placed_same h.NoWord i name = refl
+placed_same : (tables : Tables) (home : Home) (i : ℕ) (name : Named) → c.placed_way home name ≡ coarse (w.placed_way tables home i name)
+placed_same tables h.Global i name = refl
+placed_same tables h.FilePrivate i name = refl
+placed_same tables h.Private i name = refl
+placed_same tables (h.Group r) i name = refl
+placed_same tables h.NoWord i name = refl
 
-module _ (tables : Tables) (functions : (binding : ℕ) → Signature) (place_of : (binding : ℕ) → FunctionKind) (results : GiveResults functions place_of) where
+module _ (tables : Tables) (functions : (binding : ℕ) → Signature) (place_of : (binding : ℕ) → FunctionKind) (results : GiveResults functions place_of) (nests : List Nest) where
   abbrev the_way : Tree → w.Way
   the_way x = w.way tables place_of x
 
@@ -103,9 +102,9 @@ module _ (tables : Tables) (functions : (binding : ℕ) → Signature) (place_of
   named name = by ((note tables name.at).binding == no_binding)
     where
       by : (b : Bool) → (if b then c.predeclared_way name else c.placed_way (slot tables (note tables name.at).binding).home name)
-          ≡ coarse (if b then w.predeclared_way name else w.placed_way (slot tables (note tables name.at).binding).home (slot tables (note tables name.at).binding).index name)
+          ≡ coarse (if b then w.predeclared_way name else w.placed_way tables (slot tables (note tables name.at).binding).home (slot tables (note tables name.at).binding).index name)
       by true = predeclared_same name
-      by false = placed_same (slot tables (note tables name.at).binding).home (slot tables (note tables name.at).binding).index name
+      by false = placed_same tables (slot tables (note tables name.at).binding).home (slot tables (note tables name.at).binding).index name
 
   -- it stands as it does in well typed code
   record Stands (E : Type 0) (x : c.Way) (y : w.Way) : Type 0 where
@@ -116,37 +115,36 @@ module _ (tables : Tables) (functions : (binding : ℕ) → Signature) (place_of
   joined_same g.Comma x y e = ap (λ (z : c.Way). c.result (c.gives z)) e ∙ ap c.result (gives_same y) ∙ result_same (w.gives y)
   joined_same sign x y e = refl
 
-  joins_same : (sign : Sign) (l r : w.Way) (at : ℕ) → a.JoinAsks tables functions place_of sign l at r → c.JoinNeeds tables functions sign (coarse l) at (coarse r)
+  joins_same : (sign : Sign) (l r : w.Way) (at : ℕ) → a.JoinAsks tables functions place_of nests sign l at r → c.JoinNeeds tables functions sign (coarse l) at (coarse r)
   joins_same g.Comma l r at h = gives_same l ∙ h
   joins_same sign l r at h = (gives_same l ∙ h.0, gives_same r ∙ h.1)
 
   -- who is called, with its arguments, gives what it says
-  gives_by : (predeclared : Bool) (name : Named) (given : Trees) → a.NameTakes tables functions place_of predeclared name given
+  gives_by : (predeclared : Bool) (name : Named) (given : Trees) → a.NameTakes tables functions place_of nests predeclared name given
       → c.call_gives tables functions predeclared name ≡ (if predeclared then c.predeclared_gives name else w.place_gives (place_of (note tables name.at).binding))
   gives_by true name given h = refl
   gives_by false name given h = sym (results (note tables name.at).binding h.called)
 
-  calls_same : (y : w.Way) (given : Trees) → a.CallAsks tables functions place_of y given → c.called_way tables functions (coarse y) ≡ coarse (w.called_way tables place_of y)
+  calls_same : (y : w.Way) (given : Trees) → a.CallAsks tables functions place_of nests y given → c.called_way tables functions (coarse y) ≡ coarse (w.called_way tables place_of y)
   calls_same (w.Function name) given h =
       ap c.result (gives_by ((note tables name.at).binding == no_binding) name given h) ∙ result_same (w.call_gives tables place_of name)
   calls_same y given h = absurd h
 
-  takes_same : (predeclared : Bool) (name : Named) (given : Trees) → a.NameTakes tables functions place_of predeclared name given → c.NameTakes tables functions predeclared name given
+  takes_same : (predeclared : Bool) (name : Named) (given : Trees) → a.NameTakes tables functions place_of nests predeclared name given → c.NameTakes tables functions predeclared name given
   takes_same true name given h = h
   takes_same false name given h = h.enough
 
-  call_needs : (y : w.Way) (given : Trees) → a.CallAsks tables functions place_of y given → c.CallNeeds tables functions (coarse y) given
+  call_needs : (y : w.Way) (given : Trees) → a.CallAsks tables functions place_of nests y given → c.CallNeeds tables functions (coarse y) given
   call_needs (w.Function name) given h = takes_same ((note tables name.at).binding == no_binding) name given h
   call_needs y given h = absurd h
 
-  dot_needs : (at : ℕ) (y : w.Way) → a.DotAsks tables functions place_of at y → c.HasAddress (coarse y)
+  dot_needs : (at : ℕ) (y : w.Way) → a.DotAsks tables functions place_of nests at y → c.HasAddress (coarse y)
   dot_needs at w.Unchecked h = tt
-  dot_needs at w.Grouped h = tt
   dot_needs at (w.Constant address) h = tt
   dot_needs at y h = absurd h
 
   mutual
-    stands : (x : Tree) → Asked tables functions place_of x → Stands (Evaluates tables functions x) (our_way x) (the_way x)
+    stands : (x : Tree) → Asked tables functions place_of nests x → Stands (Evaluates tables functions x) (our_way x) (the_way x)
     stands (t.Number spot value unsigned) h = record { evaluates = tt; same = refl }
     stands (t.Puts spot text) h = record { evaluates = tt; same = refl }
     stands (t.Sizeof spot type) h = record { evaluates = tt; same = refl }
@@ -200,7 +198,7 @@ module _ (tables : Tables) (functions : (binding : ℕ) → Signature) (place_of
         }
 
     links_stand : (x : c.Way) (y : w.Way) (at : ℕ) (links : Links) → x ≡ coarse y
-        → LinksAsked tables functions place_of y at links
+        → LinksAsked tables functions place_of nests y at links
         → Stands (LinksEvaluate tables functions x at links) (c.chain_way tables functions x links) (w.chain_way tables place_of y links)
     links_stand x y at t.no_links e h = record { evaluates = tt; same = e }
     links_stand x y at (t.link spot sign right others) e h =
@@ -218,7 +216,7 @@ module _ (tables : Tables) (functions : (binding : ℕ) → Signature) (place_of
         }
 
     suffixes_stand : (x : c.Way) (y : w.Way) (suffixes : Suffixes) → x ≡ coarse y
-        → SuffixesAsked tables functions place_of y suffixes
+        → SuffixesAsked tables functions place_of nests y suffixes
         → Stands (SuffixesEvaluate tables functions x suffixes) (c.suffixed_way tables functions x suffixes) (w.suffixed_way tables place_of y suffixes)
     suffixes_stand x y t.no_suffixes e h = record { evaluates = tt; same = e }
     suffixes_stand x y (t.index spot by others) e h =
@@ -244,30 +242,29 @@ module _ (tables : Tables) (functions : (binding : ℕ) → Signature) (place_of
         let l = suffixes_stand c.Valued w.Valued others refl h.1 in
         record { evaluates = (subst c.IsTarget (sym e) (target_same y h.0), l.evaluates); same = l.same }
 
-    all_stand : (xs : Trees) → AllAsked tables functions place_of xs → AllEvaluate tables functions xs
+    all_stand : (xs : Trees) → AllAsked tables functions place_of nests xs → AllEvaluate tables functions xs
     all_stand t.no_trees h = tt
     all_stand (t.tree first others) h =
         let s = stands first h.0 in
         (s.evaluates, has_same (the_way first) (our_way first) s.same h.1, all_stand others h.2)
 
-  pub evaluates_as : (x : Tree) → Asked tables functions place_of x → Evaluates tables functions x × (c.gives (our_way x) ≡ w.gives (the_way x))
+  pub evaluates_as : (x : Tree) → Asked tables functions place_of nests x → Evaluates tables functions x × (c.gives (our_way x) ≡ w.gives (the_way x))
   evaluates_as x h = let s = stands x h in (s.evaluates, ap c.gives s.same ∙ gives_same (the_way x))
 
 pub asked_evaluates : AskedEvaluates
-asked_evaluates tables functions place_of results x h = evaluates_as tables functions place_of results x h
+asked_evaluates tables functions place_of results nests x h = evaluates_as tables functions place_of results nests x h
 
-stands_gives : (Room : (address : ℕ) → DataType → Type 0) (y : w.Way) (type : ExpressionType) → IsWayOf Room y type → w.gives y ≡ not (IsNothing type)
+stands_gives : (Room : Address → DataType → Type 0) (y : w.Way) (type : ExpressionType) → IsWayOf Room y type → w.gives y ≡ not (IsNothing type)
 stands_gives Room w.Valued (Computed value) s = refl
 stands_gives Room w.Absent Nothing s = refl
 stands_gives Room w.Unchecked (Stored type) s = refl
 stands_gives Room (w.Constant address) (Stored type) s = refl
 stands_gives Room w.Array (Stored type) s = refl
-stands_gives Room w.Grouped (Stored type) s = refl
 stands_gives Room w.Word (Stored type) s = refl
 stands_gives Room y type s = absurd s
 
 pub typed_evaluates : TypedEvaluates
-typed_evaluates has_room may env tables functions place_of results x known type typed =
-    let asked = typed_is_asked has_room may env tables functions place_of x known type typed in
-    let e = evaluates_as tables functions place_of results x asked.0 in
+typed_evaluates nests has_room may env tables functions place_of results x known type typed =
+    let asked = typed_is_asked nests has_room may env tables functions place_of x known type typed in
+    let e = evaluates_as tables functions place_of results nests x asked.0 in
     (e.0, e.1 ∙ stands_gives (λ address type'. has_room address type' ≡ true) (w.way tables place_of x) type asked.1)

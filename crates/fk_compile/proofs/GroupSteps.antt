@@ -19,7 +19,7 @@ use Rattle.fk_meaning.specs.Touch.{operation_due, touch_of, Touches, IsGroupStep
 use Rattle.fk_meaning.proofs.GroupSteps.{reads, writes, combines}
 use Rattle.fk_layout.specs.Layout.{tables_by}
 use Rattle.fk_parse_laws.specs.Trim.{TextsAreTrim}
-use Rattle.fk_lower_laws.specs.Proper.{TextsAreProper}
+use Rattle.fk_lower_names.specs.Proper.{TextsAreProper}
 use Rattle.fk_check_laws.specs.Valid.{may_call}
 use Rattle.fk_check_laws.proofs.PlacedPrograms.{valid_programs_are_in_place}
 use Rattle.fk_lockstep.specs.Counts.{Counts}

@@ -1,5 +1,5 @@
 -- Plain programs that are in place lead each processor from place to place.
-use Rattle.std.proofs.Common.{◌≡◌, ℕ, suc, ◌+◌, Bool, true, false, List, [], ◌∷◌, Option, Some, None, sym, refl, subst}
+use Rattle.std.proofs.Common.{◌≡◌, ℕ, suc, ◌+◌, Bool, true, false, true≢false, List, [], ◌∷◌, Option, Some, None, ap, ◌∙◌, sym, refl, subst}
 use Rattle.std.proofs.lemmas.Bool.{eqb-true}
 use Rattle.std.specs.Prelude.{◌==◌, is_some, if◌then◌else◌}
 use Rattle.fk_syntax.specs.declared.program.Mode.{Mode}
@@ -9,7 +9,7 @@ use Rattle.fk_meaning_forms.specs.Code.{Code, done, perform, choose, while, unti
 use Rattle.fk_meaning_forms.specs.Tables.{Tables, frame_at}
 use Rattle.fk_meaning_forms.specs.Expressions.{Signature}
 use Rattle.fk_meaning_forms.specs.Statements.{Inside, is_nothing}
-use Rattle.fk_meaning_forms.specs.Program.{functions_of, binding_of, signature_of, signature_in, is_main, code_of, body_in, main_of}
+use Rattle.fk_meaning_forms.specs.Program.{functions_of, binding_of, signature_of, no_signature, signature_in, is_main, code_of, body_in, main_of}
 use Rattle.fk_meaning.specs.Shape.{of_function}
 use Rattle.fk_meaning.specs.Shaped.{BodyShaped, FunctionsShaped}
 use Rattle.fk_meaning.proofs.Spine.{untrue}
@@ -17,13 +17,14 @@ use Rattle.fk_meaning.proofs.NestedPrograms.{body_shaped}
 use Rattle.fk_lockstep_one_group.specs.Where.{Where}
 use Rattle.fk_lockstep_structure.specs.Placed as w
 use Rattle.fk_lockstep_structure.specs.InPlace.{NoneShared, BodyInPlace, FunctionsInPlace}
+use Rattle.fk_lockstep_structure.specs.Inner.{FunctionsInner}
 use Rattle.fk_lockstep_one_group.specs.Leads.{Leads}
 use Rattle.fk_compile_text.specs.Built.{operations, operations_in}
 use Rattle.fk_compile_text.specs.Plain.{is_plain}
 use Rattle.fk_lower_laws.proofs.Along.{EachOf, each_of, front, back, along}
 use Rattle.fk_compile.specs.Led.{ProgramsAreLed}
 use Rattle.fk_compile.proofs.Wants.{Base, Main, Group, Body, place_of, who_of, Want}
-use Rattle.fk_compile.proofs.LedTexts.{body_leads}
+use Rattle.fk_compile.proofs.LedTexts.{MayLeave, body_leads}
 
 -- numbers in place of the places change nothing
 numbers : {A : Type 0} (may_call : (in_group : Bool) → (function : ℕ) → Bool) (f : Where) (l : Option Where) (p : Where) (code : Code A) (e : Where) (first : ℕ)
@@ -81,29 +82,44 @@ module _ (tables : Tables) (may_call : (in_group : Bool) → (function : ℕ) �
   abbrev functions : (binding : ℕ) → Signature
   functions = signature_in tables everyone
 
-  -- functions that processors call by themselves have no parameters with `sh`
-  unshared_in : (main : ℕ) (fs : List FunctionTree) → FunctionsInPlace tables may_call main fs → (binding : ℕ) → may_call false binding ≡ true
-      → NoneShared (signature_in tables fs binding).parameters
-  unshared_in main [] h binding may = tt
-  unshared_in main (f ∷ fs) h binding may = by (binding_of tables f == binding) refl (unshared_in main fs h.3 binding may)
+  -- what is so of the functions that processors call by themselves
+  abbrev AreCalledAlone : (P : Signature → Type 0) → List FunctionTree → Type 0
+  AreCalledAlone P [] = P no_signature
+  AreCalledAlone P (f ∷ fs) = (may_call false (binding_of tables f) ≡ true → P (signature_of f)) × AreCalledAlone P fs
+
+  called_alone : (P : Signature → Type 0) (fs : List FunctionTree) → AreCalledAlone P fs → (binding : ℕ) → may_call false binding ≡ true → P (signature_in tables fs binding)
+  called_alone P [] h binding may = h
+  called_alone P (f ∷ fs) h binding may = by (binding_of tables f == binding) refl (called_alone P fs h.1 binding may)
     where
-      by : (is : Bool) → (binding_of tables f == binding) ≡ is → NoneShared (signature_in tables fs binding).parameters
-          → NoneShared (if is then signature_of f else signature_in tables fs binding).parameters
-      by true is others = (h.1 (subst (λ b. may_call false b ≡ true) (sym (eqb-true (binding_of tables f) binding is)) may)).2
+      by : (is : Bool) → (binding_of tables f == binding) ≡ is → P (signature_in tables fs binding) → P (if is then signature_of f else signature_in tables fs binding)
+      by true is others = h.0 (subst (λ b. may_call false b ≡ true) (sym (eqb-true (binding_of tables f) binding is)) may)
       by false is others = others
 
-  module _ (unshared : (binding : ℕ) → may_call false binding ≡ true → NoneShared (functions binding).parameters) where
+  -- they have no parameters with `sh`, and no frame
+  none_shared : (main : ℕ) (fs : List FunctionTree) → FunctionsInPlace tables may_call main fs → AreCalledAlone (λ s. NoneShared s.parameters) fs
+  none_shared main [] h = tt
+  none_shared main (f ∷ fs) h = ((λ may. (h.1 may).2), none_shared main fs h.3)
+
+  none_framed : (fs : List FunctionTree) → frame_at tables no_signature.at 0 ≡ None → FunctionsInner tables may_call fs → AreCalledAlone (λ s. frame_at tables s.at 0 ≡ None) fs
+  none_framed [] none h = none
+  none_framed (f ∷ fs) none h = (h.1, none_framed fs none h.2)
+
+  module _ (unshared : (binding : ℕ) → may_call false binding ≡ true → NoneShared (functions binding).parameters)
+      (frameless : (binding : ℕ) → may_call false binding ≡ true → frame_at tables (functions binding).at 0 ≡ None) where
+    abbrev Leaves : FunctionTree → Base → Type 0
+    Leaves f b = MayLeave (is_main f) (is_some (frame_at tables f.name.at 0)) (place_of b)
+
     -- a function, by its parts
     function_by : (b : Base) (outermost main : Bool) (mode : Mode) (result : TypeTree) (name : Named) (parameters : List DeclaredTree) (body : Option Statements)
         → let f : FunctionTree = record { mode = mode; result = result; name = name; parameters = parameters; body = body } in
-        is_main f ≡ main → w.is_main (who_of b outermost) ≡ main → BodyInPlace tables may_call main (who_of b outermost) body → BodyShaped tables functions body
+        is_main f ≡ main → w.is_main (who_of b outermost) ≡ main → BodyInPlace tables may_call main (who_of b outermost) body → Leaves f b → BodyShaped tables functions body
         → EachOf is_plain (operations (code_of tables everyone f)) → Leads may_call (place_of b) None (place_of b) (code_of tables everyone f) (place_of b)
-    function_by b outermost main mode result name parameters None is who_is h shaped plain = refl
-    function_by b outermost main mode result name parameters (Some statements) is who_is h shaped plain =
+    function_by b outermost main mode result name parameters None is who_is h leaves shaped plain = refl
+    function_by b outermost main mode result name parameters (Some statements) is who_is h leaves shaped plain =
         let f : FunctionTree = record { mode = mode; result = result; name = name; parameters = parameters; body = Some statements } in
         let inside : Inside = record { main = is_main f; framed = is_some (frame_at tables name.at 0) } in
-        body_leads tables functions may_call unshared (wanted b outermost) inside (is_nothing result) statements
-        (subst (λ m. w.is_main (who_of b outermost) ≡ m) (sym is) who_is)
+        body_leads tables functions may_call unshared frameless (wanted b outermost) inside (is_nothing result) statements
+        (subst (λ m. w.is_main (who_of b outermost) ≡ m) (sym is) who_is) leaves
         (subst (λ m. BodyInPlace tables may_call m (who_of b outermost) (Some statements)) (sym is) h)
         (along is_plain (code_of tables everyone f) plain) (body_shaped tables functions inside (is_nothing result) statements shaped)
 
@@ -112,6 +128,7 @@ module _ (tables : Tables) (may_call : (in_group : Bool) → (function : ℕ) �
     Given b outermost binding f =
         (binding_of tables f == binding) ≡ true
         → (main : Bool) × (is_main f ≡ main) × (w.is_main (who_of b outermost) ≡ main) × BodyInPlace tables may_call main (who_of b outermost) f.body
+        × Leaves f b
 
     abbrev AllGiven : (b : Base) (outermost : Bool) (binding : ℕ) → List FunctionTree → Type 0
     AllGiven b outermost binding [] = Unit {0}
@@ -131,40 +148,44 @@ module _ (tables : Tables) (may_call : (in_group : Bool) → (function : ℕ) �
         by true is others =
             let g = h.0 is in
             numbers may_call (place_of b) None (place_of b) (code_of tables everyone f) (place_of b) first
-            (function_by b outermost g.0 f.mode f.result f.name f.parameters f.body g.1 g.2 g.3 shaped.0
+            (function_by b outermost g.0 f.mode f.result f.name f.parameters f.body g.1 g.2 g.3 g.4 shaped.0
             (front is_plain (operations (code_of tables everyone f)) (operations_in tables everyone fs) plain))
         by false is others = others
 
     in_groups : (main binding : ℕ) (fs : List FunctionTree) → may_call true binding ≡ true → FunctionsInPlace tables may_call main fs → AllGiven Group true binding fs
     in_groups main binding [] may h = tt
     in_groups main binding (f ∷ fs) may h = (
-      (λ e. let g = h.0 (subst (λ b. may_call true b ≡ true) (sym (eqb-true (binding_of tables f) binding e)) may) in (false, g.0, refl, g.1)),
+      (λ e. let g = h.0 (subst (λ b. may_call true b ≡ true) (sym (eqb-true (binding_of tables f) binding e)) may) in (false, g.0, refl, g.1, λ main' framed. refl)),
       in_groups main binding fs may h.3,
     )
 
-    in_bodies : (in_root : Bool) (main binding : ℕ) (fs : List FunctionTree) → may_call false binding ≡ true → FunctionsInPlace tables may_call main fs → AllGiven (Body in_root) true binding fs
-    in_bodies in_root main binding [] may h = tt
-    in_bodies in_root main binding (f ∷ fs) may h = (
-      (λ e. let g = h.1 (subst (λ b. may_call false b ≡ true) (sym (eqb-true (binding_of tables f) binding e)) may) in (false, g.0, refl, g.1)),
-      in_bodies in_root main binding fs may h.3,
+    in_bodies : (in_root : Bool) (main binding : ℕ) (fs : List FunctionTree) → may_call false binding ≡ true → FunctionsInPlace tables may_call main fs → FunctionsInner tables may_call fs → AllGiven (Body in_root) true binding fs
+    in_bodies in_root main binding [] may h i = tt
+    in_bodies in_root main binding (f ∷ fs) may h i = (
+      (λ e.
+          let may' = subst (λ b. may_call false b ≡ true) (sym (eqb-true (binding_of tables f) binding e)) may in
+          let g = h.1 may' in
+          (false, g.0, refl, g.1, λ main' framed. absurd (true≢false (sym framed ∙ ap is_some (i.1 may'))))),
+      in_bodies in_root main binding fs may h.3 i.2,
     )
 
     in_main : (main : ℕ) (fs : List FunctionTree) → FunctionsInPlace tables may_call main fs → AllGiven Main true main fs
     in_main main [] h = tt
-    in_main main (f ∷ fs) h = ((λ e. let g = h.2 e in (true, g.0, refl, g.1)), in_main main fs h.3)
+    in_main main (f ∷ fs) h = ((λ e. let g = h.2 e in (true, g.0, refl, g.1, λ main' framed. absurd (true≢false (sym g.0 ∙ main')))), in_main main fs h.3)
 
 pub programs_are_led : ProgramsAreLed
-programs_are_led tables program may_call placed plain shaped =
+programs_are_led tables program may_call placed inner none plain shaped =
     let fs = functions_of program.items in
     let main = main_of tables program in
-    let unshared = unshared_in tables may_call fs main fs placed.in_place in
+    let unshared = called_alone tables may_call fs (λ s. NoneShared s.parameters) fs (none_shared tables may_call fs main fs placed.in_place) in
+    let frameless = called_alone tables may_call fs (λ s. frame_at tables s.at 0 ≡ None) fs (none_framed tables may_call fs fs none inner) in
     let each = each_of is_plain (operations_in tables fs fs) plain in
     record {
       shaped = shaped;
-      in_group = λ function closed may. bodies tables may_call fs unshared Group true function fs 0 (in_groups tables may_call fs unshared main function fs may placed.in_place) placed.shaped each;
+      in_group = λ function closed may. bodies tables may_call fs unshared frameless Group true function fs 0 (in_groups tables may_call fs unshared frameless main function fs may placed.in_place) placed.shaped each;
       in_root = λ function closed may.
-          bodies tables may_call fs unshared (Body true) true function fs 0 (in_bodies tables may_call fs unshared true main function fs may placed.in_place) placed.shaped each;
+          bodies tables may_call fs unshared frameless (Body true) true function fs 0 (in_bodies tables may_call fs unshared frameless true main function fs may placed.in_place inner) placed.shaped each;
       in_body = λ function closed may.
-          bodies tables may_call fs unshared (Body false) true function fs 0 (in_bodies tables may_call fs unshared false main function fs may placed.in_place) placed.shaped each;
-      main_of = bodies tables may_call fs unshared Main true main fs 0 (in_main tables may_call fs unshared main fs placed.in_place) placed.shaped each;
+          bodies tables may_call fs unshared frameless (Body false) true function fs 0 (in_bodies tables may_call fs unshared frameless false main function fs may placed.in_place inner) placed.shaped each;
+      main_of = bodies tables may_call fs unshared frameless Main true main fs 0 (in_main tables may_call fs unshared frameless main fs placed.in_place) placed.shaped each;
     }

@@ -24,7 +24,7 @@ use Rattle.fk_lockstep_structure.specs.InPlace.{Splits, Calls, InPlace, OptionIn
 use Rattle.fk_lockstep_structure.proofs.Behind.{either_no}
 use Rattle.fk_lockstep_one_group.specs.Leads.{Comes, Leads}
 use Rattle.fk_compile_text.specs.Plain.{is_plain}
-use Rattle.fk_lower_laws.proofs.Along.{AllOf}
+use Rattle.fk_lower_laws.specs.Unsplit.{AllOf}
 use Rattle.fk_compile.proofs.Wants as wants
 use Rattle.fk_compile.proofs.Wants.{Base, Main, Group, Body, place_of, in_group, who_of, inner_is, group_is, keeps_at, Want, arm}
 
@@ -153,10 +153,18 @@ meets_in Group e = absurd (true≢false e)
 meets_in (Body true) e = λ way. refl
 meets_in (Body false) e = λ way. refl
 
+-- a function with a frame began in a group, which gives the frame back
+abbrev pub MayLeave : (main framed : Bool) → (function : Where) → Type 0
+MayLeave main framed function = main ≡ false → framed ≡ true → function ≡ InGroup
+
+leaves_frame : (b : Base) (gives : Bool) → place_of b ≡ InGroup → Comes (place_of b) (o.Leave gives true) (place_of b)
+leaves_frame b gives e = subst (λ (at : Where). Comes at (o.Leave gives true) at) (sym e) (λ way. refl)
+
 module _ (tables : Tables) (functions : (binding : ℕ) → Signature) (may_call : (in_group : Bool) → (function : ℕ) → Bool)
-    (unshared : (binding : ℕ) → may_call false binding ≡ true → NoneShared (functions binding).parameters) where
+    (unshared : (binding : ℕ) → may_call false binding ≡ true → NoneShared (functions binding).parameters)
+    (frameless : (binding : ℕ) → may_call false binding ≡ true → frame_at tables (functions binding).at 0 ≡ None) where
   abbrev pub Fine : Want → Coded → Type 0
-  Fine x code = wants.Fine tables functions may_call unshared x code
+  Fine x code = wants.Fine tables functions may_call unshared frameless x code
 
   abbrev pub Keeps : Want → (Coded → Coded) → Type 0
   Keeps x f = (rest : Coded) → Fine x rest → Fine x (f rest)
@@ -168,10 +176,10 @@ module _ (tables : Tables) (functions : (binding : ℕ) → Signature) (may_call
   TellsIf x e = OptionInPlace tables may_call (in_group x.base) e
 
   gives : (x : Want) (e : Tree) → Tells x e → Keeps x (value tables functions e)
-  gives x e h rest q = wants.value_leads tables functions may_call unshared x e h rest q
+  gives x e h rest q = wants.value_leads tables functions may_call unshared frameless x e h rest q
 
   drops : (x : Want) (at : ℕ) → Keeps x (dropped tables functions at)
-  drops x at rest q = wants.drops tables functions may_call unshared x at rest q
+  drops x at rest q = wants.drops tables functions may_call unshared frameless x at rest q
 
   performed : (x : Want) (op : Operation) → (wants.keeps op ≡ true) → (rest : Coded) → Fine x rest → (Shape x.part false x.exits (plain op rest) → Shape x.part false x.exits rest) → Fine x (plain op rest)
   performed x op e rest q less = λ all shape. (place_of x.base, keeps_at x.base op e, q all.1 (less shape))
@@ -198,12 +206,12 @@ module _ (tables : Tables) (functions : (binding : ℕ) → Signature) (may_call
   declares_one x d calls h rest q =
       let k : ResultLocation → Coded = λ s. addressed tables functions s (value_or tables functions (plain (o.Push 0)) d.first (assigned tables functions s (plain o.DropLast rest))) in
       either x (is_scalar d) (variable tables functions d.name k) rest
-      (wants.names tables functions may_call unshared x d.name calls k
+      (wants.names tables functions may_call unshared frameless x d.name calls k
       (λ s fits.
       let new = assigned tables functions s (plain o.DropLast rest) in
-      wants.addresses tables functions may_call unshared x s (value_or tables functions (plain (o.Push 0)) d.first new)
+      wants.addresses tables functions may_call unshared frameless x s (value_or tables functions (plain (o.Push 0)) d.first new)
       (gives_or x (plain (o.Push 0)) (pushes x 0) d.first h new
-      (wants.assigns tables functions may_call unshared x s (plain o.DropLast rest) (performed x o.DropLast refl rest q (λ shape. shape.2))))))
+      (wants.assigns tables functions may_call unshared frameless x s (plain o.DropLast rest) (performed x o.DropLast refl rest q (λ shape. shape.2))))))
       q
 
   declares : (x : Want) (ds : List DeclaredTree) → VariablesInPlace tables may_call (in_group x.base) ds → Keeps x (all_declared tables functions ds)
@@ -217,14 +225,14 @@ module _ (tables : Tables) (functions : (binding : ℕ) → Signature) (may_call
 
   -- tests of loops
   quits : (x : Want) → Fine x (quit nowhere (o.Branch true) done)
-  quits x = λ all shape. (x.tests shape.3, keeps_at x.base (o.Branch true) refl, wants.ends_here tables functions may_call unshared x shape.2)
+  quits x = λ all shape. (x.tests shape.3, keeps_at x.base (o.Branch true) refl, wants.ends_here tables functions may_call unshared frameless x shape.2)
 
   tests : (x : Want) (spot : Spot) (condition : Option Tree) → Splits tables may_call (in_group x.base) spot.at → TellsIf x condition → Fine x (tested tables functions spot condition)
   tests x spot condition splits h =
       let here = note tables spot.at in
       gives_or x (plain (o.Push 1)) (pushes x 1) condition h (leaving tables functions here)
       (splits_not here.splits x (quit nowhere o.Shrink done) (agreed here.sync (quit nowhere (o.Branch true) done)) (λ all. all.0)
-      (wants.agrees_or tables functions may_call unshared x here.sync (wants.agreed_there tables functions may_call unshared x spot.at splits) (quit nowhere (o.Branch true) done) (quits x)))
+      (wants.agrees_or tables functions may_call unshared frameless x here.sync (wants.agreed_there tables functions may_call unshared frameless x spot.at splits) (quit nowhere (o.Branch true) done) (quits x)))
 
   whiles : (x : Want) (test body step : Coded) → ((b : Bool) → Fine (test_of x b) test) → ((b : Bool) → Fine (turn_of x b) body) → Fine (step_of x) step → Keeps x (c.while test body step)
   whiles x test body step t u v rest q = λ all shape. (
@@ -246,25 +254,26 @@ module _ (tables : Tables) (functions : (binding : ℕ) → Signature) (may_call
       splits_not (note tables spot.at).splits x (choose spot.place (o.Split Loop) (part_frame tables functions spot 0 (loop done)) done (plain o.Resume rest)) (loop rest) (λ all. all.0) (keeps rest q)
 
   -- ends of functions
-  halts : (x : Want) (main framed : Bool) → w.is_main (who_of x.base x.outermost) ≡ main → Keeps x (ends nowhere (if main then o.Halt else o.Leave false framed))
-  halts x true framed e rest q = λ all shape. (halts_in x.base x.outermost e, x.returns shape.2, q all.1 shape.3)
-  halts x false true e rest q = λ all shape. untrue all.0
-  halts x false false e rest q = λ all shape. (keeps_at x.base (o.Leave false false) refl, x.returns shape.2, q all.1 shape.3)
+  halts : (x : Want) (main framed : Bool) → w.is_main (who_of x.base x.outermost) ≡ main → MayLeave main framed x.function → Keeps x (ends nowhere (if main then o.Halt else o.Leave false framed))
+  halts x true framed e k rest q = λ all shape. (halts_in x.base x.outermost e, x.returns shape.2, q all.1 shape.3)
+  halts x false true e k rest q = λ all shape. (leaves_frame x.base false (x.returns shape.2 ∙ k refl refl), x.returns shape.2, q all.1 shape.3)
+  halts x false false e k rest q = λ all shape. (keeps_at x.base (o.Leave false false) refl, x.returns shape.2, q all.1 shape.3)
 
-  gives_end : (x : Want) (main framed : Bool) → w.is_main (who_of x.base x.outermost) ≡ main → (rest : Coded) → Fine x rest
+  gives_end : (x : Want) (main framed : Bool) → w.is_main (who_of x.base x.outermost) ≡ main → MayLeave main framed x.function → (rest : Coded) → Fine x rest
       → Fine x (if main then plain o.DropLast (ends nowhere o.Halt rest) else ends nowhere (o.Leave true framed) rest)
-  gives_end x true framed e rest q = performed x o.DropLast refl (ends nowhere o.Halt rest) (halts x true framed e rest q) (λ shape. shape.2)
-  gives_end x false true e rest q = λ all shape. untrue all.0
-  gives_end x false false e rest q = λ all shape. (keeps_at x.base (o.Leave true false) refl, x.returns shape.2, q all.1 shape.3)
+  gives_end x true framed e k rest q = performed x o.DropLast refl (ends nowhere o.Halt rest) (halts x true framed e k rest q) (λ shape. shape.2)
+  gives_end x false true e k rest q = λ all shape. (leaves_frame x.base true (x.returns shape.2 ∙ k refl refl), x.returns shape.2, q all.1 shape.3)
+  gives_end x false false e k rest q = λ all shape. (keeps_at x.base (o.Leave true false) refl, x.returns shape.2, q all.1 shape.3)
 
-  returns : (x : Want) (inside : Inside) → w.is_main (who_of x.base x.outermost) ≡ inside.main → (e : Option Tree) → TellsIf x e → Keeps x (left_by tables functions inside e)
-  returns x inside is None h rest q = halts x inside.main inside.framed is rest q
-  returns x inside is (Some e) h rest q =
-      gives x e h (if inside.main then plain o.DropLast (ends nowhere o.Halt rest) else ends nowhere (o.Leave true inside.framed) rest) (gives_end x inside.main inside.framed is rest q)
+  returns : (x : Want) (inside : Inside) → w.is_main (who_of x.base x.outermost) ≡ inside.main → MayLeave inside.main inside.framed x.function
+      → (e : Option Tree) → TellsIf x e → Keeps x (left_by tables functions inside e)
+  returns x inside is k None h rest q = halts x inside.main inside.framed is k rest q
+  returns x inside is k (Some e) h rest q =
+      gives x e h (if inside.main then plain o.DropLast (ends nowhere o.Halt rest) else ends nowhere (o.Leave true inside.framed) rest) (gives_end x inside.main inside.framed is k rest q)
 
   -- groups and bodies
-  frames_in : (x : Want) (spot : Spot) (part : ℕ) → Keeps x (part_frame tables functions spot part)
-  frames_in x spot part rest q = wants.frames tables functions may_call unshared x (frame_at tables spot.at part) spot.place rest q
+  frames_in : (x : Want) → in_group x.base ≡ true → (spot : Spot) (part : ℕ) → Keeps x (part_frame tables functions spot part)
+  frames_in x g spot part rest q = wants.frames tables functions may_call unshared frameless x g (frame_at tables spot.at part) spot.place rest q
 
   starts : (x : Want) → is_outermost (who_of x.base x.outermost) ≡ true → (body rest : Coded) → Fine (start_of x) body → Fine x rest
       → Fine x (choose nowhere o.Begin body done (plain o.Resume rest))
@@ -341,23 +350,23 @@ module _ (tables : Tables) (functions : (binding : ℕ) → Signature) (may_call
   group_there x h = sym (group_is x.base x.outermost) ∙ h
 
   mutual
-    statement : (x : Want) (inside : Inside) (s : Statement) → There inside.main x s → Keeps x (executed tables functions inside s)
-    statement x inside p.Empty h rest q = q
-    statement x inside (p.Expression e) h rest q = uses x e (told_there x e h) rest q
-    statement x inside (p.Block statements) h rest q = all_statements x inside statements h rest q
-    statement x inside (p.Declare variables) h rest q =
+    statement : (x : Want) (inside : Inside) → MayLeave inside.main inside.framed x.function → (s : Statement) → There inside.main x s → Keeps x (executed tables functions inside s)
+    statement x inside k p.Empty h rest q = q
+    statement x inside k (p.Expression e) h rest q = uses x e (told_there x e h) rest q
+    statement x inside k (p.Block statements) h rest q = all_statements x inside k statements h rest q
+    statement x inside k (p.Declare variables) h rest q =
         declares x variables (subst (λ b. VariablesInPlace tables may_call b variables) (group_is x.base x.outermost) h) rest q
-    statement x inside (p.If spot condition first) h rest q =
+    statement x inside k (p.If spot condition first) h rest q =
         let here = note tables spot.at in
         let body = executed tables functions inside first in
         let parted = choose spot.place (o.Split IfAlone) (part_frame tables functions spot 0 (body (plain o.End done))) done (plain o.Resume rest) in
         let branched = choose nowhere (o.Branch true) (body done) done rest in
         gives x condition (told_there x condition h.1) (if here.splits then parted else agreed here.sync branched)
         (splits_not here.splits x parted (agreed here.sync branched) (λ all. all.0)
-        (wants.agrees_or tables functions may_call unshared x here.sync (wants.agreed_there tables functions may_call unshared x spot.at (splits_there x spot h.0)) branched
-        (wants.chooses tables functions may_call unshared x nowhere true (body done) done rest
-        (statement (arm x) inside first (in_arm inside.main x first h.2) done (wants.ended tables functions may_call unshared (arm x))) (wants.ended tables functions may_call unshared (arm x)) q)))
-    statement x inside (p.IfElse spot condition first second) h rest q =
+        (wants.agrees_or tables functions may_call unshared frameless x here.sync (wants.agreed_there tables functions may_call unshared frameless x spot.at (splits_there x spot h.0)) branched
+        (wants.chooses tables functions may_call unshared frameless x nowhere true (body done) done rest
+        (statement (arm x) inside k first (in_arm inside.main x first h.2) done (wants.ended tables functions may_call unshared frameless (arm x))) (wants.ended tables functions may_call unshared frameless (arm x)) q)))
+    statement x inside k (p.IfElse spot condition first second) h rest q =
         let here = note tables spot.at in
         let a = executed tables functions inside first in
         let b = executed tables functions inside second in
@@ -365,76 +374,77 @@ module _ (tables : Tables) (functions : (binding : ℕ) → Signature) (may_call
         let branched = choose nowhere (o.Branch true) (a done) (b done) rest in
         gives x condition (told_there x condition h.1) (if here.splits then parted else agreed here.sync branched)
         (splits_not here.splits x parted (agreed here.sync branched) (λ all. all.0)
-        (wants.agrees_or tables functions may_call unshared x here.sync (wants.agreed_there tables functions may_call unshared x spot.at (splits_there x spot h.0)) branched
-        (wants.chooses tables functions may_call unshared x nowhere true (a done) (b done) rest
-        (statement (arm x) inside first (in_arm inside.main x first h.2) done (wants.ended tables functions may_call unshared (arm x)))
-        (statement (arm x) inside second (in_arm inside.main x second h.3) done (wants.ended tables functions may_call unshared (arm x))) q)))
-    statement x inside (p.While spot condition body) h rest q =
+        (wants.agrees_or tables functions may_call unshared frameless x here.sync (wants.agreed_there tables functions may_call unshared frameless x spot.at (splits_there x spot h.0)) branched
+        (wants.chooses tables functions may_call unshared frameless x nowhere true (a done) (b done) rest
+        (statement (arm x) inside k first (in_arm inside.main x first h.2) done (wants.ended tables functions may_call unshared frameless (arm x)))
+        (statement (arm x) inside k second (in_arm inside.main x second h.3) done (wants.ended tables functions may_call unshared frameless (arm x))) q)))
+    statement x inside k (p.While spot condition body) h rest q =
         let test = tested tables functions spot (Some condition) in
         let run = executed tables functions inside body done in
         loops x spot (c.while test run done)
         (whiles x test run done (λ b. tests (test_of x b) spot (Some condition) (splits_there x spot h.0) (told_there x condition h.1))
-        (λ b. statement (turn_of x b) inside body (in_arm inside.main x body h.2) done (wants.ended tables functions may_call unshared (turn_of x b))) (wants.ended tables functions may_call unshared (step_of x))) rest q
-    statement x inside (p.DoWhile spot body condition) h rest q =
+        (λ b. statement (turn_of x b) inside k body (in_arm inside.main x body h.2) done (wants.ended tables functions may_call unshared frameless (turn_of x b))) (wants.ended tables functions may_call unshared frameless (step_of x))) rest q
+    statement x inside k (p.DoWhile spot body condition) h rest q =
         let test = tested tables functions spot (Some condition) in
         let run = executed tables functions inside body done in
         loops x spot (c.until run test)
-        (untils x run test (λ b. statement (turn_of x b) inside body (in_arm inside.main x body h.2) done (wants.ended tables functions may_call unshared (turn_of x b)))
+        (untils x run test (λ b. statement (turn_of x b) inside k body (in_arm inside.main x body h.2) done (wants.ended tables functions may_call unshared frameless (turn_of x b)))
         (λ b. tests (test_of x b) spot (Some condition) (splits_there x spot h.0) (told_there x condition h.1))) rest q
-    statement x inside (p.For spot before condition after body) h rest q =
+    statement x inside k (p.For spot before condition after body) h rest q =
         let test = tested tables functions spot condition in
         let run = executed tables functions inside body done in
         let step = used_or tables functions after done in
         uses_or x before (told_if x before h.1) (looping tables functions spot (c.while test run step) rest)
         (loops x spot (c.while test run step)
         (whiles x test run step (λ b. tests (test_of x b) spot condition (splits_there x spot h.0) (told_if x condition h.2))
-        (λ b. statement (turn_of x b) inside body (in_arm inside.main x body h.4) done (wants.ended tables functions may_call unshared (turn_of x b)))
-        (uses_or (step_of x) after (told_if x after h.3) done (wants.ended tables functions may_call unshared (step_of x)))) rest q)
-    statement x inside (p.Start spot count body) h rest q =
+        (λ b. statement (turn_of x b) inside k body (in_arm inside.main x body h.4) done (wants.ended tables functions may_call unshared frameless (turn_of x b)))
+        (uses_or (step_of x) after (told_if x after h.3) done (wants.ended tables functions may_call unshared frameless (step_of x)))) rest q)
+    statement x inside k (p.Start spot count body) h rest q =
         let run = part_frame tables functions spot 0 (executed tables functions inside body (plain o.End done)) in
         gives_or x (plain (o.Get n.Processors)) (λ rest' q'. performed x (o.Get n.Processors) refl rest' q' (λ shape. shape.2)) count (told_if x count h.1)
         (choose nowhere o.Begin run done (plain o.Resume rest))
         (starts x h.0 run rest
-        (frames_in (start_of x) spot 0 (executed tables functions inside body (plain o.End done))
-        (statement (start_of x) inside body h.2 (plain o.End done) (wants.part_ended tables functions may_call unshared (start_of x)))) q)
-    statement x inside (p.Fork spot parts part rank body) h rest q =
+        (frames_in (start_of x) refl spot 0 (executed tables functions inside body (plain o.End done))
+        (statement (start_of x) inside k body h.2 (plain o.End done) (wants.part_ended tables functions may_call unshared frameless (start_of x)))) q)
+    statement x inside k (p.Fork spot parts part rank body) h rest q =
         let divided = choose spot.place (o.Split Fork) (part_frame tables functions spot 0 (executed tables functions inside body (plain o.End done))) done (plain o.Resume rest) in
         let ranked = value_or tables functions (plain (o.Get n.Rank)) rank divided in
         gives x parts (told_there x parts h.1) (plain o.Agree (value tables functions part ranked))
-        (wants.agrees tables functions may_call unshared x (group_there x h.0) (value tables functions part ranked)
+        (wants.agrees tables functions may_call unshared frameless x (group_there x h.0) (value tables functions part ranked)
         (gives x part (told_there x part h.2) ranked
         (gives_or x (plain (o.Get n.Rank)) (λ rest' q'. performed x (o.Get n.Rank) refl rest' q' (λ shape. shape.2)) rank (told_if x rank h.3) divided
         (forks x spot (part_frame tables functions spot 0 (executed tables functions inside body (plain o.End done))) rest))))
-    statement x inside (p.Farm spot body) h rest q =
+    statement x inside k (p.Farm spot body) h rest q =
         farms x (group_there x h.0) (executed tables functions inside body done) rest
-        (statement (body_in_group x) inside body h.1 done (wants.ended tables functions may_call unshared (body_in_group x))) q
-    statement x inside (p.Seq spot body) h rest q =
+        (statement (body_in_group x) inside k body h.1 done (wants.ended tables functions may_call unshared frameless (body_in_group x))) q
+    statement x inside k (p.Seq spot body) h rest q =
         seqs x (group_there x h.0) (executed tables functions inside body done) rest
-        (statement (body_in_group x) inside body h.1 done (wants.ended tables functions may_call unshared (body_in_group x))) q
-    statement x inside (p.Barrier spot) h rest q = barriers x (sym (group_is x.base x.outermost) ∙ h) rest q
-    statement x inside (p.Break spot) h rest q = λ all shape. (x.breaks shape.1, q all shape.2)
-    statement x inside (p.Continue spot) h rest q = λ all shape. (x.continues shape.1, q all shape.2)
-    statement x inside (p.Return spot e) h rest q = returns x inside h.0 e (told_if x e h.1) rest q
+        (statement (body_in_group x) inside k body h.1 done (wants.ended tables functions may_call unshared frameless (body_in_group x))) q
+    statement x inside k (p.Barrier spot) h rest q = barriers x (sym (group_is x.base x.outermost) ∙ h) rest q
+    statement x inside k (p.Break spot) h rest q = λ all shape. (x.breaks shape.1, q all shape.2)
+    statement x inside k (p.Continue spot) h rest q = λ all shape. (x.continues shape.1, q all shape.2)
+    statement x inside k (p.Return spot e) h rest q = returns x inside h.0 k e (told_if x e h.1) rest q
 
-    all_statements : (x : Want) (inside : Inside) (statements : Statements) → StatementsInPlace tables may_call inside.main (who_of x.base x.outermost) statements
+    all_statements : (x : Want) (inside : Inside) → MayLeave inside.main inside.framed x.function → (statements : Statements) → StatementsInPlace tables may_call inside.main (who_of x.base x.outermost) statements
         → Keeps x (all_executed tables functions inside statements)
-    all_statements x inside p.no_statements h rest q = q
-    all_statements x inside (p.statement first others) h rest q =
-        statement x inside first h.0 (all_executed tables functions inside others rest) (all_statements x inside others h.1 rest q)
+    all_statements x inside k p.no_statements h rest q = q
+    all_statements x inside k (p.statement first others) h rest q =
+        statement x inside k first h.0 (all_executed tables functions inside others rest) (all_statements x inside k others h.1 rest q)
 
-  end_leads : (x : Want) (inside : Inside) (void : Bool) → w.is_main (who_of x.base x.outermost) ≡ inside.main → Fine x (end_of tables functions inside void)
-  end_leads x inside void is = by inside.main void is
+  end_leads : (x : Want) (inside : Inside) (void : Bool) → w.is_main (who_of x.base x.outermost) ≡ inside.main → MayLeave inside.main inside.framed x.function → Fine x (end_of tables functions inside void)
+  end_leads x inside void is k = by inside.main void is k
     where
-      by : (main void : Bool) → w.is_main (who_of x.base x.outermost) ≡ main → Fine x (
+      by : (main void : Bool) → w.is_main (who_of x.base x.outermost) ≡ main → MayLeave main inside.framed x.function → Fine x (
           if main then ends nowhere o.Halt done
           else if void then ends nowhere (o.Leave false inside.framed) done
           else plain (o.Push 0) (ends nowhere (o.Leave true inside.framed) done))
-      by true void' e = halts x true inside.framed e done (wants.ended tables functions may_call unshared x)
-      by false true e = halts x false inside.framed e done (wants.ended tables functions may_call unshared x)
-      by false false e =
-          pushes x 0 (ends nowhere (o.Leave true inside.framed) done) (gives_end x false inside.framed e done (wants.ended tables functions may_call unshared x))
+      by true void' e k' = halts x true inside.framed e k' done (wants.ended tables functions may_call unshared frameless x)
+      by false true e k' = halts x false inside.framed e k' done (wants.ended tables functions may_call unshared frameless x)
+      by false false e k' =
+          pushes x 0 (ends nowhere (o.Leave true inside.framed) done) (gives_end x false inside.framed e k' done (wants.ended tables functions may_call unshared frameless x))
 
   pub body_leads : (x : Want) (inside : Inside) (void : Bool) (statements : Statements) → w.is_main (who_of x.base x.outermost) ≡ inside.main
+      → MayLeave inside.main inside.framed x.function
       → StatementsInPlace tables may_call inside.main (who_of x.base x.outermost) statements → Fine x (body_of tables functions inside void statements)
-  body_leads x inside void statements is h =
-      all_statements x inside statements h (end_of tables functions inside void) (end_leads x inside void is)
+  body_leads x inside void statements is k h =
+      all_statements x inside k statements h (end_of tables functions inside void) (end_leads x inside void is k)

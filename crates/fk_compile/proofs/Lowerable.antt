@@ -13,7 +13,7 @@ use Rattle.fk_core.specs.declared.op.CoreOp.{CoreOp}
 use Rattle.fk_core_flat.specs.Laws.{AreShaped}
 use Rattle.fk_layout.specs.Layout.{tables_by}
 use Rattle.fk_layout.specs.Refusal.{Fits}
-use Rattle.fk_lower_text.specs.Whole.{AreWhole}
+use Rattle.fk_lower_text.specs.Whole.{AreWhole, AreNumbered}
 use Rattle.fk_lower_text.specs.Lowered.{IsLowerable, HasSites}
 use Rattle.fk_core_flat.specs.Fitting.{FormsAreShaped}
 use Rattle.fk_parse_laws.specs.Trim.{TextsAreTrim}
@@ -23,8 +23,8 @@ use Rattle.fk_check_laws.specs.Laws.{CorrectProgramsFit}
 use Rattle.fk_lower_laws.specs.LoweringLaws.{IsKnownOf}
 use Rattle.fk_compile_text.specs.Plain.{ArePlain}
 use Rattle.fk_compile_text.specs.Text.{IsChecked}
-use Rattle.fk_lower_laws.specs.Proper.{TextsAreProper}
-use Rattle.fk_lower_laws.specs.WordLaws.{NumbersHaveRoom}
+use Rattle.fk_lower_names.specs.Proper.{TextsAreProper}
+use Rattle.fk_lower_names.specs.WordLaws.{NumbersHaveRoom}
 use Rattle.fk_lower.specs.Depths.{AreTold}
 use Rattle.fk_lower_text.specs.Depths.{depths_of}
 use Rattle.fk_lower_laws.specs.Laws.{LoweredListsCanHaveGroups, count_of_file}
@@ -40,6 +40,7 @@ pub record IsPrepared (program : ProgramTree) (facts : Facts) (known : ProgramTa
   pub laid : IsLaidOut program facts
   pub shaped : AreShaped (bodies_of (tables_by program facts) program)
   pub whole : AreWhole known (functions_in known)
+  pub numbered : AreNumbered known (functions_in known)
 
 pub prepared : (source : List ℕ) (program : ProgramTree) (facts : Facts) (known : ProgramTables) → tables_of known ≡ tables_by program facts → items_in known ≡ program.items
     → IsChecked source program facts → IsWellFormed program → program.tokens ≤ 2 ^ 20 → Fits (tables_by program facts) program.items
@@ -48,11 +49,14 @@ prepared source program facts known tables items checked well_formed small fits 
     let text = checked.parsed in
     let correct : IsCorrect program facts = record { well_formed = well_formed; small = small; known = checked.known } in
     let is_trim = trim source text.tokens program text.spelled text.derived in
+    let is_proper = proper source text.tokens program text.spelled text.derived in
+    let numbers = room program facts known correct is_proper fits (words source text.tokens program text.spelled text.derived) tables items in
     record {
       of = record { tables = tables; items = items };
-      laid = record { correct = correct; trim = is_trim; proper = proper source text.tokens program text.spelled text.derived; fits = fits };
+      laid = record { correct = correct; trim = is_trim; proper = is_proper; fits = fits };
       shaped = shaped (tables_by program facts) program (fit program facts correct is_trim);
-      whole = room program facts known correct fits (words source text.tokens program text.spelled text.derived) tables items;
+      whole = numbers.0;
+      numbered = numbers.1;
     }
 
 module _ (program : ProgramTree) (facts : Facts) (known : ProgramTables) (p : IsPrepared program facts known) where

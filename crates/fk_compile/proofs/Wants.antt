@@ -29,7 +29,7 @@ use Rattle.fk_lockstep_structure.specs.InPlace.{Splits, Calls, InPlace, NoneShar
 use Rattle.fk_lockstep_structure.proofs.Behind.{either_no}
 use Rattle.fk_lockstep_one_group.specs.Leads.{is_in_group, Comes, Leads}
 use Rattle.fk_compile_text.specs.Plain.{is_plain}
-use Rattle.fk_lower_laws.proofs.Along.{AllOf}
+use Rattle.fk_lower_laws.specs.Unsplit.{AllOf}
 
 -- who runs code: processors by themselves in `main`; a group; processors by themselves in a function that is called in the root,
 -- or in the body of a group
@@ -119,22 +119,22 @@ keeps_at Group op e way = refl
 keeps_at (Body true) op e way = refl
 keeps_at (Body false) op e way = refl
 
--- so do plain operations that expressions perform by themselves
-keeps_of : (op : Operation) → k.is_quiet op ≡ true → is_plain op ≡ true → keeps op ≡ true
-keeps_of (o.Leave gives framed) e f = untrue e
-keeps_of o.Begin e f = untrue e
-keeps_of o.Agree e f = untrue e
-keeps_of (o.Frame nesting words) e f = untrue f
-keeps_of o.Block e f = untrue e
-keeps_of (o.Split by) e f = untrue e
-keeps_of o.Shrink e f = untrue e
-keeps_of o.End e f = untrue e
-keeps_of o.Resume e f = untrue e
-keeps_of o.Farm e f = untrue e
-keeps_of o.Seq e f = untrue e
-keeps_of (o.Meet closes) e f = untrue e
-keeps_of o.Halt e f = untrue e
-keeps_of op e f = refl
+-- so do operations that expressions perform by themselves
+keeps_of : (op : Operation) → k.is_quiet op ≡ true → keeps op ≡ true
+keeps_of (o.Leave gives framed) e = untrue e
+keeps_of o.Begin e = untrue e
+keeps_of o.Agree e = untrue e
+keeps_of (o.Frame nesting words) e = untrue e
+keeps_of o.Block e = untrue e
+keeps_of (o.Split by) e = untrue e
+keeps_of o.Shrink e = untrue e
+keeps_of o.End e = untrue e
+keeps_of o.Resume e = untrue e
+keeps_of o.Farm e = untrue e
+keeps_of o.Seq e = untrue e
+keeps_of (o.Meet closes) e = untrue e
+keeps_of o.Halt e = untrue e
+keeps_of op e = refl
 
 no_end : (op : Operation) → k.is_quiet op ≡ true → ends_part op ≡ false
 no_end o.End e = untrue e
@@ -174,7 +174,8 @@ arm w = record {
 }
 
 module _ (tables : Tables) (functions : (binding : ℕ) → Signature) (may_call : (in_group : Bool) → (function : ℕ) → Bool)
-    (unshared : (binding : ℕ) → may_call false binding ≡ true → NoneShared (functions binding).parameters) where
+    (unshared : (binding : ℕ) → may_call false binding ≡ true → NoneShared (functions binding).parameters)
+    (frameless : (binding : ℕ) → may_call false binding ≡ true → frame_at tables (functions binding).at 0 ≡ None) where
   -- plain code of the right shape leads
   abbrev pub Fine : Want → Coded → Type 0
   Fine w code = AllOf is_plain code → Shape w.part false w.exits code → Leads may_call w.function w.loop (place_of w.base) code (end_of_part w.base w.part)
@@ -182,13 +183,24 @@ module _ (tables : Tables) (functions : (binding : ℕ) → Signature) (may_call
   pub ends_here : (w : Want) → w.part ≡ false → place_of w.base ≡ end_of_part w.base w.part
   ends_here w e = sym (ap (λ b. if b then Waits else place_of w.base) e)
 
-  pub agrees : (w : Want) → in_group w.base ≡ true → (rest : Coded) → Fine w rest → Fine w (plain o.Agree rest)
-  agrees w e rest p = λ all shape. (place_of w.base, by w.base e, p all.1 shape.2)
+  -- what a group does in its group
+  in_its_group : (w : Want) (t : Place) (op : Operation) → Comes InGroup op InGroup → ends_part op ≡ false → in_group w.base ≡ true → (rest : Coded) → Fine w rest → Fine w (perform t op rest)
+  in_its_group w t op comes no_part g rest p = λ all shape. (place_of w.base, by w.base g, p all.1 (either_no (ends_part op) _ _ shape.2 no_part))
     where
-      by : (b : Base) → in_group b ≡ true → Comes (place_of b) o.Agree (place_of b)
+      by : (b : Base) → in_group b ≡ true → Comes (place_of b) op (place_of b)
       by Main f = untrue f
-      by Group f = λ way. refl
+      by Group f = comes
       by (Body r) f = untrue f
+
+  pub agrees : (w : Want) → in_group w.base ≡ true → (rest : Coded) → Fine w rest → Fine w (plain o.Agree rest)
+  agrees w g rest p = in_its_group w nowhere o.Agree (λ way. refl) refl g rest p
+
+  pub frames : (w : Want) → in_group w.base ≡ true → (r : Option Region) (place : Place) (rest : Coded) → Fine w rest → Fine w (framed tables functions r place rest)
+  frames w g None place rest p = p
+  frames w g (Some r) place rest p = in_its_group w place (o.Frame r.level r.words) (λ way. refl) refl g rest p
+
+  allots : (w : Want) → in_group w.base ≡ true → (rest : Coded) → Fine w rest → Fine w (plain o.Agree (plain o.Block rest))
+  allots w g rest p = agrees w g (plain o.Block rest) (in_its_group w nowhere o.Block (λ way. refl) refl g rest p)
 
   pub agrees_or : (w : Want) (sync : Bool) → (sync ≡ true → in_group w.base ≡ true) → (rest : Coded) → Fine w rest → Fine w (agreed sync rest)
   agrees_or w true e rest p = agrees w (e refl) rest p
@@ -198,7 +210,7 @@ module _ (tables : Tables) (functions : (binding : ℕ) → Signature) (may_call
   agreed_there w at splits is = splits.1 is
 
   performs : (w : Want) (t : Place) (op : Operation) (rest : Coded) → k.is_quiet op ≡ true → Fine w rest → Fine w (perform t op rest)
-  performs w t op rest e p = λ all shape. (place_of w.base, keeps_at w.base op (keeps_of op e all.0), p all.1 (either_no (ends_part op) _ _ shape.2 (no_end op e)))
+  performs w t op rest e p = λ all shape. (place_of w.base, keeps_at w.base op (keeps_of op e), p all.1 (either_no (ends_part op) _ _ shape.2 (no_end op e)))
 
   pub chooses : (w : Want) (t : Place) (on : Bool) (a b rest : Coded) → Fine (arm w) a → Fine (arm w) b → Fine w rest → Fine w (choose t (o.Branch on) a b rest)
   chooses w t on a b rest p q r = λ all shape. (
@@ -234,26 +246,39 @@ module _ (tables : Tables) (functions : (binding : ℕ) → Signature) (may_call
       by Main f = absurd (cc)
       by (Body r) f = absurd (cc)
 
-  -- a function is entered without a frame
-  opens : (p : Where) (i : ℕ) (xs : List DeclaredTree) → AllOf is_plain (parameters tables functions i xs) → Leads may_call p None p (parameters tables functions i xs) p
-  opens p i [] all = refl
-  opens p i (x ∷ xs) all = by x.shared all (λ h. opens p (suc i) xs h)
+  -- the words of `sh` parameters get their values
+  opens : (b : Base) (i : ℕ) (xs : List DeclaredTree) → Leads may_call (place_of b) None (place_of b) (parameters tables functions i xs) (place_of b)
+  opens b i [] = refl
+  opens b i (x ∷ xs) = by x.shared (opens b (suc i) xs)
     where
-      shared : Coded
-      shared =
-          plain (o.Get (n.FrameAddress 0 (slot tables (note tables x.name.at).binding).index))
-          (plain (o.Get (n.Value (v.Private i))) (plain o.Write (plain o.DropLast (parameters tables functions (suc i) xs))))
+      p : Where
+      p = place_of b
 
-      by : (b : Bool) → AllOf is_plain (if b then shared else parameters tables functions (suc i) xs)
-          → (AllOf is_plain (parameters tables functions (suc i) xs) → Leads may_call p None p (parameters tables functions (suc i) xs) p)
-          → Leads may_call p None p (if b then shared else parameters tables functions (suc i) xs) p
-      by true h more = untrue h.0
-      by false h more = more h
+      word : Operation
+      word = o.Get (n.FrameAddress 0 (slot tables (note tables x.name.at).binding).index)
 
-  opens_framed : (p : Where) (r : Option Region) (place : Place) (i : ℕ) (xs : List DeclaredTree) → AllOf is_plain (framed tables functions r place (parameters tables functions i xs))
-      → Leads may_call p None p (framed tables functions r place (parameters tables functions i xs)) p
-  opens_framed p None place i xs all = opens p i xs all
-  opens_framed p (Some r) place i xs all = untrue all.0
+      value_given : Operation
+      value_given = o.Get (n.Value (v.Private i))
+
+      others : Coded
+      others = parameters tables functions (suc i) xs
+
+      by : (shared : Bool) → Leads may_call p None p others p
+          → Leads may_call p None p (if shared then plain word (plain value_given (plain o.Write (plain o.DropLast others))) else others) p
+      by true more =
+          (p, keeps_at b word refl, (p, keeps_at b value_given refl, (p, keeps_at b o.Write refl, (p, keeps_at b o.DropLast refl, more))))
+      by false more = more
+
+  some_is_none : {A : Type 0} (r : Region) → Some r ≡ None → A
+  some_is_none r e = absurd (cc)
+
+  -- only a group enters a function with a frame
+  opens_framed : (b : Base) (r : Option Region) (place : Place) (i : ℕ) (xs : List DeclaredTree) → (in_group b ≡ false → r ≡ None)
+      → Leads may_call (place_of b) None (place_of b) (framed tables functions r place (parameters tables functions i xs)) (place_of b)
+  opens_framed b None place i xs only = opens b i xs
+  opens_framed Main (Some r) place i xs only = some_is_none r (only refl)
+  opens_framed Group (Some r) place i xs only = (InGroup, (λ way. refl), opens Group i xs)
+  opens_framed (Body in_root) (Some r) place i xs only = some_is_none r (only refl)
 
   enters : (w : Want) (name : Named) (rest : Coded) → Calls tables may_call (in_group w.base) name → Fine w rest → Fine w (entered tables functions name rest)
   enters w name rest means p =
@@ -261,7 +286,8 @@ module _ (tables : Tables) (functions : (binding : ℕ) → Signature) (may_call
       λ all shape. (
         keeps_at w.base (o.Enter (length function.parameters)) refl,
         subst (λ b. may_call b (note tables name.at).binding ≡ true) (sym (called_in w.base)) means.0,
-        opens_framed (place_of w.base) (frame_at tables function.at 0) name.place 0 function.parameters all.1,
+        opens_framed w.base (frame_at tables function.at 0) name.place 0 function.parameters
+            (λ alone. frameless (note tables name.at).binding (subst (λ b. may_call b (note tables name.at).binding ≡ true) alone means.0)),
         p all.2 shape.3,
       )
 
@@ -281,7 +307,7 @@ module _ (tables : Tables) (functions : (binding : ℕ) → Signature) (may_call
     inner = arm;
     told = λ w e h. h;
     performs = performs;
-    allots = λ w name rest means a p. λ all shape. untrue all.1.0;
+    allots = λ w name rest means a p. allots w (means.1 a) rest p;
     ends = ended;
     part_ends = part_ended;
     divides = divides;
@@ -289,10 +315,6 @@ module _ (tables : Tables) (functions : (binding : ℕ) → Signature) (may_call
     shares = shares;
     enters = enters;
   }
-
-  pub frames : (w : Want) (r : Option Region) (place : Place) (rest : Coded) → Fine w rest → Fine w (framed tables functions r place rest)
-  frames w None place rest p = p
-  frames w (Some r) place rest p = λ all shape. untrue all.0
 
   pub addresses : (w : Want) (s : ResultLocation) (rest : Coded) → Fine w rest → Fine w (addressed tables functions s rest)
   addresses w s rest p = k.addresses kept w s rest p

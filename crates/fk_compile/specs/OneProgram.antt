@@ -1,6 +1,5 @@
 -- Programs that keep all rules have one remaining program, and their groups one space.
 use Rattle.std.specs.Prelude.{◌≡◌, ℕ, ◌≤◌, Bool, true, not, List, Some, None}
-use Rattle.fk_meaning_store.specs.Serve.{may_use}
 use Rattle.fk_syntax.specs.declared.facts.Facts.{Facts}
 use Rattle.fk_syntax.specs.Tree.{Tree}
 use Rattle.fk_syntax.specs.Program.{ProgramTree}
@@ -26,10 +25,13 @@ use Rattle.fk_lockstep.specs.OneProgram.{KeepOneProgram}
 use Rattle.fk_lockstep.specs.OneSpace.{KeepOneSpace}
 use Rattle.fk_lockstep_structure.specs.Valued.{gives, gives_value, way, Evaluates}
 use Rattle.fk_lockstep_structure.specs.Forks.{ForksAreValued}
+use Rattle.fk_lockstep_frames.specs.Nests.{Nest}
+use Rattle.fk_core_typing.specs.declared.constants.Constant.{Constant as Address}
+use Rattle.fk_core_typing.specs.AddressValues.{is_address}
 use Rattle.fk_lower_laws.specs.Ways as w
 use Rattle.fk_lower_laws.specs.Asked.{IsCalled, Asked}
 use Rattle.fk_lower_laws.specs.Typed.{IsNothing, Known}
-use Rattle.fk_lower_laws.specs.Proper.{ProgramIsProper}
+use Rattle.fk_lower_names.specs.Proper.{ProgramIsProper}
 
 -- A called function gives a value if it has a result.
 abbrev pub GiveResults : (functions : (binding : ℕ) → Signature)
@@ -42,19 +44,20 @@ abbrev pub AskedEvaluates : Type 0
 AskedEvaluates =
     (tables : Tables) (functions : (binding : ℕ) → Signature)
     (place_of : (binding : ℕ) → FunctionKind) → GiveResults functions place_of
-    → (x : Tree) → Asked tables functions place_of x
+    → (nests : List Nest) (x : Tree) → Asked tables functions place_of nests x
     → Evaluates tables functions x
     × (gives (way tables functions x) ≡ w.gives (w.way tables place_of x))
 
 -- An expression that has a type leaves one value, or none if its type is nothing.
 abbrev pub TypedEvaluates : Type 0
 TypedEvaluates =
-    (has_room : (address : ℕ) → DataType → Bool)
-    → ((address : ℕ) (type : DataType) → has_room address type ≡ true → may_use true address ≡ true)
+    (nests : List Nest) (has_room : Address → DataType → Bool)
+    → ((address : Address) (type : DataType) → has_room address type ≡ true
+    → is_address true nests (Some address) ≡ true)
     → (env : Env) (tables : Tables) (functions : (binding : ℕ) → Signature)
     (place_of : (binding : ℕ) → FunctionKind) → GiveResults functions place_of
     → (x : Tree)
-    → Known (λ address type. has_room address type ≡ true) env tables functions place_of x
+    → Known (λ address type. has_room address type ≡ true) env tables functions place_of nests x
     → (type : ExpressionType) → type_of env (term_of x) ≡ Some type
     → Evaluates tables functions x × (gives (way tables functions x) ≡ not (IsNothing type))
 

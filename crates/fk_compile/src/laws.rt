@@ -12,11 +12,11 @@ ghost use Rattle.fk_compile.specs.PlainLists.{ListsAreSmall};
 ghost use Rattle.fk_compile.specs.OneGroup.{PlainListsAreOfOneGroup};
 ghost use Rattle.fk_compile.specs.Laws.{NeverTraps};
 
-use fk_lower_laws::laws::texts_are_proper;
-use fk_parse_laws::laws::{frames_stand_behind_first, texts_are_trim};
+use fk_lower_names::laws::texts_are_proper;
+use fk_parse_laws::laws::texts_are_trim;
 
 /// In a plain program that is in place the code leads each processor from place to place. A plain
-/// program has no splits, no group frames, no `shalloc` and no `shmalloc`.
+/// program has no splits.
 pub fn programs_are_led()
     ensures { ProgramsAreLed }
 {}
@@ -63,7 +63,6 @@ pub fn texts_have_one_space()
 {
     texts_are_trim();
     texts_are_proper();
-    frames_stand_behind_first();
 }
 
 /// In the program that a text spells, in a round without a fault in which the members of one group
@@ -85,7 +84,7 @@ pub fn sites_are_own()
 /// In every run of the list of a plain program that keeps all rules and has a layout, there is one
 /// group at most at a time, and its members in lockstep are at one index of the list. This holds
 /// after every schedule of possible rounds in which each processor does one operation at most. A
-/// plain program has no splits, no group frames, no `shalloc` and no `shmalloc`.
+/// plain program has no splits.
 pub fn plain_programs_have_one_group()
     ensures { PlainProgramsHaveOneGroup }
 {}
@@ -121,7 +120,7 @@ pub fn grouped_lists_are_generable()
 
 /// The flat list of a plain program that keeps all rules and has a layout, with the depths and
 /// sites of its text, has one group at a time, as the laws of machines require. A plain program has
-/// no splits, no group frames, no `shalloc` and no `shmalloc`.
+/// no splits.
 pub fn plain_lists_are_of_one_group()
     ensures { PlainListsAreOfOneGroup }
 {}

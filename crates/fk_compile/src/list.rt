@@ -35,10 +35,8 @@ use fk_core_flat::laws::forms_are_shaped;
 use fk_core_liveness::{Set, live_words};
 use fk_layout_walk::ProgramTables;
 use fk_lower::LowerFault;
-use fk_lower_laws::laws::{
-    lowered_lists_can_have_groups, numbers_have_room, operations_have_numbers, texts_are_proper,
-    texts_can_be_laid,
-};
+use fk_lower_laws::laws::{lowered_lists_can_have_groups, texts_can_be_laid};
+use fk_lower_names::laws::{numbers_have_room, texts_are_proper};
 use fk_lower_text::{entry_of_main, lower_text};
 use fk_parse_laws::laws::{texts_are_trim, texts_have_words};
 use std::alloc::{AllocError, Global};
@@ -108,7 +106,6 @@ pub(crate) fn list_of(alloc: Global, text: &Built) -> Result<List, Refusal>
     lists_are_small();
     numbers_have_room();
     texts_can_be_laid();
-    operations_have_numbers();
     lowered_lists_can_have_groups();
     plain_lists_have_blocks();
     plain_lists_are_of_one_group();

@@ -69,4 +69,4 @@ lowered-requires-clause-numbered c =
     let p =
     prepared c.requires.checked.0 tree text.facts known c.tables-known.ensures.tables c.tables-known.ensures.items c.requires.checked.1 c.requires.well_formed c.requires.tokens c.requires.fits
     c.texts_are_trim.ensures c.texts_are_proper.ensures c.texts_have_words.ensures c.numbers_have_room.ensures c.correct_programs_fit.ensures c.forms_are_shaped.ensures in
-    c.operations_have_numbers.ensures tree text.facts known p.laid.correct p.laid.trim p.laid.fits c.requires.plain p.of
+    p.numbered
