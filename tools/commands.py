@@ -17,8 +17,10 @@ from dataclasses import dataclass, field
 from pathlib import Path
 
 sys.dont_write_bytecode = True
+import frames
 import groups
 from programs import FAULTS_OF_RUNS, PROGRAMS
+from runs import runs
 from texts import FAULTS, NO_TOKENS, OPENERS, TEXTS
 
 TOP = Path(__file__).resolve().parent.parent
@@ -257,7 +259,7 @@ ROWS = [
     # an input that can't be read counts before the text, and is nothing to a command that takes none
     Row(run("refused.f95", harts=2), 3, b"", r"read fault\n", given_from="."),
     Row(execute("halt.image"), 3, b"", r"read fault\n", given_from="."),
-    Row(build("empty.f95", "unread.image"), 0, b"", r"built 221 words\n", files={"unread.image": is_image}, given_from="."),
+    Row(build("empty.f95", "unread.image"), 0, b"", r"built 253 words\n", files={"unread.image": is_image}, given_from="."),
     # a machine of 1,024 harts takes 136 MiB, one of a single hart 8
     Row(run("sums.f95", harts=1024), 5, b"", "", memory=100 << 20),
     Row(run("sums.f95"), 0, b"5\n", FINISHED, memory=100 << 20),
@@ -434,11 +436,11 @@ for title, (harts, text, out, kind, place, processor) in FAULTS_OF_RUNS.items():
     ROWS.append(Row(run(f"fault {title}.f95", harts=harts), 6, out, report))
 
 # programs with one group at a time, those that fault, and those that never end
-for title, (harts, given, text, show, out) in groups.PROGRAMS.items():
+for title, (harts, given, text, show, out) in (groups.PROGRAMS | frames.PROGRAMS).items():
     FILES[f"group {title}.f95"] = text
     words = run(f"group {title}.f95", harts=harts) + (["--show", show] if show else [])
     ROWS.append(Row(words, 0, out, FINISHED, given=given))
-for title, (harts, text, out, kind, place, processor) in groups.FAULTS.items():
+for title, (harts, text, out, kind, place, processor) in (groups.FAULTS | frames.FAULTS).items():
     FILES[f"group fault {title}.f95"] = text
     report = rf"fault {kind} at {place} by processor {processor} after \d+ cycles\n"
     ROWS.append(Row(run(f"group fault {title}.f95", harts=harts), 6, out, report))
@@ -446,6 +448,10 @@ for title, (harts, text, show, out) in groups.ENDLESS.items():
     FILES[f"endless {title}.f95"] = text
     words = run(f"endless {title}.f95", harts=harts, cycles=100000) + (["--show", show] if show else [])
     ROWS.append(Row(words, 7, out, r"stopped after 100000 cycles\n"))
+for one in runs(TOP / "tools" / "framed_runs.txt"):
+    FILES[f"framed {one.number}.f95"] = one.text
+    words = run(f"framed {one.number}.f95", harts=one.harts, cycles=10000000) + ["--show", one.shown]
+    ROWS.append(Row(words, 0, one.out, re.escape(one.report) + r".*\n", given=one.given))
 ROWS += [
     Row(run("group start.f95", harts=4, cycles=0) + ["--show", "x"], 7, b"x = 0\n", AT_ONCE),
     # a group, its code and its end: get for who is in it, begin, what it does, end, resume, halt
@@ -464,6 +470,13 @@ def refused(text, report):
     name = f"text {len(FILES)}.f95"
     FILES[name] = text
     return Row(build(name, "none.image"), 1, b"", report)
+
+
+def built(text, kinds):
+    """A row of a text of its own that is built, with sites of these kinds."""
+    name = f"text {len(FILES)}.f95"
+    FILES[name] = text
+    return Row(build(name, "kinds.image"), 0, b"", r"built \d+ words\n", files={"kinds.image": has_kinds(kinds)})
 
 
 def broken(marked):
@@ -495,19 +508,29 @@ for index, rule in enumerate(RULES):
     name = f"rule{index}.f95"
     FILES[name], line = breaking(*rule)
     ROWS.append(Row(run(name), 1, b"", line))
-# texts that keep all rules, with one operation that isn't built: `shmalloc`, a group frame, `shalloc`, splits and a split loop
+# texts that keep all rules, with a split or a split loop; the last ones in functions that nobody calls
 NOT_BUILT = [
-    b"void main(void) { shmalloc(4); }",
-    b"sync void f(void) { sh int a; } void main(void) { }",
-    b"void main(void) { start { sh int a; } }",
-    b"sync int *f(void) { return shalloc(4); } void main(void) { start f(); }",
     b"void main(void) { start if ($) ; else ; }",
     b"void main(void) { int x; start x = $ && 1; }",
     b"void main(void) { int x; start x = $ || 1; }",
     b"void main(void) { int x; start x = $ ? 1 : 2; }",
     b"void main(void) { int x = 3; start while (x) x--; }",
-    b"sync void f(sh int a) { } void main(void) { }",
+    b"void main(void) { int x = 3; start do x--; while (x); }",
+    b"void main(void) { int x; start for (x = 0; x < 3; x++) ; }",
+    b"sync int f(sh int a) { sh int k = a; return $ ? k : 1; } void main(void) { start f(1); }",
+    b"sync void f(void) { if ($) ; } void main(void) { }",
+    b"sync void f(void) { fork (2; @=$) ; } void main(void) { }",
 ]
+# texts with group frames, `shalloc` or `shmalloc`, and the kinds of their sites by hand
+BUILT = {
+    b"void main(void) { shmalloc(4); }": [1, 21, 4, 34],
+    b"sync void f(void) { sh int a; } void main(void) { }": [2, 1, 14, 4, 11, 34],
+    b"sync void f(sh int a) { } void main(void) { }": [11, 34],
+    b"void main(void) { start { sh int a; } }": [2, 23, 25, 2, 1, 14, 4, 29, 30, 34],
+    b"sync int *f(void) { return shalloc(4); } void main(void) { start f(); }": [1, 24, 26, 11, 1, 11, 2, 23, 22, 4, 29, 30, 34],
+    # const, agree, enter, frame, the address and the value of the parameter, write, drop
+    b"sync void f(sh int a) { } void main(void) { start f(5); }": [11, 2, 23, 1, 24, 22, 25, 2, 2, 14, 4, 29, 30, 34],
+}
 # a text that keeps all rules and isn't built; and mistakes of several kinds in one text
 FILES["valid.f95"] = b"void main(void) { start fork (1; @=0) ; }"
 FILES["all.f95"] = b"int ib[2]; void main(void) { farm ; y = ? }"
@@ -515,6 +538,7 @@ ROWS += [
     Row(run("valid.f95"), 1, b"", r"refused 22 NotBuilt\n"),
     Row(run("valid.f95") + ["--show", "y"], 1, b"", r"refused 22 NotBuilt\n"),
     *[refused(text, r"refused 22 NotBuilt\n") for text in NOT_BUILT],
+    *[built(text, kinds) for text, kinds in BUILT.items()],
     Row(run("undeclared.f95") + ["--show", "y"], 1, b"", r"refused 8 Rule 1 at 1:26\n", given=b"x"),
     Row(run("all.f95"), 1, b"", r"refused 5 Unexpected at 1:41\n"),
 ]

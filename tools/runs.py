@@ -1,0 +1,30 @@
+"""Programs with their runs, from a file of such."""
+import re
+from dataclasses import dataclass
+
+HEADING = re.compile(rb"^=== (\d+): harts (\d+), show (\w+), input (.*)\n", re.MULTILINE)
+OUTPUT, REPORT = b"--- output\n", b"--- report\n"
+ESCAPED = {b"0": b"\0", b"\\": b"\\"}
+
+
+@dataclass
+class Run:
+    number: int
+    harts: int
+    shown: str
+    given: bytes
+    text: bytes
+    out: bytes
+    # how the report begins
+    report: str
+
+
+def runs(path):
+    """The runs of a file, in its order."""
+    # what stands before the first heading, and then for each run the parts of its heading and its body
+    parts = HEADING.split(path.read_bytes())[1:]
+    for number, harts, shown, given, body in zip(*[iter(parts)] * 5):
+        text, rest = body.split(OUTPUT)
+        out, report = rest.split(REPORT)
+        out = re.sub(rb"\\(.)", lambda found: ESCAPED[found[1]], out)
+        yield Run(int(number), int(harts), shown.decode(), given, text, out, report.strip().decode())
