@@ -29,6 +29,7 @@ OUTPUTS = {
     "exclusive": lines(sum(1 for number in range(1, 47, 3) if number % 2 == 0)),
     "farm": lines(29, 1008),
     "few_of_many": lines("......", "......", "1.....", "55555.", "666666"),
+    "group_library": lines(3, 4, 8, 9, 14, 23, 25, 31, 9, 1, 4, 5, 9, 6),
     "hello": lines(0, 1, 2, 3, "that were all"),
     "histogram": lines(*[10] * 10),
     "life": ".#......\n..#.....\n###.....\n" + FIELD * 5 + "\n" + FIELD + "..#.....\n...#....\n.###....\n" + FIELD * 4 + "\n",
