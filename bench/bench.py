@@ -12,7 +12,7 @@ there (Debian: tcc), the time and memory of `fork95 build` over those of `tcc -c
 1 MiB of declarations and for one of sums, each with the same text in C. And where the program of
 the table of texts is built (`rt ci` builds it), the time in which all rules of the language are
 checked in a text of 1 MB with 60,000 names in nested scopes. And programs that a user would write
-(bench/programs), four of them with a group, with 1, 64 and 1,024 harts: cycles, cycles for each operation of each hart,
+(bench/programs), five of them with a group, with 1, 64 and 1,024 harts: cycles, cycles for each operation of each hart,
 and million operations a second, beside the seconds of the same program in C on one core.
 """
 import itertools
