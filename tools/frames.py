@@ -92,6 +92,31 @@ sh int r[3];
 sync void read(struct P *p) { r[0] = p->x; r[1] = p->y[0]; r[2] = (*p).y[1]; }
 sync void f(void) { sh int before = 1; sh struct P s; sh int behind = 2; s.x = 5; s.y[0] = 6; s.y[1] = $; read(&s); r[0] += before * 100; r[1] += behind * 100; }
 void main(void) { start f(); }""", "r", shown("r", 105, 206, 2)),
+    "values under a call": (7, b"", b"sh int r[7]; sync int twice(sh int n) { sh int k; k = n + n; return k; } void main(void) { start r[$] = 1 + $ * (3 + twice(3) * twice(4) - twice(twice(1))); }",
+        "r", shown("r", *[1 + rank * (3 + 6 * 8 - 4) for rank in range(7)])),
+    "many parameters": (5, b"", b"""sh int r[5];
+sync int f(sh int a, pr int b, sh int c, pr int d, sh int e, sh int g, pr int h, sh int i) {
+  sh int t[3];
+  t[2] = 5;
+  return a + 2 * b + 3 * c + 4 * d + 5 * e + 6 * g + 7 * h + 8 * i + 9 * t[2];
+}
+void main(void) { start r[$] = f($, $, 2 * $, 2 * $, 3 * $, $ + 1, $ + 1, $ + 2); }""",
+        # the shared ones have the values of member 4
+        "r", shown("r", *[4 + 2 * rank + 3 * 8 + 4 * 2 * rank + 5 * 12 + 6 * 5 + 7 * (rank + 1) + 8 * 6 + 9 * 5 for rank in range(5)])),
+    "functions with frames and without": (3, b"", b"""sh int r[3];
+sync int framed(sh int n);
+sync int unframed(int x) { return framed(x - 1) + $; }
+sync int framed(sh int n) { sh int k = n * 10; int inner; if (n <= 0) return 1; inner = unframed(n); return inner + k + n; }
+void main(void) { start r[$] = framed(5); }""", "r", shown("r", *[1 + sum(11 * n + rank for n in range(1, 6)) for rank in range(3)])),
+    "a farm and a seq in a function with a frame": (HARTS, b"", b"""sh int r;
+sync int count(sh int by) { sh int c, t[4]; farm { mpadd(&c, by); barrier; if ($ == 0) c += 1; barrier; mpadd(&c, by); } seq { t[by] = $ + 7; c += t[by]; } return c; }
+void main(void) { start { sh int z = count(1); z += count(2); r = z; } }""", "r", shown("r", (2 * HARTS + 1 + 7) + (4 * HARTS + 1 + 7))),
+    "returns out of loops": (4, b"", b"sh int r[4]; sync int f(sh int n) { sh int i; for (i = 0; i < 100; i++) { if (i == n) return i * 10; if (n < 0) return -1; } return 7; } void main(void) { start { r[0] = f(5); r[1] = f(-3); r[2] = f(200); r[3] = f(0); } }",
+        "r", shown("r", 50, -1, 7, 0)),
+    "private variables of file scope beside a frame": (6, b"", b"".join(b"int v%d = %d; " % (number, number) for number in range(40)) + b"""sh int r[6];
+sync int f(sh int n) { sh int k = n + v39; v0 += k; return k + v20; }
+void main(void) { start { sh int z = 3; sh int y = 4; v1 += $; r[$] = f(z) * 10 + y + v1; v2 = r[$]; } start { sh int u; u += 5; r[$] = v2 + v0 + u; } }""",
+        "r", shown("r", *[(3 + 39 + 20) * 10 + 4 + 1 + rank + 3 + 39 + 5 for rank in range(6)])),
     # ---- where frames lie
     "frames one after another": (2, b"", b"""sh unsigned at[2]; sh int sum;
 sync void first(void) { sh int a[2]; at[0] = (unsigned)&a[1]; a[0] = 7; a[1] = 8; }
@@ -151,6 +176,16 @@ void main(void) { start { pr int *a = block(1), *b = block(2); seq { putint(a[0]
     "blocks of the heap in a group": (4, b"", b"sh unsigned a[4]; void main(void) { start { a[$] = (unsigned)shmalloc(4 * $ + 1) - 0x10000000; } }", "a",
         # 1, 2, 3 and 4 words, in the order of the members, from the end of the group's space on
         shown("a", *[4 * (4 + Memory(4).group + words) for words in (0, 1, 3, 6)])),
+    "the heap in a farm": (64, b"", b"""sh int c; sh unsigned behind;
+void main(void) {
+  start {
+    farm { int i; for (i = 0; i < $ % 7 + 1; i++) { unsigned *q = shmalloc(8); mpadd(&c, 1); q[0] = $; q[1] = i; if (q[0] != $ || q[1] != i) mpadd(&c, 100000); } }
+    seq behind = (unsigned)shmalloc(4) - 0x10000000;
+    seq putint(behind);
+  }
+}""", "c",
+        # so many blocks of 2 words each, in whatever order
+        (lambda blocks: lines([4 * (2 + Memory(2).group + 2 * blocks)]) + shown("c", blocks))(sum(rank % 7 + 1 for rank in range(64)))),
     "all take of the heap at once": (HARTS, b"", b"""sh unsigned a[1024]; sh int c;
 void main(void) {
   start {
