@@ -13,7 +13,7 @@ use Rattle.fk_core.specs.declared.op.CoreOp.{CoreOp}
 use Rattle.fk_core.specs.Next.{is_jump, follows}
 use Rattle.fk_core.specs.Numbers.{operation_of}
 use Rattle.fk_sim_block.specs.Next.{OpAt}
-use Rattle.fk_sim_block.specs.Stands.{Frames, Places, HasRoom, HasFrame, ahead}
+use Rattle.fk_sim_block.specs.Stands.{Frames, Places, HasRoom, FrameInMemory, ahead}
 use Rattle.fk_sim_block.specs.Suits.{Flows, TakesFrame, Calls, Fits, Suits, nothing, writes}
 
 abbrev pushes : CoreOp
@@ -214,7 +214,7 @@ memory word = if word == 67 then address_of 21 else if word == 71 then 5 else 0
 abbrev pub call : Call
 call = record { values = []; privates = λ word. 5; frames = λ number. 21 }
 
-pub in_frame : HasFrame places memory 1 4 call
+pub in_frame : FrameInMemory places memory 1 4 call
 in_frame = record {
   home = refl;
   values = tt;

@@ -24,7 +24,8 @@ use Rattle.fk_machine.proofs.Places.{place_of-local, place_of-halt}
 use Rattle.fk_sim_nodes.specs.Alone.{Holds, IsAt, GoesAlone, IsPrivateIn}
 use Rattle.fk_sim_nodes.proofs.InPlace.{step_at}
 use Rattle.fk_sim_block.specs.Owner.{number_of}
-use Rattle.fk_sim_block.specs.Stands.{Places, HasValues, HasWaiting}
+use Rattle.fk_sim_block.specs.Stands.{Places, HasValues, HasWaiting, frame_end, value_of, value_in}
+use Rattle.fk_sim_block.specs.Stands.{zero_register, frame_register, end_register, rank_register, size_register, local_register, shared_register, heap_register, shared_mask_register, device_register, heap_mask_register}
 use Rattle.fk_sim_block.specs.Next.{OpAt, step_at as step_of}
 use Rattle.fk_sim_block.specs.Ready.{is_alone}
 use Rattle.fk_sim_block.specs.Block.{IsRunning, Begins, BlockDoes, BlockHalts, BlockLaw, beginner}
@@ -53,23 +54,23 @@ never : {A : Type 0} → false ≡ true → A
 never e = absurd (cc)
 
 pub record HasCode (image : Image) : Type 0 where
-  pub at0 : IsAt image 0 (Lui 8 0x20000) 0
-  pub at1 : IsAt image 1 (Addi 9 8 256) 0
-  pub at2 : IsAt image 2 (Lui 22 0x20000) 0
-  pub at3 : IsAt image 3 (Lui 23 0x10000) 0
-  pub at4 : IsAt image 4 (Lui 24 0x20010) 0
-  pub at5 : IsAt image 5 (Lui 25 0xffc00) 0
-  pub at6 : IsAt image 6 (Addi 25 25 3) 0
-  pub at7 : IsAt image 7 (Lui 26 0x30000) 0
-  pub at8 : IsAt image 8 (Lui 27 0xffff0) 0
-  pub at9 : IsAt image 9 (Addi 27 27 3) 0
-  pub at10 : IsAt image 10 (Lw 19 26 20) 0
-  pub at11 : IsAt image 11 (Lw 20 26 24) 0
-  pub at12 : IsAt image 12 (Addi 6 0 5) 0
-  pub at13 : IsAt image 13 (Sw 9 6 0xfffffffc) 1
-  pub at14 : IsAt image 14 (Addi 0 0 0) 1
+  pub at0 : IsAt image 0 (Lui frame_register 0x20000) 0
+  pub at1 : IsAt image 1 (Addi end_register frame_register 256) 0
+  pub at2 : IsAt image 2 (Lui local_register 0x20000) 0
+  pub at3 : IsAt image 3 (Lui shared_register 0x10000) 0
+  pub at4 : IsAt image 4 (Lui heap_register 0x20010) 0
+  pub at5 : IsAt image 5 (Lui shared_mask_register 0xffc00) 0
+  pub at6 : IsAt image 6 (Addi shared_mask_register shared_mask_register 3) 0
+  pub at7 : IsAt image 7 (Lui device_register 0x30000) 0
+  pub at8 : IsAt image 8 (Lui heap_mask_register 0xffff0) 0
+  pub at9 : IsAt image 9 (Addi heap_mask_register heap_mask_register 3) 0
+  pub at10 : IsAt image 10 (Lw rank_register device_register 20) 0
+  pub at11 : IsAt image 11 (Lw size_register device_register 24) 0
+  pub at12 : IsAt image 12 (Addi 6 zero_register 5) 0
+  pub at13 : IsAt image 13 (Sw end_register 6 0xfffffffc) 1
+  pub at14 : IsAt image 14 (Addi zero_register zero_register 0) 1
   pub at15 : IsAt image 15 (Lui 5 0x30000) 0
-  pub at16 : IsAt image 16 (Sw 5 0 12) 1
+  pub at16 : IsAt image 16 (Sw 5 zero_register 12) 1
 
 private : (image : Image) (t : MachineSetting) (number k : ℕ) (i : Instruction) (h h' : Hart) → Holds image t → IsAt image k i 0 → h.pc ≡ 4 * k
     → h.ended ≡ false → ((s : Shared) → GoesAlone (perform t number i h s) h' s) → IsPrivateIn image t number h h'
@@ -99,18 +100,18 @@ begins : (image : Image) → HasCode image → (setting : Setting) (t : MachineS
     → Begins core image places t (beginner setting (λ i. 0) 0 number)
 begins image code setting t number running =
     let h0 = first_hart in
-    let h1 = writes h0 8 0x20000000 in
-    let h2 = writes h1 9 0x20000100 in
-    let h3 = writes h2 22 0x20000000 in
-    let h4 = writes h3 23 0x10000000 in
-    let h5 = writes h4 24 0x20010000 in
-    let h6 = writes h5 25 0xffc00000 in
-    let h7 = writes h6 25 0xffc00003 in
-    let h8 = writes h7 26 0x30000000 in
-    let h9 = writes h8 27 0xffff0000 in
-    let h10 = writes h9 27 0xffff0003 in
-    let h11 = writes h10 19 number in
-    let h12 = writes h11 20 t.harts in
+    let h1 = writes h0 frame_register 0x20000000 in
+    let h2 = writes h1 end_register 0x20000100 in
+    let h3 = writes h2 local_register 0x20000000 in
+    let h4 = writes h3 shared_register 0x10000000 in
+    let h5 = writes h4 heap_register 0x20010000 in
+    let h6 = writes h5 shared_mask_register 0xffc00000 in
+    let h7 = writes h6 shared_mask_register 0xffc00003 in
+    let h8 = writes h7 device_register 0x30000000 in
+    let h9 = writes h8 heap_mask_register 0xffff0000 in
+    let h10 = writes h9 heap_mask_register 0xffff0003 in
+    let h11 = writes h10 rank_register number in
+    let h12 = writes h11 size_register t.harts in
     record {
       cycles = 12;
       few = omega arith;
@@ -153,9 +154,9 @@ same_word m i v = rw (eq-eqb i i refl)
 lower_word : (m : Memory) (i v j : ℕ) → (j == i) ≡ false → put m i v j ≡ m j
 lower_word m i v j e = rw e
 
-values_kept : (m m' : Memory) (behind : ℕ) (vs : List ℕ) → 0 < behind → ((j : ℕ) → j < behind → m' j ≡ m j) → HasValues m behind vs → HasValues m' behind vs
-values_kept m m' behind [] pos same held = tt
-values_kept m m' behind (v ∷ vs) pos same held = (same (behind - suc (length vs)) (omega arith) ∙ held.0, values_kept m m' behind vs pos same held.1)
+values_kept : (m m' : Memory) (n : ℕ) (vs : List ℕ) → ((j : ℕ) → j < frame_end n → m' j ≡ m j) → HasValues (value_of m n) vs → HasValues (value_of m' n) vs
+values_kept m m' n [] same held = tt
+values_kept m m' n (v ∷ vs) same held = (same (frame_end n - suc (length vs)) (omega arith) ∙ held.0, values_kept m m' n vs same held.1)
 
 waiting_kept : (m m' : Memory) (backs : List ℕ) (calls : List Call) → ((j : ℕ) → j < 64 * length calls + 3 → m' j ≡ m j) → HasWaiting places m backs calls → HasWaiting places m' backs calls
 waiting_kept m m' [] [] same held = tt
@@ -171,7 +172,7 @@ waiting_kept m m' (i ∷ backs) (c ∷ calls) same held = (
   },
   record {
     home = held.1.home;
-    values = values_kept m m' (64 * suc (length calls)) c.values (omega arith) (λ j lt. same j (omega arith)) held.1.values;
+    values = values_kept m m' (length calls) c.values (λ j lt. same j (omega arith)) held.1.values;
     privates = λ w e. never e;
     group = λ number told. absurd (cc);
   },
@@ -179,28 +180,28 @@ waiting_kept m m' (i ∷ backs) (c ∷ calls) same held = (
 )
 waiting_kept m m' backs calls same held = absurd (assumption held)
 
-values_before : (m : Memory) (behind : ℕ) (vs : List ℕ) → HasValues m behind vs → HasValues m behind (before 1 vs)
-values_before m behind [] held = tt
-values_before m behind (v ∷ vs) held = held.1
+values_before : (at : ℕ → ℕ) (vs : List ℕ) → HasValues at vs → HasValues at (before 1 vs)
+values_before at [] held = tt
+values_before at (v ∷ vs) held = held.1
 
-values_pushed : (m : Memory) (behind v : ℕ) (vs : List ℕ) → length vs ≡ 0 → m (behind - 1) ≡ v → HasValues m behind (v ∷ vs)
-values_pushed m behind v [] e f = (f, tt)
-values_pushed m behind v (w ∷ vs) e f = absurd (omega arith)
+values_pushed : (at : ℕ → ℕ) (v : ℕ) (vs : List ℕ) → length vs ≡ 0 → at 1 ≡ v → HasValues at (v ∷ vs)
+values_pushed at v [] e f = (f, tt)
+values_pushed at v (w ∷ vs) e f = absurd (omega arith)
 
 push_does : (image : Image) → HasCode image → OpAt core 0 pushes (Push 5) → BlockDoes core image places 0 pushes (Push 5)
 push_does image code at setting t p h en =
     let number = number_of p in
     let n = length p.runner.has.callers in
     let stands = en.at.stands in
-    let h1 = writes h 6 (word_sum (h.registers 0) 5) in
+    let h1 = writes h 6 (word_sum (h.registers zero_register) 5) in
     let pc : h.pc ≡ 4 * 12 = en.at.at ∙ ap (λ j. 4 * places.block j) en.index in
     let pc1 : h1.pc ≡ 4 * 13 = omega (arith, pc) in
     let word = 64 * suc n - 1 in
     let lt = en.ready.in_range.waiting in
-    let address : place_of (word_sum (h1.registers 9) 0xfffffffc) ≡ LocalWord word = last_word n lt (h.registers 9) stands.behind in
-    let aligned : word_sum (h1.registers 9) 0xfffffffc % 4 ≡ 0 = omega (arith, stands.behind) in
-    let five : word_sum (h.registers 0) 5 ≡ 5 = ap (λ w. word_sum w 5) stands.nought in
-    let m' = put h.local word (word_sum (h.registers 0) 5) in
+    let address : place_of (word_sum (h1.registers end_register) 0xfffffffc) ≡ LocalWord word = last_word n lt (h.registers end_register) stands.behind in
+    let aligned : word_sum (h1.registers end_register) 0xfffffffc % 4 ≡ 0 = omega (arith, stands.behind) in
+    let five : word_sum (h.registers zero_register) 5 ≡ 5 = ap (λ w. word_sum w 5) stands.nought in
+    let m' = put h.local word (word_sum (h.registers zero_register) 5) in
     let h2 : Hart = record (moves h1) { local = m' } in
     record {
       before = 1;
@@ -246,7 +247,7 @@ push_does image code at setting t p h en =
                     shared_mask = stands.shared_mask;
                     devices = stands.devices;
                     heap_mask = stands.heap_mask;
-                    running = record { home = stands.running.home; values = values_pushed m' (64 * suc n) 5 (values p.runner.has) en.ready.depth (same_word h.local word _ ∙ five); privates = λ w e. never e; group = λ number told. absurd (cc) };
+                    running = record { home = stands.running.home; values = values_pushed (value_of m' n) 5 (values p.runner.has) en.ready.depth (same_word h.local word _ ∙ five); privates = λ w e. never e; group = λ number told. absurd (cc) };
                     waiting = waiting_kept h.local m' p.runner.left.callers p.runner.has.callers (λ j l. lower_word h.local word _ j (ne_eqb j word (λ e. omega arith))) stands.waiting;
                     own = λ j l. absurd (omega arith);
                     heap = λ j l. lower_word h.local word _ (16384 + j) (ne_eqb (16384 + j) word (λ e. omega arith)) ∙ stands.heap j l;
@@ -305,7 +306,7 @@ drop_does image code at setting t p h en =
                     shared_mask = stands.shared_mask;
                     devices = stands.devices;
                     heap_mask = stands.heap_mask;
-                    running = record { home = stands.running.home; values = values_before h.local _ (values p.runner.has) stands.running.values; privates = λ w e. never e; group = λ number told. absurd (cc) };
+                    running = record { home = stands.running.home; values = values_before (value_in h (length p.runner.has.callers)) (values p.runner.has) stands.running.values; privates = λ w e. never e; group = λ number told. absurd (cc) };
                     waiting = stands.waiting;
                     own = stands.own;
                     heap = stands.heap;

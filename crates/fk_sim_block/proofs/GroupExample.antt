@@ -1,8 +1,8 @@
 -- The law of blocks of groups, made once: a list that drops a value and halts, in the root, in seventeen words. Steps of groups
 -- are none of it.
-use Rattle.std.proofs.Common.{◌≡◌, ℕ, zero, suc, ◌*◌, ◌%◌, List, [], ◌∷◌, Bool, Some, None, true, false, sym, ap, subst, ◌∙◌, arith, refl, inl, eq-eqb}
+use Rattle.std.proofs.Common.{length, ◌≡◌, ℕ, zero, suc, ◌*◌, ◌%◌, List, [], ◌∷◌, Bool, Some, None, true, false, sym, ap, subst, ◌∙◌, arith, refl, inl, eq-eqb}
 use Rattle.std.specs.Prelude.{◌==◌, if◌then◌else◌, slice_get}
-use Rattle.fk_num.specs.Word.{Memory, word_sum}
+use Rattle.fk_num.specs.Word.{word_sum}
 use Rattle.fk_meaning_operation.specs.declared.operation.Operation.{Operation}
 use Rattle.fk_meaning_operation.specs.declared.operation.Operation.TheVariants.{DropLast, Begin, Halt, End}
 use Rattle.fk_meaning.specs.Processor.{Setting, values, drop_last, before}
@@ -24,14 +24,15 @@ use Rattle.fk_machine.proofs.Places.{place_of-halt}
 use Rattle.fk_sim_nodes.specs.Alone.{Holds, IsAt, GoesAlone, IsPrivateIn}
 use Rattle.fk_sim_nodes.proofs.InPlace.{step_at}
 use Rattle.fk_sim_block.specs.Owner.{number_of}
-use Rattle.fk_sim_block.specs.Stands.{Places, HasValues}
+use Rattle.fk_sim_block.specs.Stands.{Places, HasValues, value_in}
+use Rattle.fk_sim_block.specs.Stands.{zero_register, frame_register, end_register, rank_register, size_register, local_register, shared_register, heap_register, shared_mask_register, device_register, heap_mask_register}
 use Rattle.fk_sim_block.specs.Next.{OpAt, step_at as step_of}
 use Rattle.fk_sim_block.specs.Ready.{is_alone}
 use Rattle.fk_sim_block.specs.Block.{IsRunning, BlockHalts, beginner}
 use Rattle.fk_sim_block.proofs.Spaces.{space_kept}
 use Rattle.fk_sim_block.proofs.Standing.{operations_are_next}
 use Rattle.fk_sim_block.proofs.Example.{drops, halts}
-use Rattle.fk_sim_block.specs.Node.{Nestings}
+use Rattle.fk_sim_block.specs.Node.{Nestings, node_register, body_register}
 use Rattle.fk_sim_block.specs.Joint.{is_meeting}
 use Rattle.fk_sim_block.specs.Law.{Cycles, GroupLaw, BeginsInNode, BlockDoesInNode, sets_apart, stays_in_step}
 
@@ -60,23 +61,23 @@ never : {A : Type 0} → false ≡ true → A
 never e = absurd (cc)
 
 pub record HasCode (image : Image) : Type 0 where
-  pub at0 : IsAt image 0 (Lui 8 0x20000) 0
-  pub at1 : IsAt image 1 (Addi 9 8 256) 0
-  pub at2 : IsAt image 2 (Lui 22 0x20000) 0
-  pub at3 : IsAt image 3 (Lui 23 0x10000) 0
-  pub at4 : IsAt image 4 (Lui 24 0x20010) 0
-  pub at5 : IsAt image 5 (Lui 25 0xffc00) 0
-  pub at6 : IsAt image 6 (Addi 25 25 3) 0
-  pub at7 : IsAt image 7 (Lui 26 0x30000) 0
-  pub at8 : IsAt image 8 (Lui 27 0xffff0) 0
-  pub at9 : IsAt image 9 (Addi 27 27 3) 0
-  pub at10 : IsAt image 10 (Lw 19 26 20) 0
-  pub at11 : IsAt image 11 (Lw 20 26 24) 0
-  pub at12 : IsAt image 12 (Lui 10 0x18400) 0
-  pub at13 : IsAt image 13 (Addi 11 20 0) 0
-  pub at14 : IsAt image 14 (Addi 0 0 0) 1
+  pub at0 : IsAt image 0 (Lui frame_register 0x20000) 0
+  pub at1 : IsAt image 1 (Addi end_register frame_register 256) 0
+  pub at2 : IsAt image 2 (Lui local_register 0x20000) 0
+  pub at3 : IsAt image 3 (Lui shared_register 0x10000) 0
+  pub at4 : IsAt image 4 (Lui heap_register 0x20010) 0
+  pub at5 : IsAt image 5 (Lui shared_mask_register 0xffc00) 0
+  pub at6 : IsAt image 6 (Addi shared_mask_register shared_mask_register 3) 0
+  pub at7 : IsAt image 7 (Lui device_register 0x30000) 0
+  pub at8 : IsAt image 8 (Lui heap_mask_register 0xffff0) 0
+  pub at9 : IsAt image 9 (Addi heap_mask_register heap_mask_register 3) 0
+  pub at10 : IsAt image 10 (Lw rank_register device_register 20) 0
+  pub at11 : IsAt image 11 (Lw size_register device_register 24) 0
+  pub at12 : IsAt image 12 (Lui node_register 0x18400) 0
+  pub at13 : IsAt image 13 (Addi body_register size_register 0) 0
+  pub at14 : IsAt image 14 (Addi zero_register zero_register 0) 1
   pub at15 : IsAt image 15 (Lui 5 0x30000) 0
-  pub at16 : IsAt image 16 (Sw 5 0 12) 1
+  pub at16 : IsAt image 16 (Sw 5 zero_register 12) 1
 
 private : (image : Image) (t : MachineSetting) (number k : ℕ) (i : Instruction) (h h' : Hart) → Holds image t → IsAt image k i 0 → h.pc ≡ 4 * k
     → h.ended ≡ false → ((s : Shared) → GoesAlone (perform t number i h s) h' s) → IsPrivateIn image t number h h'
@@ -108,20 +109,20 @@ begins image code setting t number running =
     let e = running.processors in
     let few = running.few in
     let h0 = first_hart in
-    let h1 = writes h0 8 0x20000000 in
-    let h2 = writes h1 9 0x20000100 in
-    let h3 = writes h2 22 0x20000000 in
-    let h4 = writes h3 23 0x10000000 in
-    let h5 = writes h4 24 0x20010000 in
-    let h6 = writes h5 25 0xffc00000 in
-    let h7 = writes h6 25 0xffc00003 in
-    let h8 = writes h7 26 0x30000000 in
-    let h9 = writes h8 27 0xffff0000 in
-    let h10 = writes h9 27 0xffff0003 in
-    let h11 = writes h10 19 number in
-    let h12 = writes h11 20 t.harts in
-    let h13 = writes h12 10 0x18400000 in
-    let h14 = writes h13 11 (word_sum (h13.registers 20) 0) in
+    let h1 = writes h0 frame_register 0x20000000 in
+    let h2 = writes h1 end_register 0x20000100 in
+    let h3 = writes h2 local_register 0x20000000 in
+    let h4 = writes h3 shared_register 0x10000000 in
+    let h5 = writes h4 heap_register 0x20010000 in
+    let h6 = writes h5 shared_mask_register 0xffc00000 in
+    let h7 = writes h6 shared_mask_register 0xffc00003 in
+    let h8 = writes h7 device_register 0x30000000 in
+    let h9 = writes h8 heap_mask_register 0xffff0000 in
+    let h10 = writes h9 heap_mask_register 0xffff0003 in
+    let h11 = writes h10 rank_register number in
+    let h12 = writes h11 size_register t.harts in
+    let h13 = writes h12 node_register 0x18400000 in
+    let h14 = writes h13 body_register (word_sum (h13.registers size_register) 0) in
     record {
       begins = record {
         cycles = 14;
@@ -157,9 +158,9 @@ begins image code setting t number running =
       node = record { node = refl; body = omega (arith, e, few); space = tt; outer = ((omega arith, tt, tt), tt) };
     }
 
-values_before : (m : Memory) (behind : ℕ) (vs : List ℕ) → HasValues m behind vs → HasValues m behind (before 1 vs)
-values_before m behind [] held = tt
-values_before m behind (v ∷ vs) held = held.1
+values_before : (at : ℕ → ℕ) (vs : List ℕ) → HasValues at vs → HasValues at (before 1 vs)
+values_before at [] held = tt
+values_before at (v ∷ vs) held = held.1
 
 drop_does : (image : Image) → HasCode image → OpAt core 0 drops DropLast → BlockDoesInNode core image places nestings cycles 0 drops DropLast
 drop_does image code at setting t runs first m p en member =
@@ -202,7 +203,7 @@ drop_does image code at setting t runs first m p en member =
                     shared_mask = stands.shared_mask;
                     devices = stands.devices;
                     heap_mask = stands.heap_mask;
-                    running = record { home = stands.running.home; values = values_before h.local _ (values p.runner.has) stands.running.values; privates = λ w e. never e; group = λ number told. absurd (cc) };
+                    running = record { home = stands.running.home; values = values_before (value_in h (length p.runner.has.callers)) (values p.runner.has) stands.running.values; privates = λ w e. never e; group = λ number told. absurd (cc) };
                     waiting = stands.waiting;
                     own = stands.own;
                     heap = stands.heap;

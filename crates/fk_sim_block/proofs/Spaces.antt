@@ -2,9 +2,9 @@
 use Rattle.std.proofs.Common.{◌≡◌, List, [], ◌∷◌, ◌∙◌}
 use Rattle.fk_meaning.specs.Processor.{Level}
 use Rattle.fk_machine.specs.Hart.{Hart}
-use Rattle.fk_sim_block.specs.Node.{KnowsSpace, frames_register, blocks_register}
+use Rattle.fk_sim_block.specs.Node.{KnowsSpace, space_frames, space_blocks}
 
-pub space_kept : (level : Level) (outer : List Level) (h h' : Hart) → h'.registers frames_register ≡ h.registers frames_register
-    → h'.registers blocks_register ≡ h.registers blocks_register → KnowsSpace level outer h → KnowsSpace level outer h'
+pub space_kept : (level : Level) (outer : List Level) (h h' : Hart) → space_frames h' ≡ space_frames h
+    → space_blocks h' ≡ space_blocks h → KnowsSpace level outer h → KnowsSpace level outer h'
 space_kept level [] h h' frames blocks known = tt
 space_kept level (o ∷ outer) h h' frames blocks known = (frames ∙ known.0, blocks ∙ known.1)

@@ -123,12 +123,20 @@ IsOutermost processors number [] = Unit {0}
 IsOutermost processors number (l ∷ []) = IsRoot processors number l
 IsOutermost processors number (l ∷ m ∷ levels) = ⊥
 
+-- The space of a group as a hart has it: the addresses of the first control word after the frames,
+-- and of that of the first block.
+abbrev pub space_frames : Hart → ℕ
+space_frames h = h.registers frames_register
+
+abbrev pub space_blocks : Hart → ℕ
+space_blocks h = h.registers blocks_register
+
 -- A hart knows the space of its group. In the root there is no group.
 abbrev pub KnowsSpace : Level → (outer : List Level) → Hart → Type 0
 KnowsSpace level [] h = Unit {0}
 KnowsSpace level (o ∷ outer) h =
-    (h.registers frames_register ≡ control_address level.space.frames)
-    × (h.registers blocks_register ≡ control_address level.space.blocks)
+    (space_frames h ≡ control_address level.space.frames)
+    × (space_blocks h ≡ control_address level.space.blocks)
 
 module _ (places : Places) (nestings : Nestings) where
   -- The first word of the levels of a frame, where `waiting` other calls wait.

@@ -45,6 +45,10 @@ pub record Places : Type 0 where
 abbrev pub local_address : (word : ℕ) → ℕ
 local_address word = 0x20000000 + 4 * word
 
+-- The register that stays 0.
+abbrev pub zero_register : ℕ
+zero_register = 0
+
 -- The registers of a hart: the address of the running call's frame, and of the word after that
 -- frame; `@`, `$` and the size of the group; how many words of the private heap are taken; and six
 -- that never change: the addresses of the local memory, of shared data, of the private heap and of
@@ -92,15 +96,24 @@ heap_mask_register = 27
 abbrev pub full_word : ℕ
 full_word = 2
 
--- Values lie below the word `behind`, the last value lowest.
-abbrev pub HasValues : Memory → (behind : ℕ) → List ℕ → Type 0
-HasValues memory behind [] = Unit {0}
-HasValues memory behind (v ∷ vs) = (memory (behind - suc (length vs)) ≡ v)
-    × HasValues memory behind vs
+-- The values of a call are at their places. The first value has place 1, and the last one the
+-- highest.
+abbrev pub HasValues : (at : (place : ℕ) → ℕ) → List ℕ → Type 0
+HasValues at [] = Unit {0}
+HasValues at (v ∷ vs) = (at (suc (length vs)) ≡ v) × HasValues at vs
 
 -- The word after the frame of a call for which `waiting` other calls wait.
 abbrev pub frame_end : (waiting : ℕ) → ℕ
 frame_end waiting = 64 * suc waiting
+
+-- The value at a place of a call, in memory: values lie below the end of the frame, the last one
+-- lowest.
+abbrev pub value_of : Memory → (waiting place : ℕ) → ℕ
+value_of memory waiting place = memory (frame_end waiting - place)
+
+-- The value at a place of the running call, in a hart.
+abbrev pub value_in : Hart → (waiting place : ℕ) → ℕ
+value_in h waiting = value_of h.local waiting
 
 -- How many words lie between the header and the private words of a frame: in that of `main` the
 -- private variables of file scope, in others none.
@@ -131,12 +144,20 @@ module _ (places : Places) where
   frame_start zero = places.frames.of_file
   frame_start (suc n) = 64 * suc n
 
-  -- The frame of a call that goes on at an index, and for which `waiting` other calls wait.
-  pub record HasFrame (memory : Memory) (waiting at : ℕ) (call : Call) : Type 0 where
+  -- A private word of a call in memory, and one of the running call in a hart.
+  abbrev pub private_of : Memory → (waiting word : ℕ) → ℕ
+  private_of memory waiting word = memory (frame_start waiting + 7 + word)
+
+  abbrev pub private_in : Hart → (waiting word : ℕ) → ℕ
+  private_in h waiting = private_of h.local waiting
+
+  -- The frame of a call that goes on at an index, and for which `waiting` other calls wait. Its
+  -- values and private words are where these functions find them, and all else is in memory.
+  pub record HasFrame (value private : ℕ → ℕ) (memory : Memory) (waiting at : ℕ)
+      (call : Call) : Type 0 where
     pub home : places.frames.is_main at ≡ (waiting == 0)
-    pub values : HasValues memory (frame_end waiting) call.values
-    pub privates : (i : ℕ) → places.frames.keeps at i ≡ true
-        → memory (frame_start waiting + 7 + i) ≡ call.privates i
+    pub values : HasValues value call.values
+    pub privates : (i : ℕ) → places.frames.keeps at i ≡ true → private i ≡ call.privates i
     pub group : (number : ℕ) → places.frames.group at ≡ Some number
         → HasGroupFrame memory waiting (call.frames number)
 
@@ -154,19 +175,29 @@ module _ (places : Places) where
         ≡ local_address (frame_end waiting - suc (length call.values))
     pub room : HasRoom places.frames back (suc (length call.values))
 
+  -- The frame of a call that waits is in memory.
+  abbrev pub FrameInMemory : Memory → (waiting at : ℕ) → Call → Type 0
+  FrameInMemory memory waiting at call =
+      HasFrame (value_of memory waiting) (private_of memory waiting) memory waiting at call
+
+  -- The frame of the running call is in a hart.
+  abbrev pub FrameInHart : Hart → (waiting at : ℕ) → Call → Type 0
+  FrameInHart h waiting at call =
+      HasFrame (value_in h waiting) (private_in h waiting) h.local waiting at call
+
   -- The frames and headers of the waiting calls, the last call first, each with the index where it
   -- goes on.
   abbrev pub HasWaiting : Memory → (backs : List ℕ) → List Call → Type 0
   HasWaiting memory [] [] = Unit {0}
   HasWaiting memory (i ∷ backs) (c ∷ calls) =
-      Returns memory (length calls) i c × HasFrame memory (length calls) i c
+      Returns memory (length calls) i c × FrameInMemory memory (length calls) i c
       × HasWaiting memory backs calls
   HasWaiting memory backs calls = ⊥
 
   -- A hart stands for a processor. This says nothing of the pc and of other registers, nor of what
   -- only steps of the tree give a processor: the space of its group, and the groups around it.
   pub record StandsFor (p : Owner) (h : Hart) : Type 0 where
-    pub nought : h.registers 0 ≡ 0
+    pub nought : h.registers zero_register ≡ 0
     pub frame : h.registers frame_register
         ≡ local_address (frame_start (length p.runner.has.callers))
     pub behind : h.registers end_register ≡ local_address (frame_end (length p.runner.has.callers))
@@ -180,7 +211,7 @@ module _ (places : Places) where
     pub shared_mask : h.registers shared_mask_register ≡ 0xffc00003
     pub devices : h.registers device_register ≡ 0x30000000
     pub heap_mask : h.registers heap_mask_register ≡ 0xffff0003
-    pub running : HasFrame h.local (length p.runner.has.callers) p.runner.left.at p.runner.has.call
+    pub running : FrameInHart h (length p.runner.has.callers) p.runner.left.at p.runner.has.call
     pub waiting : HasWaiting h.local p.runner.left.callers p.runner.has.callers
     pub own : (i : ℕ) → i < places.frames.of_file → h.local (7 + i) ≡ p.runner.has.own i
     pub heap : (i : ℕ) → i < 16384 → h.local (16384 + i) ≡ p.heap.words i
