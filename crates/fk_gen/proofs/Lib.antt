@@ -10,6 +10,8 @@ pub mod Values
 pub mod Jumps
 -- what a processor has in memory
 pub mod Standing
+-- values that blocks take and give
+pub mod ValueLines
 -- the difference of two words
 pub mod Difference
 -- sizes in bytes, and masks of ones

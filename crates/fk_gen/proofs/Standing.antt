@@ -13,7 +13,8 @@ use Rattle.fk_core.specs.declared.op.CoreOp.{CoreOp}
 use Rattle.fk_core.specs.Next.{position}
 use Rattle.fk_machine.specs.Hart.{Hart}
 use Rattle.fk_sim_block.specs.Owner.{Owner}
-use Rattle.fk_sim_block.specs.Stands.{Places, HasValues, HasRoom, HasFrame, HasGroupFrame, HasWaiting, StandsFor, ahead, frame_end, frame_start, group_word, full_word}
+use Rattle.fk_sim_block.specs.Stands.{Places, HasValues, HasRoom, FrameInMemory, HasGroupFrame, HasWaiting, StandsFor, ahead, frame_end, frame_start, group_word, full_word, value_of}
+use Rattle.fk_sim_block.specs.Stands.{zero_register, frame_register, end_register, number_register, rank_register, size_register, top_register, local_register, shared_register, heap_register, shared_mask_register, device_register, heap_mask_register}
 use Rattle.fk_sim_block.specs.Suits.{Flows, TakesFrame, nothing}
 use Rattle.fk_gen.proofs.Values.{same_word, other_word, values_kept}
 
@@ -62,14 +63,14 @@ frame_stays m m' waiting first same has = record { within = has.within; address 
 
 pub frame_kept : (places : Places) (m m' : Memory) (waiting at count : ℕ) (call : Call) → places.frames.of_file ≤ 56 → HasRoom places.frames at count
     → length call.values ≤ count → m' 3 ≡ m 3 → ((j : ℕ) → places.frames.of_file + 7 ≤ j → j < frame_end waiting → m' j ≡ m j)
-    → HasFrame places m waiting at call → HasFrame places m' waiting at call
+    → FrameInMemory places m waiting at call → FrameInMemory places m' waiting at call
 frame_kept places m m' waiting at count call few room within low same f =
     let l = lies_in places waiting at count few f.home room in
     let start = l.start in
     let vs = l.values in
     record {
       home = f.home;
-      values = values_kept m m' (frame_end waiting) call.values (omega arith) (λ j le lt. same j (omega arith) lt) f.values;
+      values = values_kept m m' waiting call.values (λ j le lt. same j (omega arith) lt) f.values;
       privates = λ i e. let k = l.kept i e in same (frame_start places waiting + 7 + i) (omega arith) (omega arith) ∙ f.privates i e;
       group = λ number told.
           frame_stays m m' waiting (call.frames number) (group_kept places m m' waiting few low (λ j le lt. same j le (omega arith))) (f.group number told);
@@ -117,7 +118,7 @@ word_here m base x v words y old = word_by m base x v words y (y == x) refl (λ 
 -- ---- a processor in memory
 
 pub record InMemory (places : Places) (memory : Memory) (p : Owner) : Type 0 where
-  pub running : HasFrame places memory (length p.runner.has.callers) p.runner.left.at p.runner.has.call
+  pub running : FrameInMemory places memory (length p.runner.has.callers) p.runner.left.at p.runner.has.call
   pub waiting : HasWaiting places memory p.runner.left.callers p.runner.has.callers
   pub own : (i : ℕ) → i < places.frames.of_file → memory (7 + i) ≡ p.runner.has.own i
   pub heap : (i : ℕ) → i < 16384 → memory (16384 + i) ≡ p.heap.words i
@@ -129,15 +130,15 @@ in_memory places p h s = record { running = s.running; waiting = s.waiting; own 
 -- the registers that blocks keep. `top` is told by itself
 abbrev pub SameRegisters : Hart → Hart → Type 0
 SameRegisters h h' =
-    (h'.registers 0 ≡ h.registers 0) × (h'.registers 8 ≡ h.registers 8) × (h'.registers 9 ≡ h.registers 9)
-    × (h'.registers 18 ≡ h.registers 18) × (h'.registers 19 ≡ h.registers 19) × (h'.registers 20 ≡ h.registers 20)
-    × (h'.registers 22 ≡ h.registers 22) × (h'.registers 23 ≡ h.registers 23) × (h'.registers 24 ≡ h.registers 24)
-    × (h'.registers 25 ≡ h.registers 25) × (h'.registers 26 ≡ h.registers 26) × (h'.registers 27 ≡ h.registers 27)
+    (h'.registers zero_register ≡ h.registers zero_register) × (h'.registers frame_register ≡ h.registers frame_register) × (h'.registers end_register ≡ h.registers end_register)
+    × (h'.registers number_register ≡ h.registers number_register) × (h'.registers rank_register ≡ h.registers rank_register) × (h'.registers size_register ≡ h.registers size_register)
+    × (h'.registers local_register ≡ h.registers local_register) × (h'.registers shared_register ≡ h.registers shared_register) × (h'.registers heap_register ≡ h.registers heap_register)
+    × (h'.registers shared_mask_register ≡ h.registers shared_mask_register) × (h'.registers device_register ≡ h.registers device_register) × (h'.registers heap_mask_register ≡ h.registers heap_mask_register)
 
 -- a hart that keeps them stands for a processor of the same level, with as many calls waiting, that it has in memory
 pub stands_with : (places : Places) (p p' : Owner) (h h' : Hart) → StandsFor places p h → SameRegisters h h'
     → p'.runner.has.level ≡ p.runner.has.level → length p'.runner.has.callers ≡ length p.runner.has.callers
-    → h'.registers 21 ≡ p'.runner.has.top → InMemory places h'.local p' → StandsFor places p' h'
+    → h'.registers top_register ≡ p'.runner.has.top → InMemory places h'.local p' → StandsFor places p' h'
 stands_with places p p' h h' s r level calls top m = record {
   nought = r.0 ∙ s.nought;
   frame = r.1 ∙ s.frame ∙ ap (λ n. 0x20000000 + 4 * frame_start places n) (sym calls);
@@ -200,11 +201,11 @@ module _ (core : List CoreOp) (places : Places) where
       → p.runner.left.at ≡ i → HasRoom places.frames i count → Flows core places.frames nothing i i' → InMemory places m p
       → ((j : ℕ) → j < frame_end (length p.runner.has.callers) - count → m' j ≡ m j)
       → ((j : ℕ) → frame_end (length p.runner.has.callers) ≤ j → m' j ≡ m j)
-      → HasValues m' (frame_end (length p.runner.has.callers)) vs
+      → HasValues (value_of m' (length p.runner.has.callers)) vs
       → InMemory places m' (with_list i' vs p)
   values_changed m m' p i i' count vs few waiting at room flows held below above values' =
       let n = length p.runner.has.callers in
-      let running = subst (λ a. HasFrame places m n a p.runner.has.call) at held.running in
+      let running = subst (λ a. FrameInMemory places m n a p.runner.has.call) at held.running in
       let l = lies_in places n i count few running.home room in
       let start = l.start in
       let low = l.values in
@@ -229,7 +230,7 @@ module _ (core : List CoreOp) (places : Places) where
   -- the k-th value is written, so that the frame has these values
   pub value_written : (m : Memory) (p : Owner) (i i' k v : ℕ) (vs : List ℕ) → places.frames.of_file ≤ 56 → length p.runner.has.callers < 256
       → p.runner.left.at ≡ i → HasRoom places.frames i k → 0 < k → Flows core places.frames nothing i i' → InMemory places m p
-      → HasValues (put m (frame_end (length p.runner.has.callers) - k) v) (frame_end (length p.runner.has.callers)) vs
+      → HasValues (value_of (put m (frame_end (length p.runner.has.callers) - k) v) (length p.runner.has.callers)) vs
       → InMemory places (put m (frame_end (length p.runner.has.callers) - k) v) (with_list i' vs p)
   value_written m p i i' k v vs few waiting at room some flows held values' =
       let n = length p.runner.has.callers in
@@ -242,7 +243,7 @@ module _ (core : List CoreOp) (places : Places) where
   -- nothing is written
   pub nothing_written : (m : Memory) (p : Owner) (i i' count : ℕ) (vs : List ℕ) → places.frames.of_file ≤ 56 → length p.runner.has.callers < 256
       → p.runner.left.at ≡ i → HasRoom places.frames i count → Flows core places.frames nothing i i' → InMemory places m p
-      → HasValues m (frame_end (length p.runner.has.callers)) vs → InMemory places m (with_list i' vs p)
+      → HasValues (value_of m (length p.runner.has.callers)) vs → InMemory places m (with_list i' vs p)
   nothing_written m p i i' count vs few waiting at room flows held values' =
       values_changed m m p i i' count vs few waiting at room flows held (λ j lt. refl) (λ j le. refl) values'
 
@@ -256,7 +257,7 @@ module _ (core : List CoreOp) (places : Places) where
       let n = length p.runner.has.callers in
       let w = frame_start places n + 7 + x in
       let m' = put m w v in
-      let running = subst (λ a. HasFrame places m n a p.runner.has.call) at held.running in
+      let running = subst (λ a. FrameInMemory places m n a p.runner.has.call) at held.running in
       let l = lies_in places n i count few running.home room in
       let start = l.start in
       let low = l.values in
@@ -265,7 +266,7 @@ module _ (core : List CoreOp) (places : Places) where
       record {
         running = record {
           home = flows.main ∙ running.home;
-          values = values_kept m m' (frame_end n) (values p.runner.has) (omega arith) (λ j le lt. other_word m w v j (λ e. omega arith)) running.values;
+          values = values_kept m m' n (values p.runner.has) (λ j le lt. other_word m w v j (λ e. omega arith)) running.values;
           privates = λ y e. word_here m (frame_start places n + 7) x v p.runner.has.call.privates y (λ other. running.privates y (flows.kept y e other));
           group = λ number told.
               frame_stays m m' n (p.runner.has.call.frames number) (other_word m w v (group_word n) (λ e. omega arith)) (running.group number (flows.group number told));
@@ -296,14 +297,14 @@ module _ (core : List CoreOp) (places : Places) where
   own_written m p i i' x v count few waiting at room within place flows held =
       let n = length p.runner.has.callers in
       let m' = put m (7 + x) v in
-      let running = subst (λ a. HasFrame places m n a p.runner.has.call) at held.running in
+      let running = subst (λ a. FrameInMemory places m n a p.runner.has.call) at held.running in
       let l = lies_in places n i count few running.home room in
       let start = l.start in
       let low = l.values in
       record {
         running = record {
           home = flows.main ∙ running.home;
-          values = values_kept m m' (frame_end n) (values p.runner.has) (omega arith) (λ j le lt. other_word m (7 + x) v j (λ e. omega arith)) running.values;
+          values = values_kept m m' n (values p.runner.has) (λ j le lt. other_word m (7 + x) v j (λ e. omega arith)) running.values;
           privates = λ y e. other_word m (7 + x) v (frame_start places n + 7 + y) (λ f. omega arith) ∙ running.privates y (flows.kept y e refl);
           group = λ number told.
               frame_stays m m' n (p.runner.has.call.frames number) (other_word m (7 + x) v (group_word n) (λ e. omega arith))
@@ -343,13 +344,13 @@ module _ (core : List CoreOp) (places : Places) where
       let w = group_word n in
       let v = address_of first in
       let m' = put m w v in
-      let running = subst (λ a. HasFrame places m n a p.runner.has.call) at held.running in
+      let running = subst (λ a. FrameInMemory places m n a p.runner.has.call) at held.running in
       let l = lies_in places n i count few running.home room in
       let short = l.few in
       record {
         running = record {
           home = takes.main ∙ running.home;
-          values = values_kept m m' (frame_end n) (values p.runner.has) (omega arith) (λ j le lt. other_word m w v j (λ e. omega arith)) running.values;
+          values = values_kept m m' n (values p.runner.has) (λ j le lt. other_word m w v j (λ e. omega arith)) running.values;
           privates = λ y e.
               let above = above_group n in
               other_word m w v (frame_start places n + 7 + y) (λ f. omega arith) ∙ running.privates y (takes.kept y e);

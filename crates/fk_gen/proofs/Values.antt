@@ -5,7 +5,7 @@ use Rattle.std.proofs.lemmas.Bool.{cases_lt, lt-ltb, le-ltb, ne_eqb, eqb-true}
 use Rattle.fk_num.specs.Word.{Memory, put, word, word_sum}
 use Rattle.fk_meaning.specs.Processor.{last, before}
 use Rattle.fk_meaning.specs.Local.{joined}
-use Rattle.fk_sim_block.specs.Stands.{Places, HasValues, local_address, frame_end, frame_start}
+use Rattle.fk_sim_block.specs.Stands.{Places, HasValues, local_address, frame_end, frame_start, value_of}
 use Rattle.fk_gen.specs.Lines.{at_value, at_private, high_part, low_part}
 
 -- ---- a word that is written
@@ -18,18 +18,23 @@ other_word m i v j e = let f = ne_eqb j i e in rw f
 
 -- ---- values
 
-pub values_kept : (m m' : Memory) (behind : ℕ) (vs : List ℕ) → 0 < behind → ((j : ℕ) → behind - length vs ≤ j → j < behind → m' j ≡ m j)
-    → HasValues m behind vs → HasValues m' behind vs
-values_kept m m' behind [] some same held = tt
-values_kept m m' behind (v ∷ vs) some same held = (
-  same (behind - suc (length vs)) (omega arith) (omega arith) ∙ held.0,
-  values_kept m m' behind vs some (λ j le lt. same j (omega arith) lt) held.1,
+pub values_same : (at at' : ℕ → ℕ) (vs : List ℕ) → ((k : ℕ) → 1 ≤ k → k ≤ length vs → at' k ≡ at k) → HasValues at vs → HasValues at' vs
+values_same at at' [] same held = tt
+values_same at at' (v ∷ vs) same held = (
+  same (suc (length vs)) (omega arith) (omega arith) ∙ held.0,
+  values_same at at' vs (λ k some le. same k some (omega arith)) held.1,
 )
 
-pub values_before : (k : ℕ) (m : Memory) (behind : ℕ) (vs : List ℕ) → HasValues m behind vs → HasValues m behind (before k vs)
-values_before zero m behind vs held = held
-values_before (suc k) m behind [] held = tt
-values_before (suc k) m behind (v ∷ vs) held = values_before k m behind vs held.1
+-- in memory
+pub values_kept : (m m' : Memory) (n : ℕ) (vs : List ℕ) → ((j : ℕ) → frame_end n - length vs ≤ j → j < frame_end n → m' j ≡ m j)
+    → HasValues (value_of m n) vs → HasValues (value_of m' n) vs
+values_kept m m' n vs same held =
+    values_same (value_of m n) (value_of m' n) vs (λ k some le. same (frame_end n - k) (omega arith) (omega arith)) held
+
+pub values_before : (k : ℕ) (at : ℕ → ℕ) (vs : List ℕ) → HasValues at vs → HasValues at (before k vs)
+values_before zero at vs held = held
+values_before (suc k) at [] held = tt
+values_before (suc k) at (v ∷ vs) held = values_before k at vs held.1
 
 pub length_before : (k : ℕ) (vs : List ℕ) → length (before k vs) ≡ length vs - k
 length_before zero vs = omega arith
@@ -37,29 +42,29 @@ length_before (suc k) [] = omega arith
 length_before (suc k) (v ∷ vs) = let e = length_before k vs in omega arith
 
 -- the value before which so many others come
-pub value_at : (k : ℕ) (m : Memory) (behind : ℕ) (vs : List ℕ) → k < length vs → HasValues m behind vs → m (behind - (length vs - k)) ≡ last (before k vs)
-value_at k m behind [] lt held = absurd (omega arith)
-value_at zero m behind (v ∷ vs) lt held = let e : behind - (suc (length vs) - 0) ≡ behind - suc (length vs) = omega arith in ap m e ∙ held.0
-value_at (suc k) m behind (v ∷ vs) lt held =
+pub value_at : (k : ℕ) (at : ℕ → ℕ) (vs : List ℕ) → k < length vs → HasValues at vs → at (length vs - k) ≡ last (before k vs)
+value_at k at [] lt held = absurd (omega arith)
+value_at zero at (v ∷ vs) lt held = let e : suc (length vs) - 0 ≡ suc (length vs) = omega arith in ap at e ∙ held.0
+value_at (suc k) at (v ∷ vs) lt held =
     let e : suc (length vs) - suc k ≡ length vs - k = omega arith in
-    ap (λ n. m (behind - n)) e ∙ value_at k m behind vs (omega arith) held.1
+    ap at e ∙ value_at k at vs (omega arith) held.1
 
-pub values_pushed : (m : Memory) (behind v : ℕ) (vs : List ℕ) → length vs < behind → HasValues m behind vs
-    → HasValues (put m (behind - suc (length vs)) v) behind (v ∷ vs)
-values_pushed m behind v vs lt held = (
-  same_word m (behind - suc (length vs)) v,
-  values_kept m (put m (behind - suc (length vs)) v) behind vs (omega arith)
-      (λ j le below. other_word m (behind - suc (length vs)) v j (λ e. omega arith)) held,
+pub values_pushed : (m : Memory) (n v : ℕ) (vs : List ℕ) → length vs < frame_end n → HasValues (value_of m n) vs
+    → HasValues (value_of (put m (frame_end n - suc (length vs)) v) n) (v ∷ vs)
+values_pushed m n v vs lt held = (
+  same_word m (frame_end n - suc (length vs)) v,
+  values_kept m (put m (frame_end n - suc (length vs)) v) n vs
+      (λ j le below. other_word m (frame_end n - suc (length vs)) v j (λ e. omega arith)) held,
 )
 
 -- one that stands for the last k values is written to the w-th place
-pub values_put : (k w : ℕ) (m : Memory) (behind v : ℕ) (vs : List ℕ) → k ≤ length vs → w ≡ suc (length vs) - k → w ≤ behind → HasValues m behind vs
-    → HasValues (put m (behind - w) v) behind (v ∷ before k vs)
-values_put k w m behind v vs le e within held =
-    let n = length_before k vs in
+pub values_put : (k w : ℕ) (m : Memory) (n v : ℕ) (vs : List ℕ) → k ≤ length vs → w ≡ suc (length vs) - k → w ≤ frame_end n → HasValues (value_of m n) vs
+    → HasValues (value_of (put m (frame_end n - w) v) n) (v ∷ before k vs)
+values_put k w m n v vs le e within held =
+    let c = length_before k vs in
     let same : suc (length (before k vs)) ≡ w = omega arith in
-    subst (λ a. HasValues (put m (behind - a) v) behind (v ∷ before k vs)) same
-    (values_pushed m behind v (before k vs) (omega arith) (values_before k m behind vs held))
+    subst (λ a. HasValues (value_of (put m (frame_end n - a) v) n) (v ∷ before k vs)) same
+    (values_pushed m n v (before k vs) (omega arith) (values_before k (value_of m n) vs held))
 
 pub joined_is : (f : ℕ → ℕ → ℕ) (vs : List ℕ) → 2 ≤ length vs → joined f vs ≡ f (last (before 1 vs)) (last vs) ∷ before 2 vs
 joined_is f [] le = absurd (omega arith)

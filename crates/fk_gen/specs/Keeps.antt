@@ -12,9 +12,9 @@ use Rattle.fk_sim_nodes.specs.OneHart.{OneDoes}
 use Rattle.fk_asm.specs.Block.{MarkedLine}
 use Rattle.fk_sim_block.specs.Owner.{Owner, core_source}
 use Rattle.fk_sim_block.specs.Stands.{Places, frame_start, frame_end, full_word}
+use Rattle.fk_sim_block.specs.Node.{node_register, body_register, space_frames, space_blocks}
 use Rattle.fk_sim_block.specs.Suits.{writes}
 use Rattle.fk_sim_block.specs.Block.{Enters, HasDone, member_of, most_before, most_behind}
-use Rattle.fk_gen.specs.Registers.{a0, a1, a2, a3}
 
 -- The number of lines of a block after its first one.
 abbrev pub past_first : List MarkedLine → ℕ
@@ -33,10 +33,10 @@ peak operation depth = depth
 -- values of the running call
 pub record Keeps (places : Places) (waiting values : ℕ) (written : (word : ℕ) → Bool)
     (h h' : Hart) : Type 0 where
-  pub node : h'.registers a0 ≡ h.registers a0
-  pub body : h'.registers a1 ≡ h.registers a1
-  pub frames : h'.registers a2 ≡ h.registers a2
-  pub blocks : h'.registers a3 ≡ h.registers a3
+  pub node : h'.registers node_register ≡ h.registers node_register
+  pub body : h'.registers body_register ≡ h.registers body_register
+  pub frames : space_frames h' ≡ space_frames h
+  pub blocks : space_blocks h' ≡ space_blocks h
   pub header : (j : ℕ) → j < 7 → (j ≡ full_word → ⊥) → h'.local j ≡ h.local j
   pub words : (j : ℕ) → places.frames.of_file + 7 ≤ j → j < frame_end waiting - values
       → ((word : ℕ) → written word ≡ true → j ≡ frame_start places waiting + 7 + word → ⊥)

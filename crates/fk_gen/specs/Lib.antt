@@ -1,4 +1,5 @@
 pub mod Registers
 pub mod Lines
+pub mod Operands
 pub mod InPlace
 pub mod Keeps

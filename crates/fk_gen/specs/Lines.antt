@@ -9,7 +9,8 @@ use Rattle.fk_asm.specs.Jump.{IsJump}
 use Rattle.fk_asm.specs.Assembly.{straight, jump_to}
 use Rattle.fk_asm.specs.Block.{MarkedLine, plain, committing}
 use Rattle.fk_gen.specs.declared.block_line.BlockLine.{BlockLine}
-use Rattle.fk_gen.specs.Registers.{zero_register, t0}
+use Rattle.fk_sim_block.specs.Stands.{zero_register}
+use Rattle.fk_gen.specs.Registers.{t0}
 
 -- The line of an instruction that does no operation.
 abbrev pub quiet : Instruction → MarkedLine

@@ -1,10 +1,6 @@
 -- The registers of blocks, by their numbers.
 use Rattle.std.specs.Prelude.{ℕ}
 
--- The register that stays 0.
-abbrev pub zero_register : ℕ
-zero_register = 0
-
 -- The register whose value a call stores in its frame, to return by.
 abbrev pub ra : ℕ
 ra = 1
@@ -21,18 +17,3 @@ t2 = 7
 
 abbrev pub t3 : ℕ
 t3 = 28
-
--- The registers with what is known of the hart's node of the tree of groups.
-abbrev pub a0 : ℕ
-a0 = 10
-
-abbrev pub a1 : ℕ
-a1 = 11
-
--- the space of the hart's group: the addresses of the control words behind its frames, and at the
--- beginning of its blocks
-abbrev pub a2 : ℕ
-a2 = 12
-
-abbrev pub a3 : ℕ
-a3 = 13

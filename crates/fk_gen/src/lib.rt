@@ -4,8 +4,10 @@
 
 pub mod block_line;
 pub mod numbers;
+mod operands;
 mod placed;
 pub mod registers;
 
 pub use block_line::{BlockLine, emit_lines, emit_number, emit_sum};
+pub use operands::{operand, result};
 pub use placed::Placed;
