@@ -17,7 +17,7 @@ use Rattle.fk_machine.specs.Hart.{Hart, Goes, Setting as MachineSetting}
 use Rattle.fk_machine.proofs.Performs.{writes, moves, sw-shared, sw-local}
 use Rattle.fk_sim_nodes.specs.Source.{Part, Passes}
 use Rattle.fk_sim_block.specs.Owner.{Commons, Owner, Doing, number_of, idle, found, as_part}
-use Rattle.fk_sim_block.specs.Stands.{Places, HasRoom, StandsFor, frame_end, top_register}
+use Rattle.fk_sim_block.specs.Stands.{Places, HasRoom, StandsFor, top_register, end_register, value_in}
 use Rattle.fk_sim_block.specs.Next.{OpAt, step_at as step_of}
 use Rattle.fk_sim_block.specs.Suits.{Fits, Flows, nothing}
 use Rattle.fk_sim_block.specs.Block.{Enters}
@@ -28,12 +28,14 @@ use Rattle.fk_gen.specs.InPlace.{HasBlock}
 use Rattle.fk_gen.specs.Keeps.{Keeps, DoesAnd}
 use Rattle.fk_gen.proofs.Walk.{told_of}
 use Rattle.fk_gen.proofs.Values.{other_word, values_kept, values_before, length_before}
+use Rattle.fk_gen.specs.Registers.{t0, t1}
 use Rattle.fk_gen_access.proofs.Walk.{walk_straight, local_index}
 use Rattle.fk_gen_access.proofs.Does.{Commits, part_of, does}
 use Rattle.fk_gen_access.proofs.Kept.{SameRegisters, went, below_put, stands_on}
 use Rattle.fk_gen_access.proofs.Found.{value_put}
 use Rattle.fk_gen_access.proofs.Operands.{IsFound, last_found, earlier_found}
 use Rattle.fk_gen_access.proofs.Memory.{load, amo, after_amo, read_shared, write_shared, write_private, heap_put}
+use Rattle.fk_gen.proofs.ValueLines.{place_word}
 
 module _ (core : List CoreOp) (image : Image) (places : Places) (i : ℕ) (op : CoreOp) (setting : Setting) (t : MachineSetting) (p : Owner) (h : Hart) where
   pub read_does : (bound : ℕ → ℕ) → OpAt core i op Read → Enters core image places setting t i op Read p h → Fits core places.frames i op Read
@@ -45,7 +47,7 @@ module _ (core : List CoreOp) (image : Image) (places : Places) (i : ℕ) (op : 
       let n = length p.runner.has.callers in
       let vs = values p.runner.has in
       let some = last_found core image places i op Read setting t p h en fits (let l = fits.values in omega arith) in
-      let word = local_index (word_sum (h.registers 9) (at_value op.depth)) in
+      let word = local_index (word_sum (h.registers end_register) (at_value op.depth)) in
       let index = some.index in
       let depth = en.ready.depth in
       let shorter = length_before 1 vs in
@@ -55,7 +57,7 @@ module _ (core : List CoreOp) (image : Image) (places : Places) (i : ℕ) (op : 
       does core image places i op Read setting p b bound t h op_at en has (omega arith) (omega arith) (some.place, tt) (λ s.
       let v = read (found s p.heap) (number_of p) (last vs) in
       inl (record {
-        hart = writes committing 5 v;
+        hart = writes committing t0 v;
         store = s;
         owner = went places p (suc i) (v ∷ before 1 vs) p.heap.words p.runner.has.top;
         part = refl;
@@ -69,10 +71,10 @@ module _ (core : List CoreOp) (image : Image) (places : Places) (i : ℕ) (op : 
         live = en.at.live;
         can = λ told. (some.place, tt);
         at = refl;
-        stands = λ told. stands_on places p i (suc i) op.depth p.runner.has.top (v ∷ before 1 vs) p.heap.words h (walk_straight told b.behind (writes committing 5 v)) stands en.index fits.room some.some core (fits.goes_on true)
+        stands = λ told. stands_on places p i (suc i) op.depth p.runner.has.top (v ∷ before 1 vs) p.heap.words h (walk_straight told b.behind (writes committing t0 v)) stands en.index fits.room some.some core (fits.goes_on true)
             (record { nought = refl; frame = refl; behind = refl; number = refl; rank = refl; size = refl; local = refl; shared_data = refl; private_heap = refl; shared_mask = refl; devices = refl; heap_mask = refl; node = refl; body = refl; frames = refl; blocks = refl })
-            stands.top (below_put h.local (frame_end n - op.depth) word v (omega arith))
-            (value_put h.local (frame_end n) word v v (before 1 vs) (omega arith) (omega arith) refl (values_before 1 h.local (frame_end n) vs stands.running.values))
+            stands.top (below_put h.local (place_word n op.depth) word v (omega arith))
+            (value_put h.local n word v v (before 1 vs) (omega arith) (omega arith) refl (values_before 1 (value_in h n) vs stands.running.values))
             (λ k lt. other_word h.local word v (16384 + k) (λ e. omega arith) ∙ stands.heap k lt);
       }))
 
@@ -81,7 +83,7 @@ module _ (core : List CoreOp) (image : Image) (places : Places) (i : ℕ) (op : 
       → length (values p.runner.has) ≡ d → 1 < d → Flows core places.frames nothing i j → SameRegisters places h m → m.registers top_register ≡ top
       → ((k : ℕ) → k < 16384 → m.local k ≡ h.local k) → ((k : ℕ) → k < 16384 → m.local (16384 + k) ≡ heap k)
       → length p.runner.has.callers < 256 → v ≡ w
-      → (word : ℕ) → word ≡ frame_end (length p.runner.has.callers) - (d - 1)
+      → (word : ℕ) → word ≡ place_word (length p.runner.has.callers) (d - 1)
       → StandsFor places (went places p j (w ∷ before 1 (before 1 (values p.runner.has))) heap top) (record m { local = put m.local word v; pc = word_sum m.pc 4 })
       × Keeps places (length p.runner.has.callers) d nothing h (record m { local = put m.local word v; pc = word_sum m.pc 4 })
   replaced j d top v w heap m stands at room depth two flows same top' low high calls e word index =
@@ -90,12 +92,12 @@ module _ (core : List CoreOp) (image : Image) (places : Places) (i : ℕ) (op : 
       let shorter = length_before 1 vs in
       let shortest = length_before 1 (before 1 vs) in
       let header = room.header in
-      let held = values_before 1 h.local (frame_end n) (before 1 vs) (values_before 1 h.local (frame_end n) vs stands.running.values) in
-      let held' = values_kept h.local m.local (frame_end n) (before 1 (before 1 vs)) (omega arith) (λ k from lt. low k (omega arith)) held in
+      let held = values_before 1 (value_in h n) (before 1 vs) (values_before 1 (value_in h n) vs stands.running.values) in
+      let held' = values_kept h.local m.local n (before 1 (before 1 vs)) (λ k from lt. low k (omega arith)) held in
       stands_on places p i j d top (w ∷ before 1 (before 1 vs)) heap h (record m { local = put m.local word v; pc = word_sum m.pc 4 }) stands at room (omega arith) core flows
       (record { nought = same.nought; frame = same.frame; behind = same.behind; number = same.number; rank = same.rank; size = same.size; local = same.local; shared_data = same.shared_data; private_heap = same.private_heap; shared_mask = same.shared_mask; devices = same.devices; heap_mask = same.heap_mask; node = same.node; body = same.body; frames = same.frames; blocks = same.blocks })
       top' (record { same = λ k lt. other_word m.local word v k (λ e. omega arith) ∙ low k (omega arith) })
-      (value_put m.local (frame_end n) word v w (before 1 (before 1 vs)) (omega arith) (omega arith) e held')
+      (value_put m.local n word v w (before 1 (before 1 vs)) (omega arith) (omega arith) e held')
       (λ k lt. other_word m.local word v (16384 + k) (λ e. omega arith) ∙ high k lt)
 
   -- what a write is, by where its address lies
@@ -123,7 +125,7 @@ module _ (core : List CoreOp) (image : Image) (places : Places) (i : ℕ) (op : 
       let aligned = at.aligned in
       let below = at.below in
       let address = first.value in
-      let same : word_sum (committing.registers 5) 0 ≡ a = omega arith in
+      let same : word_sum (committing.registers t0) 0 ≡ a = omega arith in
       let x = shared_index a in
       record {
         hart = moves committing;
@@ -133,14 +135,14 @@ module _ (core : List CoreOp) (image : Image) (places : Places) (i : ℕ) (op : 
         goes = λ t' earlier sh shows. (
           _,
           sw-shared t' (number_of p) 5 6 0 x committing sh (omega arith) (ap place_of same ∙ shared_place a at),
-          record { words = ap (λ w. put w x (committing.registers 6)) shows.words ∙ ap (put s.words x) second.value; output = shows.output; common = shows.common },
+          record { words = ap (λ w. put w x (committing.registers t1)) shows.words ∙ ap (put s.words x) second.value; output = shows.output; common = shows.common },
           refl,
         );
         pc = refl;
         live = en.at.live;
         can = λ told. (first.place, tt);
         at = refl;
-        stands = λ told. replaced (suc i) op.depth p.runner.has.top (committing.registers 6) v p.heap.words (moves committing) stands en.index fits.room en.ready.depth (let l = first.some in omega arith)
+        stands = λ told. replaced (suc i) op.depth p.runner.has.top (committing.registers t1) v p.heap.words (moves committing) stands en.index fits.room en.ready.depth (let l = first.some in omega arith)
             (fits.goes_on true)
             (record { nought = refl; frame = refl; behind = refl; number = refl; rank = refl; size = refl; local = refl; shared_data = refl; private_heap = refl; shared_mask = refl; devices = refl; heap_mask = refl; node = refl; body = refl; frames = refl; blocks = refl })
             stands.top (λ k lt. refl) stands.heap first.calls second.value _ first.index;
@@ -155,9 +157,9 @@ module _ (core : List CoreOp) (image : Image) (places : Places) (i : ℕ) (op : 
       let aligned = at.aligned in
       let below = at.below in
       let address = first.value in
-      let same : word_sum (committing.registers 5) 0 ≡ a = omega arith in
+      let same : word_sum (committing.registers t0) 0 ≡ a = omega arith in
       let x = private_index a in
-      let m : Hart = record (moves committing) { local = put h.local (16384 + x) (committing.registers 6) } in
+      let m : Hart = record (moves committing) { local = put h.local (16384 + x) (committing.registers t1) } in
       record {
         hart = m;
         store = s;
@@ -173,11 +175,11 @@ module _ (core : List CoreOp) (image : Image) (places : Places) (i : ℕ) (op : 
         live = en.at.live;
         can = λ told. (first.place, tt);
         at = refl;
-        stands = λ told. replaced (suc i) op.depth p.runner.has.top (committing.registers 6) v (put p.heap.words x v) m stands en.index fits.room en.ready.depth (let l = first.some in omega arith)
+        stands = λ told. replaced (suc i) op.depth p.runner.has.top (committing.registers t1) v (put p.heap.words x v) m stands en.index fits.room en.ready.depth (let l = first.some in omega arith)
             (fits.goes_on true)
             (record { nought = refl; frame = refl; behind = refl; number = refl; rank = refl; size = refl; local = refl; shared_data = refl; private_heap = refl; shared_mask = refl; devices = refl; heap_mask = refl; node = refl; body = refl; frames = refl; blocks = refl })
-            stands.top (λ k lt. other_word h.local (16384 + x) (committing.registers 6) k (λ e. omega arith))
-            (λ k lt. heap_put h.local p.heap.words x (committing.registers 6) stands.heap k lt ∙ ap (λ w. put p.heap.words x w k) second.value)
+            stands.top (λ k lt. other_word h.local (16384 + x) (committing.registers t1) k (λ e. omega arith))
+            (λ k lt. heap_put h.local p.heap.words x (committing.registers t1) stands.heap k lt ∙ ap (λ w. put p.heap.words x w k) second.value)
             first.calls second.value _ first.index;
       }
 
@@ -226,15 +228,15 @@ module _ (core : List CoreOp) (image : Image) (places : Places) (i : ℕ) (op : 
       let v = last vs in
       let x = shared_index a in
       record {
-        hart = writes committing 5 (s.words x);
+        hart = writes committing t0 (s.words x);
         store = after_combine by s a v;
         owner = went places p (suc i) (s.words x ∷ before 1 (before 1 vs)) p.heap.words p.runner.has.top;
         part = multiprefix_part by s ∙ shared_part by s a v at;
         goes = λ t' earlier sh shows. (
           after_amo by committing sh x,
-          amo by t' (number_of p) a committing sh first.value at ∙ ap (λ w. Goes (writes committing 5 (w x)) (after_amo by committing sh x)) shows.words,
+          amo by t' (number_of p) a committing sh first.value at ∙ ap (λ w. Goes (writes committing t0 (w x)) (after_amo by committing sh x)) shows.words,
           record {
-            words = ap (λ w. put w x (applied (operator_of by) (w x) (committing.registers 6))) shows.words
+            words = ap (λ w. put w x (applied (operator_of by) (w x) (committing.registers t1))) shows.words
                 ∙ ap (λ w. put s.words x (applied (operator_of by) (s.words x) w)) second.value;
             output = shows.output;
             common = shows.common;
@@ -245,7 +247,7 @@ module _ (core : List CoreOp) (image : Image) (places : Places) (i : ℕ) (op : 
         live = en.at.live;
         can = λ told. (first.place, tt);
         at = refl;
-        stands = λ told. replaced (suc i) op.depth p.runner.has.top (s.words x) (s.words x) p.heap.words (writes committing 5 (s.words x)) stands en.index fits.room en.ready.depth (let l = first.some in omega arith)
+        stands = λ told. replaced (suc i) op.depth p.runner.has.top (s.words x) (s.words x) p.heap.words (writes committing t0 (s.words x)) stands en.index fits.room en.ready.depth (let l = first.some in omega arith)
             flows
             (record { nought = refl; frame = refl; behind = refl; number = refl; rank = refl; size = refl; local = refl; shared_data = refl; private_heap = refl; shared_mask = refl; devices = refl; heap_mask = refl; node = refl; body = refl; frames = refl; blocks = refl })
             stands.top (λ k lt. refl) stands.heap first.calls refl _ first.index;

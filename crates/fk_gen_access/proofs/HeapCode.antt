@@ -24,6 +24,8 @@ use Rattle.fk_gen.proofs.Values.{other_word, number_of_parts}
 use Rattle.fk_gen.proofs.Walk.{Quiets, Plain, LocalAt, TellsInputs, CanWalk, Told, quiet_lines, walk, told_of, walked, lines_split, runs_join, private}
 use Rattle.fk_gen.proofs.Jumps.{jumps, jalr_goes}
 use Rattle.fk_gen.proofs.Does.{holds_in_cycles}
+use Rattle.fk_sim_block.specs.Stands.{zero_register, local_register, shared_register, device_register}
+use Rattle.fk_gen.specs.Registers.{ra, t0, t1, t2, t3}
 use Rattle.fk_gen_access.specs.Heap.{HasHeap, heap_label, tell, back as return}
 use Rattle.fk_gen_access.specs.HeapLaw.{ComesToHeap, GoesOnWithBlock, AddsToCount, HeapCodeHires, is_free}
 use Rattle.fk_gen_access.proofs.Hires.{added, added_is, begins_at, begins_is, at_word, past_word, past_is, answer_of, answer_from, answer_is}
@@ -32,15 +34,15 @@ use Rattle.fk_gen_access.proofs.Hires.{added, added_is, begins_at, begins_is, at
 
 abbrev before_code : Quiets
 before_code =
-    (Lw 6 22 8, LocalAt 2) ∷ (Srli 7 5 31, Plain) ∷ (Add 6 6 7, Plain) ∷ (Sltiu 6 6 1, Plain) ∷ (Mul 5 5 6, Plain) ∷ (Addi 5 5 3, Plain) ∷
-    (Srli 5 5 2, Plain) ∷ (Lui 6 0x100, Plain) ∷ (Sltu 7 6 5, Plain) ∷ (Sub 6 6 5, Plain) ∷ (Mul 6 6 7, Plain) ∷ (Add 5 5 6, Plain) ∷
-    (Lui 6 0x18400, Plain) ∷ (Addi 6 6 32, Plain) ∷ []
+    (Lw t1 local_register 8, LocalAt 2) ∷ (Srli t2 t0 31, Plain) ∷ (Add t1 t1 t2, Plain) ∷ (Sltiu t1 t1 1, Plain) ∷ (Mul t0 t0 t1, Plain) ∷ (Addi t0 t0 3, Plain) ∷
+    (Srli t0 t0 2, Plain) ∷ (Lui t1 0x100, Plain) ∷ (Sltu t2 t1 t0, Plain) ∷ (Sub t1 t1 t0, Plain) ∷ (Mul t1 t1 t2, Plain) ∷ (Add t0 t0 t1, Plain) ∷
+    (Lui t1 0x18400, Plain) ∷ (Addi t1 t1 32, Plain) ∷ []
 
 abbrev behind_code : (words : ℕ) → Quiets
 behind_code words =
-    (Lw 7 26 28, TellsInputs) ∷ (Lui 28 (high_part words), Plain) ∷ (Addi 28 28 (low_part words), Plain) ∷ (Add 7 7 28, Plain) ∷
-    (Srli 7 7 1, Plain) ∷ (Add 6 6 7, Plain) ∷ (Add 28 6 5, Plain) ∷ (Lui 7 0x100, Plain) ∷ (Sltu 28 7 28, Plain) ∷ (Sw 22 28 8, LocalAt 2) ∷
-    (Sltiu 5 5 1, Plain) ∷ (Add 5 5 28, Plain) ∷ (Sltiu 5 5 1, Plain) ∷ (Slli 6 6 2, Plain) ∷ (Add 6 6 23, Plain) ∷ (Mul 5 5 6, Plain) ∷ []
+    (Lw t2 device_register 28, TellsInputs) ∷ (Lui t3 (high_part words), Plain) ∷ (Addi t3 t3 (low_part words), Plain) ∷ (Add t2 t2 t3, Plain) ∷
+    (Srli t2 t2 1, Plain) ∷ (Add t1 t1 t2, Plain) ∷ (Add t3 t1 t0, Plain) ∷ (Lui t2 0x100, Plain) ∷ (Sltu t3 t2 t3, Plain) ∷ (Sw local_register t3 8, LocalAt 2) ∷
+    (Sltiu t0 t0 1, Plain) ∷ (Add t0 t0 t3, Plain) ∷ (Sltiu t0 t0 1, Plain) ∷ (Slli t1 t1 2, Plain) ∷ (Add t1 t1 shared_register, Plain) ∷ (Mul t0 t0 t1, Plain) ∷ []
 
 abbrev end_lines : (words : ℕ) → List MarkedLine
 end_lines words = quiet_lines (behind_code words) ++ quiet return ∷ []
@@ -75,7 +77,7 @@ before_registers told h r e =
     let c = n.2 in
     rw (a, b, c)
 
-behind_registers : (told : Told) (words count : ℕ) (h : Hart) (r : ℕ) → is_free r ≡ false → (walk told (behind_code words) (writes h 6 count)).registers r ≡ h.registers r
+behind_registers : (told : Told) (words count : ℕ) (h : Hart) (r : ℕ) → is_free r ≡ false → (walk told (behind_code words) (writes h t1 count)).registers r ≡ h.registers r
 behind_registers told words count h r e =
     let n = other_register r e in
     let a = n.0 in
@@ -108,7 +110,7 @@ module _ (image : Image) (bound : ℕ → ℕ) (t : Setting) (number bytes back 
   committing = walk told before_code h
 
   abbrev committed : (count : ℕ) → Hart
-  committed count = writes committing 6 count
+  committed count = writes committing t1 count
 
   abbrev answering : (count : ℕ) → Hart
   answering count = walk told (behind_code all) (committed count)
@@ -121,19 +123,19 @@ module _ (image : Image) (bound : ℕ → ℕ) (t : Setting) (number bytes back 
 
   can_before : CanWalk told before_code h
   can_before =
-      let local : h.registers 22 ≡ 0x20000000 = comes.local in
+      let local : h.registers local_register ≡ 0x20000000 = comes.local in
       ((omega arith, ap (λ a. word_sum a 8) local), (tt, (tt, (tt, (tt, (tt, (tt, (tt, (tt, (tt, (tt, (tt, (tt, (tt, tt))))))))))))))
 
   can_behind : (count : ℕ) → CanWalk told (behind_code all) (committed count)
   can_behind count =
-      let local : h.registers 22 ≡ 0x20000000 = comes.local in
-      let devices : h.registers 26 ≡ 0x30000000 = comes.devices in
+      let local : h.registers local_register ≡ 0x20000000 = comes.local in
+      let devices : h.registers device_register ≡ 0x30000000 = comes.devices in
       (ap (λ a. word_sum a 28) devices, (tt, (tt, (tt, (tt, (tt, (tt, (tt, (tt, ((omega arith, ap (λ a. word_sum a 8) local), (tt, (tt, (tt, (tt, (tt, (tt, tt))))))))))))))))
 
   -- what is added
-  adds_words : committing.registers 5 ≡ adding
+  adds_words : committing.registers t0 ≡ adding
   adds_words =
-      ap (λ n. added n (h.registers 5)) comes.noted
+      ap (λ n. added n (h.registers t0)) comes.noted
       ∙ ap (added (from_bool full)) comes.size
       ∙ added_is full bytes comes.is_word
 
@@ -145,39 +147,39 @@ module _ (image : Image) (bound : ℕ → ℕ) (t : Setting) (number bytes back 
       let e : word all ≡ all = omega arith in
       ap (λ n. begins_at n t.inputs) (number ∙ e) ∙ begins_is globals t.inputs (omega arith)
 
-  block_is : (count : ℕ) → (answering count).registers 5 ≡ block_at first count adding
+  block_is : (count : ℕ) → (answering count).registers t0 ≡ block_at first count adding
   block_is count =
-      ap (λ d. answer_in count (begins_at (word_sum (high_part all * 4096) (low_part all)) t.inputs) (committing.registers 5) d) comes.shared_data
-      ∙ ap (λ n. answer_in count n (committing.registers 5) 0x10000000) begins
+      ap (λ d. answer_in count (begins_at (word_sum (high_part all * 4096) (low_part all)) t.inputs) (committing.registers t0) d) comes.shared_data
+      ∙ ap (λ n. answer_in count n (committing.registers t0) 0x10000000) begins
       ∙ ap (λ a. answer_in count first a 0x10000000) adds_words
       ∙ answer_here first count adding
 
   note_is : (count : ℕ) → (answering count).local 2 ≡ from_bool (is_past first (word_sum count adding))
   note_is count =
-      ap (λ n. past_word (at_word count n) (committing.registers 5)) begins
+      ap (λ n. past_word (at_word count n) (committing.registers t0)) begins
       ∙ ap (λ a. past_word (at_word count first) a) adds_words
       ∙ past_is first count adding
 
   -- ---- the way behind the commit
 
-  abbrev t1 : Setting
-  t1 = later (in_cycles 14 t)
+  abbrev cycle1 : Setting
+  cycle1 = later (in_cycles 14 t)
 
   returns : (count : ℕ) → (committed count).pc ≡ 4 * suc (base + 14) → (committed count).ended ≡ false
-      → RunsPrivately image t1 number 17 (committed count) (jumps (answering count) 0 (4 * back))
+      → RunsPrivately image cycle1 number 17 (committed count) (jumps (answering count) 0 (4 * back))
   returns count pc live =
       let holds1 = holds_in_cycles image 15 t holds in
-      let w = walked image bound t1 number holds1 (behind_code all) (suc (base + 14)) (committed count) ends.0 pc live (can_behind count) in
-      let holds2 = holds_in_cycles image 16 t1 holds1 in
-      let link : (answering count).registers 1 ≡ 4 * back = comes.link in
+      let w = walked image bound cycle1 number holds1 (behind_code all) (suc (base + 14)) (committed count) ends.0 pc live (can_behind count) in
+      let holds2 = holds_in_cycles image 16 cycle1 holds1 in
+      let link : (answering count).registers ra ≡ 4 * back = comes.link in
       let near = comes.within in
-      let target : word_sum ((answering count).registers 1) 0 / 2 * 2 ≡ 4 * back = omega arith in
+      let target : word_sum ((answering count).registers ra) 0 / 2 * 2 ≡ 4 * back = omega arith in
       let aligned : 4 * back % 4 ≡ 0 = omega arith in
-      let t2 = in_cycles 16 t1 in
-      runs_join image t1 number 16 1 (committed count) (answering count) (jumps (answering count) 0 (4 * back)) w.runs (
+      let cycle2 = in_cycles 16 cycle1 in
+      runs_join image cycle1 number 16 1 (committed count) (answering count) (jumps (answering count) 0 (4 * back)) w.runs (
         jumps (answering count) 0 (4 * back),
-        private image t2 number (suc (base + 14) + 16) (Jalr 0 1 0) (answering count) (jumps (answering count) 0 (4 * back)) holds2 ends.1.0 w.pc w.live
-            (λ s. (s.reserved, jalr_goes t2 number 0 1 0 (4 * back) (answering count) s target aligned)),
+        private image cycle2 number (suc (base + 14) + 16) (Jalr zero_register ra 0) (answering count) (jumps (answering count) 0 (4 * back)) holds2 ends.1.0 w.pc w.live
+            (λ s. (s.reserved, jalr_goes cycle2 number 0 1 0 (4 * back) (answering count) s target aligned)),
         refl,
       )
 
@@ -210,10 +212,10 @@ module _ (image : Image) (bound : ℕ → ℕ) (t : Setting) (number bytes back 
           counted = ap (count_in image.commits.items) pc ∙ at.counted;
           hart = committed;
           adds = λ sh. (
-            cleared sh.reserved (committing.registers 6),
+            cleared sh.reserved (committing.registers t1),
             step_at image (base + 14) 1 tell at t' holds' number committing sh pc
                 ∙ amoadd-control t' number 6 6 5 asked_word committing sh refl (place_of-control 0x18400020 asked_word (omega arith) refl)
-                ∙ ap (λ a. Goes (committed (sh.control asked_word)) (record sh { control = put sh.control asked_word (word_sum (sh.control asked_word) a); reserved = cleared sh.reserved (committing.registers 6) })) adds_words,
+                ∙ ap (λ a. Goes (committed (sh.control asked_word)) (record sh { control = put sh.control asked_word (word_sum (sh.control asked_word) a); reserved = cleared sh.reserved (committing.registers t1) })) adds_words,
           );
           follows = λ count. (jumps (answering count) 0 (4 * back), returns count pc1 w.live, goes_on count w.live);
         },

@@ -8,12 +8,13 @@ use Rattle.fk_core.specs.declared.op.CoreOp.{CoreOp}
 use Rattle.fk_core.specs.Next.{position}
 use Rattle.fk_machine.specs.Hart.{Hart}
 use Rattle.fk_sim_block.specs.Owner.{Owner}
-use Rattle.fk_sim_block.specs.Stands.{Places, HasValues, HasFrame, HasRoom, HasWaiting, StandsFor, frame_end, frame_start, group_word, ahead, frame_register, end_register, number_register, rank_register, size_register, top_register, local_register, shared_register, heap_register, shared_mask_register, device_register, heap_mask_register, full_word}
+use Rattle.fk_sim_block.specs.Stands.{Places, HasValues, HasRoom, HasWaiting, StandsFor, frame_start, group_word, ahead, frame_register, end_register, number_register, rank_register, size_register, top_register, local_register, shared_register, heap_register, shared_mask_register, device_register, heap_mask_register, full_word, zero_register, value_in, FrameInHart, FrameInMemory}
 use Rattle.fk_sim_block.specs.Suits.{Flows, nothing}
-use Rattle.fk_gen.specs.Registers.{a0, a1, a2, a3}
 use Rattle.fk_gen.specs.Keeps.{Keeps}
 use Rattle.fk_gen.proofs.Values.{other_word}
 use Rattle.fk_gen.proofs.Standing.{lies_in, frame_stays, waiting_kept, stands_with}
+use Rattle.fk_sim_block.specs.Node.{node_register, body_register, frames_register, blocks_register}
+use Rattle.fk_gen.proofs.ValueLines.{place_word}
 
 -- a memory is as it was below a word
 pub record SameBelow (bound : ℕ) (m m' : Memory) : Type 0 where
@@ -25,7 +26,7 @@ below_put m bound k v le = record { same = λ j lt. other_word m k v j (λ e. om
 
 module _ (places : Places) where
   -- the variables of file scope have room in the frame of `main`, beside a value
-  file_room : (n i : ℕ) (call : Call) (m : Memory) (values : ℕ) → 0 < values → n ≡ 0 → HasFrame places m n i call → HasRoom places.frames i values
+  file_room : (n i : ℕ) (call : Call) (m : Memory) (values : ℕ) → 0 < values → n ≡ 0 → FrameInMemory places m n i call → HasRoom places.frames i values
       → places.frames.of_file ≤ 56
   file_room n i call m values some e frame room =
       let main : places.frames.is_main i ≡ true = frame.home ∙ ap (λ k. k == 0) e in
@@ -38,14 +39,14 @@ module _ (places : Places) where
   file_waiting m (i ∷ backs) (c ∷ d ∷ calls) some held = file_waiting m backs (d ∷ calls) (omega arith) held.2
   file_waiting m backs calls some held = absurd (assumption held)
 
-  file_few : (n i d : ℕ) (m : Memory) (call : Call) (backs : List ℕ) (calls : List Call) → 0 < d → n ≡ length calls → HasFrame places m n i call
+  file_few : (n i d : ℕ) (m : Memory) (call : Call) (backs : List ℕ) (calls : List Call) → 0 < d → n ≡ length calls → FrameInMemory places m n i call
       → HasRoom places.frames i d → HasWaiting places m backs calls → places.frames.of_file ≤ 56
   file_few zero i d m call backs calls some e frame room waiting = file_room 0 i call m d some refl frame room
   file_few (suc n) i d m call backs calls some e frame room waiting = file_waiting m backs calls (omega arith) waiting
 
   -- the registers that a block leaves alone, but that of the top of the heap
   pub record SameRegisters (h h' : Hart) : Type 0 where
-    pub nought : h'.registers 0 ≡ h.registers 0
+    pub nought : h'.registers zero_register ≡ h.registers zero_register
     pub frame : h'.registers frame_register ≡ h.registers frame_register
     pub behind : h'.registers end_register ≡ h.registers end_register
     pub number : h'.registers number_register ≡ h.registers number_register
@@ -57,10 +58,10 @@ module _ (places : Places) where
     pub shared_mask : h'.registers shared_mask_register ≡ h.registers shared_mask_register
     pub devices : h'.registers device_register ≡ h.registers device_register
     pub heap_mask : h'.registers heap_mask_register ≡ h.registers heap_mask_register
-    pub node : h'.registers a0 ≡ h.registers a0
-    pub body : h'.registers a1 ≡ h.registers a1
-    pub frames : h'.registers a2 ≡ h.registers a2
-    pub blocks : h'.registers a3 ≡ h.registers a3
+    pub node : h'.registers node_register ≡ h.registers node_register
+    pub body : h'.registers body_register ≡ h.registers body_register
+    pub frames : h'.registers frames_register ≡ h.registers frames_register
+    pub blocks : h'.registers blocks_register ≡ h.registers blocks_register
 
   -- a processor that has gone on to an index, with other values, another private heap and another top of it
   abbrev pub went : Owner → (index : ℕ) → (values : List ℕ) → (heap : Memory) → (top : ℕ) → Owner
@@ -75,13 +76,13 @@ module _ (places : Places) where
 
   pub stands_noted : (p : Owner) (i j d top : ℕ) (vs : List ℕ) (heap : Memory) (full : Bool) (h h' : Hart) → StandsFor places p h → p.runner.left.at ≡ i
       → HasRoom places.frames i d → 0 < d → (core : List CoreOp) → Flows core places.frames nothing i j → SameRegisters h h'
-      → h'.registers top_register ≡ top → ((k : ℕ) → k < frame_end (length p.runner.has.callers) - d → (k ≡ full_word → ⊥) → h'.local k ≡ h.local k)
+      → h'.registers top_register ≡ top → ((k : ℕ) → k < place_word (length p.runner.has.callers) d → (k ≡ full_word → ⊥) → h'.local k ≡ h.local k)
       → h'.local full_word ≡ from_bool full
-      → HasValues h'.local (frame_end (length p.runner.has.callers)) vs → ((k : ℕ) → k < 16384 → h'.local (16384 + k) ≡ heap k)
+      → HasValues (value_in h' (length p.runner.has.callers)) vs → ((k : ℕ) → k < 16384 → h'.local (16384 + k) ≡ heap k)
       → StandsFor places (noted p j vs heap top full) h' × Keeps places (length p.runner.has.callers) d nothing h h'
   stands_noted p i j d top vs heap full h h' stands at room some core flows same top' below full' values heap' =
       let n = length p.runner.has.callers in
-      let frame = subst (λ k. HasFrame places h.local n k p.runner.has.call) at stands.running in
+      let frame = subst (λ k. FrameInHart places h n k p.runner.has.call) at stands.running in
       let few = file_few n i d h.local p.runner.has.call p.runner.left.callers p.runner.has.callers some refl frame room stands.waiting in
       let l = lies_in places n i d few frame.home room in
       let start = l.start in
@@ -129,12 +130,12 @@ module _ (places : Places) where
 
   pub stands_on : (p : Owner) (i j d top : ℕ) (vs : List ℕ) (heap : Memory) (h h' : Hart) → StandsFor places p h → p.runner.left.at ≡ i
       → HasRoom places.frames i d → 0 < d → (core : List CoreOp) → Flows core places.frames nothing i j → SameRegisters h h'
-      → h'.registers top_register ≡ top → SameBelow (frame_end (length p.runner.has.callers) - d) h.local h'.local
-      → HasValues h'.local (frame_end (length p.runner.has.callers)) vs → ((k : ℕ) → k < 16384 → h'.local (16384 + k) ≡ heap k)
+      → h'.registers top_register ≡ top → SameBelow (place_word (length p.runner.has.callers) d) h.local h'.local
+      → HasValues (value_in h' (length p.runner.has.callers)) vs → ((k : ℕ) → k < 16384 → h'.local (16384 + k) ≡ heap k)
       → StandsFor places (went p j vs heap top) h' × Keeps places (length p.runner.has.callers) d nothing h h'
   stands_on p i j d top vs heap h h' stands at room some core flows same top' below values heap' =
       let n = length p.runner.has.callers in
-      let frame = subst (λ k. HasFrame places h.local n k p.runner.has.call) at stands.running in
+      let frame = subst (λ k. FrameInHart places h n k p.runner.has.call) at stands.running in
       let few = file_few n i d h.local p.runner.has.call p.runner.left.callers p.runner.has.callers some refl frame room stands.waiting in
       let l = lies_in places n i d few frame.home room in
       let low = l.values in

@@ -11,7 +11,7 @@ use Rattle.fk_image.specs.declared.Image.{Image}
 use Rattle.fk_machine.specs.Hart.{Hart, Setting as MachineSetting}
 use Rattle.fk_sim_nodes.specs.Source.{Part, Passes}
 use Rattle.fk_sim_block.specs.Owner.{Commons, Owner, Doing, number_of, idle}
-use Rattle.fk_sim_block.specs.Stands.{Places, frame_end}
+use Rattle.fk_sim_block.specs.Stands.{Places, zero_register, end_register, top_register, value_in}
 use Rattle.fk_sim_block.specs.Next.{OpAt}
 use Rattle.fk_sim_block.specs.Suits.{Fits, nothing}
 use Rattle.fk_sim_block.specs.Block.{Enters}
@@ -28,6 +28,7 @@ use Rattle.fk_gen_access.proofs.Kept.{went, below_put, stands_on}
 use Rattle.fk_gen_access.proofs.Found.{value_put}
 use Rattle.fk_gen_access.proofs.Operands.{last_found}
 use Rattle.fk_gen_access.proofs.Refusals.{last_is_word}
+use Rattle.fk_gen.proofs.ValueLines.{place_word}
 
 -- as the instructions have it, of a size, of the top and of register 0
 abbrev mask_by : (nought bytes top : ℕ) → ℕ
@@ -52,11 +53,11 @@ module _ (core : List CoreOp) (image : Image) (places : Places) (i : ℕ) (op : 
       let vs = values p.runner.has in
       let top = p.runner.has.top in
       let some = last_found core image places i op Take setting t p h en fits (let l = fits.values in omega arith) in
-      let found_at = local_index (word_sum (h.registers 9) (at_value op.depth)) in
+      let found_at = local_index (word_sum (h.registers end_register) (at_value op.depth)) in
       let x = h.local found_at in
       let hart = after (told_of t (number_of p)) b.commit (reached b.commit h) h in
       let m = walk_straight (told_of t (number_of p)) b.behind hart in
-      let v = answer_by (h.registers 0) x (h.registers 21) in
+      let v = answer_by (h.registers zero_register) x (h.registers top_register) in
       let index = some.index in
       let depth = en.ready.depth in
       let shorter = length_before 1 vs in
@@ -64,9 +65,9 @@ module _ (core : List CoreOp) (image : Image) (places : Places) (i : ℕ) (op : 
       let pos = some.some in
       let deep = some.few in
       let answer : v ≡ take_word (last vs) top =
-      ap (λ z. answer_by z x (h.registers 21)) stands.nought ∙ ap (λ y. answer_by 0 y (h.registers 21)) some.value ∙ ap (λ y. answer_by 0 (last vs) y) stands.top in
-      let more : m.registers 21 ≡ top_word (last vs) top =
-      ap (λ z. top_by z x (h.registers 21)) stands.nought ∙ ap (λ y. top_by 0 y (h.registers 21)) some.value ∙ ap (λ y. top_by 0 (last vs) y) stands.top in
+      ap (λ z. answer_by z x (h.registers top_register)) stands.nought ∙ ap (λ y. answer_by 0 y (h.registers top_register)) some.value ∙ ap (λ y. answer_by 0 (last vs) y) stands.top in
+      let more : m.registers top_register ≡ top_word (last vs) top =
+      ap (λ z. top_by z x (h.registers top_register)) stands.nought ∙ ap (λ y. top_by 0 y (h.registers top_register)) some.value ∙ ap (λ y. top_by 0 (last vs) y) stands.top in
       does core image places i op Take setting p b bound t h op_at en has (omega arith) (omega arith) tt (λ s. inl (record {
         hart = hart;
         store = s;
@@ -81,7 +82,7 @@ module _ (core : List CoreOp) (image : Image) (places : Places) (i : ℕ) (op : 
         at = refl;
         stands = λ told. stands_on places p i (suc i) op.depth (top_word (last vs) top) (take_word (last vs) top ∷ before 1 vs) p.heap.words h m stands en.index fits.room some.some core (fits.goes_on true)
             (record { nought = refl; frame = refl; behind = refl; number = refl; rank = refl; size = refl; local = refl; shared_data = refl; private_heap = refl; shared_mask = refl; devices = refl; heap_mask = refl; node = refl; body = refl; frames = refl; blocks = refl })
-            more (below_put h.local (frame_end n - op.depth) found_at v (omega arith))
-            (value_put h.local (frame_end n) found_at v (take_word (last vs) top) (before 1 vs) (omega arith) (omega arith) answer (values_before 1 h.local (frame_end n) vs stands.running.values))
+            more (below_put h.local (place_word n op.depth) found_at v (omega arith))
+            (value_put h.local n found_at v (take_word (last vs) top) (before 1 vs) (omega arith) (omega arith) answer (values_before 1 (value_in h n) vs stands.running.values))
             (λ k lt. other_word h.local found_at v (16384 + k) (λ e. omega arith) ∙ stands.heap k lt);
       }))

@@ -21,6 +21,7 @@ use Rattle.fk_sim_block.specs.Owner.{Commons, Heaps, found}
 use Rattle.fk_gen_access.specs.Blocks.{combining}
 use Rattle.fk_gen_access.proofs.Addresses.{IsShared, IsPrivate, used, shared_is, not_shared, shared_place, private_place, private_few}
 use Rattle.fk_gen.proofs.Values.{other_word}
+use Rattle.fk_gen.specs.Registers.{t0, t1}
 use Rattle.fk_gen_access.proofs.Found.{word_at}
 
 -- ---- the store, by where an address lies
@@ -51,24 +52,24 @@ heap_put m heap i v has k lt = elim (cases_eq k i) [
 
 load_at : (t : Setting) (number rs a : ℕ) (h : Hart) (sh : Shared) (s : Commons) (heap : Heaps) → h.registers rs ≡ a → sh.words ≡ s.words
     → ((k : ℕ) → k < 16384 → h.local (16384 + k) ≡ heap.words k) → (IsShared a ⊎ ((false ≡ false) × IsPrivate a))
-    → perform t number (Lw 5 rs 0) h sh ≡ Goes (writes h 5 (read (found s heap) number a)) sh
+    → perform t number (Lw t0 rs 0) h sh ≡ Goes (writes h t0 (read (found s heap) number a)) sh
 load_at t number rs a h sh s heap e words has (inl at) =
     let aligned = at.aligned in
     let below = at.below in
     let same : word_sum (h.registers rs) 0 ≡ a = omega arith in
     lw-shared t number 5 rs 0 (shared_index a) h sh (omega arith) (ap place_of same ∙ shared_place a at)
-    ∙ ap (λ w. Goes (writes h 5 (w (shared_index a))) sh) words
-    ∙ ap (λ v. Goes (writes h 5 v) sh) (sym (read_shared (found s heap) number a at))
+    ∙ ap (λ w. Goes (writes h t0 (w (shared_index a))) sh) words
+    ∙ ap (λ v. Goes (writes h t0 v) sh) (sym (read_shared (found s heap) number a at))
 load_at t number rs a h sh s heap e words has (inr (_, at)) =
     let aligned = at.aligned in
     let below = at.below in
     let same : word_sum (h.registers rs) 0 ≡ a = omega arith in
     lw-local t number 5 rs 0 (16384 + private_index a) h sh (omega arith) (ap place_of same ∙ private_place a at)
-    ∙ ap (λ v. Goes (writes h 5 v) sh) (has (private_index a) (private_few a at) ∙ sym (read_private (found s heap) number a at))
+    ∙ ap (λ v. Goes (writes h t0 v) sh) (has (private_index a) (private_few a at) ∙ sym (read_private (found s heap) number a at))
 
 pub load : (t : Setting) (number rs a : ℕ) (h : Hart) (sh : Shared) (s : Commons) (heap : Heaps) → h.registers rs ≡ a → sh.words ≡ s.words
     → ((k : ℕ) → k < 16384 → h.local (16384 + k) ≡ heap.words k) → may_use false a ≡ true
-    → perform t number (Lw 5 rs 0) h sh ≡ Goes (writes h 5 (read (found s heap) number a)) sh
+    → perform t number (Lw t0 rs 0) h sh ≡ Goes (writes h t0 (read (found s heap) number a)) sh
 load t number rs a h sh s heap e words has may = load_at t number rs a h sh s heap e words has (used false a may)
 
 -- ---- atomic instructions give the former word
@@ -87,9 +88,9 @@ amo_combines MpMax x y = refl
 amo_combines MpAnd x y = refl
 amo_combines MpOr x y = refl
 
-amo_performs : (by : Multiprefix) (t : Setting) (number i : ℕ) (h : Hart) (sh : Shared) → h.registers 5 % 4 ≡ 0 → place_of (h.registers 5) ≡ SharedWord i
+amo_performs : (by : Multiprefix) (t : Setting) (number i : ℕ) (h : Hart) (sh : Shared) → h.registers t0 % 4 ≡ 0 → place_of (h.registers t0) ≡ SharedWord i
     → perform t number (combining by) h sh
-    ≡ Goes (writes h 5 (sh.words i)) (record sh { words = put sh.words i (combined (amo_word by) (sh.words i) (h.registers 6)); reserved = cleared sh.reserved (h.registers 5) })
+    ≡ Goes (writes h t0 (sh.words i)) (record sh { words = put sh.words i (combined (amo_word by) (sh.words i) (h.registers t1)); reserved = cleared sh.reserved (h.registers t0) })
 amo_performs MpAdd t number i h sh e f = let aligned = eq-eqb _ 0 e in rw (aligned, f) refl
 amo_performs MpMax t number i h sh e f = let aligned = eq-eqb _ 0 e in rw (aligned, f) refl
 amo_performs MpAnd t number i h sh e f = let aligned = eq-eqb _ 0 e in rw (aligned, f) refl
@@ -97,12 +98,12 @@ amo_performs MpOr t number i h sh e f = let aligned = eq-eqb _ 0 e in rw (aligne
 
 -- the shared state after it
 abbrev pub after_amo : Multiprefix → Hart → Shared → (i : ℕ) → Shared
-after_amo by h sh i = record sh { words = put sh.words i (applied (operator_of by) (sh.words i) (h.registers 6)); reserved = cleared sh.reserved (h.registers 5) }
+after_amo by h sh i = record sh { words = put sh.words i (applied (operator_of by) (sh.words i) (h.registers t1)); reserved = cleared sh.reserved (h.registers t0) }
 
-pub amo : (by : Multiprefix) (t : Setting) (number a : ℕ) (h : Hart) (sh : Shared) → h.registers 5 ≡ a → IsShared a
-    → perform t number (combining by) h sh ≡ Goes (writes h 5 (sh.words (shared_index a))) (after_amo by h sh (shared_index a))
+pub amo : (by : Multiprefix) (t : Setting) (number a : ℕ) (h : Hart) (sh : Shared) → h.registers t0 ≡ a → IsShared a
+    → perform t number (combining by) h sh ≡ Goes (writes h t0 (sh.words (shared_index a))) (after_amo by h sh (shared_index a))
 amo by t number a h sh e at =
     let aligned = at.aligned in
     let i = shared_index a in
     amo_performs by t number i h sh (omega arith) (ap place_of e ∙ shared_place a at)
-    ∙ ap (λ v. Goes (writes h 5 (sh.words i)) (record sh { words = put sh.words i v; reserved = cleared sh.reserved (h.registers 5) })) (amo_combines by (sh.words i) (h.registers 6))
+    ∙ ap (λ v. Goes (writes h t0 (sh.words i)) (record sh { words = put sh.words i v; reserved = cleared sh.reserved (h.registers t0) })) (amo_combines by (sh.words i) (h.registers t1))

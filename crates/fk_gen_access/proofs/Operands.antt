@@ -7,19 +7,20 @@ use Rattle.fk_core.specs.declared.op.CoreOp.{CoreOp}
 use Rattle.fk_image.specs.declared.Image.{Image}
 use Rattle.fk_machine.specs.Hart.{Hart, Setting as MachineSetting}
 use Rattle.fk_sim_block.specs.Owner.{Owner}
-use Rattle.fk_sim_block.specs.Stands.{Places, frame_end}
+use Rattle.fk_sim_block.specs.Stands.{Places, end_register, value_in}
 use Rattle.fk_sim_block.specs.Suits.{Fits}
 use Rattle.fk_sim_block.specs.Block.{Enters}
 use Rattle.fk_gen.specs.Lines.{at_value}
 use Rattle.fk_gen_access.proofs.Walk.{IsLocalAddress, local_index}
 use Rattle.fk_gen.proofs.Values.{value_at}
+use Rattle.fk_gen.proofs.ValueLines.{place_word}
 use Rattle.fk_gen_access.proofs.Found.{value_index, value_place}
 
 -- the k-th value, v, stands where its block looks for it
 pub record IsFound (p : Owner) (h : Hart) (k v : ℕ) : Type 0 where
-  pub place : IsLocalAddress (word_sum (h.registers 9) (at_value k))
-  pub index : local_index (word_sum (h.registers 9) (at_value k)) ≡ frame_end (length p.runner.has.callers) - k
-  pub value : h.local (local_index (word_sum (h.registers 9) (at_value k))) ≡ v
+  pub place : IsLocalAddress (word_sum (h.registers end_register) (at_value k))
+  pub index : local_index (word_sum (h.registers end_register) (at_value k)) ≡ place_word (length p.runner.has.callers) k
+  pub value : h.local (local_index (word_sum (h.registers end_register) (at_value k))) ≡ v
   pub some : 0 < k
   pub few : k ≤ 56
   pub calls : length p.runner.has.callers < 256
@@ -35,12 +36,12 @@ module _ (core : List CoreOp) (image : Image) (places : Places) (i : ℕ) (op : 
       let n = length p.runner.has.callers in
       let stands = en.at.stands in
       let depth = en.ready.depth in
-      let index = value_index n k (h.registers 9) calls some few stands.behind in
-      let same : frame_end n - k ≡ frame_end n - (length (values p.runner.has) - j) = omega arith in
+      let index = value_index n k (h.registers end_register) calls some few stands.behind in
+      let same : place_word n k ≡ place_word n (length (values p.runner.has) - j) = omega arith in
       record {
-        place = value_place n k (h.registers 9) calls some few stands.behind;
+        place = value_place n k (h.registers end_register) calls some few stands.behind;
         index = index;
-        value = ap h.local (index ∙ same) ∙ value_at j h.local (frame_end n) (values p.runner.has) (omega arith) stands.running.values;
+        value = ap h.local (index ∙ same) ∙ value_at j (value_in h n) (values p.runner.has) (omega arith) stands.running.values;
         some = some;
         few = few;
         calls = calls;

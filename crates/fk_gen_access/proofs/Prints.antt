@@ -16,7 +16,7 @@ use Rattle.fk_machine.proofs.Performs.{moves, sw-out_int}
 use Rattle.fk_machine.proofs.Places.{place_of-out_int}
 use Rattle.fk_sim_nodes.specs.Source.{Passes}
 use Rattle.fk_sim_block.specs.Owner.{Commons, Owner, number_of, idle}
-use Rattle.fk_sim_block.specs.Stands.{Places, frame_end}
+use Rattle.fk_sim_block.specs.Stands.{Places, device_register, value_in}
 use Rattle.fk_sim_block.specs.Next.{OpAt}
 use Rattle.fk_sim_block.specs.Suits.{Fits, Flows, nothing}
 use Rattle.fk_sim_block.specs.Block.{Enters}
@@ -25,6 +25,7 @@ use Rattle.fk_gen.specs.InPlace.{HasBlock}
 use Rattle.fk_gen.specs.Keeps.{Keeps, DoesAnd}
 use Rattle.fk_gen.proofs.Walk.{told_of}
 use Rattle.fk_gen.proofs.Values.{values_before}
+use Rattle.fk_gen.specs.Registers.{t0}
 use Rattle.fk_gen_access.proofs.Walk.{walk_straight}
 use Rattle.fk_gen_access.proofs.Does.{part_of, does}
 use Rattle.fk_gen_access.proofs.Kept.{went, stands_on}
@@ -46,8 +47,8 @@ print_does : (core : List CoreOp) (image : Image) (places : Places) (i : ℕ) (o
     → HasBlock image bound places i (lines (print_block device op.depth))
     → ((s : Commons) → part_of core image places i op operation setting p s
     ≡ Passes (record s { output = s.output ++ bytes (last (values p.runner.has)) }) (idle (went places p (suc i) (before 1 (values p.runner.has)) p.heap.words p.runner.has.top)))
-    → ((t' : MachineSetting) (g : Hart) (sh : Shared) → g.registers 26 ≡ 0x30000000
-    → perform t' (number_of p) (Sw 26 5 device) g sh ≡ Goes (moves g) (record sh { output = sh.output ++ bytes (g.registers 5) }))
+    → ((t' : MachineSetting) (g : Hart) (sh : Shared) → g.registers device_register ≡ 0x30000000
+    → perform t' (number_of p) (Sw device_register t0 device) g sh ≡ Goes (moves g) (record sh { output = sh.output ++ bytes (g.registers t0) }))
     → DoesAnd core image places setting t p h 1 0 (Keeps places (length p.runner.has.callers) op.depth nothing h)
 print_does core image places i op operation setting t p h device bytes bound op_at en fits some flows has part performs =
     let b = print_block device op.depth in
@@ -60,12 +61,12 @@ print_does core image places i op operation setting t p h device bytes bound op_
       owner = went places p (suc i) (before 1 (values p.runner.has)) p.heap.words p.runner.has.top;
       part = part s;
       goes = λ t' earlier sh shows. (
-        record sh { output = sh.output ++ bytes (committing.registers 5) },
+        record sh { output = sh.output ++ bytes (committing.registers t0) },
         performs t' committing sh stands.devices,
         record {
           words = shows.words;
-          output = sym (append_assoc earlier sh.output (bytes (committing.registers 5)))
-              ∙ ap (λ o. o ++ bytes (committing.registers 5)) shows.output
+          output = sym (append_assoc earlier sh.output (bytes (committing.registers t0)))
+              ∙ ap (λ o. o ++ bytes (committing.registers t0)) shows.output
               ∙ ap (λ v. s.output ++ bytes v) found.value;
           common = shows.common;
         },
@@ -78,7 +79,7 @@ print_does core image places i op operation setting t p h device bytes bound op_
       stands = λ told. stands_on places p i (suc i) op.depth p.runner.has.top (before 1 (values p.runner.has)) p.heap.words h (moves committing) stands en.index fits.room some core flows
           (record { nought = refl; frame = refl; behind = refl; number = refl; rank = refl; size = refl; local = refl; shared_data = refl; private_heap = refl; shared_mask = refl; devices = refl; heap_mask = refl; node = refl; body = refl; frames = refl; blocks = refl })
           stands.top (record { same = λ j lt. refl })
-          (values_before 1 h.local (frame_end (length p.runner.has.callers)) (values p.runner.has) stands.running.values)
+          (values_before 1 (value_in h (length p.runner.has.callers)) (values p.runner.has) stands.running.values)
           stands.heap;
     }))
 

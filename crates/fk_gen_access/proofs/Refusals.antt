@@ -20,7 +20,7 @@ use Rattle.fk_machine.proofs.Places.{place_of-fault}
 use Rattle.fk_sim_nodes.specs.Alone.{Holds, IsAt, IsPrivateIn, RunsPrivately, in_cycles}
 use Rattle.fk_asm.specs.Block.{MarkedLine}
 use Rattle.fk_sim_block.specs.Owner.{Commons, Owner, number_of, found}
-use Rattle.fk_sim_block.specs.Stands.{Places, frame_end, local_address}
+use Rattle.fk_sim_block.specs.Stands.{Places, local_address, zero_register, end_register, top_register, shared_register, heap_register, shared_mask_register, device_register, heap_mask_register}
 use Rattle.fk_sim_block.specs.Next.{OpAt}
 use Rattle.fk_sim_block.specs.Suits.{Fits, nothing}
 use Rattle.fk_sim_block.specs.Block.{Enters}
@@ -31,11 +31,13 @@ use Rattle.fk_gen.proofs.Walk.{Told, told_of, Plain, LocalAt, Quiets, quiet_line
 use Rattle.fk_gen.proofs.Does.{holds_in_cycles, quiet_length, request_does_by}
 use Rattle.fk_gen.proofs.Jumps.{goes_to_pc, beq_taken, beq_on}
 use Rattle.fk_gen.proofs.Values.{values_kept, number_of_parts, number_of_low_part}
-use Rattle.fk_gen_access.specs.Blocks.{check_block, test_lines, load_last, idle, refuse, test_steps, before_commit}
+use Rattle.fk_gen.specs.Registers.{t0, t1, t2}
+use Rattle.fk_gen_access.specs.Blocks.{check_block, test_lines, idle, refuse, test_steps, before_commit}
 use Rattle.fk_gen_access.proofs.Checked.{shared_bits, heap_bits, Checks, InShared, InHeap, Nowhere, checks}
 use Rattle.fk_gen_access.proofs.Walk.{local_index}
 use Rattle.fk_gen_access.proofs.Kept.{SameRegisters, stands_on}
 use Rattle.fk_gen_access.proofs.Operands.{last_found}
+use Rattle.fk_gen.specs.Operands.{operand}
 
 pub last_is_word : (vs : List ℕ) → All (λ v. v < 2 ^ 32) vs → last vs < 2 ^ 32
 last_is_word [] all = omega arith
@@ -45,20 +47,20 @@ last_is_word (v ∷ vs) all = All-head (λ v. v < 2 ^ 32) v vs all
 
 -- a number comes to t0
 abbrev number_quiets : (short : Bool) (n : ℕ) → Quiets
-number_quiets true n = (Addi 5 0 (low_part n), Plain) ∷ []
-number_quiets false n = (Lui 5 (high_part n), Plain) ∷ (Addi 5 5 (low_part n), Plain) ∷ []
+number_quiets true n = (Addi t0 zero_register (low_part n), Plain) ∷ []
+number_quiets false n = (Lui t0 (high_part n), Plain) ∷ (Addi t0 t0 (low_part n), Plain) ∷ []
 
 -- the last value, which stands at a word of local memory, with the masks
 abbrev masks : (alone : Bool) (d w : ℕ) → Quiets
-masks true d w = (load_last 6 d, LocalAt w) ∷ (And 6 6 25, Plain) ∷ []
-masks false d w = (load_last 6 d, LocalAt w) ∷ (And 7 6 25, Plain) ∷ (And 6 6 27, Plain) ∷ []
+masks true d w = (operand t1 d, LocalAt w) ∷ (And t1 t1 shared_mask_register, Plain) ∷ []
+masks false d w = (operand t1 d, LocalAt w) ∷ (And t2 t1 shared_mask_register, Plain) ∷ (And t1 t1 heap_mask_register, Plain) ∷ []
 
 abbrev straight : (short alone : Bool) (d site w : ℕ) → Quiets
 straight short alone d site w = number_quiets short site ++ masks alone d w
 
 abbrev choices : (alone : Bool) → List MarkedLine
-choices true = quiet (Beq 6 23 8) ∷ commits refuse ∷ commits idle ∷ []
-choices false = quiet (Beq 7 23 12) ∷ quiet (Beq 6 24 12) ∷ commits refuse ∷ quiet idle ∷ commits idle ∷ []
+choices true = quiet (Beq t1 shared_register 8) ∷ commits refuse ∷ commits idle ∷ []
+choices false = quiet (Beq t2 shared_register 12) ∷ quiet (Beq t1 heap_register 12) ∷ commits refuse ∷ quiet idle ∷ commits idle ∷ []
 
 -- the register that the address with the mask of shared data comes to
 abbrev shared_test_register : (alone : Bool) → ℕ
@@ -91,13 +93,13 @@ few_straight false false d site w = omega arith
 -- what the lines that run straight come to
 record IsTested (places : Places) (told : Told) (quiets : Quiets) (h : Hart) (alone : Bool) (address of_site : ℕ) : Type 0 where
   pub can : CanWalk told quiets h
-  pub site : (walk told quiets h).registers 5 ≡ of_site
+  pub site : (walk told quiets h).registers t0 ≡ of_site
   pub same : SameRegisters places h (walk told quiets h)
-  pub top : (walk told quiets h).registers 21 ≡ h.registers 21
+  pub top : (walk told quiets h).registers top_register ≡ h.registers top_register
   pub local : (k : ℕ) → (walk told quiets h).local k ≡ h.local k
   pub live : (walk told quiets h).ended ≡ h.ended
   pub shared : (walk told quiets h).registers (shared_test_register alone) ≡ shared_bits address
-  pub heap : alone ≡ false → (walk told quiets h).registers 6 ≡ heap_bits address
+  pub heap : alone ≡ false → (walk told quiets h).registers t1 ≡ heap_bits address
 
 masked : (v m a n : ℕ) → v ≡ a → m ≡ n → bit_and v m ≡ bit_and a n
 masked v m a n e f = ap (λ x. bit_and x m) e ∙ ap (bit_and a) f
@@ -109,28 +111,28 @@ long_site : (n : ℕ) → n < 2 ^ 32 → word_sum (high_part n * 4096) (low_part
 long_site n small = number_of_parts n ∙ omega arith
 
 is_tested : (places : Places) (told : Told) (h : Hart) (short alone : Bool) (d site w a : ℕ) → (high_part site == 0) ≡ short → site < 2 ^ 32
-    → h.registers 0 ≡ 0 → h.registers 25 ≡ 0xffc00003 → h.registers 27 ≡ 0xffff0003
-    → (w < 32768) × (word_sum (h.registers 9) (at_value d) ≡ local_address w) → h.local w ≡ a
+    → h.registers zero_register ≡ 0 → h.registers shared_mask_register ≡ 0xffc00003 → h.registers heap_mask_register ≡ 0xffff0003
+    → (w < 32768) × (word_sum (h.registers end_register) (at_value d) ≡ local_address w) → h.local w ≡ a
     → IsTested places told (straight short alone d site w) h alone a site
 is_tested places told h true true d site w a is small nought shared heap at v = record {
   can = (tt, (at, (tt, tt)));
-  site = short_site (h.registers 0) site nought is small;
+  site = short_site (h.registers zero_register) site nought is small;
   same = record { nought = refl; frame = refl; behind = refl; number = refl; rank = refl; size = refl; local = refl; shared_data = refl; private_heap = refl; shared_mask = refl; devices = refl; heap_mask = refl; node = refl; body = refl; frames = refl; blocks = refl };
   top = refl;
   local = λ k. refl;
   live = refl;
-  shared = masked (h.local w) (h.registers 25) a 0xffc00003 v shared;
+  shared = masked (h.local w) (h.registers shared_mask_register) a 0xffc00003 v shared;
   heap = λ e. absurd (cc);
 }
 is_tested places told h true false d site w a is small nought shared heap at v = record {
   can = (tt, (at, (tt, (tt, tt))));
-  site = short_site (h.registers 0) site nought is small;
+  site = short_site (h.registers zero_register) site nought is small;
   same = record { nought = refl; frame = refl; behind = refl; number = refl; rank = refl; size = refl; local = refl; shared_data = refl; private_heap = refl; shared_mask = refl; devices = refl; heap_mask = refl; node = refl; body = refl; frames = refl; blocks = refl };
   top = refl;
   local = λ k. refl;
   live = refl;
-  shared = masked (h.local w) (h.registers 25) a 0xffc00003 v shared;
-  heap = λ e. masked (h.local w) (h.registers 27) a 0xffff0003 v heap;
+  shared = masked (h.local w) (h.registers shared_mask_register) a 0xffc00003 v shared;
+  heap = λ e. masked (h.local w) (h.registers heap_mask_register) a 0xffff0003 v heap;
 }
 is_tested places told h false true d site w a is small nought shared heap at v = record {
   can = (tt, (tt, (at, (tt, tt))));
@@ -139,7 +141,7 @@ is_tested places told h false true d site w a is small nought shared heap at v =
   top = refl;
   local = λ k. refl;
   live = refl;
-  shared = masked (h.local w) (h.registers 25) a 0xffc00003 v shared;
+  shared = masked (h.local w) (h.registers shared_mask_register) a 0xffc00003 v shared;
   heap = λ e. absurd (cc);
 }
 is_tested places told h false false d site w a is small nought shared heap at v = record {
@@ -149,8 +151,8 @@ is_tested places told h false false d site w a is small nought shared heap at v 
   top = refl;
   local = λ k. refl;
   live = refl;
-  shared = masked (h.local w) (h.registers 25) a 0xffc00003 v shared;
-  heap = λ e. masked (h.local w) (h.registers 27) a 0xffff0003 v heap;
+  shared = masked (h.local w) (h.registers shared_mask_register) a 0xffc00003 v shared;
+  heap = λ e. masked (h.local w) (h.registers heap_mask_register) a 0xffff0003 v heap;
 }
 
 -- ---- the ways through the block
@@ -178,15 +180,15 @@ module _ (core : List CoreOp) (image : Image) (places : Places) (i : ℕ) (op : 
     pub few : before ≤ 7
     pub runs : RunsPrivately image t number before h g
     pub pc : g.pc ≡ 4 * kc
-    pub site : g.registers 5 ≡ op.site
+    pub site : g.registers t0 ≡ op.site
     pub same : SameRegisters places h g
-    pub top : g.registers 21 ≡ h.registers 21
+    pub top : g.registers top_register ≡ h.registers top_register
     pub local : (k : ℕ) → g.local k ≡ h.local k
     pub live : g.ended ≡ false
 
   -- that goes on to another place by one more instruction, which changes no register that a block keeps
   more : (before kc kc' : ℕ) (g g' : Hart) → IsChecked before kc g → suc before ≤ 7 → IsPrivateIn image (in_cycles before t) number g g' → g'.pc ≡ 4 * kc'
-      → g'.registers 5 ≡ g.registers 5 → SameRegisters places g g' → g'.registers 21 ≡ g.registers 21 → ((k : ℕ) → g'.local k ≡ g.local k) → g'.ended ≡ g.ended
+      → g'.registers t0 ≡ g.registers t0 → SameRegisters places g g' → g'.registers top_register ≡ g.registers top_register → ((k : ℕ) → g'.local k ≡ g.local k) → g'.ended ≡ g.ended
       → IsChecked (before + 1) kc' g'
   more before kc kc' g g' c few goes pc site same top local live = record {
     few = omega arith;
@@ -256,7 +258,7 @@ module _ (core : List CoreOp) (image : Image) (places : Places) (i : ℕ) (op : 
       (record { nought = same.nought; frame = same.frame; behind = same.behind; number = same.number; rank = same.rank; size = same.size; local = same.local; shared_data = same.shared_data; private_heap = same.private_heap; shared_mask = same.shared_mask; devices = same.devices; heap_mask = same.heap_mask; node = same.node; body = same.body; frames = same.frames; blocks = same.blocks })
       (c.top ∙ stands.top)
       (record { same = λ j lt. c.local j })
-      (values_kept h.local e.local (frame_end n) vs (omega arith) (λ j from lt. c.local j) stands.running.values)
+      (values_kept h.local e.local n vs (λ j from lt. c.local j) stands.running.values)
       (λ k lt. c.local (16384 + k) ∙ stands.heap k lt) in
       request_does_by core image places setting t i op (Check alone) p h here.at refl refl en before 0 (omega arith) (omega arith) g c.runs kc idle at c.pc c.live KeepsMost
       (λ s. inl (record {
@@ -280,7 +282,7 @@ module _ (core : List CoreOp) (image : Image) (places : Places) (i : ℕ) (op : 
       → DoesAnd core image places setting t p h before 0 KeepsMost
   refuses alone here before kc g c at may =
       let few = c.few in
-      let device : g.registers 26 ≡ 0x30000000 = c.same.devices ∙ here.enters.at.stands.devices in
+      let device : g.registers device_register ≡ 0x30000000 = c.same.devices ∙ here.enters.at.stands.devices in
       request_does_by core image places setting t i op (Check alone) p h here.at refl refl here.enters before 0 (omega arith) (omega arith) g c.runs kc refuse at c.pc c.live KeepsMost
       (λ s. inr (record {
         kind = BadAddress;
@@ -296,33 +298,33 @@ module _ (core : List CoreOp) (image : Image) (places : Places) (i : ℕ) (op : 
   test_is x y b c r e f g = ap (λ v. v == y) e ∙ ap (λ v. b == v) f ∙ g
 
   chosen_alone : IsHere true → (bound : ℕ → ℕ) (before kb : ℕ) (g : Hart) → before ≤ 5 → IsChecked before kb g → LinesAt image bound kb (choices true) → places.block (suc i) ≡ kb + 3
-      → g.registers 6 ≡ shared_bits a → Checks true a → DoesAnd core image places setting t p h (before + 1) 0 KeepsMost
+      → g.registers t1 ≡ shared_bits a → Checks true a → DoesAnd core image places setting t p h (before + 1) 0 KeepsMost
   chosen_alone here bound before kb g few c lines next test (InShared may is) =
-      let t1 = in_cycles before t in
+      let cycle1 = in_cycles before t in
       let holds = holds_in_cycles image before t here.enters.running.code in
       let within = lines.1.1.0.within in
       let pc = c.pc in
-      let e : (g.registers 6 == g.registers 23) ≡ true = test_is _ _ _ _ true test (c.same.shared_data ∙ here.enters.at.stands.shared_data) is in
-      let goes = beq_taken image t1 number kb 6 23 8 g holds lines.0 c.pc c.live e (omega arith) in
+      let e : (g.registers t1 == g.registers shared_register) ≡ true = test_is _ _ _ _ true test (c.same.shared_data ∙ here.enters.at.stands.shared_data) is in
+      let goes = beq_taken image cycle1 number kb 6 23 8 g holds lines.0 c.pc c.live e (omega arith) in
       passes true here (before + 1) (suc (suc kb)) (goes_to_pc g (word_sum g.pc 8)) (branched before kb (suc (suc kb)) (word_sum g.pc 8) g c (omega arith) goes (omega arith)) lines.1.1.0 (omega arith) may
   chosen_alone here bound before kb g few c lines next test (InHeap alone may other is) = absurd (cc)
   chosen_alone here bound before kb g few c lines next test (Nowhere may other not_heap) =
-      let t1 = in_cycles before t in
+      let cycle1 = in_cycles before t in
       let holds = holds_in_cycles image before t here.enters.running.code in
       let within = lines.1.1.0.within in
       let pc = c.pc in
-      let e : (g.registers 6 == g.registers 23) ≡ false = test_is _ _ _ _ false test (c.same.shared_data ∙ here.enters.at.stands.shared_data) other in
-      let goes = beq_on image t1 number kb 6 23 8 g holds lines.0 c.pc c.live e in
+      let e : (g.registers t1 == g.registers shared_register) ≡ false = test_is _ _ _ _ false test (c.same.shared_data ∙ here.enters.at.stands.shared_data) other in
+      let goes = beq_on image cycle1 number kb 6 23 8 g holds lines.0 c.pc c.live e in
       refuses true here (before + 1) (suc kb) (goes_to_pc g (word_sum g.pc 4)) (branched before kb (suc kb) (word_sum g.pc 4) g c (omega arith) goes (omega arith)) lines.1.0 may
 
   chosen_any : IsHere false → (bound : ℕ → ℕ) (before kb : ℕ) (g : Hart) → before ≤ 5 → IsChecked before kb g → LinesAt image bound kb (choices false) → places.block (suc i) ≡ kb + 5
-      → g.registers 7 ≡ shared_bits a → g.registers 6 ≡ heap_bits a → Checks false a → DoesAnd core image places setting t p h (before + 1 + 1) 0 KeepsMost
+      → g.registers t2 ≡ shared_bits a → g.registers t1 ≡ heap_bits a → Checks false a → DoesAnd core image places setting t p h (before + 1 + 1) 0 KeepsMost
   chosen_any here bound before kb g few c lines next test test' (InShared may is) =
       let code = here.enters.running.code in
       let holds = holds_in_cycles image before t code in
       let within = lines.1.1.1.1.0.within in
       let pc = c.pc in
-      let e : (g.registers 7 == g.registers 23) ≡ true = test_is _ _ _ _ true test (c.same.shared_data ∙ here.enters.at.stands.shared_data) is in
+      let e : (g.registers t2 == g.registers shared_register) ≡ true = test_is _ _ _ _ true test (c.same.shared_data ∙ here.enters.at.stands.shared_data) is in
       let goes = beq_taken image (in_cycles before t) number kb 7 23 12 g holds lines.0 c.pc c.live e (omega arith) in
       let k3 = suc (suc (suc kb)) in
       let g1 = goes_to_pc g (word_sum g.pc 12) in
@@ -332,30 +334,30 @@ module _ (core : List CoreOp) (image : Image) (places : Places) (i : ℕ) (op : 
       let code = here.enters.running.code in
       let within = lines.1.1.1.1.0.within in
       let pc = c.pc in
-      let e : (g.registers 7 == g.registers 23) ≡ false = test_is _ _ _ _ false test (c.same.shared_data ∙ here.enters.at.stands.shared_data) other in
+      let e : (g.registers t2 == g.registers shared_register) ≡ false = test_is _ _ _ _ false test (c.same.shared_data ∙ here.enters.at.stands.shared_data) other in
       let goes = beq_on image (in_cycles before t) number kb 7 23 12 g (holds_in_cycles image before t code) lines.0 c.pc c.live e in
       let g1 = goes_to_pc g (word_sum g.pc 4) in
       let c1 = branched before kb (suc kb) (word_sum g.pc 4) g c (omega arith) goes (omega arith) in
       let pc1 = c1.pc in
       let k4 = suc (suc (suc (suc kb))) in
-      let e1 : (g1.registers 6 == g1.registers 24) ≡ true = test_is _ _ _ _ true test' (c.same.private_heap ∙ here.enters.at.stands.private_heap) is in
+      let e1 : (g1.registers t1 == g1.registers heap_register) ≡ true = test_is _ _ _ _ true test' (c.same.private_heap ∙ here.enters.at.stands.private_heap) is in
       let goes1 = beq_taken image (in_cycles (before + 1) t) number (suc kb) 6 24 12 g1 (holds_in_cycles image (before + 1) t code) lines.1.0 c1.pc c1.live e1 (omega arith) in
       passes false here (before + 1 + 1) k4 (goes_to_pc g1 (word_sum g1.pc 12)) (branched (before + 1) (suc kb) k4 (word_sum g1.pc 12) g1 c1 (omega arith) goes1 (omega arith)) lines.1.1.1.1.0 (omega arith) may
   chosen_any here bound before kb g few c lines next test test' (Nowhere may other not_heap) =
       let code = here.enters.running.code in
       let within = lines.1.1.1.1.0.within in
       let pc = c.pc in
-      let e : (g.registers 7 == g.registers 23) ≡ false = test_is _ _ _ _ false test (c.same.shared_data ∙ here.enters.at.stands.shared_data) other in
+      let e : (g.registers t2 == g.registers shared_register) ≡ false = test_is _ _ _ _ false test (c.same.shared_data ∙ here.enters.at.stands.shared_data) other in
       let goes = beq_on image (in_cycles before t) number kb 7 23 12 g (holds_in_cycles image before t code) lines.0 c.pc c.live e in
       let g1 = goes_to_pc g (word_sum g.pc 4) in
       let c1 = branched before kb (suc kb) (word_sum g.pc 4) g c (omega arith) goes (omega arith) in
       let pc1 = c1.pc in
-      let e1 : (g1.registers 6 == g1.registers 24) ≡ false = test_is _ _ _ _ false test' (c.same.private_heap ∙ here.enters.at.stands.private_heap) (not_heap refl) in
+      let e1 : (g1.registers t1 == g1.registers heap_register) ≡ false = test_is _ _ _ _ false test' (c.same.private_heap ∙ here.enters.at.stands.private_heap) (not_heap refl) in
       let goes1 = beq_on image (in_cycles (before + 1) t) number (suc kb) 6 24 12 g1 (holds_in_cycles image (before + 1) t code) lines.1.0 c1.pc c1.live e1 in
       refuses false here (before + 1 + 1) (suc (suc kb)) (goes_to_pc g1 (word_sum g1.pc 4)) (branched (before + 1) (suc kb) (suc (suc kb)) (word_sum g1.pc 4) g1 c1 (omega arith) goes1 (omega arith)) lines.1.1.0 may
 
   chosen : (alone : Bool) → IsHere alone → (bound : ℕ → ℕ) (before kb : ℕ) (g : Hart) → before ≤ 5 → IsChecked before kb g → LinesAt image bound kb (choices alone)
-      → places.block (suc i) ≡ kb + length (choices alone) → g.registers (shared_test_register alone) ≡ shared_bits a → (alone ≡ false → g.registers 6 ≡ heap_bits a)
+      → places.block (suc i) ≡ kb + length (choices alone) → g.registers (shared_test_register alone) ≡ shared_bits a → (alone ≡ false → g.registers t1 ≡ heap_bits a)
       → Checks alone a → DoesAnd core image places setting t p h (chosen_in alone before) 0 KeepsMost
   chosen true here bound before kb g few c lines next test heap finds = chosen_alone here bound before kb g few c lines next test finds
   chosen false here bound before kb g few c lines next test heap finds = chosen_any here bound before kb g few c lines next test (heap refl) finds
@@ -367,7 +369,7 @@ module _ (core : List CoreOp) (image : Image) (places : Places) (i : ℕ) (op : 
       let stands = en.at.stands in
       let d = op.depth in
       let some = last_found core image places i op (Check alone) setting t p h en here.fits (let l = here.fits.values in omega arith) in
-      let w = local_index (word_sum (h.registers 9) (at_value d)) in
+      let w = local_index (word_sum (h.registers end_register) (at_value d)) in
       let qs = straight short alone d op.site w in
       let stands_at = subst (HasBlock image bound places i) (are_lines short alone d op.site w) has in
       let k = places.block i in

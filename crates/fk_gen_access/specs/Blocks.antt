@@ -15,12 +15,13 @@ use Rattle.fk_isa.specs.declared.instruction.Instruction.TheVariants.{Sub, Sltu,
 use Rattle.fk_isa.specs.declared.instruction.Instruction.TheVariants.{AmoAddW, AmoAndW, AmoOrW}
 use Rattle.fk_isa.specs.declared.instruction.Instruction.TheVariants.{AmoMaxW}
 use Rattle.fk_asm.specs.Block.{MarkedLine}
-use Rattle.fk_sim_block.specs.Stands.{end_register, top_register, shared_register, heap_register}
+use Rattle.fk_sim_block.specs.Stands.{zero_register, top_register, shared_register, heap_register}
 use Rattle.fk_sim_block.specs.Stands.{shared_mask_register, device_register, heap_mask_register}
 use Rattle.fk_core.specs.Numbers.{operation_of}
 use Rattle.fk_gen.specs.declared.placed.Placed.{Placed}
-use Rattle.fk_gen.specs.Registers.{zero_register, t0, t1, t2, t3}
-use Rattle.fk_gen.specs.Lines.{quiet, commits, at_value, load_number}
+use Rattle.fk_gen.specs.Registers.{t0, t1, t2, t3}
+use Rattle.fk_gen.specs.Operands.{operand, result}
+use Rattle.fk_gen.specs.Lines.{quiet, commits, load_number}
 use Rattle.fk_gen_access.specs.Heap.{hire_block}
 
 -- A block without branches: the instructions before its commit, the commit, and those after it.
@@ -43,24 +44,17 @@ byte_device = 4
 abbrev pub fault_device : ℕ
 fault_device = 8
 
--- Load the last of `depth` values, or the one before it, into a register; and store a register in
--- their places.
-abbrev pub load_last : (register depth : ℕ) → Instruction
-load_last r d = Lw r end_register (at_value d)
+-- Take the value before the last of `depth` values into a register; and give its place a register.
+abbrev pub earlier_operand : (register depth : ℕ) → Instruction
+earlier_operand r d = operand r (d - 1)
 
-abbrev pub load_earlier : (register depth : ℕ) → Instruction
-load_earlier r d = Lw r end_register (at_value (d - 1))
-
-abbrev pub store_last : (register depth : ℕ) → Instruction
-store_last r d = Sw end_register r (at_value d)
-
-abbrev pub store_earlier : (register depth : ℕ) → Instruction
-store_earlier r d = Sw end_register r (at_value (d - 1))
+abbrev pub earlier_result : (register depth : ℕ) → Instruction
+earlier_result r d = result r (d - 1)
 
 -- Prints the last value as a number, or its lowest byte.
 abbrev pub print_block : (device depth : ℕ) → Straight
 print_block device d = record {
-  before = load_last t0 d ∷ [];
+  before = operand t0 d ∷ [];
   commit = Sw device_register t0 device;
   behind = [];
 }
@@ -68,17 +62,17 @@ print_block device d = record {
 -- Puts the word at an address in place of the address.
 abbrev pub read_block : (depth : ℕ) → Straight
 read_block d = record {
-  before = load_last t0 d ∷ [];
+  before = operand t0 d ∷ [];
   commit = Lw t0 t0 0;
-  behind = store_last t0 d ∷ [];
+  behind = result t0 d ∷ [];
 }
 
 -- Writes a value to the word at the address before it. The value stays.
 abbrev pub write_block : (depth : ℕ) → Straight
 write_block d = record {
-  before = load_earlier t0 d ∷ load_last t1 d ∷ [];
+  before = earlier_operand t0 d ∷ operand t1 d ∷ [];
   commit = Sw t0 t1 0;
-  behind = store_earlier t1 d ∷ [];
+  behind = earlier_result t1 d ∷ [];
 }
 
 -- Combines a value with the word at the address before it. The former word stays in place of both.
@@ -90,9 +84,9 @@ combining MpOr = AmoOrW t0 t0 t1 false false
 
 abbrev pub combine_block : Multiprefix → (depth : ℕ) → Straight
 combine_block by d = record {
-  before = load_earlier t0 d ∷ load_last t1 d ∷ [];
+  before = earlier_operand t0 d ∷ operand t1 d ∷ [];
   commit = combining by;
-  behind = store_earlier t0 d ∷ [];
+  behind = earlier_result t0 d ∷ [];
 }
 
 -- Checks an address by masks: that of shared data, and that of the private heap. An address that
@@ -107,13 +101,13 @@ refuse = Sw device_register t0 fault_device
 
 abbrev pub shared_test : (depth : ℕ) → List MarkedLine
 shared_test d =
-    quiet (load_last t1 d) ∷ quiet (And t1 t1 shared_mask_register) ∷
+    quiet (operand t1 d) ∷ quiet (And t1 t1 shared_mask_register) ∷
     quiet (Beq t1 shared_register 8) ∷ commits refuse ∷
     commits idle ∷ []
 
 abbrev pub any_test : (depth : ℕ) → List MarkedLine
 any_test d =
-    quiet (load_last t1 d) ∷ quiet (And t2 t1 shared_mask_register) ∷
+    quiet (operand t1 d) ∷ quiet (And t2 t1 shared_mask_register) ∷
     quiet (And t1 t1 heap_mask_register) ∷
     quiet (Beq t2 shared_register 12) ∷ quiet (Beq t1 heap_register 12) ∷ commits refuse
     ∷ quiet idle ∷ commits idle ∷ []
@@ -137,11 +131,11 @@ private_heap = 0x20010
 abbrev pub take_block : (depth : ℕ) → Straight
 take_block d = record {
   before = [];
-  commit = load_last t0 d;
+  commit = operand t0 d;
   behind =
       Addi t0 t0 3 ∷ Srli t0 t0 2 ∷ Lui t1 heap_words ∷ Sub t1 t1 top_register ∷
       Addi t2 t0 0xffffffff ∷ Sltu t2 t2 t1 ∷ Sub t2 zero_register t2 ∷
-      Slli t1 top_register 2 ∷ Lui t3 private_heap ∷ Add t1 t1 t3 ∷ And t1 t1 t2 ∷ store_last t1 d
+      Slli t1 top_register 2 ∷ Lui t3 private_heap ∷ Add t1 t1 t3 ∷ And t1 t1 t2 ∷ result t1 d
       ∷ And t0 t0 t2 ∷ Add top_register top_register t0 ∷ [];
 }
 

@@ -8,10 +8,11 @@ use Rattle.fk_isa.specs.declared.instruction.Instruction.TheVariants.{Sltiu, Sll
 use Rattle.fk_isa.specs.declared.instruction.Instruction.TheVariants.{Sltu, Mul}
 use Rattle.fk_isa.specs.declared.instruction.Instruction.TheVariants.{AmoAddW}
 use Rattle.fk_asm.specs.Block.{MarkedLine}
-use Rattle.fk_sim_block.specs.Stands.{end_register, local_register, shared_register}
+use Rattle.fk_sim_block.specs.Stands.{zero_register, local_register, shared_register}
 use Rattle.fk_sim_block.specs.Stands.{device_register}
-use Rattle.fk_gen.specs.Registers.{zero_register, ra, t0, t1, t2, t3}
-use Rattle.fk_gen.specs.Lines.{quiet, commits, goes_to, at_value, high_part, low_part}
+use Rattle.fk_gen.specs.Registers.{ra, t0, t1, t2, t3}
+use Rattle.fk_gen.specs.Operands.{operand, result}
+use Rattle.fk_gen.specs.Lines.{quiet, commits, goes_to, high_part, low_part}
 use Rattle.fk_gen.specs.InPlace.{LinesAt}
 
 -- The label of the code that all blocks of `shmalloc` share.
@@ -26,8 +27,8 @@ full_offset = 8
 -- in its place.
 abbrev pub hire_block : (depth : ℕ) → List MarkedLine
 hire_block depth =
-    quiet (Lw t0 end_register (at_value depth)) ∷ goes_to (Jal ra 0) heap_label
-    ∷ quiet (Sw end_register t0 (at_value depth)) ∷ []
+    quiet (operand t0 depth) ∷ goes_to (Jal ra 0) heap_label
+    ∷ quiet (result t0 depth) ∷ []
 
 -- The size in words: 0 where it is not above 0, or where the hart has found the heap full.
 abbrev pub ask : List Instruction

@@ -4,18 +4,15 @@ ghost use Rattle.std.specs.Prelude.{◌≡◌, ◌+◌, ◌^◌, ◌<◌, ◌≤
 ghost use Rattle.fk_isa.specs.Fits.{Fits};
 ghost use Rattle.fk_asm.specs.Assembly.{AreFollowed};
 ghost use Rattle.fk_asm.specs.Block.{HasBegun, with_block};
-ghost use Rattle.fk_gen_access.specs.Blocks.{lines, load_last, load_earlier, store_last};
-ghost use Rattle.fk_gen_access.specs.Blocks.{store_earlier, combining, take_block, check_block};
+ghost use Rattle.fk_gen_access.specs.Blocks.{lines, earlier_operand};
+ghost use Rattle.fk_gen_access.specs.Blocks.{earlier_result, combining, take_block, check_block};
 ghost use Rattle.fk_gen_access.specs.Blocks.{shared_test, any_test, test_lines, read_block};
 ghost use Rattle.fk_gen_access.specs.Blocks.{write_block, combine_block, print_block};
 
 use crate::heap::hire;
 use fk_asm::{Assembler, Blocks};
-use fk_gen::numbers::at_value;
-use fk_gen::registers::{
-    DEVICES, END, HEAP, HEAP_MASK, SHARED, SHARED_MASK, T0, T1, T2, T3, TOP, ZERO,
-};
-use fk_gen::{BlockLine, Placed, emit_lines, emit_number};
+use fk_gen::registers::{DEVICES, HEAP, HEAP_MASK, SHARED, SHARED_MASK, T0, T1, T2, T3, TOP, ZERO};
+use fk_gen::{BlockLine, Placed, emit_lines, emit_number, operand, result};
 use fk_isa::Instruction;
 use fk_meaning_operation::{Multiprefix, Operation};
 use std::alloc::AllocError;
@@ -71,7 +68,7 @@ fn take(into: &mut Assembler, depth: u32) -> Result<(), AllocError>
     emit_lines(
         into,
         &[
-            BlockLine::commits(load_last(T0, depth)),
+            BlockLine::commits(operand(T0, depth)),
             BlockLine::quiet(Instruction::Addi(T0, T0, 3)),
             BlockLine::quiet(Instruction::Srli(T0, T0, 2)),
             BlockLine::quiet(Instruction::Lui(T1, HEAP_WORDS)),
@@ -83,7 +80,7 @@ fn take(into: &mut Assembler, depth: u32) -> Result<(), AllocError>
             BlockLine::quiet(Instruction::Lui(T3, PRIVATE_HEAP)),
             BlockLine::quiet(Instruction::Add(T1, T1, T3)),
             BlockLine::quiet(Instruction::And(T1, T1, T2)),
-            BlockLine::quiet(store_last(T1, depth)),
+            BlockLine::quiet(result(T1, depth)),
             BlockLine::quiet(Instruction::And(T0, T0, T2)),
             BlockLine::quiet(Instruction::Add(TOP, TOP, T0)),
         ],
@@ -129,7 +126,7 @@ fn test_shared(into: &mut Assembler, depth: u32) -> Result<(), AllocError>
     emit_lines(
         into,
         &[
-            BlockLine::quiet(load_last(T1, depth)),
+            BlockLine::quiet(operand(T1, depth)),
             BlockLine::quiet(Instruction::And(T1, T1, SHARED_MASK)),
             BlockLine::quiet(Instruction::Beq(T1, SHARED, 8)),
             BlockLine::commits(Instruction::Sw(DEVICES, T0, FAULT_DEVICE)),
@@ -150,7 +147,7 @@ fn test_any(into: &mut Assembler, depth: u32) -> Result<(), AllocError>
     emit_lines(
         into,
         &[
-            BlockLine::quiet(load_last(T1, depth)),
+            BlockLine::quiet(operand(T1, depth)),
             BlockLine::quiet(Instruction::And(T2, T1, SHARED_MASK)),
             BlockLine::quiet(Instruction::And(T1, T1, HEAP_MASK)),
             BlockLine::quiet(Instruction::Beq(T2, SHARED, 12)),
@@ -172,9 +169,9 @@ fn read(into: &mut Assembler, depth: u32) -> Result<(), AllocError>
     emit_lines(
         into,
         &[
-            BlockLine::quiet(load_last(T0, depth)),
+            BlockLine::quiet(operand(T0, depth)),
             BlockLine::commits(Instruction::Lw(T0, T0, 0)),
-            BlockLine::quiet(store_last(T0, depth)),
+            BlockLine::quiet(result(T0, depth)),
         ],
     )
 }
@@ -189,10 +186,10 @@ fn write(into: &mut Assembler, depth: u32) -> Result<(), AllocError>
     emit_lines(
         into,
         &[
-            BlockLine::quiet(load_earlier(T0, depth)),
-            BlockLine::quiet(load_last(T1, depth)),
+            BlockLine::quiet(earlier_operand(T0, depth)),
+            BlockLine::quiet(operand(T1, depth)),
             BlockLine::commits(Instruction::Sw(T0, T1, 0)),
-            BlockLine::quiet(store_earlier(T1, depth)),
+            BlockLine::quiet(earlier_result(T1, depth)),
         ],
     )
 }
@@ -207,10 +204,10 @@ fn combine(into: &mut Assembler, by: Multiprefix, depth: u32) -> Result<(), Allo
     emit_lines(
         into,
         &[
-            BlockLine::quiet(load_earlier(T0, depth)),
-            BlockLine::quiet(load_last(T1, depth)),
+            BlockLine::quiet(earlier_operand(T0, depth)),
+            BlockLine::quiet(operand(T1, depth)),
             BlockLine::commits(combining(by)),
-            BlockLine::quiet(store_earlier(T0, depth)),
+            BlockLine::quiet(earlier_result(T0, depth)),
         ],
     )
 }
@@ -227,7 +224,7 @@ fn print(into: &mut Assembler, device: u32, depth: u32) -> Result<(), AllocError
     emit_lines(
         into,
         &[
-            BlockLine::quiet(load_last(T0, depth)),
+            BlockLine::quiet(operand(T0, depth)),
             BlockLine::commits(Instruction::Sw(DEVICES, T0, device)),
         ],
     )
@@ -246,42 +243,22 @@ fn combining(by: Multiprefix) -> Instruction
     }
 }
 
-/// Loads the last of `depth` values into a register.
-pub(crate) fn load_last(register: u8, depth: u32) -> Instruction
+// Takes the value before the last of `depth` values into a register.
+fn earlier_operand(register: u8, depth: u32) -> Instruction
     requires register { register < 32 }
     requires depth { depth ≤ 56 }
-    ensures exact { result ≡ load_last register depth }
+    ensures exact { result ≡ earlier_operand register depth }
     ensures fits { Fits result }
 {
-    Instruction::Lw(register, END, at_value(depth))
+    operand(register, depth.saturating_sub(1))
 }
 
-// Loads the value before the last of `depth` values into a register.
-fn load_earlier(register: u8, depth: u32) -> Instruction
+// Gives the place of the value before the last of `depth` values the value in a register.
+fn earlier_result(register: u8, depth: u32) -> Instruction
     requires register { register < 32 }
     requires depth { depth ≤ 56 }
-    ensures exact { result ≡ load_earlier register depth }
+    ensures exact { result ≡ earlier_result register depth }
     ensures fits { Fits result }
 {
-    Instruction::Lw(register, END, at_value(depth.saturating_sub(1)))
-}
-
-/// Stores a register in place of the last of `depth` values.
-pub(crate) fn store_last(register: u8, depth: u32) -> Instruction
-    requires register { register < 32 }
-    requires depth { depth ≤ 56 }
-    ensures exact { result ≡ store_last register depth }
-    ensures fits { Fits result }
-{
-    Instruction::Sw(END, register, at_value(depth))
-}
-
-// Stores a register in place of the value before the last of `depth` values.
-fn store_earlier(register: u8, depth: u32) -> Instruction
-    requires register { register < 32 }
-    requires depth { depth ≤ 56 }
-    ensures exact { result ≡ store_earlier register depth }
-    ensures fits { Fits result }
-{
-    Instruction::Sw(END, register, at_value(depth.saturating_sub(1)))
+    result(register, depth.saturating_sub(1))
 }

@@ -8,11 +8,10 @@ ghost use Rattle.fk_gen.specs.Lines.{quiet, commits};
 ghost use Rattle.fk_gen_access.specs.Heap.{heap_lines, hire_block, ask, add_up};
 ghost use Rattle.fk_gen_access.specs.Heap.{tell, find_end, give, back};
 
-use crate::blocks::{load_last, store_last};
 use fk_asm::Assembler;
 use fk_gen::numbers::{high_part, low_part};
 use fk_gen::registers::{DEVICES, LOCAL, RA, SHARED, T0, T1, T2, T3, ZERO};
-use fk_gen::{BlockLine, emit_lines};
+use fk_gen::{BlockLine, emit_lines, operand, result};
 use fk_isa::Instruction;
 use std::alloc::AllocError;
 
@@ -58,9 +57,9 @@ pub(crate) fn hire(into: &mut Assembler, depth: u32) -> Result<(), AllocError>
     emit_lines(
         into,
         &[
-            BlockLine::quiet(load_last(T0, depth)),
+            BlockLine::quiet(operand(T0, depth)),
             BlockLine::goes_to(Instruction::Jal(RA, 0), HEAP_LABEL),
-            BlockLine::quiet(store_last(T0, depth)),
+            BlockLine::quiet(result(T0, depth)),
         ],
     )
 }

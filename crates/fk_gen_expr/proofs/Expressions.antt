@@ -23,20 +23,23 @@ use Rattle.fk_isa.specs.declared.instruction.Instruction.{Instruction}
 use Rattle.fk_isa.specs.declared.instruction.Instruction.TheVariants.{Lui, Addi, Slli, Add, Mul, Lw, Sw}
 use Rattle.fk_machine.specs.Hart.{Hart, Setting as MachineSetting}
 use Rattle.fk_sim_block.specs.Owner.{Owner, number_of, owner_of}
-use Rattle.fk_sim_block.specs.Stands.{Places, HasRoom, frame_end, frame_start, group_word, local_address, StandsFor}
+use Rattle.fk_sim_block.specs.Stands.{Places, HasRoom, frame_start, group_word, value_in, StandsFor, zero_register, frame_register, end_register, local_register, device_register, number_register, rank_register, size_register}
 use Rattle.fk_sim_block.specs.Next.{OpAt}
 use Rattle.fk_sim_block.specs.Suits.{Fits, Flows, writes}
 use Rattle.fk_sim_block.specs.Block.{Enters}
 use Rattle.fk_gen.specs.InPlace.{HasBlock}
 use Rattle.fk_gen.specs.Keeps.{Keeps, DoesAnd, past_first, peak}
-use Rattle.fk_gen.specs.Lines.{first_commits, at_value, at_private, high_part, low_part, load_by, load_number, add_by}
-use Rattle.fk_gen.proofs.Walk.{Told, Quiets, Reached, Plain, LocalAt, TellsNumber, TellsHarts, TellsInputs, walk, CanWalk, told_of, after}
+use Rattle.fk_gen.specs.Lines.{first_commits, at_private, high_part, low_part, load_by, load_number, add_by}
+use Rattle.fk_gen.proofs.Walk.{Told, Quiets, Reached, Plain, LocalAt, TellsNumber, TellsHarts, TellsInputs, walk, CanRun, CanWalk, told_of, after}
 use Rattle.fk_gen_expr.specs.Operators.{operator_code, sign_instruction}
-use Rattle.fk_gen_expr.specs.Expressions.{IsExpression, expression_block, load_value, store_value, load_frame, frame_word, times_size}
+use Rattle.fk_gen_expr.specs.Expressions.{IsExpression, expression_block, load_frame, frame_word, times_size}
 use Rattle.fk_gen_expr.specs.Law.{ExpressionsDo, ExpressionsKeep}
-use Rattle.fk_gen.proofs.Values.{other_word, values_before, value_at, values_put, joined_is, value_place, private_place, own_place, number_of_parts, number_of_low_part, sum_of_low, sum_of_parts}
+use Rattle.fk_gen.specs.Operands.{operand, result}
+use Rattle.fk_gen.proofs.ValueLines.{place_reached, operand_line, result_line, operand_runs, result_runs, operand_is, earlier_is, result_keeps, result_stands}
+use Rattle.fk_gen.proofs.Values.{other_word, values_before, joined_is, value_place, private_place, own_place, number_of_parts, number_of_low_part, sum_of_low, sum_of_parts}
 use Rattle.fk_gen.proofs.Does.{local_doing, does_of}
-use Rattle.fk_gen.proofs.Standing.{InMemory, in_memory, stands_with, with_list, value_written, nothing_written, private_written, own_written}
+use Rattle.fk_gen.proofs.Standing.{InMemory, in_memory, stands_with, with_list, nothing_written, private_written, own_written}
+use Rattle.fk_gen.specs.Registers.{t0, t1, t2}
 use Rattle.fk_gen_expr.proofs.Local.{length-on_registers, IsLocal, code_does, instructions_of, on_registers, instructions_of-append, walk-append, can_walk-append}
 use Rattle.fk_gen_expr.proofs.Operators.{few_of_operator, HasSame, Gives, HasOperands, itself, gives_behind, operator_gives, sign_gives}
 use Rattle.fk_gen_expr.proofs.Values.{last_word, words_before, element, word_element}
@@ -88,7 +91,7 @@ module _ (core : List CoreOp) (image : Image) (places : Places) (bound : ℕ →
 
   -- code that leaves a value in a register, which then is stored in place of the last so many
   value_does : (operation : Operation) (code : Quiets) (register dropped k v : ℕ) → Here operation
-      → first_commits (instructions_of (code ++ (store_value register k, LocalAt (frame_end n - k)) ∷ [])) ≡ expression_block globals d operation
+      → first_commits (instructions_of (code ++ result_line register n k ∷ [])) ≡ expression_block globals d operation
       → length code ≤ 20
       → IsLocal core i op operation p
       → local setting operation p.runner.has ≡ with_values p.runner.has (v ∷ before dropped vs)
@@ -98,21 +101,19 @@ module _ (core : List CoreOp) (image : Image) (places : Places) (bound : ℕ →
       → IsDone operation
   value_does operation code register dropped k v here same short is_local done gives flows room enough top high =
       let stands = here.enters.at.stands in
-      let store : Instruction × Reached = (store_value register k, LocalAt (frame_end n - k)) in
+      let store : Instruction × Reached = result_line register n k in
       let full : Quiets = code ++ store ∷ [] in
       let h1 = walk told code h in
       let h2 = after told store.0 store.1 h1 in
       let waiting = here.enters.ready.in_range.waiting in
       let header = room.header in
       let new = v ∷ before dropped vs in
-      let can = can_walk-append told code (store ∷ []) h gives.can (value_place (h1.registers 9) n k (gives.same.2 ∙ stands.behind) waiting (omega arith) (omega arith), tt) in
-      let written : InMemory places (put h.local (frame_end n - k) v) (with_list core places (suc i) new p) =
-      value_written core places h.local p i (suc i) k v new here.few waiting here.enters.index room (omega arith) flows (in_memory places p h stands)
-      (values_put dropped k h.local (frame_end n) v vs enough top (omega arith) stands.running.values) in
-      let memory : put h.local (frame_end n - k) v ≡ h2.local =
-      sym (ap (λ m. put m (frame_end n - k) (h1.registers register)) gives.local ∙ ap (put h.local (frame_end n - k)) gives.result) in
+      let can = can_walk-append told code (store ∷ []) h gives.can (result_runs register n k h1 (gives.same.2 ∙ stands.behind) waiting (omega arith) (omega arith), tt) in
+      let written : InMemory places h2.local (with_list core places (suc i) new p) =
+      result_stands core places told p i (suc i) register dropped k v h1 here.few waiting here.enters.index room enough top flows gives.result
+      (subst (λ m. InMemory places m p) (sym gives.local) (in_memory places p h stands)) in
       let standing : StandsFor places (with_list core places (suc i) new p) h2 =
-      stands_after operation h2 (with_list core places (suc i) new p) here gives.same refl refl refl (subst (λ m. InMemory places m (with_list core places (suc i) new p)) memory written) in
+      stands_after operation h2 (with_list core places (suc i) new p) here gives.same refl refl refl written in
       let size : length full ≡ length code + 1 = length-append code (store ∷ []) in
       let kept : KeepsMost operation h2 =
       record {
@@ -120,8 +121,8 @@ module _ (core : List CoreOp) (image : Image) (places : Places) (bound : ℕ →
         body = gives.same.14;
         frames = gives.same.15;
         blocks = gives.same.16;
-        header = λ j lt apart. ap (λ m. m j) (sym memory) ∙ other_word h.local (frame_end n - k) v j (λ e. omega arith);
-        words = λ j from lt apart. ap (λ m. m j) (sym memory) ∙ other_word h.local (frame_end n - k) v j (λ e. omega arith);
+        header = λ j lt apart. result_keeps told register n k h1 j (omega arith) ∙ ap (λ m. m j) gives.local;
+        words = λ j from lt apart. result_keeps told register n k h1 j (omega arith) ∙ ap (λ m. m j) gives.local;
       } in
       subst (λ block. DoesAnd core image places setting t p h 0 (past_first block) (KeepsMost operation)) same
       (code_does core image places bound i op operation setting t p h full (KeepsMost operation) here.at here.enters
@@ -133,22 +134,21 @@ module _ (core : List CoreOp) (image : Image) (places : Places) (bound : ℕ →
 
   -- ---- what a hart finds
 
-  top_at : (operation : Operation) → Here operation → 1 ≤ d → h.local (frame_end n - d) ≡ last vs
-  top_at operation here some =
-      let depth = here.enters.ready.depth in
-      let k : d ≡ length vs - 0 = omega arith in
-      ap (λ k. h.local (frame_end n - k)) k ∙ value_at 0 h.local (frame_end n) vs (omega arith) here.enters.at.stands.running.values
+  top_at : (operation : Operation) → Here operation → 1 ≤ d → value_in h n d ≡ last vs
+  top_at operation here some = operand_is (value_in h n) d vs here.enters.at.stands.running.values here.enters.ready.depth some
 
-  second_at : (operation : Operation) → Here operation → 2 ≤ d → h.local (frame_end n - (d - 1)) ≡ last (before 1 vs)
-  second_at operation here two =
-      let depth = here.enters.ready.depth in
-      let k : d - 1 ≡ length vs - 1 = omega arith in
-      ap (λ k. h.local (frame_end n - k)) k ∙ value_at 1 h.local (frame_end n) vs (omega arith) here.enters.at.stands.running.values
+  second_at : (operation : Operation) → Here operation → 2 ≤ d → value_in h n (d - 1) ≡ last (before 1 vs)
+  second_at operation here two = earlier_is (value_in h n) d vs here.enters.at.stands.running.values here.enters.ready.depth two
 
-  -- the k-th value is loaded
-  reaches : (operation : Operation) (k : ℕ) → Here operation → 1 ≤ k → k ≤ 64
-      → (frame_end n - k < 32768) × (word_sum (h.registers 9) (at_value k) ≡ local_address (frame_end n - k))
-  reaches operation k here first last = value_place (h.registers 9) n k here.enters.at.stands.behind here.enters.ready.in_range.waiting first last
+  -- an operand is taken
+  reaches : (operation : Operation) (register k : ℕ) → Here operation → 1 ≤ k → k ≤ 64 → CanRun (operand register k) (place_reached n k) h
+  reaches operation register k here first last =
+      operand_runs register n k h here.enters.at.stands.behind here.enters.ready.in_range.waiting first last
+
+  -- the header's word with the address of the call's group frame is loaded
+  header_runs : (operation : Operation) (register : ℕ) → Here operation → CanRun (load_frame register) (LocalAt (group_word n)) h
+  header_runs operation register here =
+      value_place (h.registers end_register) n 61 here.enters.at.stands.behind here.enters.ready.in_range.waiting (omega arith) (omega arith)
 
   -- ---- operations that push
 
@@ -166,7 +166,7 @@ module _ (core : List CoreOp) (image : Image) (places : Places) (bound : ℕ →
   few_of_number true number = omega arith
   few_of_number false number = omega arith
 
-  number_gives : (short : Bool) (number : ℕ) → (high_part number == 0) ≡ short → h.registers 0 ≡ 0 → Gives told (on_registers (load_by short number)) h 5 (word number)
+  number_gives : (short : Bool) (number : ℕ) → (high_part number == 0) ≡ short → h.registers zero_register ≡ 0 → Gives told (on_registers (load_by short number)) h t0 (word number)
   number_gives true number e nought = record {
     can = (tt, tt);
     same = itself h;
@@ -184,7 +184,7 @@ module _ (core : List CoreOp) (image : Image) (places : Places) (bound : ℕ →
   push_does number here =
       let depth = here.enters.ready.depth in
       let short = high_part number == 0 in
-      value_does (Push number) (on_registers (load_by short number)) 5 0 (d + 1) (word number) here (number_lines short number _ _ refl) (few_of_number short number)
+      value_does (Push number) (on_registers (load_by short number)) t0 0 (d + 1) (word number) here (number_lines short number _ _ refl) (few_of_number short number)
       record { kind = refl; onward = refl } refl
       (number_gives short number refl here.enters.at.stands.nought)
       (here.fits.goes_on true) (room_for_one here.fits.place) (omega arith) (omega arith) (omega arith)
@@ -193,10 +193,10 @@ module _ (core : List CoreOp) (image : Image) (places : Places) (bound : ℕ →
   copy_does here =
       let depth = here.enters.ready.depth in
       let is = here.is in
-      value_does CopyLast ((load_value 5 d, LocalAt (frame_end n - d)) ∷ []) 5 0 (d + 1) (last vs) here refl (omega arith)
+      value_does CopyLast (operand_line t0 n d ∷ []) t0 0 (d + 1) (last vs) here refl (omega arith)
       record { kind = refl; onward = refl } refl
       record {
-        can = (reaches CopyLast d here is.0 (omega arith), tt);
+        can = (reaches CopyLast t0 d here is.0 (omega arith), tt);
         same = itself h;
         local = refl;
         result = top_at CopyLast here is.0;
@@ -205,7 +205,7 @@ module _ (core : List CoreOp) (image : Image) (places : Places) (bound : ℕ →
 
   -- what code leaves in a register of what is known
   get_with : (known : OwnValue) (code : Quiets) (register v : ℕ) → Here (Get known)
-      → first_commits (instructions_of (code ++ (store_value register (d + 1), LocalAt (frame_end n - (d + 1))) ∷ [])) ≡ expression_block globals d (Get known)
+      → first_commits (instructions_of (code ++ result_line register n (d + 1) ∷ [])) ≡ expression_block globals d (Get known)
       → length code ≤ 20
       → local setting (Get known) p.runner.has ≡ with_values p.runner.has (v ∷ vs)
       → Gives told code h register v → IsDone (Get known)
@@ -220,8 +220,8 @@ module _ (core : List CoreOp) (image : Image) (places : Places) (bound : ℕ →
   in_register register v e = record { can = tt; same = itself h; local = refl; result = e }
 
   -- one that a device tells
-  by_device : (offset v : ℕ) (reached : Reached) → CanWalk told ((Lw 5 26 offset, reached) ∷ []) h → (walk told ((Lw 5 26 offset, reached) ∷ []) h).registers 5 ≡ v
-      → Gives told ((Lw 5 26 offset, reached) ∷ []) h 5 v
+  by_device : (offset v : ℕ) (reached : Reached) → CanWalk told ((Lw t0 device_register offset, reached) ∷ []) h → (walk told ((Lw t0 device_register offset, reached) ∷ []) h).registers t0 ≡ v
+      → Gives told ((Lw t0 device_register offset, reached) ∷ []) h t0 v
   by_device offset v reached can e = record {
     can = can;
     same = itself h;
@@ -230,7 +230,7 @@ module _ (core : List CoreOp) (image : Image) (places : Places) (bound : ℕ →
   }
 
   -- a register and a number
-  sum_gives : (short : Bool) (number a : ℕ) → (high_part number == 0) ≡ short → (g : Hart) → g.registers 6 ≡ a → Gives told (on_registers (add_by short number 6)) g 5 (word (a + number))
+  sum_gives : (short : Bool) (number a : ℕ) → (high_part number == 0) ≡ short → (g : Hart) → g.registers t1 ≡ a → Gives told (on_registers (add_by short number t1)) g t0 (word (a + number))
   sum_gives true number a e g is = record {
     can = (tt, tt);
     same = itself g;
@@ -246,7 +246,7 @@ module _ (core : List CoreOp) (image : Image) (places : Places) (bound : ℕ →
         ∙ sum_of_parts a (word_sum (high_part number * 4096) (low_part number)) number (number_of_parts number);
   }
 
-  few_of_sum : (load : Instruction × Reached) (short : Bool) (number : ℕ) → length (load ∷ on_registers (add_by short number 6)) ≤ 20
+  few_of_sum : (load : Instruction × Reached) (short : Bool) (number : ℕ) → length (load ∷ on_registers (add_by short number t1)) ≤ 20
   few_of_sum load true number = omega arith
   few_of_sum load false number = omega arith
 
@@ -260,10 +260,10 @@ module _ (core : List CoreOp) (image : Image) (places : Places) (bound : ℕ →
       let small = has.within in
       let address = has.address in
       let none = eqb-true w 0 e in
-      get_with (FrameAddress nesting w) ((load_frame 5, LocalAt (group_word n)) ∷ []) 5 (word (address_of (p.runner.has.call.frames nesting + w))) here
-      (ap (λ b. first_commits (frame_word b w ++ store_value 5 (d + 1) ∷ [])) (sym e)) (omega arith) refl
+      get_with (FrameAddress nesting w) ((load_frame t0, LocalAt (group_word n)) ∷ []) t0 (word (address_of (p.runner.has.call.frames nesting + w))) here
+      (ap (λ b. first_commits (frame_word b w ++ result t0 (d + 1) ∷ [])) (sym e)) (omega arith) refl
       record {
-        can = (reaches (Get (FrameAddress nesting w)) 61 here (omega arith) (omega arith), tt);
+        can = (header_runs (Get (FrameAddress nesting w)) t0 here, tt);
         same = itself h;
         local = refl;
         result = omega arith;
@@ -276,15 +276,15 @@ module _ (core : List CoreOp) (image : Image) (places : Places) (bound : ℕ →
       let a = address_of (p.runner.has.call.frames nesting) in
       let number = 4 * w in
       let short = high_part number == 0 in
-      let load : Instruction × Reached = (load_frame 6, LocalAt (group_word n)) in
+      let load : Instruction × Reached = (load_frame t1, LocalAt (group_word n)) in
       let same : word (a + number) ≡ word (address_of (p.runner.has.call.frames nesting + w)) = omega arith in
-      get_with (FrameAddress nesting w) (load ∷ on_registers (add_by short number 6)) 5 (word (address_of (p.runner.has.call.frames nesting + w))) here
-      (ap (λ rest. first_commits (load_frame 6 ∷ rest)) (instructions_of-append (add_by short number 6) ((store_value 5 (d + 1), LocalAt (frame_end n - (d + 1))) ∷ []))
-      ∙ ap (λ b. first_commits (frame_word b w ++ store_value 5 (d + 1) ∷ [])) (sym e))
+      get_with (FrameAddress nesting w) (load ∷ on_registers (add_by short number t1)) t0 (word (address_of (p.runner.has.call.frames nesting + w))) here
+      (ap (λ rest. first_commits (load_frame t1 ∷ rest)) (instructions_of-append (add_by short number t1) (result_line t0 n (d + 1) ∷ []))
+      ∙ ap (λ b. first_commits (frame_word b w ++ result t0 (d + 1) ∷ [])) (sym e))
       (few_of_sum load short number) refl
-      (subst (Gives told (load ∷ on_registers (add_by short number 6)) h 5) same
-      (gives_behind told (load ∷ []) (on_registers (add_by short number 6)) h 5 (word (a + number))
-      (reaches (Get (FrameAddress nesting w)) 61 here (omega arith) (omega arith), tt) (itself h) refl
+      (subst (Gives told (load ∷ on_registers (add_by short number t1)) h t0) same
+      (gives_behind told (load ∷ []) (on_registers (add_by short number t1)) h t0 (word (a + number))
+      (header_runs (Get (FrameAddress nesting w)) t1 here, tt) (itself h) refl
       (sum_gives short number a refl (after told load.0 load.1 h) has.address)))
 
   get_does : (known : OwnValue) → Here (Get known) → IsDone (Get known)
@@ -292,9 +292,9 @@ module _ (core : List CoreOp) (image : Image) (places : Places) (bound : ℕ →
       let stands = here.enters.at.stands in
       let is = here.is in
       let place = here.fits.place in
-      get_with (Value (Private w)) ((Lw 5 8 (at_private w), LocalAt (frame_start places n + 7 + w)) ∷ []) 5 (p.runner.has.call.privates w) here refl (omega arith) refl
+      get_with (Value (Private w)) ((Lw t0 frame_register (at_private w), LocalAt (frame_start places n + 7 + w)) ∷ []) t0 (p.runner.has.call.privates w) here refl (omega arith) refl
       record {
-        can = (private_place places (h.registers 8) n w stands.frame here.enters.ready.in_range.waiting here.few is.1, tt);
+        can = (private_place places (h.registers frame_register) n w stands.frame here.enters.ready.in_range.waiting here.few is.1, tt);
         same = itself h;
         local = refl;
         result = stands.running.privates w (ap (λ at. places.frames.keeps at w) here.enters.index ∙ place.0);
@@ -303,24 +303,24 @@ module _ (core : List CoreOp) (image : Image) (places : Places) (bound : ℕ →
       let stands = here.enters.at.stands in
       let is = here.is in
       let place = here.fits.place in
-      get_with (Value (OfFile w)) ((Lw 5 22 (at_private w), LocalAt (7 + w)) ∷ []) 5 (p.runner.has.own w) here refl (omega arith) refl
+      get_with (Value (OfFile w)) ((Lw t0 local_register (at_private w), LocalAt (7 + w)) ∷ []) t0 (p.runner.has.own w) here refl (omega arith) refl
       record {
-        can = (own_place (h.registers 22) w stands.local is.1, tt);
+        can = (own_place (h.registers local_register) w stands.local is.1, tt);
         same = itself h;
         local = refl;
         result = stands.own w place.0;
       }
-  get_does Rank here = get_with Rank [] 19 p.runner.has.level.rank here refl (omega arith) refl (in_register 19 _ here.enters.at.stands.rank)
-  get_does GroupNumber here = get_with GroupNumber [] 18 p.runner.has.level.number here refl (omega arith) refl (in_register 18 _ here.enters.at.stands.number)
-  get_does GroupSize here = get_with GroupSize [] 20 p.runner.has.level.size here refl (omega arith) refl (in_register 20 _ here.enters.at.stands.size)
+  get_does Rank here = get_with Rank [] rank_register p.runner.has.level.rank here refl (omega arith) refl (in_register rank_register _ here.enters.at.stands.rank)
+  get_does GroupNumber here = get_with GroupNumber [] number_register p.runner.has.level.number here refl (omega arith) refl (in_register number_register _ here.enters.at.stands.number)
+  get_does GroupSize here = get_with GroupSize [] size_register p.runner.has.level.size here refl (omega arith) refl (in_register size_register _ here.enters.at.stands.size)
   get_does ProcessorNumber here =
-      get_with ProcessorNumber ((Lw 5 26 20, TellsNumber) ∷ []) 5 p.runner.has.number here refl (omega arith) refl
+      get_with ProcessorNumber ((Lw t0 device_register 20, TellsNumber) ∷ []) t0 p.runner.has.number here refl (omega arith) refl
       (by_device 20 p.runner.has.number TellsNumber (ap (λ a. word_sum a 20) here.enters.at.stands.devices, tt) refl)
   get_does Processors here =
-      get_with Processors ((Lw 5 26 24, TellsHarts) ∷ []) 5 setting.processors here refl (omega arith) refl
+      get_with Processors ((Lw t0 device_register 24, TellsHarts) ∷ []) t0 setting.processors here refl (omega arith) refl
       (by_device 24 setting.processors TellsHarts (ap (λ a. word_sum a 24) here.enters.at.stands.devices, tt) here.enters.running.processors)
   get_does InputLength here =
-      get_with InputLength ((Lw 5 26 28, TellsInputs) ∷ []) 5 setting.inputs here refl (omega arith) refl
+      get_with InputLength ((Lw t0 device_register 28, TellsInputs) ∷ []) t0 setting.inputs here refl (omega arith) refl
       (by_device 28 setting.inputs TellsInputs (ap (λ a. word_sum a 28) here.enters.at.stands.devices, tt) here.enters.running.inputs)
   get_does InputAddress here =
       let is = here.is in
@@ -329,7 +329,7 @@ module _ (core : List CoreOp) (image : Image) (places : Places) (bound : ℕ →
       let whole : word (address_of globals) ≡ address_of setting.globals = omega arith in
       let short = high_part (address_of globals) == 0 in
       let gives = number_gives short (address_of globals) refl here.enters.at.stands.nought in
-      get_with InputAddress (on_registers (load_by short (address_of globals))) 5 (address_of setting.globals) here
+      get_with InputAddress (on_registers (load_by short (address_of globals))) t0 (address_of setting.globals) here
       (number_lines short (address_of globals) _ _ refl) (few_of_number short (address_of globals)) refl
       record {
         can = gives.can;
@@ -345,16 +345,16 @@ module _ (core : List CoreOp) (image : Image) (places : Places) (bound : ℕ →
   apply_does sign here =
       let depth = here.enters.ready.depth in
       let is = here.is in
-      let load : Instruction × Reached = (load_value 5 d, LocalAt (frame_end n - d)) in
-      value_does (Apply sign) (load ∷ on_registers (sign_instruction sign ∷ [])) 5 1 d (applied_to sign (last vs)) here refl (omega arith)
+      let load : Instruction × Reached = operand_line t0 n d in
+      value_does (Apply sign) (load ∷ on_registers (sign_instruction sign ∷ [])) t0 1 d (applied_to sign (last vs)) here refl (omega arith)
       record { kind = refl; onward = refl } refl
-      (gives_behind told (load ∷ []) (on_registers (sign_instruction sign ∷ [])) h 5 (applied_to sign (last vs))
-      (reaches (Apply sign) d here is.0 is.1, tt) (itself h) refl
+      (gives_behind told (load ∷ []) (on_registers (sign_instruction sign ∷ [])) h t0 (applied_to sign (last vs))
+      (reaches (Apply sign) t0 d here is.0 is.1, tt) (itself h) refl
       (sign_gives told sign (after told load.0 load.1 h) (last vs) here.enters.at.stands.nought (top_at (Apply sign) here is.0)))
       (here.fits.goes_on true) here.fits.room (omega arith) (omega arith) (omega arith)
 
   join_with : (sign : Op) (turned : Bool) (first second : Instruction × Reached) (a b : ℕ) → Here (Binary sign turned)
-      → first_commits (first.0 ∷ second.0 ∷ (operator_code sign ++ store_value 5 (d - 1) ∷ [])) ≡ expression_block globals d (Binary sign turned)
+      → first_commits (first.0 ∷ second.0 ∷ (operator_code sign ++ result t0 (d - 1) ∷ [])) ≡ expression_block globals d (Binary sign turned)
       → CanWalk told (first ∷ second ∷ []) h → HasSame h (walk told (first ∷ second ∷ []) h)
       → (walk told (first ∷ second ∷ []) h).local ≡ h.local
       → HasOperands (walk told (first ∷ second ∷ []) h) a b
@@ -365,12 +365,12 @@ module _ (core : List CoreOp) (image : Image) (places : Places) (bound : ℕ →
       let is = here.is in
       let short = few_of_operator sign in
       let count = length-on_registers (operator_code sign) in
-      value_does (Binary sign turned) (first ∷ second ∷ on_registers (operator_code sign)) 5 2 (d - 1) (applied sign a b) here
+      value_does (Binary sign turned) (first ∷ second ∷ on_registers (operator_code sign)) t0 2 (d - 1) (applied sign a b) here
       (ap (λ rest. first_commits (first.0 ∷ second.0 ∷ rest)) (instructions_of-append (operator_code sign) _) ∙ same)
       (omega arith)
       record { kind = refl; onward = refl }
       (ap (with_values p.runner.has) (joined_is (in_order turned (applied sign)) vs (omega arith) ∙ ap (λ v. v ∷ before 2 vs) order))
-      (gives_behind told (first ∷ second ∷ []) (on_registers (operator_code sign)) h 5 (applied sign a b) can unchanged locals
+      (gives_behind told (first ∷ second ∷ []) (on_registers (operator_code sign)) h t0 (applied sign a b) can unchanged locals
       (operator_gives told sign (walk told (first ∷ second ∷ []) h) a b operands))
       (here.fits.goes_on true) (less_room places i d (d - 1) (omega arith) here.fits.room) (omega arith) (omega arith) (omega arith)
 
@@ -378,12 +378,12 @@ module _ (core : List CoreOp) (image : Image) (places : Places) (bound : ℕ →
   join_does sign false here =
       let is = here.is in
       let words = here.enters.ready.in_range.values in
-      let first : Instruction × Reached = (load_value 5 (d - 1), LocalAt (frame_end n - (d - 1))) in
-      let second : Instruction × Reached = (load_value 6 d, LocalAt (frame_end n - d)) in
+      let first : Instruction × Reached = operand_line t0 n (d - 1) in
+      let second : Instruction × Reached = operand_line t1 n d in
       let a = second_at (Binary sign false) here is.0 in
       let b = top_at (Binary sign false) here (omega arith) in
       join_with sign false first second (last (before 1 vs)) (last vs) here refl
-      (reaches (Binary sign false) (d - 1) here (omega arith) (omega arith), (reaches (Binary sign false) d here (omega arith) is.1, tt))
+      (reaches (Binary sign false) t0 (d - 1) here (omega arith) (omega arith), (reaches (Binary sign false) t1 d here (omega arith) is.1, tt))
       (itself h) refl
       record {
         nought = here.enters.at.stands.nought;
@@ -396,12 +396,12 @@ module _ (core : List CoreOp) (image : Image) (places : Places) (bound : ℕ →
   join_does sign true here =
       let is = here.is in
       let words = here.enters.ready.in_range.values in
-      let first : Instruction × Reached = (load_value 6 (d - 1), LocalAt (frame_end n - (d - 1))) in
-      let second : Instruction × Reached = (load_value 5 d, LocalAt (frame_end n - d)) in
+      let first : Instruction × Reached = operand_line t1 n (d - 1) in
+      let second : Instruction × Reached = operand_line t0 n d in
       let a = second_at (Binary sign true) here is.0 in
       let b = top_at (Binary sign true) here (omega arith) in
       join_with sign true first second (last vs) (last (before 1 vs)) here refl
-      (reaches (Binary sign true) (d - 1) here (omega arith) (omega arith), (reaches (Binary sign true) d here (omega arith) is.1, tt))
+      (reaches (Binary sign true) t1 (d - 1) here (omega arith) (omega arith), (reaches (Binary sign true) t0 d here (omega arith) is.1, tt))
       (itself h) refl
       record {
         nought = here.enters.at.stands.nought;
@@ -414,46 +414,46 @@ module _ (core : List CoreOp) (image : Image) (places : Places) (bound : ℕ →
 
   -- code behind the two values, that leaves the address in t0
   index_with : (size : ℕ) (code : Quiets) → Here (Index size)
-      → first_commits (load_value 5 (d - 1) ∷ load_value 6 d ∷ instructions_of (code ++ (store_value 5 (d - 1), LocalAt (frame_end n - (d - 1))) ∷ [])) ≡ expression_block globals d (Index size)
+      → first_commits (operand t0 (d - 1) ∷ operand t1 d ∷ instructions_of (code ++ result_line t0 n (d - 1) ∷ [])) ≡ expression_block globals d (Index size)
       → length code ≤ 10
-      → ((g : Hart) → g.registers 5 ≡ last (before 1 vs) → g.registers 6 ≡ last vs → Gives told code g 5 (word (last (before 1 vs) + last vs * size)))
+      → ((g : Hart) → g.registers t0 ≡ last (before 1 vs) → g.registers t1 ≡ last vs → Gives told code g t0 (word (last (before 1 vs) + last vs * size)))
       → IsDone (Index size)
   index_with size code here same few gives =
       let depth = here.enters.ready.depth in
       let is = here.is in
-      let first : Instruction × Reached = (load_value 5 (d - 1), LocalAt (frame_end n - (d - 1))) in
-      let second : Instruction × Reached = (load_value 6 d, LocalAt (frame_end n - d)) in
-      value_does (Index size) (first ∷ second ∷ code) 5 2 (d - 1) (word (last (before 1 vs) + last vs * size)) here same (omega arith)
+      let first : Instruction × Reached = operand_line t0 n (d - 1) in
+      let second : Instruction × Reached = operand_line t1 n d in
+      value_does (Index size) (first ∷ second ∷ code) t0 2 (d - 1) (word (last (before 1 vs) + last vs * size)) here same (omega arith)
       record { kind = refl; onward = refl }
       (ap (with_values p.runner.has) (joined_is (λ address index. word (address + index * size)) vs (omega arith)))
-      (gives_behind told (first ∷ second ∷ []) code h 5 (word (last (before 1 vs) + last vs * size))
-      (reaches (Index size) (d - 1) here (omega arith) (omega arith), (reaches (Index size) d here (omega arith) is.1, tt)) (itself h) refl
+      (gives_behind told (first ∷ second ∷ []) code h t0 (word (last (before 1 vs) + last vs * size))
+      (reaches (Index size) t0 (d - 1) here (omega arith) (omega arith), (reaches (Index size) t1 d here (omega arith) is.1, tt)) (itself h) refl
       (gives (walk told (first ∷ second ∷ []) h) (second_at (Index size) here is.0) (top_at (Index size) here (omega arith))))
       (here.fits.goes_on true) (less_room places i d (d - 1) (omega arith) here.fits.room) (omega arith) (omega arith) (omega arith)
 
   index_by : (size : ℕ) (is_word : Bool) → (size == 4) ≡ is_word → Here (Index size) → IsDone (Index size)
   index_by size true e here =
-      index_with size ((Slli 6 6 2, Plain) ∷ (Add 5 5 6, Plain) ∷ []) here
-      (ap (λ b. first_commits (load_value 5 (d - 1) ∷ load_value 6 d ∷ (times_size b size ++ Add 5 5 6 ∷ store_value 5 (d - 1) ∷ []))) (sym e)) (omega arith)
+      index_with size ((Slli t1 t1 2, Plain) ∷ (Add t0 t0 t1, Plain) ∷ []) here
+      (ap (λ b. first_commits (operand t0 (d - 1) ∷ operand t1 d ∷ (times_size b size ++ Add t0 t0 t1 ∷ result t0 (d - 1) ∷ []))) (sym e)) (omega arith)
       (λ g a b. record {
         can = (tt, (tt, tt));
         same = itself g;
         local = refl;
         result =
-            ap (λ x. word_sum x (word (g.registers 6 * 4))) a ∙ ap (λ x. word_sum (last (before 1 vs)) (word (x * 4))) b
+            ap (λ x. word_sum x (word (g.registers t1 * 4))) a ∙ ap (λ x. word_sum (last (before 1 vs)) (word (x * 4))) b
             ∙ word_element (last (before 1 vs)) (last vs) size (eqb-true size 4 e);
       })
   index_by size false e here =
       let is = here.is in
       let number = word_sum (high_part size * 4096) (low_part size) in
-      index_with size ((Lui 7 (high_part size), Plain) ∷ (Addi 7 7 (low_part size), Plain) ∷ (Mul 6 6 7, Plain) ∷ (Add 5 5 6, Plain) ∷ []) here
-      (ap (λ b. first_commits (load_value 5 (d - 1) ∷ load_value 6 d ∷ (times_size b size ++ Add 5 5 6 ∷ store_value 5 (d - 1) ∷ []))) (sym e)) (omega arith)
+      index_with size ((Lui t2 (high_part size), Plain) ∷ (Addi t2 t2 (low_part size), Plain) ∷ (Mul t1 t1 t2, Plain) ∷ (Add t0 t0 t1, Plain) ∷ []) here
+      (ap (λ b. first_commits (operand t0 (d - 1) ∷ operand t1 d ∷ (times_size b size ++ Add t0 t0 t1 ∷ result t0 (d - 1) ∷ []))) (sym e)) (omega arith)
       (λ g a b. record {
         can = (tt, (tt, (tt, (tt, tt))));
         same = itself g;
         local = refl;
         result =
-            ap (λ x. word_sum x (word (g.registers 6 * number))) a ∙ ap (λ x. word_sum (last (before 1 vs)) (word (x * number))) b
+            ap (λ x. word_sum x (word (g.registers t1 * number))) a ∙ ap (λ x. word_sum (last (before 1 vs)) (word (x * number))) b
             ∙ element (last (before 1 vs)) (last vs) size is.2;
       })
 
@@ -465,15 +465,15 @@ module _ (core : List CoreOp) (image : Image) (places : Places) (bound : ℕ →
   drop_does : Here DropLast → IsDone DropLast
   drop_does here =
       let flows : Flows core places.frames (λ word. false) i (suc i) = here.fits.goes_on true in
-      let h1 = after told (Addi 0 0 0) Plain h in
+      let h1 = after told (Addi zero_register zero_register 0) Plain h in
       let new = before 1 vs in
-      code_does core image places bound i op DropLast setting t p h ((Addi 0 0 0, Plain) ∷ []) (KeepsMost DropLast) here.at here.enters here.block (omega arith) (omega arith)
+      code_does core image places bound i op DropLast setting t p h ((Addi zero_register zero_register 0, Plain) ∷ []) (KeepsMost DropLast) here.at here.enters here.block (omega arith) (omega arith)
       record { kind = refl; onward = refl }
       (tt, tt)
       (stands_after DropLast h1 (with_list core places (suc i) new p) here (itself h) refl refl refl
       (nothing_written core places h.local p i (suc i) d new here.few here.enters.ready.in_range.waiting here.enters.index here.fits.room flows
       (in_memory places p h here.enters.at.stands)
-      (values_before 1 h.local (frame_end n) vs here.enters.at.stands.running.values)))
+      (values_before 1 (value_in h n) vs here.enters.at.stands.running.values)))
       record { node = refl; body = refl; frames = refl; blocks = refl; header = λ j lt apart. refl; words = λ j from lt apart. refl }
 
   set_does : (variable : Variable) → Here (Set variable) → IsDone (Set variable)
@@ -483,15 +483,15 @@ module _ (core : List CoreOp) (image : Image) (places : Places) (bound : ℕ →
       let waiting = here.enters.ready.in_range.waiting in
       let is = here.is in
       let flows : Flows core places.frames (writes (Set (Private w))) i (suc i) = here.fits.goes_on true in
-      let load : Instruction × Reached = (load_value 5 d, LocalAt (frame_end n - d)) in
-      let store : Instruction × Reached = (Sw 8 5 (at_private w), LocalAt (frame_start places n + 7 + w)) in
+      let load : Instruction × Reached = operand_line t0 n d in
+      let store : Instruction × Reached = (Sw frame_register t0 (at_private w), LocalAt (frame_start places n + 7 + w)) in
       let h1 = after told load.0 load.1 h in
       let h2 = after told store.0 store.1 h1 in
       let new : Owner = owner_of (local_doing core image places setting i op (Set (Private w)) p) in
       let found = ap (put h.local (frame_start places n + 7 + w)) (sym (top_at (Set (Private w)) here is.0)) in
       code_does core image places bound i op (Set (Private w)) setting t p h (load ∷ store ∷ []) (KeepsMost (Set (Private w))) here.at here.enters here.block (omega arith) (omega arith)
       record { kind = refl; onward = refl }
-      (reaches (Set (Private w)) d here is.0 is.1, (private_place places (h.registers 8) n w stands.frame waiting here.few is.2, tt))
+      (reaches (Set (Private w)) t0 d here is.0 is.1, (private_place places (h.registers frame_register) n w stands.frame waiting here.few is.2, tt))
       (stands_after (Set (Private w)) h2 new here (itself h) refl refl refl
       (subst (λ m. InMemory places m new) found
       (private_written core places h.local p i (suc i) w (last vs) d here.few waiting here.enters.index here.fits.room (omega arith) here.fits.place flows
@@ -501,8 +501,8 @@ module _ (core : List CoreOp) (image : Image) (places : Places) (bound : ℕ →
         body = refl;
         frames = refl;
         blocks = refl;
-        header = λ j lt apart. other_word h.local (frame_start places n + 7 + w) (h1.registers 5) j (λ e. omega arith);
-        words = λ j from lt apart. other_word h.local (frame_start places n + 7 + w) (h1.registers 5) j (apart w (eq-eqb w w refl));
+        header = λ j lt apart. other_word h.local (frame_start places n + 7 + w) (h1.registers t0) j (λ e. omega arith);
+        words = λ j from lt apart. other_word h.local (frame_start places n + 7 + w) (h1.registers t0) j (apart w (eq-eqb w w refl));
       }
   set_does (OfFile w) here =
       let depth = here.enters.ready.depth in
@@ -510,8 +510,8 @@ module _ (core : List CoreOp) (image : Image) (places : Places) (bound : ℕ →
       let waiting = here.enters.ready.in_range.waiting in
       let is = here.is in
       let flows : Flows core places.frames (λ word. false) i (suc i) = here.fits.goes_on true in
-      let load : Instruction × Reached = (load_value 5 d, LocalAt (frame_end n - d)) in
-      let store : Instruction × Reached = (Sw 22 5 (at_private w), LocalAt (7 + w)) in
+      let load : Instruction × Reached = operand_line t0 n d in
+      let store : Instruction × Reached = (Sw local_register t0 (at_private w), LocalAt (7 + w)) in
       let place = here.fits.place in
       let h1 = after told load.0 load.1 h in
       let h2 = after told store.0 store.1 h1 in
@@ -519,7 +519,7 @@ module _ (core : List CoreOp) (image : Image) (places : Places) (bound : ℕ →
       let found = ap (put h.local (7 + w)) (sym (top_at (Set (OfFile w)) here is.0)) in
       code_does core image places bound i op (Set (OfFile w)) setting t p h (load ∷ store ∷ []) (KeepsMost (Set (OfFile w))) here.at here.enters here.block (omega arith) (omega arith)
       record { kind = refl; onward = refl }
-      (reaches (Set (OfFile w)) d here is.0 is.1, (own_place (h.registers 22) w stands.local is.2, tt))
+      (reaches (Set (OfFile w)) t0 d here is.0 is.1, (own_place (h.registers local_register) w stands.local is.2, tt))
       (stands_after (Set (OfFile w)) h2 new here (itself h) refl refl refl
       (subst (λ m. InMemory places m new) found
       (own_written core places h.local p i (suc i) w (last vs) d here.few waiting here.enters.index here.fits.room (omega arith) here.fits.place flows
@@ -529,8 +529,8 @@ module _ (core : List CoreOp) (image : Image) (places : Places) (bound : ℕ →
         body = refl;
         frames = refl;
         blocks = refl;
-        header = λ j lt apart. other_word h.local (7 + w) (h1.registers 5) j (λ e. omega arith);
-        words = λ j from lt apart. other_word h.local (7 + w) (h1.registers 5) j (λ e. omega arith);
+        header = λ j lt apart. other_word h.local (7 + w) (h1.registers t0) j (λ e. omega arith);
+        words = λ j from lt apart. other_word h.local (7 + w) (h1.registers t0) j (λ e. omega arith);
       }
 
   -- each of them

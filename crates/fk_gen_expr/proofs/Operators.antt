@@ -13,6 +13,9 @@ use Rattle.fk_isa.specs.declared.instruction.Instruction.TheVariants.{Add, Sub, 
 use Rattle.fk_machine.specs.Hart.{Hart}
 use Rattle.fk_machine.proofs.Performs.{writes}
 use Rattle.fk_gen.proofs.Walk.{Told, Quiets, Plain, after, CanRun, walk, CanWalk}
+use Rattle.fk_sim_block.specs.Stands.{zero_register, frame_register, end_register, number_register, rank_register, size_register, top_register, local_register, shared_register, heap_register, shared_mask_register, device_register, heap_mask_register}
+use Rattle.fk_sim_block.specs.Node.{node_register, body_register, frames_register, blocks_register}
+use Rattle.fk_gen.specs.Registers.{t0, t1, t2}
 use Rattle.fk_gen_expr.specs.Operators.{operator_code, sign_instruction, keep_first, take_second}
 use Rattle.fk_gen_expr.proofs.Words.{chosen, not_less-signed, not_less-unsigned, equal, other, zero_alone, least-signed, greatest-signed, least-unsigned, greatest-unsigned}
 use Rattle.fk_gen_expr.proofs.Local.{on_registers, walk-append, can_walk-append}
@@ -20,11 +23,11 @@ use Rattle.fk_gen_expr.proofs.Local.{on_registers, walk-append, can_walk-append}
 -- the registers that stand for something
 abbrev pub HasSame : Hart → Hart → Type 0
 HasSame h h' =
-    (h'.registers 0 ≡ h.registers 0) × (h'.registers 8 ≡ h.registers 8) × (h'.registers 9 ≡ h.registers 9)
-    × (h'.registers 18 ≡ h.registers 18) × (h'.registers 19 ≡ h.registers 19) × (h'.registers 20 ≡ h.registers 20)
-    × (h'.registers 22 ≡ h.registers 22) × (h'.registers 23 ≡ h.registers 23) × (h'.registers 24 ≡ h.registers 24)
-    × (h'.registers 21 ≡ h.registers 21) × (h'.registers 25 ≡ h.registers 25) × (h'.registers 26 ≡ h.registers 26) × (h'.registers 27 ≡ h.registers 27)
-    × (h'.registers 10 ≡ h.registers 10) × (h'.registers 11 ≡ h.registers 11) × (h'.registers 12 ≡ h.registers 12) × (h'.registers 13 ≡ h.registers 13)
+    (h'.registers zero_register ≡ h.registers zero_register) × (h'.registers frame_register ≡ h.registers frame_register) × (h'.registers end_register ≡ h.registers end_register)
+    × (h'.registers number_register ≡ h.registers number_register) × (h'.registers rank_register ≡ h.registers rank_register) × (h'.registers size_register ≡ h.registers size_register)
+    × (h'.registers local_register ≡ h.registers local_register) × (h'.registers shared_register ≡ h.registers shared_register) × (h'.registers heap_register ≡ h.registers heap_register)
+    × (h'.registers top_register ≡ h.registers top_register) × (h'.registers shared_mask_register ≡ h.registers shared_mask_register) × (h'.registers device_register ≡ h.registers device_register) × (h'.registers heap_mask_register ≡ h.registers heap_mask_register)
+    × (h'.registers node_register ≡ h.registers node_register) × (h'.registers body_register ≡ h.registers body_register) × (h'.registers frames_register ≡ h.registers frames_register) × (h'.registers blocks_register ≡ h.registers blocks_register)
 
 -- code leaves a value in a register, and all that stands for something as it was
 pub record Gives (told : Told) (code : Quiets) (h : Hart) (register v : ℕ) : Type 0 where
@@ -54,113 +57,113 @@ gives_behind told xs ys h register v can same locals gives =
     }
 
 -- one instruction that gives t0 a value
-alone : (told : Told) (i : Instruction) (h : Hart) (v : ℕ) → CanRun i Plain h → after told i Plain h ≡ writes h 5 v
-    → Gives told (on_registers (i ∷ [])) h 5 v
+alone : (told : Told) (i : Instruction) (h : Hart) (v : ℕ) → CanRun i Plain h → after told i Plain h ≡ writes h t0 v
+    → Gives told (on_registers (i ∷ [])) h t0 v
 alone told i h v can e =
     let back = sym e in
     record {
       can = (can, tt);
       same = subst (HasSame h) back (itself h);
       local = subst (λ g. g.local ≡ h.local) back refl;
-      result = subst (λ g. g.registers 5 ≡ v) back refl;
+      result = subst (λ g. g.registers t0 ≡ v) back refl;
     }
 
 -- t0 and t1 have words
 pub record HasOperands (h : Hart) (a b : ℕ) : Type 0 where
-  pub nought : h.registers 0 ≡ 0
-  pub first : h.registers 5 ≡ a
-  pub second : h.registers 6 ≡ b
-  pub first_word : h.registers 5 < 2 ^ 32
-  pub second_word : h.registers 6 < 2 ^ 32
+  pub nought : h.registers zero_register ≡ 0
+  pub first : h.registers t0 ≡ a
+  pub second : h.registers t1 ≡ b
+  pub first_word : h.registers t0 < 2 ^ 32
+  pub second_word : h.registers t1 < 2 ^ 32
 
 -- a test in t2 chooses one of the two
-least_on : (told : Told) (i : Instruction) (h : Hart) (test v : ℕ) → CanRun i Plain h → after told i Plain h ≡ writes h 7 test → h.registers 0 ≡ 0
-    → chosen test (h.registers 6) (h.registers 5) ≡ v → Gives told (on_registers (i ∷ take_second)) h 5 v
+least_on : (told : Told) (i : Instruction) (h : Hart) (test v : ℕ) → CanRun i Plain h → after told i Plain h ≡ writes h t2 test → h.registers zero_register ≡ 0
+    → chosen test (h.registers t1) (h.registers t0) ≡ v → Gives told (on_registers (i ∷ take_second)) h t0 v
 least_on told i h test v can e nought result = record {
   can = subst (λ g. CanRun i Plain h × CanWalk told (on_registers take_second) g) (sym e) (can, (tt, (tt, (tt, (tt, tt)))));
   same = subst (λ g. HasSame h (walk told (on_registers take_second) g)) (sym e) (itself h);
   local = subst (λ g. (walk told (on_registers take_second) g).local ≡ h.local) (sym e) refl;
-  result = subst (λ g. (walk told (on_registers take_second) g).registers 5 ≡ v) (sym e)
-      (ap (λ z. word_sum (bit_and (applied op.Sub (h.registers 6) (h.registers 5)) (applied op.Sub z test)) (h.registers 5)) nought ∙ result);
+  result = subst (λ g. (walk told (on_registers take_second) g).registers t0 ≡ v) (sym e)
+      (ap (λ z. word_sum (bit_and (applied op.Sub (h.registers t1) (h.registers t0)) (applied op.Sub z test)) (h.registers t0)) nought ∙ result);
 }
 
-greatest_on : (told : Told) (i : Instruction) (h : Hart) (test v : ℕ) → CanRun i Plain h → after told i Plain h ≡ writes h 7 test → h.registers 0 ≡ 0
-    → chosen test (h.registers 5) (h.registers 6) ≡ v → Gives told (on_registers (i ∷ keep_first)) h 5 v
+greatest_on : (told : Told) (i : Instruction) (h : Hart) (test v : ℕ) → CanRun i Plain h → after told i Plain h ≡ writes h t2 test → h.registers zero_register ≡ 0
+    → chosen test (h.registers t0) (h.registers t1) ≡ v → Gives told (on_registers (i ∷ keep_first)) h t0 v
 greatest_on told i h test v can e nought result = record {
   can = subst (λ g. CanRun i Plain h × CanWalk told (on_registers keep_first) g) (sym e) (can, (tt, (tt, (tt, (tt, tt)))));
   same = subst (λ g. HasSame h (walk told (on_registers keep_first) g)) (sym e) (itself h);
   local = subst (λ g. (walk told (on_registers keep_first) g).local ≡ h.local) (sym e) refl;
-  result = subst (λ g. (walk told (on_registers keep_first) g).registers 5 ≡ v) (sym e)
-      (ap (λ z. word_sum (bit_and (applied op.Sub (h.registers 5) (h.registers 6)) (applied op.Sub z test)) (h.registers 6)) nought ∙ result);
+  result = subst (λ g. (walk told (on_registers keep_first) g).registers t0 ≡ v) (sym e)
+      (ap (λ z. word_sum (bit_and (applied op.Sub (h.registers t0) (h.registers t1)) (applied op.Sub z test)) (h.registers t1)) nought ∙ result);
 }
 
 operator_on : (told : Told) (o : Op) (h : Hart) (a b : ℕ) → HasOperands h a b
-    → Gives told (on_registers (operator_code o)) h 5 (applied o (h.registers 5) (h.registers 6))
-operator_on told op.Add h a b has = alone told (Add 5 5 6) h _ tt refl
-operator_on told op.Sub h a b has = alone told (Sub 5 5 6) h _ tt refl
-operator_on told op.Mul h a b has = alone told (Mul 5 5 6) h _ tt refl
-operator_on told op.MulHS h a b has = alone told (Mulh 5 5 6) h _ tt refl
-operator_on told op.MulHSU h a b has = alone told (Mulhsu 5 5 6) h _ tt refl
-operator_on told op.MulHU h a b has = alone told (Mulhu 5 5 6) h _ tt refl
-operator_on told op.DivS h a b has = alone told (Div 5 5 6) h _ tt refl
-operator_on told op.DivU h a b has = alone told (Divu 5 5 6) h _ tt refl
-operator_on told op.RemS h a b has = alone told (Rem 5 5 6) h _ tt refl
-operator_on told op.RemU h a b has = alone told (Remu 5 5 6) h _ tt refl
-operator_on told op.And h a b has = alone told (And 5 5 6) h _ tt refl
-operator_on told op.Or h a b has = alone told (Or 5 5 6) h _ tt refl
-operator_on told op.Xor h a b has = alone told (Xor 5 5 6) h _ tt refl
-operator_on told op.Shl h a b has = alone told (Sll 5 5 6) h _ tt refl
-operator_on told op.ShrS h a b has = alone told (Sra 5 5 6) h _ tt refl
-operator_on told op.ShrU h a b has = alone told (Srl 5 5 6) h _ tt refl
-operator_on told op.LtS h a b has = alone told (Slt 5 5 6) h _ tt refl
-operator_on told op.LtU h a b has = alone told (Sltu 5 5 6) h _ tt refl
+    → Gives told (on_registers (operator_code o)) h t0 (applied o (h.registers t0) (h.registers t1))
+operator_on told op.Add h a b has = alone told (Add t0 t0 t1) h _ tt refl
+operator_on told op.Sub h a b has = alone told (Sub t0 t0 t1) h _ tt refl
+operator_on told op.Mul h a b has = alone told (Mul t0 t0 t1) h _ tt refl
+operator_on told op.MulHS h a b has = alone told (Mulh t0 t0 t1) h _ tt refl
+operator_on told op.MulHSU h a b has = alone told (Mulhsu t0 t0 t1) h _ tt refl
+operator_on told op.MulHU h a b has = alone told (Mulhu t0 t0 t1) h _ tt refl
+operator_on told op.DivS h a b has = alone told (Div t0 t0 t1) h _ tt refl
+operator_on told op.DivU h a b has = alone told (Divu t0 t0 t1) h _ tt refl
+operator_on told op.RemS h a b has = alone told (Rem t0 t0 t1) h _ tt refl
+operator_on told op.RemU h a b has = alone told (Remu t0 t0 t1) h _ tt refl
+operator_on told op.And h a b has = alone told (And t0 t0 t1) h _ tt refl
+operator_on told op.Or h a b has = alone told (Or t0 t0 t1) h _ tt refl
+operator_on told op.Xor h a b has = alone told (Xor t0 t0 t1) h _ tt refl
+operator_on told op.Shl h a b has = alone told (Sll t0 t0 t1) h _ tt refl
+operator_on told op.ShrS h a b has = alone told (Sra t0 t0 t1) h _ tt refl
+operator_on told op.ShrU h a b has = alone told (Srl t0 t0 t1) h _ tt refl
+operator_on told op.LtS h a b has = alone told (Slt t0 t0 t1) h _ tt refl
+operator_on told op.LtU h a b has = alone told (Sltu t0 t0 t1) h _ tt refl
 operator_on told op.LeS h a b has = record {
   can = (tt, (tt, tt));
   same = itself h;
   local = refl;
-  result = not_less-signed (h.registers 5) (h.registers 6);
+  result = not_less-signed (h.registers t0) (h.registers t1);
 }
 operator_on told op.LeU h a b has = record {
   can = (tt, (tt, tt));
   same = itself h;
   local = refl;
-  result = not_less-unsigned (h.registers 5) (h.registers 6);
+  result = not_less-unsigned (h.registers t0) (h.registers t1);
 }
 operator_on told op.Eq h a b has = record {
   can = (tt, (tt, tt));
   same = itself h;
   local = refl;
-  result = equal (h.registers 5) (h.registers 6) has.first_word has.second_word;
+  result = equal (h.registers t0) (h.registers t1) has.first_word has.second_word;
 }
 operator_on told op.Ne h a b has = record {
   can = (tt, (tt, tt));
   same = itself h;
   local = refl;
   result =
-      ap (λ z. applied op.LtU z (applied op.Sub (h.registers 5) (h.registers 6))) has.nought
-      ∙ other (h.registers 5) (h.registers 6) has.first_word has.second_word;
+      ap (λ z. applied op.LtU z (applied op.Sub (h.registers t0) (h.registers t1))) has.nought
+      ∙ other (h.registers t0) (h.registers t1) has.first_word has.second_word;
 }
-operator_on told op.MinS h a b has = least_on told (Slt 7 6 5) h _ _ tt refl has.nought (least-signed (h.registers 5) (h.registers 6) has.first_word has.second_word)
-operator_on told op.MaxS h a b has = greatest_on told (Slt 7 6 5) h _ _ tt refl has.nought (greatest-signed (h.registers 5) (h.registers 6) has.first_word has.second_word)
-operator_on told op.MinU h a b has = least_on told (Sltu 7 6 5) h _ _ tt refl has.nought (least-unsigned (h.registers 5) (h.registers 6) has.first_word has.second_word)
-operator_on told op.MaxU h a b has = greatest_on told (Sltu 7 6 5) h _ _ tt refl has.nought (greatest-unsigned (h.registers 5) (h.registers 6) has.first_word has.second_word)
+operator_on told op.MinS h a b has = least_on told (Slt t2 t1 t0) h _ _ tt refl has.nought (least-signed (h.registers t0) (h.registers t1) has.first_word has.second_word)
+operator_on told op.MaxS h a b has = greatest_on told (Slt t2 t1 t0) h _ _ tt refl has.nought (greatest-signed (h.registers t0) (h.registers t1) has.first_word has.second_word)
+operator_on told op.MinU h a b has = least_on told (Sltu t2 t1 t0) h _ _ tt refl has.nought (least-unsigned (h.registers t0) (h.registers t1) has.first_word has.second_word)
+operator_on told op.MaxU h a b has = greatest_on told (Sltu t2 t1 t0) h _ _ tt refl has.nought (greatest-unsigned (h.registers t0) (h.registers t1) has.first_word has.second_word)
 
 -- the code of an operator gives in t0 what it gives of the words in t0 and t1
 pub operator_gives : (told : Told) (o : Op) (h : Hart) (a b : ℕ) → HasOperands h a b
-    → Gives told (on_registers (operator_code o)) h 5 (applied o a b)
+    → Gives told (on_registers (operator_code o)) h t0 (applied o a b)
 operator_gives told o h a b has =
-    subst (λ v. Gives told (on_registers (operator_code o)) h 5 v)
-    (ap (λ x. applied o x (h.registers 6)) has.first ∙ ap (applied o a) has.second)
+    subst (λ v. Gives told (on_registers (operator_code o)) h t0 v)
+    (ap (λ x. applied o x (h.registers t1)) has.first ∙ ap (applied o a) has.second)
     (operator_on told o h a b has)
 
 -- and that of a sign what it gives of the word in t0
-pub sign_gives : (told : Told) (sign : Unary) (h : Hart) (a : ℕ) → h.registers 0 ≡ 0 → h.registers 5 ≡ a
-    → Gives told (on_registers (sign_instruction sign ∷ [])) h 5 (applied_to sign a)
+pub sign_gives : (told : Told) (sign : Unary) (h : Hart) (a : ℕ) → h.registers zero_register ≡ 0 → h.registers t0 ≡ a
+    → Gives told (on_registers (sign_instruction sign ∷ [])) h t0 (applied_to sign a)
 sign_gives told Negate h a nought e = record {
   can = (tt, tt);
   same = itself h;
   local = refl;
-  result = ap (λ z. applied op.Sub z (h.registers 5)) nought ∙ ap (applied op.Sub 0) e;
+  result = ap (λ z. applied op.Sub z (h.registers t0)) nought ∙ ap (applied op.Sub 0) e;
 }
 sign_gives told Complement h a nought e = record {
   can = (tt, tt);

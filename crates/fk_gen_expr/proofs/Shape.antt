@@ -12,8 +12,9 @@ use Rattle.fk_isa.specs.declared.instruction.Instruction.TheVariants.{Add}
 use Rattle.fk_asm.proofs.Straight.{IsUnlabeled}
 use Rattle.fk_gen.specs.Lines.{quiet, commits, high_part, load_by, add_by, first_commits}
 use Rattle.fk_gen.specs.Registers.{t0, t1}
+use Rattle.fk_gen.specs.Operands.{operand, result}
 use Rattle.fk_gen_expr.specs.Operators.{operator_code}
-use Rattle.fk_gen_expr.specs.Expressions.{IsExpression, expression_block, expression_code, load_value, store_value, load_frame, frame_word, times_size}
+use Rattle.fk_gen_expr.specs.Expressions.{IsExpression, expression_block, expression_code, load_frame, frame_word, times_size}
 use Rattle.fk_gen_expr.proofs.Operators.{few_of_operator}
 
 quiet_unlabeled : (is : List Instruction) → All IsUnlabeled (map quiet is)
@@ -61,7 +62,7 @@ frame_short true word s = record { some = omega arith; few = omega arith }
 frame_short false word s = sum_short (high_part (4 * word) == 0) (4 * word) t1 (load_frame t1) s
 
 pub block_short : (globals d : ℕ) (operation : Operation) → IsExpression globals d operation → IsShortCode (length (expression_block globals d operation))
-block_short globals d (Push n) is = number_short (high_part n == 0) n (store_value t0 (d + 1))
+block_short globals d (Push n) is = number_short (high_part n == 0) n (result t0 (d + 1))
 block_short globals d (Get (Value variable)) is = record { some = omega arith; few = omega arith }
 block_short globals d (Get Rank) is = record { some = omega arith; few = omega arith }
 block_short globals d (Get GroupNumber) is = record { some = omega arith; few = omega arith }
@@ -69,13 +70,13 @@ block_short globals d (Get GroupSize) is = record { some = omega arith; few = om
 block_short globals d (Get ProcessorNumber) is = record { some = omega arith; few = omega arith }
 block_short globals d (Get Processors) is = record { some = omega arith; few = omega arith }
 block_short globals d (Get InputLength) is = record { some = omega arith; few = omega arith }
-block_short globals d (Get InputAddress) is = number_short (high_part (address_of globals) == 0) (address_of globals) (store_value t0 (d + 1))
-block_short globals d (Get (FrameAddress nesting word)) is = frame_short (word == 0) word (store_value t0 (d + 1))
+block_short globals d (Get InputAddress) is = number_short (high_part (address_of globals) == 0) (address_of globals) (result t0 (d + 1))
+block_short globals d (Get (FrameAddress nesting word)) is = frame_short (word == 0) word (result t0 (d + 1))
 block_short globals d (Set variable) is = record { some = omega arith; few = omega arith }
 block_short globals d DropLast is = record { some = omega arith; few = omega arith }
 block_short globals d CopyLast is = record { some = omega arith; few = omega arith }
 block_short globals d (Apply sign) is = record { some = omega arith; few = omega arith }
-block_short globals d (Binary sign false) is = joined_few (operator_code sign) (load_value t0 (d - 1)) (load_value t1 d) (store_value t0 (d - 1)) (omega arith) (few_of_operator sign)
-block_short globals d (Binary sign true) is = joined_few (operator_code sign) (load_value t1 (d - 1)) (load_value t0 d) (store_value t0 (d - 1)) (omega arith) (few_of_operator sign)
-block_short globals d (Index size) is = index_short (size == 4) size (load_value t0 (d - 1)) (load_value t1 d) (Add t0 t0 t1) (store_value t0 (d - 1))
+block_short globals d (Binary sign false) is = joined_few (operator_code sign) (operand t0 (d - 1)) (operand t1 d) (result t0 (d - 1)) (omega arith) (few_of_operator sign)
+block_short globals d (Binary sign true) is = joined_few (operator_code sign) (operand t1 (d - 1)) (operand t0 d) (result t0 (d - 1)) (omega arith) (few_of_operator sign)
+block_short globals d (Index size) is = index_short (size == 4) size (operand t0 (d - 1)) (operand t1 d) (Add t0 t0 t1) (result t0 (d - 1))
 block_short globals d operation is = absurd (assumption is)

@@ -31,20 +31,14 @@ use Rattle.fk_asm.specs.Block.{MarkedLine}
 use Rattle.fk_sim_block.specs.Stands.{frame_register, end_register, number_register, rank_register}
 use Rattle.fk_sim_block.specs.Stands.{size_register, local_register, device_register}
 use Rattle.fk_gen.specs.declared.placed.Placed.{Placed}
-use Rattle.fk_gen.specs.Registers.{zero_register, t0, t1, t2}
-use Rattle.fk_gen.specs.Lines.{at_value, at_private, high_part, low_part}
+use Rattle.fk_sim_block.specs.Stands.{zero_register}
+use Rattle.fk_gen.specs.Registers.{t0, t1, t2}
+use Rattle.fk_gen.specs.Operands.{operand, result}
+use Rattle.fk_gen.specs.Lines.{at_private, high_part, low_part}
 use Rattle.fk_gen.specs.Lines.{load_number, add_number, at_group_frame, first_commits}
 use Rattle.fk_gen_expr.specs.Operators.{operator_code, sign_instruction}
 
 -- ---- instructions
-
--- Load the k-th value of the call, counted from 1, into a register; and store a register in its
--- place.
-abbrev pub load_value : (register k : ℕ) → Instruction
-load_value register k = Lw register end_register (at_value k)
-
-abbrev pub store_value : (register k : ℕ) → Instruction
-store_value register k = Sw end_register register (at_value k)
 
 -- The register that has the address of a variable's frame or of local memory, and the variable's
 -- place from there.
@@ -66,10 +60,10 @@ store_variable variable = Sw (base_of variable) t0 (at_private (place_of variabl
 
 -- Pushes the word of a device, given its offset from the first device.
 abbrev pub push_device : (depth offset : ℕ) → List Instruction
-push_device d offset = Lw t0 device_register offset ∷ store_value t0 (d + 1) ∷ []
+push_device d offset = Lw t0 device_register offset ∷ result t0 (d + 1) ∷ []
 
 abbrev pub push_number : (depth n : ℕ) → List Instruction
-push_number d n = load_number n ++ store_value t0 (d + 1) ∷ []
+push_number d n = load_number n ++ result t0 (d + 1) ∷ []
 
 -- The address of a word of the call's group frame, in t0. The header has that of the first word.
 abbrev pub load_frame : (register : ℕ) → Instruction
@@ -80,13 +74,13 @@ frame_word true word = load_frame t0 ∷ []
 frame_word false word = load_frame t1 ∷ add_number (4 * word) t1
 
 abbrev pub frame_address : (depth word : ℕ) → List Instruction
-frame_address d word = frame_word (word == 0) word ++ store_value t0 (d + 1) ∷ []
+frame_address d word = frame_word (word == 0) word ++ result t0 (d + 1) ∷ []
 
 abbrev pub get_code : (globals depth : ℕ) → OwnValue → List Instruction
-get_code globals d (Value variable) = load_variable variable ∷ store_value t0 (d + 1) ∷ []
-get_code globals d Rank = store_value rank_register (d + 1) ∷ []
-get_code globals d GroupNumber = store_value number_register (d + 1) ∷ []
-get_code globals d GroupSize = store_value size_register (d + 1) ∷ []
+get_code globals d (Value variable) = load_variable variable ∷ result t0 (d + 1) ∷ []
+get_code globals d Rank = result rank_register (d + 1) ∷ []
+get_code globals d GroupNumber = result number_register (d + 1) ∷ []
+get_code globals d GroupSize = result size_register (d + 1) ∷ []
 get_code globals d ProcessorNumber = push_device d 20
 get_code globals d Processors = push_device d 24
 get_code globals d InputLength = push_device d 28
@@ -96,8 +90,8 @@ get_code globals d (FrameAddress nesting word) = frame_address d word
 -- An operator on the last two values, which come to these registers.
 abbrev pub join_code : (depth : ℕ) → Op → (first second : ℕ) → List Instruction
 join_code d sign first second =
-    load_value first (d - 1) ∷ load_value second d
-    ∷ (operator_code sign ++ store_value t0 (d - 1) ∷ [])
+    operand first (d - 1) ∷ operand second d
+    ∷ (operator_code sign ++ result t0 (d - 1) ∷ [])
 
 -- Adds an index times the size of an element to an address. For elements of one word the product is
 -- a shift.
@@ -107,17 +101,17 @@ times_size false size = Lui t2 (high_part size) ∷ Addi t2 t2 (low_part size) �
 
 abbrev pub index_code : (depth size : ℕ) → List Instruction
 index_code d size =
-    load_value t0 (d - 1) ∷ load_value t1 d
-    ∷ (times_size (size == 4) size ++ Add t0 t0 t1 ∷ store_value t0 (d - 1) ∷ [])
+    operand t0 (d - 1) ∷ operand t1 d
+    ∷ (times_size (size == 4) size ++ Add t0 t0 t1 ∷ result t0 (d - 1) ∷ [])
 
 abbrev pub expression_code : (globals depth : ℕ) → Operation → List Instruction
 expression_code globals d (Push n) = push_number d n
 expression_code globals d (Get known) = get_code globals d known
-expression_code globals d (Set variable) = load_value t0 d ∷ store_variable variable ∷ []
+expression_code globals d (Set variable) = operand t0 d ∷ store_variable variable ∷ []
 expression_code globals d DropLast = Addi zero_register zero_register 0 ∷ []
-expression_code globals d CopyLast = load_value t0 d ∷ store_value t0 (d + 1) ∷ []
+expression_code globals d CopyLast = operand t0 d ∷ result t0 (d + 1) ∷ []
 expression_code globals d (Apply sign) =
-    load_value t0 d ∷ sign_instruction sign ∷ store_value t0 d ∷ []
+    operand t0 d ∷ sign_instruction sign ∷ result t0 d ∷ []
 expression_code globals d (Binary sign false) = join_code d sign t0 t1
 expression_code globals d (Binary sign true) = join_code d sign t1 t0
 expression_code globals d (Index size) = index_code d size

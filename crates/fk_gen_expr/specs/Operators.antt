@@ -9,7 +9,8 @@ use Rattle.fk_isa.specs.declared.instruction.Instruction.TheVariants.{Xori, Slti
 use Rattle.fk_isa.specs.declared.instruction.Instruction.TheVariants.{Slt, Sltu, Xor, Srl, Sra, Or}
 use Rattle.fk_isa.specs.declared.instruction.Instruction.TheVariants.{And, Mul, Mulh, Mulhsu, Mulhu}
 use Rattle.fk_isa.specs.declared.instruction.Instruction.TheVariants.{Div, Divu, Rem, Remu}
-use Rattle.fk_gen.specs.Registers.{zero_register, t0, t1, t2}
+use Rattle.fk_sim_block.specs.Stands.{zero_register}
+use Rattle.fk_gen.specs.Registers.{t0, t1, t2}
 
 -- The instruction of a sign, on the word in t0.
 abbrev pub sign_instruction : Unary → Instruction

@@ -5,13 +5,14 @@ ghost use Rattle.fk_isa.specs.Fits.{Fits, IsRegister};
 ghost use Rattle.fk_asm.specs.Assembly.{AreFollowed};
 ghost use Rattle.fk_asm.specs.Block.{HasBegun, with_block};
 ghost use Rattle.fk_gen.specs.Lines.{first_commits};
+ghost use Rattle.fk_gen.specs.Operands as values;
 ghost use Rattle.fk_gen_expr.specs.Operators as operators;
 ghost use Rattle.fk_gen_expr.specs.Expressions as code;
 
 use fk_asm::{Assembler, Blocks};
-use fk_gen::numbers::{AT_GROUP_FRAME, at_private, at_value, high_part, low_part};
+use fk_gen::numbers::{AT_GROUP_FRAME, at_private, high_part, low_part};
 use fk_gen::registers::{DEVICES, END, FRAME, LOCAL, NUMBER, RANK, SIZE, T0, T1, T2, ZERO};
-use fk_gen::{BlockLine, Placed, emit_lines};
+use fk_gen::{BlockLine, Placed, emit_lines, operand, result};
 use fk_isa::Instruction;
 use fk_meaning_operation::{Operation, OwnValue, Unary, Variable};
 use fk_num::Op;
@@ -66,12 +67,10 @@ fn emit_expression(
         Operation::Push(number) => push_number(into, depth, number),
         Operation::Get(known) => get(into, globals, depth, known),
         Operation::Set(variable) => {
-            move_word(into, load_value(T0, depth), store_variable(variable))
+            move_word(into, operand(T0, depth), store_variable(variable))
         }
         Operation::DropLast => alone(into, Instruction::Addi(ZERO, ZERO, 0)),
-        Operation::CopyLast => {
-            move_word(into, load_value(T0, depth), store_value(T0, depth + 1))
-        }
+        Operation::CopyLast => { move_word(into, operand(T0, depth), result(T0, depth + 1)) }
         Operation::Apply(sign) => apply(into, depth, sign),
         Operation::Binary(sign, false) => join(into, depth, sign, T0, T1),
         Operation::Binary(sign, true) => join(into, depth, sign, T1, T0),
@@ -92,7 +91,7 @@ fn push_number(into: &mut Assembler, depth: u32, number: u32) -> Result<(), Allo
 {
     let high = high_part(number);
     let low = low_part(number);
-    let store = store_value(T0, depth + 1);
+    let store = result(T0, depth + 1);
     if high == 0 {
         move_word(into, Instruction::Addi(T0, ZERO, low), store)
     } else {
@@ -120,11 +119,11 @@ fn get(into: &mut Assembler, globals: u32, depth: u32, known: OwnValue) -> Resul
 {
     match known {
         OwnValue::Value(variable) => {
-            move_word(into, load_variable(variable), store_value(T0, depth + 1))
+            move_word(into, load_variable(variable), result(T0, depth + 1))
         }
-        OwnValue::Rank => alone(into, store_value(RANK, depth + 1)),
-        OwnValue::GroupNumber => alone(into, store_value(NUMBER, depth + 1)),
-        OwnValue::GroupSize => alone(into, store_value(SIZE, depth + 1)),
+        OwnValue::Rank => alone(into, result(RANK, depth + 1)),
+        OwnValue::GroupNumber => alone(into, result(NUMBER, depth + 1)),
+        OwnValue::GroupSize => alone(into, result(SIZE, depth + 1)),
         OwnValue::ProcessorNumber => push_device(into, depth, HART_NUMBER),
         OwnValue::Processors => push_device(into, depth, HARTS),
         OwnValue::InputLength => push_device(into, depth, INPUTS),
@@ -145,7 +144,7 @@ fn frame_address(into: &mut Assembler, depth: u32, word: u32) -> Result<(), Allo
     ensures begun { OnErr result
         (HasBegun (first_commits (code.frame_address depth word)) into.old into.new) }
 {
-    let store = store_value(T0, depth + 1);
+    let store = result(T0, depth + 1);
     if word == 0 {
         return move_word(into, load_frame(T0), store);
     }
@@ -209,7 +208,7 @@ fn push_device(into: &mut Assembler, depth: u32, offset: u32) -> Result<(), Allo
     move_word(
         into,
         Instruction::Lw(T0, DEVICES, offset),
-        store_value(T0, depth + 1),
+        result(T0, depth + 1),
     )
 }
 
@@ -228,24 +227,24 @@ fn index(into: &mut Assembler, depth: u32, size: u32) -> Result<(), AllocError>
         emit_lines(
             into,
             &[
-                BlockLine::commits(load_value(T0, depth - 1)),
-                BlockLine::quiet(load_value(T1, depth)),
+                BlockLine::commits(operand(T0, depth - 1)),
+                BlockLine::quiet(operand(T1, depth)),
                 BlockLine::quiet(Instruction::Slli(T1, T1, 2)),
                 BlockLine::quiet(Instruction::Add(T0, T0, T1)),
-                BlockLine::quiet(store_value(T0, depth - 1)),
+                BlockLine::quiet(result(T0, depth - 1)),
             ],
         )
     } else {
         emit_lines(
             into,
             &[
-                BlockLine::commits(load_value(T0, depth - 1)),
-                BlockLine::quiet(load_value(T1, depth)),
+                BlockLine::commits(operand(T0, depth - 1)),
+                BlockLine::quiet(operand(T1, depth)),
                 BlockLine::quiet(Instruction::Lui(T2, high_part(size))),
                 BlockLine::quiet(Instruction::Addi(T2, T2, low_part(size))),
                 BlockLine::quiet(Instruction::Mul(T1, T1, T2)),
                 BlockLine::quiet(Instruction::Add(T0, T0, T1)),
-                BlockLine::quiet(store_value(T0, depth - 1)),
+                BlockLine::quiet(result(T0, depth - 1)),
             ],
         )
     }
@@ -256,17 +255,17 @@ fn apply(into: &mut Assembler, depth: u32, sign: Unary) -> Result<(), AllocError
     requires room { length into.old.lines + 3 < 2 ^ 30 }
     requires free { AreFollowed into.old }
     ensures added { OnOk result
-        (into.new ≡ with_block into.old (first_commits (code.load_value T0 depth
-        ∷ operators.sign_instruction sign ∷ code.store_value T0 depth ∷ []))) }
-    ensures begun { OnErr result (HasBegun (first_commits (code.load_value T0 depth
-        ∷ operators.sign_instruction sign ∷ code.store_value T0 depth ∷ [])) into.old into.new) }
+        (into.new ≡ with_block into.old (first_commits (values.operand T0 depth
+        ∷ operators.sign_instruction sign ∷ values.result T0 depth ∷ []))) }
+    ensures begun { OnErr result (HasBegun (first_commits (values.operand T0 depth
+        ∷ operators.sign_instruction sign ∷ values.result T0 depth ∷ [])) into.old into.new) }
 {
     emit_lines(
         into,
         &[
-            BlockLine::commits(load_value(T0, depth)),
+            BlockLine::commits(operand(T0, depth)),
             BlockLine::quiet(sign_instruction(sign)),
-            BlockLine::quiet(store_value(T0, depth)),
+            BlockLine::quiet(result(T0, depth)),
         ],
     )
 }
@@ -297,10 +296,10 @@ fn join(into: &mut Assembler, depth: u32, sign: Op, first: u8, second: u8) -> Re
     ensures begun { OnErr result
         (HasBegun (first_commits (code.join_code depth sign first second)) into.old into.new) }
 {
-    let a = BlockLine::commits(load_value(first, depth - 1));
-    let b = BlockLine::quiet(load_value(second, depth));
+    let a = BlockLine::commits(operand(first, depth - 1));
+    let b = BlockLine::quiet(operand(second, depth));
     let begin = BlockLine::quiet(first_instruction(sign));
-    let store = BlockLine::quiet(store_value(T0, depth - 1));
+    let store = BlockLine::quiet(result(T0, depth - 1));
     let mask = BlockLine::quiet(Instruction::Sub(T2, ZERO, T2));
     match sign {
         Op::LeS | Op::LeU => {
@@ -360,25 +359,6 @@ fn first_instruction(sign: Op) -> Instruction
         Op::MinS | Op::MaxS => Instruction::Slt(T2, T1, T0),
         Op::MinU | Op::MaxU => Instruction::Sltu(T2, T1, T0),
     }
-}
-
-// Loads the k-th value of the call into a register.
-fn load_value(register: u8, k: u32) -> Instruction
-    requires register { IsRegister register }
-    requires k { k ≤ 64 }
-    ensures exact { result ≡ code.load_value register k }
-    ensures fits { Fits result }
-{
-    Instruction::Lw(register, END, at_value(k))
-}
-
-fn store_value(register: u8, k: u32) -> Instruction
-    requires register { IsRegister register }
-    requires k { k ≤ 64 }
-    ensures exact { result ≡ code.store_value register k }
-    ensures fits { Fits result }
-{
-    Instruction::Sw(END, register, at_value(k))
 }
 
 // Loads the address of the call's group frame into a register.
