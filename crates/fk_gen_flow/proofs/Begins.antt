@@ -10,13 +10,15 @@ use Rattle.fk_machine.specs.Hart.{Hart, Setting as MachineSetting}
 use Rattle.fk_machine.specs.Cycle.{first_hart}
 use Rattle.fk_machine.proofs.Performs.{writes, moves}
 use Rattle.fk_sim_nodes.specs.Alone.{RunsPrivately, later, in_cycles}
-use Rattle.fk_sim_block.specs.Stands.{Places, StandsAt, local_address}
+use Rattle.fk_sim_block.specs.Stands.{Places, StandsAt, local_address, zero_register, frame_register, end_register, number_register, rank_register, size_register, top_register, local_register, shared_register, heap_register, shared_mask_register, device_register, heap_mask_register}
 use Rattle.fk_sim_block.specs.Block.{IsRunning, Begins, beginner}
 use Rattle.fk_gen.specs.Lines.{at_private, high_part, low_part, label_of}
 use Rattle.fk_gen.specs.InPlace.{HasLabels, LinesAt}
 use Rattle.fk_gen.proofs.Walk.{Quiets, Plain, TellsNumber, TellsHarts, told_of, walk, walked, lines_split, runs_join}
 use Rattle.fk_gen.proofs.Values.{number_of_parts as parts_make_word, same_word, other_word}
 use Rattle.fk_gen.proofs.Jumps.{jumps}
+use Rattle.fk_sim_block.specs.Node.{node_register, body_register}
+use Rattle.fk_gen.specs.Registers.{t0}
 use Rattle.fk_gen_flow.specs.Flow.{jump_block}
 use Rattle.fk_gen_flow.specs.Opening.{register_lines, first_lines, AreFirsts, HasOpening}
 use Rattle.fk_gen_flow.proofs.Walk.{Comes, IsAbout, there, first, writing, storing, near_word, sw_goes, jal_goes}
@@ -55,45 +57,45 @@ few_cycles [] = refl
 few_cycles (v ∷ vs) = let e = few_cycles vs in omega arith
 
 firsts_come : (image : Image) (bound : ℕ → ℕ) (number main : ℕ) (vs : List ℕ) (t : MachineSetting) (i k : ℕ) (h : Hart) (Goal : Hart → Type 0) → i + length vs ≤ 56
-    → IsAbout image t k h → LinesAt image bound k (first_lines i vs ++ jump_block main) → bound (label_of main) ≤ 262144 → h.registers 22 ≡ local_address 0
+    → IsAbout image t k h → LinesAt image bound k (first_lines i vs ++ jump_block main) → bound (label_of main) ≤ 262144 → h.registers local_register ≡ local_address 0
     → ((h' : Hart) → h'.ended ≡ false → h'.pc ≡ 4 * bound (label_of main) → h'.local ≡ filled h.local i vs → ((r : ℕ) → (r == 5) ≡ false → h'.registers r ≡ h.registers r) → Goal h')
     → Comes image t number (cycles_of vs) h Goal
 firsts_come image bound number main [] t i k h Goal few about lines le start goal =
     let target = bound (label_of main) in
-    first image t number 0 k _ h (jumps h 0 (4 * target)) Goal about lines.0 (jal_goes t number 0 0 k target h about.at lines.0.within le)
-    (there image _ number _ Goal (goal (jumps h 0 (4 * target)) about.live refl refl (λ r e. refl)))
+    first image t number 0 k _ h (jumps h zero_register (4 * target)) Goal about lines.0 (jal_goes t number 0 0 k target h about.at lines.0.within le)
+    (there image _ number _ Goal (goal (jumps h zero_register (4 * target)) about.live refl refl (λ r e. refl)))
 firsts_come image bound number main (v ∷ vs) t i k h Goal few about lines le start goal =
     let v1 = high_part v * 4096 in
     let v2 = word_sum v1 (low_part v) in
-    let h1 = writes h 5 v1 in
-    let h2 = writes h1 5 v2 in
+    let h1 = writes h t0 v1 in
+    let h2 = writes h1 t0 v2 in
     let h3 : Hart = record (moves h2) { local = put h.local (7 + i) v2 } in
     let about1 = writing image t k h 5 v1 about lines.0.within in
     let about2 = writing image (later t) (suc k) h1 5 v2 about1 lines.1.0.within in
     let about3 = storing image (later (later t)) (suc (suc k)) h2 (put h.local (7 + i) v2) about2 lines.1.1.0.within in
     first image t number (suc (suc (cycles_of vs))) k _ h h1 Goal about lines.0 (λ s. (s.reserved, refl))
     (first image (later t) number (suc (cycles_of vs)) (suc k) _ h1 h2 Goal about1 lines.1.0 (λ s. (s.reserved, refl))
-    (first image (later (later t)) number (cycles_of vs) (suc (suc k)) _ h2 h3 Goal about2 lines.1.1.0 (sw_goes (later (later t)) number 22 5 (at_private i) (7 + i) h2 (near_word 0 (7 + i) (7 + i) (h2.registers 22) (at_private i) start refl (omega arith) (omega arith)))
+    (first image (later (later t)) number (cycles_of vs) (suc (suc k)) _ h2 h3 Goal about2 lines.1.1.0 (sw_goes (later (later t)) number 22 5 (at_private i) (7 + i) h2 (near_word 0 (7 + i) (7 + i) (h2.registers local_register) (at_private i) start refl (omega arith) (omega arith)))
     (firsts_come image bound number main vs (later (later (later t))) (suc i) (suc (suc (suc k))) h3 Goal (omega arith) about3 lines.1.1.1 le start
     (λ h' live pc local same. goal h' live pc local (λ r e. same r e ∙ rw e)))))
 
 -- the registers of a hart behind those lines of an opening that set them
 pub record HasRegisters (places : Places) (setting : Setting) (hart : ℕ) (h : Hart) : Type 0 where
-  pub nought : h.registers 0 ≡ 0
-  pub frame : h.registers 8 ≡ local_address places.frames.of_file
-  pub behind : h.registers 9 ≡ local_address 64
-  pub number : h.registers 18 ≡ 0
-  pub rank : h.registers 19 ≡ hart
-  pub size : h.registers 20 ≡ setting.processors
-  pub top : h.registers 21 ≡ 0
-  pub local : h.registers 22 ≡ local_address 0
-  pub shared_data : h.registers 23 ≡ 0x10000000
-  pub private_heap : h.registers 24 ≡ 0x20010000
-  pub shared_mask : h.registers 25 ≡ 0xffc00003
-  pub devices : h.registers 26 ≡ 0x30000000
-  pub heap_mask : h.registers 27 ≡ 0xffff0003
-  pub node : h.registers 10 ≡ 0x18400000
-  pub body : h.registers 11 ≡ setting.processors
+  pub nought : h.registers zero_register ≡ 0
+  pub frame : h.registers frame_register ≡ local_address places.frames.of_file
+  pub behind : h.registers end_register ≡ local_address 64
+  pub number : h.registers number_register ≡ 0
+  pub rank : h.registers rank_register ≡ hart
+  pub size : h.registers size_register ≡ setting.processors
+  pub top : h.registers top_register ≡ 0
+  pub local : h.registers local_register ≡ local_address 0
+  pub shared_data : h.registers shared_register ≡ 0x10000000
+  pub private_heap : h.registers heap_register ≡ 0x20010000
+  pub shared_mask : h.registers shared_mask_register ≡ 0xffc00003
+  pub devices : h.registers device_register ≡ 0x30000000
+  pub heap_mask : h.registers heap_mask_register ≡ 0xffff0003
+  pub node : h.registers node_register ≡ 0x18400000
+  pub body : h.registers body_register ≡ setting.processors
 
 -- what such a hart comes to: it stands where `main` begins, with all registers but t0 as they were
 abbrev pub HasBegun : Places → Setting → (firsts : List ℕ) → (main number : ℕ) → (h h' : Hart) → Type 0
@@ -114,19 +116,19 @@ firsts_begin image bound places firsts main labels are is_main none setting t nu
         live = live;
         at = pc ∙ ap (λ j. 4 * j) (labels.blocks main);
         stands = record {
-          nought = same 0 refl ∙ has.nought;
-          frame = same 8 refl ∙ has.frame;
-          behind = same 9 refl ∙ has.behind;
-          number = same 18 refl ∙ has.number;
-          rank = same 19 refl ∙ has.rank;
-          size = same 20 refl ∙ has.size;
-          top = same 21 refl ∙ has.top;
-          local = same 22 refl ∙ has.local;
-          shared_data = same 23 refl ∙ has.shared_data;
-          private_heap = same 24 refl ∙ has.private_heap;
-          shared_mask = same 25 refl ∙ has.shared_mask;
-          devices = same 26 refl ∙ has.devices;
-          heap_mask = same 27 refl ∙ has.heap_mask;
+          nought = same zero_register refl ∙ has.nought;
+          frame = same frame_register refl ∙ has.frame;
+          behind = same end_register refl ∙ has.behind;
+          number = same number_register refl ∙ has.number;
+          rank = same rank_register refl ∙ has.rank;
+          size = same size_register refl ∙ has.size;
+          top = same top_register refl ∙ has.top;
+          local = same local_register refl ∙ has.local;
+          shared_data = same shared_register refl ∙ has.shared_data;
+          private_heap = same heap_register refl ∙ has.private_heap;
+          shared_mask = same shared_mask_register refl ∙ has.shared_mask;
+          devices = same device_register refl ∙ has.devices;
+          heap_mask = same heap_mask_register refl ∙ has.heap_mask;
           running = record {
             home = is_main;
             values = tt;
@@ -146,9 +148,9 @@ firsts_begin image bound places firsts main labels are is_main none setting t nu
 
 abbrev pub register_quiets : (of_file : ℕ) → Quiets
 register_quiets of_file =
-    (Lui 22 0x20000, Plain) ∷ (Addi 8 22 (4 * of_file), Plain) ∷ (Addi 9 22 256, Plain) ∷ (Lui 23 0x10000, Plain) ∷ (Lui 24 0x20010, Plain) ∷
-    (Lui 25 0xffc00, Plain) ∷ (Addi 25 25 3, Plain) ∷ (Lui 27 0xffff0, Plain) ∷ (Addi 27 27 3, Plain) ∷ (Lui 26 0x30000, Plain) ∷
-    (Lw 19 26 20, TellsNumber) ∷ (Lw 20 26 24, TellsHarts) ∷ (Lui 10 0x18400, Plain) ∷ (Addi 11 20 0, Plain) ∷ []
+    (Lui local_register 0x20000, Plain) ∷ (Addi frame_register local_register (4 * of_file), Plain) ∷ (Addi end_register local_register 256, Plain) ∷ (Lui shared_register 0x10000, Plain) ∷ (Lui heap_register 0x20010, Plain) ∷
+    (Lui shared_mask_register 0xffc00, Plain) ∷ (Addi shared_mask_register shared_mask_register 3, Plain) ∷ (Lui heap_mask_register 0xffff0, Plain) ∷ (Addi heap_mask_register heap_mask_register 3, Plain) ∷ (Lui device_register 0x30000, Plain) ∷
+    (Lw rank_register device_register 20, TellsNumber) ∷ (Lw size_register device_register 24, TellsHarts) ∷ (Lui node_register 0x18400, Plain) ∷ (Addi body_register size_register 0, Plain) ∷ []
 
 abbrev pub with_registers : (of_file : ℕ) → MachineSetting → (number : ℕ) → Hart
 with_registers of_file t number = walk (told_of t number) (register_quiets of_file) first_hart
@@ -188,8 +190,8 @@ registers_come image bound places setting t number few running lines =
 -- a hart comes to the block where `main` begins, and its registers tell of the root
 pub record BeginsInRoot (core : List CoreOp) (image : Image) (places : Places) (setting : Setting) (t : MachineSetting) (firsts : List ℕ) (main number : ℕ) : Type 0 where
   pub begins : Begins core image places t (beginner setting (slice_index firsts) main number)
-  pub node : begins.hart.registers 10 ≡ 0x18400000
-  pub body : begins.hart.registers 11 ≡ setting.processors
+  pub node : begins.hart.registers node_register ≡ 0x18400000
+  pub body : begins.hart.registers body_register ≡ setting.processors
 
 pub begins_in_root : (core : List CoreOp) (image : Image) (bound : ℕ → ℕ) (places : Places) (firsts : List ℕ) (main : ℕ) → HasOpening image bound places firsts main
     → AreFirsts places.frames.of_file firsts → places.frames.is_main main ≡ true → places.frames.group main ≡ None
@@ -211,6 +213,6 @@ begins_in_root core image bound places firsts main opening are is_main none sett
         runs = runs_join image t number 14 (cycles_of firsts) first_hart h comes.hart sets.runs comes.runs;
         at = comes.goal.0;
       };
-      node = same 10 refl ∙ sets.has.node;
-      body = same 11 refl ∙ sets.has.body;
+      node = same node_register refl ∙ sets.has.node;
+      body = same body_register refl ∙ sets.has.body;
     }

@@ -8,7 +8,7 @@ use Rattle.fk_image.specs.declared.Image.{Image}
 use Rattle.fk_machine.specs.Hart.{Hart, Setting}
 use Rattle.fk_machine.proofs.Performs.{moves}
 use Rattle.fk_sim_nodes.specs.Alone.{later}
-use Rattle.fk_sim_block.specs.Stands.{local_address}
+use Rattle.fk_sim_block.specs.Stands.{local_address, zero_register, end_register}
 use Rattle.fk_gen.specs.Lines.{at_private, clear_label}
 use Rattle.fk_gen.proofs.Values.{same_word, other_word}
 use Rattle.fk_gen_flow.specs.Calls.{clear_lines, most_privates, HasChain}
@@ -59,7 +59,7 @@ AfterClears image number e last end rest h Goal =
     → Cleared h.local h'.local e last → Comes image t' number rest h' Goal
 
 pub clears_come : (image : Image) (bound : ℕ → ℕ) (number e rest : ℕ) (Goal : Hart → Type 0) → HasChain image bound clear_label clear_lines 1 → e + 64 ≤ 16384
-    → (last : ℕ) (t : Setting) (h : Hart) → last ≤ most_privates → IsAbout image t (bound (clear_label last)) h → h.registers 0 ≡ 0 → h.registers 9 ≡ local_address e
+    → (last : ℕ) (t : Setting) (h : Hart) → last ≤ most_privates → IsAbout image t (bound (clear_label last)) h → h.registers zero_register ≡ 0 → h.registers end_register ≡ local_address e
     → AfterClears image number e last (bound (clear_label 0)) rest h Goal → Comes image t number (clear_cycles last rest) h Goal
 clears_come image bound number e rest Goal chain few zero t h within about nought to next =
     next t h about (λ r. refl) (record { zeros = λ a from lt. absurd (omega arith); others = λ j out. refl })
@@ -69,11 +69,11 @@ clears_come image bound number e rest Goal chain few (suc k) t h within about no
     let below = chain.next k (omega arith) in
     let word = most_privates - 1 - k in
     let w = e + (7 + word) in
-    let m = put h.local w (h.registers 0) in
+    let m = put h.local w (h.registers zero_register) in
     let h1 : Hart = record (moves h) { local = m } in
     let about1 = storing image t at h m about lines.0.within in
     let at1 = about1.at in
     let about2 : IsAbout image (later t) (bound (clear_label k)) h1 = record { code = about1.code; live = about1.live; at = omega arith } in
-    first image t number (clear_cycles k rest) at _ h h1 Goal about lines.0 (sw_goes t number 9 0 (at_private word) w h (near_word e (7 + word) w (h.registers 9) (at_private word) to refl refl (omega arith)))
+    first image t number (clear_cycles k rest) at _ h h1 Goal about lines.0 (sw_goes t number 9 0 (at_private word) w h (near_word e (7 + word) w (h.registers end_register) (at_private word) to refl refl (omega arith)))
     (clears_come image bound number e rest Goal chain few k (later t) h1 (omega arith) about2 nought to
-    (λ t' h' about' same cleared. next t' h' about' same (cleared_more h.local h'.local e k (h.registers 0) (omega arith) nought cleared)))
+    (λ t' h' about' same cleared. next t' h' about' same (cleared_more h.local h'.local e k (h.registers zero_register) (omega arith) nought cleared)))

@@ -8,28 +8,29 @@ use Rattle.fk_image.specs.declared.Image.{Image}
 use Rattle.fk_machine.specs.Hart.{Hart, Setting}
 use Rattle.fk_machine.proofs.Performs.{writes, moves}
 use Rattle.fk_sim_nodes.specs.Alone.{later}
-use Rattle.fk_sim_block.specs.Stands.{HasValues, local_address}
+use Rattle.fk_sim_block.specs.Stands.{HasValues, local_address, frame_register, end_register}
 use Rattle.fk_gen.specs.Lines.{at_value, at_private, copy_label}
 use Rattle.fk_gen.specs.InPlace.{LinesAt}
 use Rattle.fk_gen.proofs.Values.{same_word, other_word}
 use Rattle.fk_gen.proofs.Jumps.{jumps}
+use Rattle.fk_gen.specs.Registers.{ra, t0, t2}
 use Rattle.fk_gen_flow.specs.Calls.{copy_lines, own_copies, frame_lines, HasChain}
 use Rattle.fk_gen_flow.proofs.Walk.{Comes, IsAbout, there, first, writing, storing, word_before, near_word, lw_goes, sw_goes, skip_goes}
 
 -- ---- arguments
 
--- argument a of n stands a + 1 words before the word behind the first one
-pub arguments_at : (m : Memory) (e n : ℕ) (vs : List ℕ) (a w : ℕ) → HasValues m e vs → n ≤ length vs → length vs ≤ e → a < n → w + suc a + (length vs - n) ≡ e → m w ≡ arguments n vs a
-arguments_at m e zero vs a w held le few lt is = absurd (omega arith)
-arguments_at m e (suc n) [] a w held le few lt is = absurd (omega arith)
-arguments_at m e (suc n) (v ∷ vs) a w held le few lt is = by_case (λ less. arguments_at m e n vs a w held.1 (omega arith) (omega arith) less (omega arith)) (cases_lt a n)
+-- argument a of n is a + 1 places behind the values below them
+pub arguments_at : (at : ℕ → ℕ) (n : ℕ) (vs : List ℕ) (a k : ℕ) → HasValues at vs → n ≤ length vs → a < n → k ≡ suc a + (length vs - n) → at k ≡ arguments n vs a
+arguments_at at zero vs a k held le lt is = absurd (omega arith)
+arguments_at at (suc n) [] a k held le lt is = absurd (omega arith)
+arguments_at at (suc n) (v ∷ vs) a k held le lt is = by_case (λ less. arguments_at at n vs a k held.1 (omega arith) less (omega arith)) (cases_lt a n)
   where
-    by_case : (a < n → m w ≡ arguments n vs a) → ((a < n) ⊎ (n ≤ a)) → m w ≡ put (arguments n vs) n v a
+    by_case : (a < n → at k ≡ arguments n vs a) → ((a < n) ⊎ (n ≤ a)) → at k ≡ put (arguments n vs) n v a
     by_case before (inl less) = before less ∙ sym (other_word (arguments n vs) n v a (λ f. omega arith))
     by_case before (inr more) =
-        let here : w ≡ e - suc (length vs) = omega arith in
+        let here : k ≡ suc (length vs) = omega arith in
         let last : a ≡ n = omega arith in
-        ap m here ∙ held.0 ∙ sym (ap (put (arguments n vs) n v) last ∙ same_word (arguments n vs) n v)
+        ap at here ∙ held.0 ∙ sym (ap (put (arguments n vs) n v) last ∙ same_word (arguments n vs) n v)
 
 -- ---- copies
 
@@ -75,7 +76,7 @@ AfterCopies image number s e n end rest h Goal =
     → Copied h.local h'.local s e n → Comes image t' number rest h' Goal
 
 pub copies_come : (image : Image) (bound : ℕ → ℕ) (number s e rest most : ℕ) (word : ℕ → ℕ) (Goal : Hart → Type 0) → AreCopies image bound most word → s ≤ e → e + 64 ≤ 16384
-    → most ≤ 56 → (n : ℕ) (t : Setting) (h : Hart) → n ≤ most → n ≤ s → IsAbout image t (word n) h → h.registers 7 ≡ local_address (s - 1) → h.registers 9 ≡ local_address e
+    → most ≤ 56 → (n : ℕ) (t : Setting) (h : Hart) → n ≤ most → n ≤ s → IsAbout image t (word n) h → h.registers t2 ≡ local_address (s - 1) → h.registers end_register ≡ local_address e
     → AfterCopies image number s e n (word 0) rest h Goal → Comes image t number (copy_cycles n rest) h Goal
 copies_come image bound number s e rest most word Goal copying le few many zero t h within enough about from to next =
     next t h about (λ r f. refl) (record { copies = λ a lt. absurd (omega arith); others = λ j out. refl })
@@ -84,15 +85,15 @@ copies_come image bound number s e rest most word Goal copying le few many (suc 
     let lines = copying.copies n (omega arith) in
     let below = copying.next n (omega arith) in
     let v = h.local (s - suc n) in
-    let h1 = writes h 5 v in
+    let h1 = writes h t0 v in
     let m2 = put h.local (e + 7 + n) v in
     let h2 : Hart = record (moves h1) { local = m2 } in
     let about1 = writing image t k h 5 v about lines.0.within in
     let about2 = storing image (later t) (suc k) h1 m2 about1 lines.1.0.within in
     let at2 = about2.at in
     let about3 : IsAbout image (later (later t)) (word n) h2 = record { code = about2.code; live = about2.live; at = omega arith } in
-    first image t number (suc (copy_cycles n rest)) k _ h h1 Goal about lines.0 (lw_goes t number 5 7 (at_value n) (s - suc n) h (word_before s n (h.registers 7) from (omega arith) (omega arith)))
-    (first image (later t) number (copy_cycles n rest) (suc k) _ h1 h2 Goal about1 lines.1.0 (sw_goes (later t) number 9 5 (at_private n) (e + 7 + n) h1 (near_word e (7 + n) (e + 7 + n) (h1.registers 9) (at_private n) to refl (omega arith) (omega arith)))
+    first image t number (suc (copy_cycles n rest)) k _ h h1 Goal about lines.0 (lw_goes t number 5 7 (at_value n) (s - suc n) h (word_before s n (h.registers t2) from (omega arith) (omega arith)))
+    (first image (later t) number (copy_cycles n rest) (suc k) _ h1 h2 Goal about1 lines.1.0 (sw_goes (later t) number 9 5 (at_private n) (e + 7 + n) h1 (near_word e (7 + n) (e + 7 + n) (h1.registers end_register) (at_private n) to refl (omega arith) (omega arith)))
     (copies_come image bound number s e rest most word Goal copying le few many n (later (later t)) h2 (omega arith) (omega arith) about3 from to
     (λ t' h' about' same copied. next t' h' about' (λ r f. same r f ∙ rw f) (copied_more h.local h'.local s e n le copied))))
 
@@ -125,38 +126,38 @@ pub record Framed (h h' : Hart) (e k : ℕ) : Type 0 where
   pub live : h'.ended ≡ false
   pub at : h'.pc ≡ 4 * (k + 5)
   pub same : (r : ℕ) → (r == 1) ≡ false → (r == 8) ≡ false → (r == 9) ≡ false → h'.registers r ≡ h.registers r
-  pub start : h'.registers 8 ≡ local_address e
-  pub behind : h'.registers 9 ≡ local_address (e + 64)
+  pub start : h'.registers frame_register ≡ local_address e
+  pub behind : h'.registers end_register ≡ local_address (e + 64)
   pub code : h'.local e ≡ 4 * suc k
   pub others : (j : ℕ) → (j ≡ e → ⊥) → h'.local j ≡ h.local j
 
 pub frame_comes : (image : Image) (bound : ℕ → ℕ) (number e k back : ℕ) (Goal : Hart → Type 0) (t : Setting) (h : Hart) → LinesAt image bound k (frame_lines back)
-    → e + 64 ≤ 16384 → IsAbout image t k h → h.registers 9 ≡ local_address e → ((h' : Hart) → Framed h h' e k → Goal h') → Comes image t number 4 h Goal
+    → e + 64 ≤ 16384 → IsAbout image t k h → h.registers end_register ≡ local_address e → ((h' : Hart) → Framed h h' e k → Goal h') → Comes image t number 4 h Goal
 frame_comes image bound number e k back Goal t h lines few about to goal =
     let l0 = lines.0 in
     let l1 = lines.1.1.0 in
     let l2 = lines.1.1.1.0 in
     let l3 = lines.1.1.1.1.0 in
     let within = l3.within in
-    let h1 = jumps h 1 (4 * suc (suc k)) in
-    let link = h1.registers 1 in
+    let h1 = jumps h ra (4 * suc (suc k)) in
+    let link = h1.registers ra in
     let m = put h.local e link in
     let h2 : Hart = record (moves h1) { local = m } in
-    let h3 = writes h2 8 (word_sum (h.registers 9) 0) in
-    let h4 = writes h3 9 (word_sum (h.registers 9) 256) in
-    let t1 = later t in
-    let t2 = later t1 in
-    let t3 = later t2 in
-    let about1 : IsAbout image t1 (suc (suc k)) h1 = record { code = about.code; live = about.live; at = refl } in
-    let about2 = storing image t1 (suc (suc k)) h1 m about1 l1.within in
-    let about3 = writing image t2 (suc (suc (suc k))) h2 8 (word_sum (h.registers 9) 0) about2 l2.within in
-    let about4 = writing image t3 (suc (suc (suc (suc k)))) h3 9 (word_sum (h.registers 9) 256) about3 l3.within in
+    let h3 = writes h2 frame_register (word_sum (h.registers end_register) 0) in
+    let h4 = writes h3 end_register (word_sum (h.registers end_register) 256) in
+    let cycle1 = later t in
+    let cycle2 = later cycle1 in
+    let cycle3 = later cycle2 in
+    let about1 : IsAbout image cycle1 (suc (suc k)) h1 = record { code = about.code; live = about.live; at = refl } in
+    let about2 = storing image cycle1 (suc (suc k)) h1 m about1 l1.within in
+    let about3 = writing image cycle2 (suc (suc (suc k))) h2 8 (word_sum (h.registers end_register) 0) about2 l2.within in
+    let about4 = writing image cycle3 (suc (suc (suc (suc k)))) h3 9 (word_sum (h.registers end_register) 256) about3 l3.within in
     let pc = about.at in
     let at4 = about4.at in
     first image t number 3 k _ h h1 Goal about l0 (skip_goes t number 1 k h about.at l0.within)
-    (first image t1 number 2 (suc (suc k)) _ h1 h2 Goal about1 l1 (sw_goes t1 number 9 1 0 e h1 (near_word e 0 e (h.registers 9) 0 to refl (omega arith) (omega arith)))
-    (first image t2 number 1 (suc (suc (suc k))) _ h2 h3 Goal about2 l2 (λ s. (s.reserved, refl))
-    (first image t3 number 0 (suc (suc (suc (suc k)))) _ h3 h4 Goal about3 l3 (λ s. (s.reserved, refl))
+    (first image cycle1 number 2 (suc (suc k)) _ h1 h2 Goal about1 l1 (sw_goes cycle1 number 9 1 0 e h1 (near_word e 0 e (h.registers end_register) 0 to refl (omega arith) (omega arith)))
+    (first image cycle2 number 1 (suc (suc (suc k))) _ h2 h3 Goal about2 l2 (λ s. (s.reserved, refl))
+    (first image cycle3 number 0 (suc (suc (suc (suc k)))) _ h3 h4 Goal about3 l3 (λ s. (s.reserved, refl))
     (there image _ number _ Goal (goal h4 (record {
       live = about.live;
       at = omega arith;

@@ -19,22 +19,24 @@ use Rattle.fk_sim_nodes.specs.Alone.{Holds, IsAt, later}
 use Rattle.fk_sim_nodes.specs.Source.{Passes}
 use Rattle.fk_sim_nodes.proofs.InPlace.{step_at}
 use Rattle.fk_sim_block.specs.Owner.{Commons, Owner, Doing, owner_of, number_of, part}
-use Rattle.fk_sim_block.specs.Stands.{Places, StandsAt, StandsFor, HasFrame, frame_end}
+use Rattle.fk_sim_block.specs.Stands.{Places, StandsAt, StandsFor, FrameInHart, value_in, zero_register, end_register, device_register}
 use Rattle.fk_sim_block.specs.Next.{OpAt, step_at as step_of}
 use Rattle.fk_sim_block.specs.Suits.{Fits, Flows, nothing, writes as changes}
 use Rattle.fk_sim_block.specs.Block.{HasDone, BlockJumps, BlockHalts, most_behind}
 use Rattle.fk_sim_block.proofs.Standing.{operations_are_next}
-use Rattle.fk_gen.specs.Lines.{label_of}
+use Rattle.fk_gen.specs.Lines.{label_of, at_value}
 use Rattle.fk_gen.specs.InPlace.{HasBlock, HasLabels}
 use Rattle.fk_gen.specs.Keeps.{Keeps, DoesAnd}
 use Rattle.fk_gen.proofs.Standing.{stands_with}
 use Rattle.fk_gen.proofs.Values.{values_before}
 use Rattle.fk_gen.proofs.Walk.{private}
 use Rattle.fk_gen.proofs.Jumps.{jumps}
+use Rattle.fk_gen.specs.Registers.{t0}
 use Rattle.fk_gen_flow.specs.Keeps.{BlockKeeps}
 use Rattle.fk_gen_flow.specs.Flow.{jump_block, branch_block, halt_block, passes}
-use Rattle.fk_gen_flow.proofs.Walk.{Comes, IsAbout, IsLocal, there, first, writing, next_word, value_word, jal_goes}
-use Rattle.fk_gen_flow.proofs.Frames.{flows_on, last_value}
+use Rattle.fk_gen_flow.proofs.Walk.{Comes, IsAbout, IsLocal, there, first, writing, next_word, jal_goes}
+use Rattle.fk_gen.proofs.ValueLines.{place_word, operand_runs, operand_is}
+use Rattle.fk_gen_flow.proofs.Frames.{flows_on}
 
 pub lw_does : (core : List CoreOp) (image : Image) (places : Places) (setting : Setting) (t : MachineSetting) (p : Owner) (h : Hart) (d : Doing) (Also : Hart → Type 0) (k rd rs imm w behind : ℕ)
     → IsAbout image t k h → IsAt image k (Lw rd rs imm) 1 → IsLocal (word_sum (h.registers rs) imm) w → behind ≤ most_behind
@@ -83,16 +85,16 @@ jump_goes core image bound places i op block flows t p h holds e at =
     let about = about_block image bound places t p h i holds e at in
     let target = bound (label_of op.target) in
     let stands = at.stands in
-    let frame = subst (λ j. HasFrame places h.local (length p.runner.has.callers) j p.runner.has.call) e stands.running in
+    let frame = subst (λ j. FrameInHart places h (length p.runner.has.callers) j p.runner.has.call) e stands.running in
     record {
-      hart = jumps h 0 (4 * target);
-      private = private image t (number_of p) (places.block i) _ h (jumps h 0 (4 * target)) about.code block.lines.0 about.at about.live
+      hart = jumps h zero_register (4 * target);
+      private = private image t (number_of p) (places.block i) _ h (jumps h zero_register (4 * target)) about.code block.lines.0 about.at about.live
           (jal_goes t (number_of p) 0 0 (places.block i) target h about.at block.lines.0.within (block.labels.within (label_of op.target)));
       at = record {
         live = at.live;
         at = ap (λ k. 4 * k) (block.labels.blocks op.target);
         stands = stands_with places p _ h _ stands (refl, refl, refl, refl, refl, refl, refl, refl, refl, refl, refl, refl) refl refl stands.top (record {
-          running = flows_on places core nothing h.local _ i op.target p.runner.has.call p.runner.has.call (λ w. refl) flows refl refl frame.values frame;
+          running = flows_on places core nothing _ _ h.local _ i op.target p.runner.has.call p.runner.has.call (λ w. refl) flows refl refl frame.values frame;
           waiting = stands.waiting;
           own = stands.own;
           heap = stands.heap;
@@ -112,12 +114,12 @@ is_goes_on : (onward : Bool) (p : Owner) → is_onward (Branch onward) p.runner.
 is_goes_on true p = refl
 is_goes_on false p = refl
 
-passed : (onward : Bool) (t : MachineSetting) (number : ℕ) (h : Hart) (s : Shared) → h.registers 0 ≡ 0 → goes_on onward (h.registers 5) ≡ true → word_sum h.pc 8 % 4 ≡ 0
+passed : (onward : Bool) (t : MachineSetting) (number : ℕ) (h : Hart) (s : Shared) → h.registers zero_register ≡ 0 → goes_on onward (h.registers t0) ≡ true → word_sum h.pc 8 % 4 ≡ 0
     → perform t number (passes onward) h s ≡ Goes (record h { pc = word_sum h.pc 8 }) s
 passed true t number h s nought e f = let g = eq-eqb _ 0 f in rw (nought, e, g)
 passed false t number h s nought e f = let g = eq-eqb _ 0 f in rw (nought, e, g)
 
-not_passed : (onward : Bool) (t : MachineSetting) (number : ℕ) (h : Hart) (s : Shared) → h.registers 0 ≡ 0 → goes_on onward (h.registers 5) ≡ false
+not_passed : (onward : Bool) (t : MachineSetting) (number : ℕ) (h : Hart) (s : Shared) → h.registers zero_register ≡ 0 → goes_on onward (h.registers t0) ≡ false
     → perform t number (passes onward) h s ≡ Goes (moves h) s
 not_passed true t number h s nought e = rw (nought, e)
 not_passed false t number h s nought e = rw (nought, e)
@@ -130,12 +132,12 @@ module _ (core : List CoreOp) (image : Image) (bound : ℕ → ℕ) (places : Pl
   -- a hart like another but for t0 and its place
   branch_stands : (p : Owner) (h : Hart) (v j pc : ℕ) → p.runner.left.at ≡ i → StandsFor places p h → Flows core places.frames nothing i j
       → (way : Bool) → (branched p way).acting.runner.left.at ≡ j → (branched p way).acting.runner.left.callers ≡ p.runner.left.callers
-      → StandsFor places (owner_of (branched p way)) (record (writes h 5 v) { pc = pc })
+      → StandsFor places (owner_of (branched p way)) (record (writes h t0 v) { pc = pc })
   branch_stands p h v j pc e stands flows way f g =
-      let frame = subst (λ j. HasFrame places h.local (length p.runner.has.callers) j p.runner.has.call) e stands.running in
-      stands_with places p (owner_of (branched p way)) h (record (writes h 5 v) { pc = pc }) stands (refl, refl, refl, refl, refl, refl, refl, refl, refl, refl, refl, refl) refl refl stands.top (record {
-        running = subst (λ j. HasFrame places h.local (length p.runner.has.callers) j (drop_last 1 p.runner.has).call) (sym f)
-            (flows_on places core nothing h.local _ i j p.runner.has.call (drop_last 1 p.runner.has).call (λ w. refl) flows refl refl (values_before 1 h.local _ (values p.runner.has) frame.values) frame);
+      let frame = subst (λ j. FrameInHart places h (length p.runner.has.callers) j p.runner.has.call) e stands.running in
+      stands_with places p (owner_of (branched p way)) h (record (writes h t0 v) { pc = pc }) stands (refl, refl, refl, refl, refl, refl, refl, refl, refl, refl, refl, refl) refl refl stands.top (record {
+        running = subst (λ j. FrameInHart places h (length p.runner.has.callers) j (drop_last 1 p.runner.has).call) (sym f)
+            (flows_on places core nothing _ _ h.local _ i j p.runner.has.call (drop_last 1 p.runner.has).call (λ w. refl) flows refl refl (values_before 1 (value_in h (length p.runner.has.callers)) (values p.runner.has) frame.values) frame);
         waiting = rw g stands.waiting;
         own = stands.own;
         heap = stands.heap;
@@ -147,7 +149,7 @@ module _ (core : List CoreOp) (image : Image) (bound : ℕ → ℕ) (places : Pl
   HasBranched p way h h' =
       HasDone core image places (branched p way) h' × Keeps places (length p.runner.has.callers) op.depth (changes (Branch onward)) h h'
 
-  kept : (p : Owner) (h : Hart) (v pc : ℕ) → Keeps places (length p.runner.has.callers) op.depth (changes (Branch onward)) h (record (writes h 5 v) { pc = pc })
+  kept : (p : Owner) (h : Hart) (v pc : ℕ) → Keeps places (length p.runner.has.callers) op.depth (changes (Branch onward)) h (record (writes h t0 v) { pc = pc })
   kept p h v pc = record { node = refl; body = refl; frames = refl; blocks = refl; header = λ j lt apart. refl; words = λ j from lt apart. refl }
 
   branch_way : HasBlock image bound places i (branch_block onward op.depth op.target) → OpAt core i op (Branch onward) → Fits core places.frames i op (Branch onward)
@@ -163,13 +165,13 @@ module _ (core : List CoreOp) (image : Image) (bound : ℕ → ℕ) (places : Pl
       let l1 = block.lines.1.0 in
       let few = fits.values in
       let header = fits.room.header in
-      let is = value_word (frame_end n) op.depth (h.registers 9) at.stands.behind (omega arith) (omega arith) (omega arith) in
-      let value : h.local (frame_end n - op.depth) ≡ last (values p.runner.has) = last_value h.local (frame_end n) op.depth _ at.stands.running.values depth (omega arith) in
-      let h1 = writes h 5 (h.local (frame_end n - op.depth)) in
-      let about1 = writing image t k h 5 (h.local (frame_end n - op.depth)) about l0.within in
-      let goes : goes_on onward (h.local (frame_end n - op.depth)) ≡ true = ap (goes_on onward) value ∙ sym (is_goes_on onward p) ∙ on in
+      let is = operand_runs t0 n op.depth h at.stands.behind waiting (omega arith) (omega arith) in
+      let value : value_in h n op.depth ≡ last (values p.runner.has) = operand_is (value_in h n) op.depth _ at.stands.running.values depth (omega arith) in
+      let h1 = writes h t0 (value_in h n op.depth) in
+      let about1 = writing image t k h t0 (value_in h n op.depth) about l0.within in
+      let goes : goes_on onward (value_in h n op.depth) ≡ true = ap (goes_on onward) value ∙ sym (is_goes_on onward p) ∙ on in
       let here : word_sum h1.pc 8 ≡ 4 * places.block (suc i) = let a = about1.at in let b = l1.within in omega (arith, block.next) in
-      lw_does core image places setting t p h (branched p true) (Keeps places n op.depth (changes (Branch onward)) h) k 5 9 _ _ 1 about l0 is (omega arith)
+      lw_does core image places setting t p h (branched p true) (Keeps places n op.depth (changes (Branch onward)) h) k t0 end_register (at_value op.depth) (place_word n op.depth) 1 about l0 (is.1, is.0) (omega arith)
       (λ s. operations_are_next core i op (Branch onward) setting s p op_at e ∙ ap (λ w. Passes s (branched p w)) on)
       (first image (later t) number 0 (suc k) _ h1 (record h1 { pc = word_sum h1.pc 8 }) (HasBranched p true h) about1 l1
       (λ s. (s.reserved, passed onward (later t) number h1 s at.stands.nought goes (omega (arith, here))))
@@ -179,10 +181,10 @@ module _ (core : List CoreOp) (image : Image) (bound : ℕ → ℕ) (places : Pl
           at = record {
             live = at.live;
             at = here;
-            stands = branch_stands p h (h.local (frame_end n - op.depth)) (suc i) (word_sum h1.pc 8) e at.stands (fits.goes_on true) true refl refl;
+            stands = branch_stands p h (value_in h n op.depth) (suc i) (word_sum h1.pc 8) e at.stands (fits.goes_on true) true refl refl;
           };
         },
-        kept p h (h.local (frame_end n - op.depth)) (word_sum h1.pc 8),
+        kept p h (value_in h n op.depth) (word_sum h1.pc 8),
       )))
   branch_way block op_at fits setting t p h holds e depth waiting at false on =
       let number = number_of p in
@@ -194,14 +196,14 @@ module _ (core : List CoreOp) (image : Image) (bound : ℕ → ℕ) (places : Pl
       let l2 = block.lines.1.1.0 in
       let few = fits.values in
       let header = fits.room.header in
-      let is = value_word (frame_end n) op.depth (h.registers 9) at.stands.behind (omega arith) (omega arith) (omega arith) in
-      let value : h.local (frame_end n - op.depth) ≡ last (values p.runner.has) = last_value h.local (frame_end n) op.depth _ at.stands.running.values depth (omega arith) in
-      let h1 = writes h 5 (h.local (frame_end n - op.depth)) in
-      let about1 = writing image t k h 5 (h.local (frame_end n - op.depth)) about l0.within in
-      let goes : goes_on onward (h.local (frame_end n - op.depth)) ≡ false = ap (goes_on onward) value ∙ sym (is_goes_on onward p) ∙ on in
+      let is = operand_runs t0 n op.depth h at.stands.behind waiting (omega arith) (omega arith) in
+      let value : value_in h n op.depth ≡ last (values p.runner.has) = operand_is (value_in h n) op.depth _ at.stands.running.values depth (omega arith) in
+      let h1 = writes h t0 (value_in h n op.depth) in
+      let about1 = writing image t k h t0 (value_in h n op.depth) about l0.within in
+      let goes : goes_on onward (value_in h n op.depth) ≡ false = ap (goes_on onward) value ∙ sym (is_goes_on onward p) ∙ on in
       let about2 : IsAbout image (later (later t)) (suc (suc k)) (moves h1) = record { code = holds; live = at.live; at = next_word h1.pc (suc k) about1.at l1.within } in
       let target = bound (label_of op.target) in
-      lw_does core image places setting t p h (branched p false) (Keeps places n op.depth (changes (Branch onward)) h) k 5 9 _ _ 2 about l0 is (omega arith)
+      lw_does core image places setting t p h (branched p false) (Keeps places n op.depth (changes (Branch onward)) h) k t0 end_register (at_value op.depth) (place_word n op.depth) 2 about l0 (is.1, is.0) (omega arith)
       (λ s. operations_are_next core i op (Branch onward) setting s p op_at e ∙ ap (λ w. Passes s (branched p w)) on)
       (first image (later t) number 1 (suc k) _ h1 (moves h1) (HasBranched p false h) about1 l1
       (λ s. (s.reserved, not_passed onward (later t) number h1 s at.stands.nought goes))
@@ -213,10 +215,10 @@ module _ (core : List CoreOp) (image : Image) (bound : ℕ → ℕ) (places : Pl
           at = record {
             live = at.live;
             at = ap (λ k. 4 * k) (block.labels.blocks op.target);
-            stands = branch_stands p h (h.local (frame_end n - op.depth)) op.target (4 * target) e at.stands (fits.goes_on false) false refl refl;
+            stands = branch_stands p h (value_in h n op.depth) op.target (4 * target) e at.stands (fits.goes_on false) false refl refl;
           };
         },
-        kept p h (h.local (frame_end n - op.depth)) (4 * target),
+        kept p h (value_in h n op.depth) (4 * target),
       ))))
 
   pub branch_keeps : HasBlock image bound places i (branch_block onward op.depth op.target) → OpAt core i op (Branch onward) → Fits core places.frames i op (Branch onward)
@@ -232,7 +234,7 @@ halt_does core image bound places i op block op_at setting t p h enters =
     let number = number_of p in
     let about = about_block image bound places t p h i enters.running.code enters.index enters.at in
     let l0 = block.lines.0 in
-    let device : h.registers 26 ≡ 0x30000000 = enters.at.stands.devices in
+    let device : h.registers device_register ≡ 0x30000000 = enters.at.stands.devices in
     record {
       before = 0;
       few_before = omega arith;

@@ -24,7 +24,7 @@ use Rattle.fk_sim_nodes.specs.Alone.{later}
 use Rattle.fk_sim_nodes.specs.Source as nodes
 use Rattle.fk_sim_nodes.proofs.InPlace.{step_at}
 use Rattle.fk_sim_block.specs.Owner.{Commons, Owner, Doing, number_of, part, as_part, found}
-use Rattle.fk_sim_block.specs.Stands.{Places, StandsAt, HasFrame, HasRoom, frame_end, frame_start, local_address}
+use Rattle.fk_sim_block.specs.Stands.{Places, StandsAt, FrameInHart, HasRoom, value_in, frame_end, frame_start, local_address, frame_register, end_register, heap_register, device_register, zero_register, number_register, rank_register, size_register, top_register, local_register, shared_register, shared_mask_register, heap_mask_register}
 use Rattle.fk_sim_block.specs.Next.{OpAt, step_at as step_of}
 use Rattle.fk_sim_block.specs.Suits.{Fits, nothing}
 use Rattle.fk_sim_block.specs.Block.{Enters, HasDone}
@@ -36,6 +36,8 @@ use Rattle.fk_gen.proofs.Values.{same_word, other_word, values_before, length_be
 use Rattle.fk_gen.proofs.Standing.{frame_kept, waiting_kept}
 use Rattle.fk_gen.proofs.Walk.{private, lines_split}
 use Rattle.fk_gen.proofs.Jumps.{jumps, goes_to_pc, bne_taken, bne_on}
+use Rattle.fk_sim_block.specs.Node.{space_frames, node_register, body_register, frames_register, blocks_register}
+use Rattle.fk_gen.specs.Registers.{t0, t1, t2}
 use Rattle.fk_gen_flow.specs.Calls.{enter_block, own_copies, copies_by, clears_by, word_lines, frame_lines, past_return, most_own, most_privates, HasShared}
 use Rattle.fk_gen_flow.specs.Keeps.{KeepsBelow, BlockKeeps, copying_takes, clearing_takes, call_takes}
 use Rattle.fk_gen_flow.specs.Laws.{ClearsEnough, return_in}
@@ -71,8 +73,8 @@ module _ (core : List CoreOp) (image : Image) (bound : ℕ → ℕ) (places : Pl
       → HasBegun h.local h'.local p s (frame_end (length p.runner.has.callers))
       → h'.ended ≡ false → h'.pc ≡ 4 * places.block (suc i)
       → ((r : ℕ) → (r == 1) ≡ false → (r == 5) ≡ false → (r == 6) ≡ false → (r == 7) ≡ false → (r == 8) ≡ false → (r == 9) ≡ false → h'.registers r ≡ h.registers r)
-      → h'.registers 8 ≡ local_address (frame_end (length p.runner.has.callers))
-      → h'.registers 9 ≡ local_address (frame_end (length p.runner.has.callers) + 64)
+      → h'.registers frame_register ≡ local_address (frame_end (length p.runner.has.callers))
+      → h'.registers end_register ≡ local_address (frame_end (length p.runner.has.callers) + 64)
       → HasDone core image places (entering p) h'
   entered_stands p h h' s e depth at fits enough point few waiting from begun live pc same start behind =
       let stands = at.stands in
@@ -82,12 +84,13 @@ module _ (core : List CoreOp) (image : Image) (bound : ℕ → ℕ) (places : Pl
       let calls = fits.goes_on in
       let looks = fits.values in
       let header = fits.room.header in
-      let held = subst (λ j. HasFrame places h.local w j p.runner.has.call) e stands.running in
+      let held = subst (λ j. FrameInHart places h w j p.runner.has.call) e stands.running in
       let left = length_before n vs in
       let call' : Call = record (p.runner.has.call) { values = before n vs } in
-      let flowed = flows_on places core nothing h.local w i onward p.runner.has.call call' (λ x. refl) calls.back refl refl (values_before n h.local end vs held.values) held in
+      let flowed = flows_on places core nothing _ _ h.local w i onward p.runner.has.call call' (λ x. refl) calls.back refl refl (values_before n (value_in h w) vs held.values) held in
       let many : length (before n vs) ≡ op.depth - n = omega arith in
       let room = subst (λ d. HasRoom places.frames onward (suc d)) (sym many) calls.room in
+      let argument_word : (a : ℕ) → a < n → s - suc a ≡ end - (suc a + (op.depth - n)) = λ a lt. omega arith in
       let more : (suc w == 0) ≡ false = ne_eqb (suc w) 0 (λ f. omega arith) in
       record {
         done = refl;
@@ -95,24 +98,24 @@ module _ (core : List CoreOp) (image : Image) (bound : ℕ → ℕ) (places : Pl
           live = live;
           at = pc;
           stands = record {
-            nought = same 0 refl refl refl refl refl refl ∙ stands.nought;
+            nought = same zero_register refl refl refl refl refl refl ∙ stands.nought;
             frame = start;
             behind = behind ∙ omega arith;
-            number = same 18 refl refl refl refl refl refl ∙ stands.number;
-            rank = same 19 refl refl refl refl refl refl ∙ stands.rank;
-            size = same 20 refl refl refl refl refl refl ∙ stands.size;
-            top = same 21 refl refl refl refl refl refl ∙ stands.top;
-            local = same 22 refl refl refl refl refl refl ∙ stands.local;
-            shared_data = same 23 refl refl refl refl refl refl ∙ stands.shared_data;
-            private_heap = same 24 refl refl refl refl refl refl ∙ stands.private_heap;
-            shared_mask = same 25 refl refl refl refl refl refl ∙ stands.shared_mask;
-            devices = same 26 refl refl refl refl refl refl ∙ stands.devices;
-            heap_mask = same 27 refl refl refl refl refl refl ∙ stands.heap_mask;
+            number = same number_register refl refl refl refl refl refl ∙ stands.number;
+            rank = same rank_register refl refl refl refl refl refl ∙ stands.rank;
+            size = same size_register refl refl refl refl refl refl ∙ stands.size;
+            top = same top_register refl refl refl refl refl refl ∙ stands.top;
+            local = same local_register refl refl refl refl refl refl ∙ stands.local;
+            shared_data = same shared_register refl refl refl refl refl refl ∙ stands.shared_data;
+            private_heap = same heap_register refl refl refl refl refl refl ∙ stands.private_heap;
+            shared_mask = same shared_mask_register refl refl refl refl refl refl ∙ stands.shared_mask;
+            devices = same device_register refl refl refl refl refl refl ∙ stands.devices;
+            heap_mask = same heap_mask_register refl refl refl refl refl refl ∙ stands.heap_mask;
             running = record {
               home = calls.inside ∙ sym more;
               values = tt;
               privates = λ a k. elim (cases_lt a n) [
-                | inl lt ↦ begun.copies a lt ∙ arguments_at h.local end n vs a (s - suc a) held.values (omega arith) (omega arith) lt (omega arith)
+                | inl lt ↦ begun.copies a lt ∙ ap h.local (argument_word a lt) ∙ arguments_at (value_in h w) n vs a (suc a + (op.depth - n)) held.values (omega arith) lt (omega arith)
                 | inr le ↦ begun.zeros (enough a k le) a le (calls.kept a k) ∙ sym (arguments_end n vs a le)
               ];
               group = λ number told. let none : None ≡ Some number = sym calls.none ∙ told in absurd (cc);
@@ -220,12 +223,12 @@ module _ (core : List CoreOp) (image : Image) (bound : ℕ → ℕ) (places : Pl
     s = end - (op.depth - n)
 
     abbrev Goal : Hart → Type 0
-    Goal h' = HasDone core image places (entering core image bound places i op n clears p) h' × KeepsBelow end (h.registers 12) h h'
+    Goal h' = HasDone core image places (entering core image bound places i op n clears p) h' × KeepsBelow end (space_frames h) h h'
 
     record HasStored : Type 0 where
-      pub first : h4.registers 7 ≡ local_address (s - 1)
+      pub first : h4.registers t2 ≡ local_address (s - 1)
       pub same : (r : ℕ) → (r == 7) ≡ false → h4.registers r ≡ h.registers r
-      pub frame : h4.local (end + 1) ≡ h.registers 8
+      pub frame : h4.local (end + 1) ≡ h.registers frame_register
       pub result : h4.local (end + 2) ≡ local_address (s - 1)
       pub others : (j : ℕ) → ((j < end) ⊎ (end + 3 ≤ j)) → h4.local j ≡ h.local j
 
@@ -260,10 +263,10 @@ module _ (core : List CoreOp) (image : Image) (bound : ℕ → ℕ) (places : Pl
               framed.live (framed.at ∙ ap (λ k. 4 * k) (sym next))
               (λ r a1 a5 a6 a7 a8 a9. framed.same r a1 a8 a9 ∙ same r a5 a6 ∙ stored.same r a7) framed.start framed.behind,
           record {
-            node = framed.same 10 refl refl refl ∙ same 10 refl refl ∙ stored.same 10 refl;
-            body = framed.same 11 refl refl refl ∙ same 11 refl refl ∙ stored.same 11 refl;
-            frames_end = framed.same 12 refl refl refl ∙ same 12 refl refl ∙ stored.same 12 refl;
-            blocks = framed.same 13 refl refl refl ∙ same 13 refl refl ∙ stored.same 13 refl;
+            node = framed.same node_register refl refl refl ∙ same node_register refl refl ∙ stored.same node_register refl;
+            body = framed.same body_register refl refl refl ∙ same body_register refl refl ∙ stored.same body_register refl;
+            frames_end = framed.same frames_register refl refl refl ∙ same frames_register refl refl ∙ stored.same frames_register refl;
+            blocks = framed.same blocks_register refl refl refl ∙ same blocks_register refl refl ∙ stored.same blocks_register refl;
             words = below;
           },
         )
@@ -273,7 +276,7 @@ module _ (core : List CoreOp) (image : Image) (bound : ℕ → ℕ) (places : Pl
         → HasWords h4.local hx.local → ((r : ℕ) → (r == 5) ≡ false → (r == 6) ≡ false → hx.registers r ≡ h4.registers r)
         → places.block (suc i) ≡ k + 5 → Comes image t (number_of p) 4 hx Goal
     frame_begins t k hx about stored lines words same next =
-        frame_comes image bound (number_of p) end k back Goal t hx lines (omega arith) about (same 9 refl refl ∙ stored.same 9 refl ∙ at.stands.behind)
+        frame_comes image bound (number_of p) end k back Goal t hx lines (omega arith) about (same end_register refl refl ∙ stored.same end_register refl ∙ at.stands.behind)
         (λ hf framed. has_begun k hx hf stored words same framed next)
 
     -- what is cleared
@@ -302,16 +305,16 @@ module _ (core : List CoreOp) (image : Image) (bound : ℕ → ℕ) (places : Pl
         let entry = bound (clear_label last) in
         let pc = about.at in
         let within = l0.within in
-        let h5 = jumps hc 6 (4 * entry) in
+        let h5 = jumps hc t1 (4 * entry) in
         let begin : IsAbout image (later t) entry h5 = record { code = about.code; live = about.live; at = refl } in
-        let linked : h5.registers 6 + 0 ≡ 4 * suc k = omega arith in
+        let linked : h5.registers t1 + 0 ≡ 4 * suc k = omega arith in
         let here : k + 1 ≡ suc k = omega arith in
         first image t number (clear_cycles last 5) k _ hc h5 Goal about l0 (jal_goes t number 6 0 k entry hc about.at l0.within (block.labels.within (clear_label last)))
         (clears_come image bound number end 5 Goal shared.clearing (omega arith) last (later t) h5 (omega arith) begin
-        (same 0 refl refl ∙ stored.same 0 refl ∙ at.stands.nought) (same 9 refl refl ∙ stored.same 9 refl ∙ at.stands.behind)
+        (same zero_register refl refl ∙ stored.same zero_register refl ∙ at.stands.nought) (same end_register refl refl ∙ stored.same end_register refl ∙ at.stands.behind)
         (λ t' h' about' same' cleared.
         let hx = jumps h' 0 (4 * suc k) in
-        let link : h'.registers 6 + 0 ≡ 4 * suc k = ap (λ v. v + 0) (same' 6) ∙ linked in
+        let link : h'.registers t1 + 0 ≡ 4 * suc k = ap (λ v. v + 0) (same' 6) ∙ linked in
         let there' : IsAbout image (later t') (suc k) hx = record { code = about'.code; live = about'.live; at = refl } in
         first image t' number 4 (bound (clear_label 0)) _ h' hx Goal about' shared.clearing.back.0 (jalr_goes t' number 0 6 0 (suc k) h' link (omega arith))
         (frame_begins (later t') (suc k) hx there' stored (subst (λ j. LinesAt image bound j (frame_lines back)) here frame)
@@ -340,7 +343,7 @@ module _ (core : List CoreOp) (image : Image) (bound : ℕ → ℕ) (places : Pl
         let at4 = about.at in
         let begin : IsAbout image t (word n) h4 = record { code = about.code; live = about.live; at = omega arith } in
         copies_come image bound number s end rest n word Goal (own_are_copies image bound n k7 lines) (omega arith) (omega arith) few_arguments n t h4 (omega arith) (omega arith) begin
-        stored.first (stored.same 9 refl ∙ at.stands.behind)
+        stored.first (stored.same end_register refl ∙ at.stands.behind)
         (λ t' h' about' same copied.
         let pc = about'.at in
         let there' : IsAbout image t' (k7 + length (own_copies n)) h' = record { code = about'.code; live = about'.live; at = omega (arith, pc, many) } in
@@ -354,16 +357,16 @@ module _ (core : List CoreOp) (image : Image) (bound : ℕ → ℕ) (places : Pl
         let within = l0.within in
         let entry = bound (copy_label n) in
         let pc = about.at in
-        let h5 = jumps h4 6 (4 * entry) in
+        let h5 = jumps h4 t1 (4 * entry) in
         let begin : IsAbout image (later t) entry h5 = record { code = about.code; live = about.live; at = refl } in
-        let linked : h5.registers 6 + 0 ≡ 4 * suc k7 = omega arith in
+        let linked : h5.registers t1 + 0 ≡ 4 * suc k7 = omega arith in
         let here : suc k7 ≡ k7 + 1 = omega arith in
         first image t number (copy_cycles n (suc rest)) k7 _ h4 h5 Goal about l0 (jal_goes t number 6 0 k7 entry h4 about.at l0.within (block.labels.within (copy_label n)))
         (copies_come image bound number s end (suc rest) 56 (λ m. bound (copy_label m)) Goal (shared_are_copies image bound shared.copying) (omega arith) (omega arith) (omega arith) n (later t) h5 few_arguments (omega arith) begin
-        stored.first (stored.same 9 refl ∙ at.stands.behind)
+        stored.first (stored.same end_register refl ∙ at.stands.behind)
         (λ t' h' about' same copied.
         let hx = jumps h' 0 (4 * suc k7) in
-        let link : h'.registers 6 + 0 ≡ 4 * suc k7 = ap (λ v. v + 0) (same 6 refl) ∙ linked in
+        let link : h'.registers t1 + 0 ≡ 4 * suc k7 = ap (λ v. v + 0) (same 6 refl) ∙ linked in
         let there' : IsAbout image (later t') (suc k7) hx = record { code = about'.code; live = about'.live; at = refl } in
         first image t' number rest (bound (copy_label 0)) _ h' hx Goal about' shared.copying.back.0 (jalr_goes t' number 0 6 0 (suc k7) h' link (omega arith))
         (after (later t') hx (subst (λ k. IsAbout image (later t') k hx) here there') copied (λ r a b. same r a ∙ rw b))))
@@ -381,7 +384,7 @@ module _ (core : List CoreOp) (image : Image) (bound : ℕ → ℕ) (places : Pl
 
   -- 255 calls wait already
   faults : (setting : Setting) (t : MachineSetting) (p : Owner) (h : Hart) → Enters core image places setting t i op (Enter n) p h → 255 ≤ length p.runner.has.callers
-      → DoesAnd core image places setting t p h 3 (call_takes clears n) (KeepsBelow (frame_end (length p.runner.has.callers)) (h.registers 12) h)
+      → DoesAnd core image places setting t p h 3 (call_takes clears n) (KeepsBelow (frame_end (length p.runner.has.callers)) (space_frames h) h)
   faults setting t p h enters le =
       let number = number_of p in
       let stands = enters.at.stands in
@@ -396,16 +399,16 @@ module _ (core : List CoreOp) (image : Image) (bound : ℕ → ℕ) (places : Pl
       let v2 = high_part op.site * 4096 in
       let v3 = word_sum v2 (low_part op.site) in
       let h1 = goes_to_pc h (word_sum h.pc 4) in
-      let h2 = writes h1 5 v2 in
-      let h3 = writes h2 5 v3 in
-      let t1 = later t in
-      let t2 = later t1 in
-      let t3 = later t2 in
-      let about1 : IsAbout image t1 (suc k) h1 = record { code = about.code; live = about.live; at = next_word h.pc k about.at l0.within } in
-      let about2 = writing image t1 (suc k) h1 5 v2 about1 l1.within in
-      let about3 = writing image t2 (suc (suc k)) h2 5 v3 about2 l2.within in
-      let last = no_more w (h.registers 9) (h.registers 24) (omega arith) stands.behind stands.private_heap in
-      let device : h3.registers 26 ≡ 0x30000000 = stands.devices in
+      let h2 = writes h1 t0 v2 in
+      let h3 = writes h2 t0 v3 in
+      let cycle1 = later t in
+      let cycle2 = later cycle1 in
+      let cycle3 = later cycle2 in
+      let about1 : IsAbout image cycle1 (suc k) h1 = record { code = about.code; live = about.live; at = next_word h.pc k about.at l0.within } in
+      let about2 = writing image cycle1 (suc k) h1 5 v2 about1 l1.within in
+      let about3 = writing image cycle2 (suc (suc k)) h2 5 v3 about2 l2.within in
+      let last = no_more w (h.registers end_register) (h.registers heap_register) (omega arith) stands.behind stands.private_heap in
+      let device : h3.registers device_register ≡ 0x30000000 = stands.devices in
       record {
         few_before = omega arith;
         few_behind = few_take clears n fits.goes_on.few;
@@ -416,8 +419,8 @@ module _ (core : List CoreOp) (image : Image) (bound : ℕ → ℕ) (places : Pl
             bne_on image t number k 9 24 16 h about.code l0 about.at about.live last,
             (
               h2,
-              private image t1 number (suc k) (Lui 5 (high_part op.site)) h1 h2 about1.code l1 about1.at about1.live (λ s. (s.reserved, refl)),
-              (h3, private image t2 number (suc (suc k)) (Addi 5 5 (low_part op.site)) h2 h3 about2.code l2 about2.at about2.live (λ s. (s.reserved, refl)), refl),
+              private image cycle1 number (suc k) (Lui t0 (high_part op.site)) h1 h2 about1.code l1 about1.at about1.live (λ s. (s.reserved, refl)),
+              (h3, private image cycle2 number (suc (suc k)) (Addi t0 t0 (low_part op.site)) h2 h3 about2.code l2 about2.at about2.live (λ s. (s.reserved, refl)), refl),
             ),
           );
           commits = record {
@@ -427,8 +430,8 @@ module _ (core : List CoreOp) (image : Image) (bound : ℕ → ℕ) (places : Pl
               site = op.site;
               part = refused setting s p enters.index le;
               stops = λ earlier sh shows.
-                  step_at image (suc (suc (suc k))) 1 (Sw 26 5 8) l3 t3 about3.code number h3 sh about3.at
-                  ∙ sw-fault t3 number 26 5 8 h3 sh (omega (arith, device)) (ap (λ a. place_of (word_sum a 8)) device ∙ place_of-fault)
+                  step_at image (suc (suc (suc k))) 1 (Sw device_register t0 8) l3 cycle3 about3.code number h3 sh about3.at
+                  ∙ sw-fault cycle3 number 26 5 8 h3 sh (omega (arith, device)) (ap (λ a. place_of (word_sum a 8)) device ∙ place_of-fault)
                   ∙ ap (λ v. Stops (Faulted v number)) (number_of_parts op.site small);
             });
           };
@@ -437,7 +440,7 @@ module _ (core : List CoreOp) (image : Image) (bound : ℕ → ℕ) (places : Pl
 
   -- else there is room
   begins : (setting : Setting) (t : MachineSetting) (p : Owner) (h : Hart) → Enters core image places setting t i op (Enter n) p h → length p.runner.has.callers < 255
-      → DoesAnd core image places setting t p h 3 (argument_cycles (nat_le n (most_own clears)) n (clearing_cycles clears n 4)) (KeepsBelow (frame_end (length p.runner.has.callers)) (h.registers 12) h)
+      → DoesAnd core image places setting t p h 3 (argument_cycles (nat_le n (most_own clears)) n (clearing_cycles clears n 4)) (KeepsBelow (frame_end (length p.runner.has.callers)) (space_frames h) h)
   begins setting t p h enters lt =
       let number = number_of p in
       let stands = enters.at.stands in
@@ -455,25 +458,25 @@ module _ (core : List CoreOp) (image : Image) (bound : ℕ → ℕ) (places : Pl
       let within = l6.within in
       let k4 = suc (suc (suc (suc k))) in
       let place = e - (op.depth - n) - 1 in
-      let v = word_sum (h.registers 9) (at_value (op.depth - n + 1)) in
+      let v = word_sum (h.registers end_register) (at_value (op.depth - n + 1)) in
       let same_place : e - (op.depth - n + 1) ≡ place = omega arith in
-      let first_place : v ≡ local_address place = words_back e (op.depth - n + 1) (h.registers 9) stands.behind (omega arith) (omega arith) ∙ ap local_address same_place in
-      let m1 = put h.local (e + 1) (h.registers 8) in
+      let first_place : v ≡ local_address place = words_back e (op.depth - n + 1) (h.registers end_register) stands.behind (omega arith) (omega arith) ∙ ap local_address same_place in
+      let m1 = put h.local (e + 1) (h.registers frame_register) in
       let m2 = put m1 (e + 2) v in
       let h1 = goes_to_pc h (word_sum h.pc 16) in
       let h2 : Hart = record (moves h1) { local = m1 } in
-      let h3 = writes h2 7 v in
+      let h3 = writes h2 t2 v in
       let h4 : Hart = record (moves h3) { local = m2 } in
-      let t1 = later t in
-      let t2 = later t1 in
-      let t3 = later t2 in
+      let cycle1 = later t in
+      let cycle2 = later cycle1 in
+      let cycle3 = later cycle2 in
       let pc = about.at in
-      let about1 : IsAbout image t1 k4 h1 = record { code = about.code; live = about.live; at = omega arith } in
-      let about2 = storing image t1 k4 h1 m1 about1 l4.within in
-      let about3 = writing image t2 (suc k4) h2 7 v about2 l5.within in
-      let about4 = storing image t3 (suc (suc k4)) h3 m2 about3 l6.within in
-      let wait = may_wait w (h.registers 9) (h.registers 24) lt stands.behind stands.private_heap in
-      let second = near_word e 2 (e + 2) (h3.registers 9) 8 stands.behind refl (omega arith) (omega arith) in
+      let about1 : IsAbout image cycle1 k4 h1 = record { code = about.code; live = about.live; at = omega arith } in
+      let about2 = storing image cycle1 k4 h1 m1 about1 l4.within in
+      let about3 = writing image cycle2 (suc k4) h2 7 v about2 l5.within in
+      let about4 = storing image cycle3 (suc (suc k4)) h3 m2 about3 l6.within in
+      let wait = may_wait w (h.registers end_register) (h.registers heap_register) lt stands.behind stands.private_heap in
+      let second = near_word e 2 (e + 2) (h3.registers end_register) 8 stands.behind refl (omega arith) (omega arith) in
       let short = few_take clears n few_arguments in
       let all = all_take clears n in
       let words = word_lines clears n in
@@ -489,8 +492,8 @@ module _ (core : List CoreOp) (image : Image) (bound : ℕ → ℕ) (places : Pl
             bne_taken image t number k 9 24 16 h about.code l0 about.at about.live wait (omega arith),
             (
               h2,
-              private image t1 number k4 (Sw 9 8 4) h1 h2 about1.code l4 about1.at about1.live (sw_goes t1 number 9 8 4 (e + 1) h1 (near_word e 1 (e + 1) (h.registers 9) 4 stands.behind refl (omega arith) (omega arith))),
-              (h3, private image t2 number (suc k4) (Addi 7 9 (at_value (op.depth - n + 1))) h2 h3 about2.code l5 about2.at about2.live (λ s. (s.reserved, refl)), refl),
+              private image cycle1 number k4 (Sw end_register frame_register 4) h1 h2 about1.code l4 about1.at about1.live (sw_goes cycle1 number 9 8 4 (e + 1) h1 (near_word e 1 (e + 1) (h.registers end_register) 4 stands.behind refl (omega arith) (omega arith))),
+              (h3, private image cycle2 number (suc k4) (Addi t2 end_register (at_value (op.depth - n + 1))) h2 h3 about2.code l5 about2.at about2.live (λ s. (s.reserved, refl)), refl),
             ),
           );
           commits = record {
@@ -503,19 +506,19 @@ module _ (core : List CoreOp) (image : Image) (bound : ℕ → ℕ) (places : Pl
               part = served setting s p enters.index lt;
               goes = λ earlier sh shows. (
                 _,
-                step_at image (suc (suc k4)) 1 (Sw 9 7 8) l6 t3 about3.code number h3 sh about3.at
-                    ∙ sw-local t3 number 9 7 8 (e + 2) h3 sh (omega (arith, second.0)) (place_of-local _ (e + 2) second.1 second.0),
+                step_at image (suc (suc k4)) 1 (Sw end_register t2 8) l6 cycle3 about3.code number h3 sh about3.at
+                    ∙ sw-local cycle3 number 9 7 8 (e + 2) h3 sh (omega (arith, second.0)) (place_of-local _ (e + 2) second.1 second.0),
                 record { words = shows.words; output = shows.output; common = shows.common },
                 λ j e. refl,
               );
               follows =
-                  let comes = call_comes p h h4 enters.index enters.ready.depth enters.at lt (nat_le n (most_own clears)) (later t3) (suc (suc (suc k4))) about4
+                  let comes = call_comes p h h4 enters.index enters.ready.depth enters.at lt (nat_le n (most_own clears)) (later cycle3) (suc (suc (suc k4))) about4
                   (record {
                     first = first_place;
                     same = λ r f. rw f;
-                    frame = other_word m1 (e + 2) v (e + 1) (λ f. omega arith) ∙ same_word h.local (e + 1) (h.registers 8);
+                    frame = other_word m1 (e + 2) v (e + 1) (λ f. omega arith) ∙ same_word h.local (e + 1) (h.registers frame_register);
                     result = same_word m1 (e + 2) v ∙ first_place;
-                    others = λ j out. two_words h.local e (h.registers 8) v j out;
+                    others = λ j out. two_words h.local e (h.registers frame_register) v j out;
                   })
                   block.lines.1.1.1.1.1.1.1 (omega arith) in
                   (comes.hart, comes.runs, comes.goal);
@@ -526,6 +529,6 @@ module _ (core : List CoreOp) (image : Image) (bound : ℕ → ℕ) (places : Pl
 
   pub enter_keeps : BlockKeeps core image places 3 (λ way. call_takes clears n) i op (Enter n)
   enter_keeps setting t p h enters = elim (cases_lt (length p.runner.has.callers) 255) [
-    | inl lt ↦ subst (λ c. DoesAnd core image places setting t p h 3 c (KeepsBelow (frame_end (length p.runner.has.callers)) (h.registers 12) h)) (all_take clears n) (begins setting t p h enters lt)
+    | inl lt ↦ subst (λ c. DoesAnd core image places setting t p h 3 c (KeepsBelow (frame_end (length p.runner.has.callers)) (space_frames h) h)) (all_take clears n) (begins setting t p h enters lt)
     | inr le ↦ faults setting t p h enters le
   ]

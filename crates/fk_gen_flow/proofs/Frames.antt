@@ -3,14 +3,10 @@ use Rattle.std.proofs.Common.{◌≡◌, ℕ, zero, suc, ◌+◌, ◌-◌, ◌*�
 use Rattle.std.specs.Prelude.{◌==◌}
 use Rattle.std.proofs.lemmas.Bool.{ne_eqb}
 use Rattle.fk_num.specs.Word.{Memory}
-use Rattle.fk_meaning.specs.Processor.{Call, last}
+use Rattle.fk_meaning.specs.Processor.{Call}
 use Rattle.fk_core.specs.declared.op.CoreOp.{CoreOp}
-use Rattle.fk_sim_block.specs.Stands.{Places, HasValues, HasRoom, HasFrame, HasGroupFrame, HasWaiting, Returns, frame_start, frame_end, ahead}
+use Rattle.fk_sim_block.specs.Stands.{Places, HasValues, HasRoom, HasFrame, FrameInMemory, HasGroupFrame, HasWaiting, Returns, frame_start, ahead}
 use Rattle.fk_sim_block.specs.Suits.{Flows}
-
-pub last_value : (m : Memory) (e d : ℕ) (vs : List ℕ) → HasValues m e vs → length vs ≡ d → 0 < d → m (e - d) ≡ last vs
-last_value m e d [] held is pos = absurd (omega arith)
-last_value m e d (v ∷ vs) held is pos = ap (λ n. m (e - n)) (sym is) ∙ held.0
 
 module _ (places : Places) where
   pub start_of : (n at : ℕ) → places.frames.is_main at ≡ (n == 0) → frame_start places n ≡ 64 * n + ahead places.frames (places.frames.is_main at)
@@ -24,10 +20,10 @@ module _ (places : Places) where
   }
 
   -- where a call goes on at another index
-  pub flows_on : (core : List CoreOp) (written : ℕ → Bool) (m : Memory) (n i j : ℕ) (call call' : Call) → ((w : ℕ) → written w ≡ false)
-      → Flows core places.frames written i j → call'.privates ≡ call.privates → call'.frames ≡ call.frames → HasValues m (frame_end n) call'.values
-      → HasFrame places m n i call → HasFrame places m n j call'
-  flows_on core written m n i j call call' never flows same frames values held = record {
+  pub flows_on : (core : List CoreOp) (written : ℕ → Bool) (value private : ℕ → ℕ) (m : Memory) (n i j : ℕ) (call call' : Call) → ((w : ℕ) → written w ≡ false)
+      → Flows core places.frames written i j → call'.privates ≡ call.privates → call'.frames ≡ call.frames → HasValues value call'.values
+      → HasFrame places value private m n i call → HasFrame places value private m n j call'
+  flows_on core written value private m n i j call call' never flows same frames values held = record {
     home = flows.main ∙ held.home;
     values = values;
     privates = λ w e. held.privates w (flows.kept w e (never w)) ∙ ap (λ f. f w) (sym same);
@@ -43,7 +39,7 @@ module _ (places : Places) where
     pub are_backs : backs ≡ back ∷ backs'
     pub are_calls : calls ≡ call ∷ calls'
     pub returns : Returns places m (length calls') back call
-    pub frame : HasFrame places m (length calls') back call
+    pub frame : FrameInMemory places m (length calls') back call
     pub others : HasWaiting places m backs' calls'
 
   pub last_of : (m : Memory) (backs : List ℕ) (calls : List Call) → HasWaiting places m backs calls → 0 < length backs → Last m backs calls

@@ -15,10 +15,10 @@ use Rattle.fk_machine.proofs.Performs.{writes, moves}
 use Rattle.fk_sim_nodes.specs.Alone.{later}
 use Rattle.fk_sim_nodes.specs.Source.{Passes}
 use Rattle.fk_sim_block.specs.Owner.{Commons, Owner, Doing, number_of, part}
-use Rattle.fk_sim_block.specs.Stands.{Places, StandsAt, HasRoom, HasValues, HasGroupFrame, frame_end, frame_start, group_word, local_address}
+use Rattle.fk_sim_block.specs.Stands.{Places, StandsAt, HasRoom, HasValues, HasGroupFrame, frame_end, frame_start, group_word, local_address, value_of, value_in, zero_register, frame_register, end_register, number_register, rank_register, size_register, top_register, local_register, shared_register, heap_register, shared_mask_register, device_register, heap_mask_register}
 use Rattle.fk_sim_block.specs.Next.{OpAt}
 use Rattle.fk_sim_block.specs.Suits.{Fits}
-use Rattle.fk_sim_block.specs.Node.{control_address}
+use Rattle.fk_sim_block.specs.Node.{control_address, frames_register, node_register, body_register, blocks_register}
 use Rattle.fk_sim_block.specs.Block.{HasDone, Enters}
 use Rattle.fk_sim_block.proofs.Standing.{operations_are_next}
 use Rattle.fk_gen.specs.Lines.{quiet, first_commits, label_of, at_value, at_group_frame}
@@ -27,38 +27,42 @@ use Rattle.fk_gen.specs.Keeps.{DoesAnd}
 use Rattle.fk_gen.proofs.Values.{same_word, other_word, values_kept, value_place}
 use Rattle.fk_gen.proofs.Standing.{frame_stays, waiting_kept}
 use Rattle.fk_gen.proofs.Jumps.{jumps}
+use Rattle.fk_gen.specs.Registers.{t0, t1, t2}
 use Rattle.fk_gen_flow.specs.Flow.{jump_block, leave_block, giving_back, returning}
 use Rattle.fk_gen_flow.specs.Keeps.{KeepsBelow, BlockKeeps, frames_behind, leaving_takes, result_word}
 use Rattle.fk_gen_flow.specs.Laws.{CallsReturn}
-use Rattle.fk_gen_flow.proofs.Walk.{Comes, IsAbout, IsLocal, there, first, writing, storing, value_word, near_word, lw_goes, sw_goes, jal_goes, jalr_goes}
-use Rattle.fk_gen_flow.proofs.Frames.{Last, last_of, last_value, start_of}
+use Rattle.fk_gen_flow.proofs.Walk.{Comes, IsAbout, IsLocal, there, first, writing, storing, near_word, lw_goes, sw_goes, jal_goes, jalr_goes}
+use Rattle.fk_gen.specs.Operands.{operand}
+use Rattle.fk_gen.proofs.Walk.{CanRun}
+use Rattle.fk_gen.proofs.ValueLines.{place_word, place_reached, operand_runs, operand_is}
+use Rattle.fk_gen_flow.proofs.Frames.{Last, last_of, start_of}
 use Rattle.fk_gen_flow.proofs.Does.{lw_does, about_block}
 
 -- ---- the last three instructions, and the jump to which the call returns
 
 abbrev pub back_to : Hart → (w word target : ℕ) → Hart
-back_to h w word target = jumps (jumps (writes (writes h 9 (word_sum (h.registers 8) 0)) 8 (h.local w)) 0 (4 * word)) 0 (4 * target)
+back_to h w word target = jumps (jumps (writes (writes h end_register (word_sum (h.registers frame_register) 0)) 8 (h.local w)) 0 (4 * word)) 0 (4 * target)
 
 pub returning_comes : (image : Image) (bound : ℕ → ℕ) (t : MachineSetting) (number k w word back : ℕ) (h : Hart) (Goal : Hart → Type 0) → IsAbout image t k h
-    → LinesAt image bound k (map quiet returning) → LinesAt image bound word (jump_block back) → IsLocal (word_sum (h.registers 8) 4) w → h.registers 6 ≡ 4 * word
+    → LinesAt image bound k (map quiet returning) → LinesAt image bound word (jump_block back) → IsLocal (word_sum (h.registers frame_register) 4) w → h.registers t1 ≡ 4 * word
     → bound (label_of back) ≤ 262144 → Goal (back_to h w word (bound (label_of back))) → Comes image t number 4 h Goal
 returning_comes image bound t number k w word back h Goal about lines jump is link le goal =
     let target = bound (label_of back) in
     let within = jump.0.within in
-    let h1 = writes h 9 (word_sum (h.registers 8) 0) in
-    let h2 = writes h1 8 (h.local w) in
-    let h3 = jumps h2 0 (4 * word) in
-    let linked : h2.registers 6 + 0 ≡ 4 * word = omega (arith, link) in
-    let t1 = later t in
-    let t2 = later t1 in
-    let t3 = later t2 in
-    let about1 = writing image t k h 9 (word_sum (h.registers 8) 0) about lines.0.within in
-    let about2 = writing image t1 (suc k) h1 8 (h.local w) about1 lines.1.0.within in
-    let about3 : IsAbout image t3 word h3 = record { code = about.code; live = about.live; at = refl } in
+    let h1 = writes h end_register (word_sum (h.registers frame_register) 0) in
+    let h2 = writes h1 frame_register (h.local w) in
+    let h3 = jumps h2 zero_register (4 * word) in
+    let linked : h2.registers t1 + 0 ≡ 4 * word = omega (arith, link) in
+    let cycle1 = later t in
+    let cycle2 = later cycle1 in
+    let cycle3 = later cycle2 in
+    let about1 = writing image t k h 9 (word_sum (h.registers frame_register) 0) about lines.0.within in
+    let about2 = writing image cycle1 (suc k) h1 8 (h.local w) about1 lines.1.0.within in
+    let about3 : IsAbout image cycle3 word h3 = record { code = about.code; live = about.live; at = refl } in
     first image t number 3 k _ h h1 Goal about lines.0 (λ s. (s.reserved, refl))
-    (first image t1 number 2 (suc k) _ h1 h2 Goal about1 lines.1.0 (lw_goes t1 number 8 8 4 w h1 is)
-    (first image t2 number 1 (suc (suc k)) _ h2 h3 Goal about2 lines.1.1.0 (jalr_goes t2 number 0 6 0 word h2 linked (omega arith))
-    (first image t3 number 0 word _ h3 (jumps h3 0 (4 * target)) Goal about3 jump.0 (jal_goes t3 number 0 0 word target h3 refl within le)
+    (first image cycle1 number 2 (suc k) _ h1 h2 Goal about1 lines.1.0 (lw_goes cycle1 number 8 8 4 w h1 is)
+    (first image cycle2 number 1 (suc (suc k)) _ h2 h3 Goal about2 lines.1.1.0 (jalr_goes cycle2 number 0 6 0 word h2 linked (omega arith))
+    (first image cycle3 number 0 word _ h3 (jumps h3 zero_register (4 * target)) Goal about3 jump.0 (jal_goes cycle3 number 0 0 word target h3 refl within le)
     (there image _ number _ Goal goal))))
 
 -- ---- what a processor is then
@@ -140,10 +144,10 @@ module _ (core : List CoreOp) (image : Image) (bound : ℕ → ℕ) (places : Pl
       → places.frames.of_file ≤ 56 → length p.runner.has.callers < 256
       → r ≡ 64 * suc (length l.calls') - suc (length l.call.values)
       → ((j : ℕ) → (j ≡ r → ⊥) → h'.local j ≡ h.local j)
-      → HasValues h'.local (frame_end (length l.calls')) (handed gives (last (values p.runner.has)) l.call).values
+      → HasValues (value_in h' (length l.calls')) (handed gives (last (values p.runner.has)) l.call).values
       → h'.pc ≡ 4 * places.block l.back
-      → h'.registers 8 ≡ local_address (frame_start places (length l.calls'))
-      → h'.registers 9 ≡ local_address (frame_end (length l.calls'))
+      → h'.registers frame_register ≡ local_address (frame_start places (length l.calls'))
+      → h'.registers end_register ≡ local_address (frame_end (length l.calls'))
       → HasDone core image places (ended p h.local l) h'
   ended_stands p h h' l r at after few waiting is others held pc start end =
       let m = length l.calls' in
@@ -160,19 +164,19 @@ module _ (core : List CoreOp) (image : Image) (bound : ℕ → ℕ) (places : Pl
           live = after.live ∙ at.live;
           at = pc;
           stands = record {
-            nought = after.same 0 refl refl refl refl refl refl ∙ stands.nought;
+            nought = after.same zero_register refl refl refl refl refl refl ∙ stands.nought;
             frame = start;
             behind = end;
-            number = after.same 18 refl refl refl refl refl refl ∙ stands.number ∙ sym u.number;
-            rank = after.same 19 refl refl refl refl refl refl ∙ stands.rank ∙ sym u.rank;
-            size = after.same 20 refl refl refl refl refl refl ∙ stands.size ∙ sym u.size;
-            top = after.same 21 refl refl refl refl refl refl ∙ stands.top ∙ sym u.top;
-            local = after.same 22 refl refl refl refl refl refl ∙ stands.local;
-            shared_data = after.same 23 refl refl refl refl refl refl ∙ stands.shared_data;
-            private_heap = after.same 24 refl refl refl refl refl refl ∙ stands.private_heap;
-            shared_mask = after.same 25 refl refl refl refl refl refl ∙ stands.shared_mask;
-            devices = after.same 26 refl refl refl refl refl refl ∙ stands.devices;
-            heap_mask = after.same 27 refl refl refl refl refl refl ∙ stands.heap_mask;
+            number = after.same number_register refl refl refl refl refl refl ∙ stands.number ∙ sym u.number;
+            rank = after.same rank_register refl refl refl refl refl refl ∙ stands.rank ∙ sym u.rank;
+            size = after.same size_register refl refl refl refl refl refl ∙ stands.size ∙ sym u.size;
+            top = after.same top_register refl refl refl refl refl refl ∙ stands.top ∙ sym u.top;
+            local = after.same local_register refl refl refl refl refl refl ∙ stands.local;
+            shared_data = after.same shared_register refl refl refl refl refl refl ∙ stands.shared_data;
+            private_heap = after.same heap_register refl refl refl refl refl refl ∙ stands.private_heap;
+            shared_mask = after.same shared_mask_register refl refl refl refl refl refl ∙ stands.shared_mask;
+            devices = after.same device_register refl refl refl refl refl refl ∙ stands.devices;
+            heap_mask = after.same heap_mask_register refl refl refl refl refl refl ∙ stands.heap_mask;
             running = record {
               home = l.frame.home;
               values = held;
@@ -215,12 +219,12 @@ module _ (core : List CoreOp) (image : Image) (bound : ℕ → ℕ) (places : Pl
   abbrev v : ℕ
   v = last (values p.runner.has)
 
-  starts : h.registers 8 ≡ local_address w
+  starts : h.registers frame_register ≡ local_address w
   starts = let many : length p.runner.has.callers ≡ suc (length l.calls') = ap length l.are_calls in at.stands.frame ∙ ap (λ n. local_address (frame_start places n)) many
 
   comes_back : (t : MachineSetting) (k : ℕ) (rs : ℕ → ℕ) (pc : ℕ) (local : Memory) → IsAbout image t k (moved_to h rs pc local)
       → LinesAt image bound k (map quiet returning) → rs 6 ≡ 4 * l.returns.word → SameButFree h.registers rs → rs 12 ≡ frames_behind framed p.runner.has h
-      → ((j : ℕ) → (j ≡ r → ⊥) → local j ≡ h.local j) → HasValues local (frame_end (length l.calls')) (handed gives v l.call).values
+      → ((j : ℕ) → (j ≡ r → ⊥) → local j ≡ h.local j) → HasValues (value_of local (length l.calls')) (handed gives v l.call).values
       → Comes image t (number_of p) 4 (moved_to h rs pc local) Goal
   comes_back t k rs pc local about lines link same frames others values' =
       let m = length l.calls' in
@@ -232,17 +236,17 @@ module _ (core : List CoreOp) (image : Image) (bound : ℕ → ℕ) (places : Pl
       let header = word.header in
       let inside = word.inside in
       let many : length p.runner.has.callers ≡ suc m = ap length l.are_calls in
-      let start : rs 8 ≡ local_address w = same 8 refl refl refl refl ∙ starts in
+      let start : rs 8 ≡ local_address w = same frame_register refl refl refl refl ∙ starts in
       returning_comes image bound t (number_of p) k (w + 1) l.returns.word l.back g Goal about lines jump (near_word w 1 (w + 1) (rs 8) 4 start refl (omega arith) (omega arith)) link
       (labels.within (label_of l.back)) (
         ended_stands core image bound places i op gives framed p h (back_to g (w + 1) l.returns.word target) l r at
             (record { live = refl; same = λ r' a b c d e f. rw (d, e) (same r' a b c f) })
             few waiting refl others values' (ap (λ k. 4 * k) (labels.blocks l.back)) (others (w + 1) (λ f. omega arith) ∙ l.returns.frame) (omega (arith, start)),
         record {
-          node = same 10 refl refl refl refl;
-          body = same 11 refl refl refl refl;
+          node = same node_register refl refl refl refl;
+          body = same body_register refl refl refl refl;
           frames_end = frames;
-          blocks = same 13 refl refl refl refl;
+          blocks = same blocks_register refl refl refl refl;
           words = λ j lt. others j (λ f. omega arith);
         },
       )
@@ -278,10 +282,10 @@ module _ (core : List CoreOp) (image : Image) (bound : ℕ → ℕ) (places : Pl
       let w = 64 * suc (length l.calls') in
       let start = starts core image bound places i op false false few calls block.labels p h at l waiting in
       let many : length p.runner.has.callers ≡ suc (length l.calls') = ap length l.are_calls in
-      let h1 = writes h 6 (h.local w) in
+      let h1 = writes h t1 (h.local w) in
       let about1 = writing image t k h 6 (h.local w) about block.lines.0.within in
       lw_does core image places setting t p h (ended core image bound places i op false false p h.local l) (Keeps false) k 6 8 0 w 4 about block.lines.0
-      (near_word w 0 w (h.registers 8) 0 start refl (omega arith) (omega arith)) (omega arith)
+      (near_word w 0 w (h.registers frame_register) 0 start refl (omega arith) (omega arith)) (omega arith)
       (ended_part core image bound places i op false false setting p h.local l op_at enters.index)
       (comes_back core image bound places i op false false few calls block.labels p h at l waiting (later t) (suc k) h1.registers h1.pc h.local about1 block.lines.1 l.returns.code
       (λ r' a b c f. rw b) refl (λ j ne. refl) l.frame.values)
@@ -293,9 +297,9 @@ module _ (core : List CoreOp) (image : Image) (bound : ℕ → ℕ) (places : Pl
   -- a hart that has given the frame back
   abbrev given : Hart
   given =
-      let h1 = writes h 6 (h.local (group_word (length p.runner.has.callers))) in
-      let h2 = writes h1 7 (0x08000 * 4096) in
-      writes h2 12 (word_sum (h2.registers 6) (h2.registers 7))
+      let h1 = writes h t1 (h.local (group_word (length p.runner.has.callers))) in
+      let h2 = writes h1 t2 (0x08000 * 4096) in
+      writes h2 frames_register (word_sum (h2.registers t1) (h2.registers t2))
 
   -- the lines that give it back, and what follows them
   gives_back : (gives : Bool) → OpAt core i op (Leave gives true) → (enters : Entered gives true)
@@ -309,13 +313,13 @@ module _ (core : List CoreOp) (image : Image) (bound : ℕ → ℕ) (places : Pl
       let waiting = enters.ready.in_range.waiting in
       let about = about_block image bound places t p h i enters.running.code enters.index at in
       let l = last_call gives true enters in
-      let place = value_place (h.registers 9) n 61 at.stands.behind waiting (omega arith) (omega arith) in
-      let h1 = writes h 6 (h.local (group_word n)) in
-      let h2 = writes h1 7 (0x08000 * 4096) in
+      let place = value_place (h.registers end_register) n 61 at.stands.behind waiting (omega arith) (omega arith) in
+      let h1 = writes h t1 (h.local (group_word n)) in
+      let h2 = writes h1 t2 (0x08000 * 4096) in
       let Goal : Hart → Type 0 = λ h'. HasDone core image places (ended core image bound places i op gives true p h.local l) h' × Keeps true h' in
       let about1 = writing image t k h 6 (h.local (group_word n)) about lines.0.within in
       let about2 = writing image (later t) (suc k) h1 7 (0x08000 * 4096) about1 lines.1.0.within in
-      let about3 = writing image (later (later t)) (suc (suc k)) h2 12 (word_sum (h2.registers 6) (h2.registers 7)) about2 lines.1.1.0.within in
+      let about3 = writing image (later (later t)) (suc (suc k)) h2 12 (word_sum (h2.registers t1) (h2.registers t2)) about2 lines.1.1.0.within in
       lw_does core image places setting t p h (ended core image bound places i op gives true p h.local l) (Keeps true) k 6 9 at_group_frame (group_word n) (suc (suc behind)) about lines.0
       (place.1, place.0) (omega arith)
       (ended_part core image bound places i op gives true setting p h.local l op_at enters.index)
@@ -331,16 +335,16 @@ module _ (core : List CoreOp) (image : Image) (bound : ℕ → ℕ) (places : Pl
       let start = starts core image bound places i op false true few calls block.labels p h at l waiting in
       let many : length p.runner.has.callers ≡ suc (length l.calls') = ap length l.are_calls in
       let has = frame_of_call false enters fits.place in
-      let t3 = later (later (later t)) in
+      let cycle3 = later (later (later t)) in
       let k3 = suc (suc (suc k)) in
-      let h4 = writes given 6 (h.local w) in
+      let h4 = writes given t1 (h.local w) in
       let l3 = block.lines.1.1.1.0 in
       let Goal : Hart → Type 0 = λ h'. HasDone core image places (ended core image bound places i op false true p h.local l) h' × Keeps true h' in
       gives_back false op_at enters (block.lines.0, (block.lines.1.0, (block.lines.1.1.0, tt))) 5 (omega arith)
       (λ about.
-      first image t3 number 4 k3 _ given h4 Goal about l3 (lw_goes t3 number 6 8 0 w given (near_word w 0 w (h.registers 8) 0 start refl (omega arith) (omega arith)))
-      (comes_back core image bound places i op false true few calls block.labels p h at l waiting (later t3) (suc k3) h4.registers h4.pc h.local
-      (writing image t3 k3 given 6 (h.local w) about l3.within) block.lines.1.1.1.1 l.returns.code
+      first image cycle3 number 4 k3 _ given h4 Goal about l3 (lw_goes cycle3 number 6 8 0 w given (near_word w 0 w (h.registers frame_register) 0 start refl (omega arith) (omega arith)))
+      (comes_back core image bound places i op false true few calls block.labels p h at l waiting (later cycle3) (suc k3) h4.registers h4.pc h.local
+      (writing image cycle3 k3 given 6 (h.local w) about l3.within) block.lines.1.1.1.1 l.returns.code
       (λ r' a b c f. rw (b, f, c)) (end_of_frames _ _ has.address has.within) (λ j ne. refl) l.frame.values))
 
   -- ---- with one
@@ -348,7 +352,7 @@ module _ (core : List CoreOp) (image : Image) (bound : ℕ → ℕ) (places : Pl
   -- the result is stored where the call that waits takes it
   result_comes : (framed : Bool) (labels : HasLabels bound places) (enters : Entered true framed) (t' : MachineSetting) (j : ℕ) (rs : ℕ → ℕ) (pc : ℕ)
       → IsAbout image t' j (moved_to h rs pc h.local)
-      → LinesAt image bound j (map quiet (Lw 6 8 0 ∷ Lw 7 8 8 ∷ Sw 7 5 0 ∷ returning)) → rs 5 ≡ last (values p.runner.has) → SameButFree h.registers rs
+      → LinesAt image bound j (map quiet (Lw t1 frame_register 0 ∷ Lw t2 frame_register 8 ∷ Sw t2 t0 0 ∷ returning)) → rs 5 ≡ last (values p.runner.has) → SameButFree h.registers rs
       → rs 12 ≡ frames_behind framed p.runner.has h
       → Comes image t' number 7 (moved_to h rs pc h.local)
       (λ h'. HasDone core image places (ended core image bound places i op true framed p h.local (last_call true framed enters)) h' × Keeps framed h')
@@ -360,13 +364,13 @@ module _ (core : List CoreOp) (image : Image) (bound : ℕ → ℕ) (places : Pl
       let many : length p.runner.has.callers ≡ suc m = ap length l.are_calls in
       let w = 64 * suc m in
       let r = 64 * suc m - suc (length l.call.values) in
-      let start : rs 8 ≡ local_address w = same 8 refl refl refl refl ∙ starts core image bound places i op true framed few calls labels p h at l waiting in
+      let start : rs 8 ≡ local_address w = same frame_register refl refl refl refl ∙ starts core image bound places i op true framed few calls labels p h at l waiting in
       let word = is_result places m l.back (length l.call.values) r l.frame.home l.returns.room few refl in
       let low = word.header in
       let high = word.inside in
       let g = moved_to h rs pc h.local in
-      let g1 = writes g 6 (h.local w) in
-      let g2 = writes g1 7 (h.local (w + 2)) in
+      let g1 = writes g t1 (h.local w) in
+      let g2 = writes g1 t2 (h.local (w + 2)) in
       let m' = put h.local r (rs 5) in
       let g3 : Hart = record (moves g2) { local = m' } in
       let Goal : Hart → Type 0 = λ h'. HasDone core image places (ended core image bound places i op true framed p h.local l) h' × Keeps framed h' in
@@ -378,22 +382,22 @@ module _ (core : List CoreOp) (image : Image) (bound : ℕ → ℕ) (places : Pl
       first image t' number 6 j _ g g1 Goal about lines.0 (lw_goes t' number 6 8 0 w g (near_word w 0 w (rs 8) 0 start refl (omega arith) (omega arith)))
       (first image (later t') number 5 (suc j) _ g1 g2 Goal about1 lines.1.0 (lw_goes (later t') number 7 8 8 (w + 2) g1 (near_word w 2 (w + 2) (rs 8) 8 start refl (omega arith) (omega arith)))
       (first image (later (later t')) number 4 (suc (suc j)) _ g2 g3 Goal about2 lines.1.1.0
-      (sw_goes (later (later t')) number 7 5 0 r g2 (near_word r 0 r (g2.registers 7) 0 l.returns.result refl (omega arith) (omega arith)))
+      (sw_goes (later (later t')) number 7 5 0 r g2 (near_word r 0 r (g2.registers t2) 0 l.returns.result refl (omega arith) (omega arith)))
       (comes_back core image bound places i op true framed few calls labels p h at l waiting (later (later (later t'))) (suc (suc (suc j))) g3.registers g3.pc m' about3 lines.1.1.1 l.returns.code
       (λ r' a b c f. rw (c, b) (same r' a b c f)) frames others
-      (stored, values_kept h.local m' (frame_end m) l.call.values (omega arith) (λ x a b. others x (λ f. omega arith)) l.frame.values))))
+      (stored, values_kept h.local m' m l.call.values (λ x a b. others x (λ f. omega arith)) l.frame.values))))
 
   -- the last value
   value_at_depth : (framed : Bool) → Fits core places.frames i op (Leave true framed) → Entered true framed
-      → (h.local (frame_end (length p.runner.has.callers) - op.depth) ≡ last (values p.runner.has))
-      × IsLocal (word_sum (h.registers 9) (at_value op.depth)) (frame_end (length p.runner.has.callers) - op.depth)
+      → (value_in h (length p.runner.has.callers) op.depth ≡ last (values p.runner.has))
+      × CanRun (operand t0 op.depth) (place_reached (length p.runner.has.callers) op.depth) h
   value_at_depth framed fits enters =
       let positive = fits.values in
       let header = fits.room.header in
       let waiting = enters.ready.in_range.waiting in
       let n = length p.runner.has.callers in (
-        last_value h.local (frame_end n) op.depth _ enters.at.stands.running.values enters.ready.depth (omega arith),
-        value_word (frame_end n) op.depth (h.registers 9) enters.at.stands.behind (omega arith) (omega arith) (omega arith),
+        operand_is (value_in h n) op.depth _ enters.at.stands.running.values enters.ready.depth (omega arith),
+        operand_runs t0 n op.depth h enters.at.stands.behind waiting (omega arith) (omega arith),
       )
 
   leave_with : HasBlock image bound places i (leave_block true false op.depth) → OpAt core i op (Leave true false) → Fits core places.frames i op (Leave true false) → Entered true false → Ends true false
@@ -401,31 +405,31 @@ module _ (core : List CoreOp) (image : Image) (bound : ℕ → ℕ) (places : Pl
       let at = enters.at in
       let about = about_block image bound places t p h i enters.running.code enters.index at in
       let l = last_call true false enters in
-      let taken = frame_end (length p.runner.has.callers) - op.depth in
-      let v = h.local taken in
+      let taken = place_word (length p.runner.has.callers) op.depth in
+      let v = value_in h (length p.runner.has.callers) op.depth in
       let value = value_at_depth false fits enters in
-      let h1 = writes h 5 v in
+      let h1 = writes h t0 v in
       let about1 = writing image t k h 5 v about block.lines.0.within in
-      lw_does core image places setting t p h (ended core image bound places i op true false p h.local l) (Keeps false) k 5 9 (at_value op.depth) taken 7 about block.lines.0 value.1 (omega arith)
+      lw_does core image places setting t p h (ended core image bound places i op true false p h.local l) (Keeps false) k t0 end_register (at_value op.depth) taken 7 about block.lines.0 (value.1.1, value.1.0) (omega arith)
       (ended_part core image bound places i op true false setting p h.local l op_at enters.index)
       (result_comes false block.labels enters (later t) (suc k) h1.registers h1.pc about1 block.lines.1 value.0 (λ r' a b c f. rw a) refl)
 
   leave_framed_with : HasBlock image bound places i (leave_block true true op.depth) → OpAt core i op (Leave true true) → Fits core places.frames i op (Leave true true) → Entered true true → Ends true true
   leave_framed_with block op_at fits enters =
       let l = last_call true true enters in
-      let taken = frame_end (length p.runner.has.callers) - op.depth in
-      let v = h.local taken in
+      let taken = place_word (length p.runner.has.callers) op.depth in
+      let v = value_in h (length p.runner.has.callers) op.depth in
       let value = value_at_depth true fits enters in
       let has = frame_of_call true enters fits.place in
-      let t3 = later (later (later t)) in
+      let cycle3 = later (later (later t)) in
       let k3 = suc (suc (suc k)) in
-      let h4 = writes given 5 v in
+      let h4 = writes given t0 v in
       let l3 = block.lines.1.1.1.0 in
       let Goal : Hart → Type 0 = λ h'. HasDone core image places (ended core image bound places i op true true p h.local l) h' × Keeps true h' in
       gives_back true op_at enters (block.lines.0, (block.lines.1.0, (block.lines.1.1.0, tt))) 8 (omega arith)
       (λ about.
-      first image t3 number 7 k3 _ given h4 Goal about l3 (lw_goes t3 number 5 9 (at_value op.depth) taken given value.1)
-      (result_comes true block.labels enters (later t3) (suc k3) h4.registers h4.pc (writing image t3 k3 given 5 v about l3.within) block.lines.1.1.1.1 value.0
+      first image cycle3 number 7 k3 _ given h4 Goal about l3 (lw_goes cycle3 number t0 end_register (at_value op.depth) taken given (value.1.1, value.1.0))
+      (result_comes true block.labels enters (later cycle3) (suc k3) h4.registers h4.pc (writing image cycle3 k3 given 5 v about l3.within) block.lines.1.1.1.1 value.0
       (λ r' a b c f. rw (a, f, c, b)) (end_of_frames _ _ has.address has.within)))
 
 pub leave_keeps : (core : List CoreOp) (image : Image) (bound : ℕ → ℕ) (places : Places) (i : ℕ) (op : CoreOp) (gives framed : Bool) → places.frames.of_file ≤ 56

@@ -61,9 +61,6 @@ words_back e d a same le most = omega arith
 pub word_before : (e d a : ℕ) → a ≡ local_address (e - 1) → d < e → e ≤ 16384 → IsLocal (word_sum a (at_value d)) (e - suc d)
 word_before e d a same lt most = (omega arith, omega arith)
 
-pub value_word : (e d a : ℕ) → a ≡ local_address e → d ≤ e → 0 < d → e ≤ 16384 → IsLocal (word_sum a (at_value d)) (e - d)
-value_word e d a same le pos most = (omega arith, omega arith)
-
 pub near_word : (e c w a imm : ℕ) → a ≡ local_address e → imm ≡ 4 * c → w ≡ e + c → w < 32768 → IsLocal (word_sum a imm) w
 near_word e c w a imm same is word lt = (omega arith, omega arith)
 

@@ -6,7 +6,8 @@ use Rattle.fk_isa.specs.declared.instruction.Instruction.TheVariants.{Lui, Jal, 
 use Rattle.fk_isa.specs.declared.instruction.Instruction.TheVariants.{Addi}
 use Rattle.fk_asm.specs.Block.{MarkedLine}
 use Rattle.fk_sim_block.specs.Stands.{frame_register, end_register, heap_register, device_register}
-use Rattle.fk_gen.specs.Registers.{zero_register, ra, t0, t1, t2}
+use Rattle.fk_sim_block.specs.Stands.{zero_register}
+use Rattle.fk_gen.specs.Registers.{ra, t0, t1, t2}
 use Rattle.fk_gen.specs.Lines.{quiet, commits, goes_to, at_value, at_private, high_part, low_part}
 use Rattle.fk_gen.specs.Lines.{copy_label, clear_label}
 use Rattle.fk_gen.specs.InPlace.{LinesAt}

@@ -4,9 +4,12 @@ use Rattle.fk_isa.specs.declared.instruction.Instruction.{Instruction}
 use Rattle.fk_isa.specs.declared.instruction.Instruction.TheVariants.{Jal, Jalr, Beq, Bne, Lw, Sw}
 use Rattle.fk_isa.specs.declared.instruction.Instruction.TheVariants.{Addi, Add, Lui}
 use Rattle.fk_asm.specs.Block.{MarkedLine}
-use Rattle.fk_sim_block.specs.Stands.{frame_register, end_register, device_register}
-use Rattle.fk_gen.specs.Registers.{zero_register, t0, t1, t2, a2}
-use Rattle.fk_gen.specs.Lines.{quiet, commits, goes_to, first_commits, at_value, at_group_frame}
+use Rattle.fk_sim_block.specs.Stands.{zero_register, frame_register, end_register}
+use Rattle.fk_sim_block.specs.Stands.{device_register}
+use Rattle.fk_sim_block.specs.Node.{frames_register}
+use Rattle.fk_gen.specs.Registers.{t0, t1, t2}
+use Rattle.fk_gen.specs.Operands.{operand}
+use Rattle.fk_gen.specs.Lines.{quiet, commits, goes_to, first_commits, at_group_frame}
 use Rattle.fk_gen.specs.Lines.{label_of, to_control}
 
 abbrev pub jump_line : (target : ℕ) → MarkedLine
@@ -23,12 +26,13 @@ passes false = Beq t0 zero_register 8
 
 abbrev pub branch_block : (onward : Bool) (depth target : ℕ) → List MarkedLine
 branch_block onward depth target =
-    commits (Lw t0 end_register (at_value depth)) ∷ quiet (passes onward) ∷ jump_line target ∷ []
+    commits (operand t0 depth) ∷ quiet (passes onward) ∷ jump_line target ∷ []
 
 -- Gives the words of the call's group frame back: the frames of the group end where that frame
 -- begins.
 abbrev pub giving_back : List Instruction
-giving_back = Lw t1 end_register at_group_frame ∷ Lui t2 to_control ∷ Add a2 t1 t2 ∷ []
+giving_back =
+    Lw t1 end_register at_group_frame ∷ Lui t2 to_control ∷ Add frames_register t1 t2 ∷ []
 
 -- The end of the block that ends a call. The frame of the waiting call is that of the running call
 -- again. The hart returns into the block that began the call, to the address in t1, where a jump
@@ -40,8 +44,7 @@ returning =
 
 abbrev pub leaving : (gives : Bool) (depth : ℕ) → List Instruction
 leaving true depth =
-    Lw t0 end_register (at_value depth) ∷ Lw t1 frame_register 0 ∷ Lw t2 frame_register 8
-    ∷ Sw t2 t0 0 ∷ returning
+    operand t0 depth ∷ Lw t1 frame_register 0 ∷ Lw t2 frame_register 8 ∷ Sw t2 t0 0 ∷ returning
 leaving false depth = Lw t1 frame_register 0 ∷ returning
 
 abbrev pub leaving_lines : (commit : Bool) → (gives : Bool) (depth : ℕ) → List MarkedLine

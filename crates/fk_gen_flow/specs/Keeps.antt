@@ -14,8 +14,8 @@ use Rattle.fk_sim_block.specs.Owner.{Owner}
 use Rattle.fk_sim_block.specs.Stands.{Places, frame_end}
 use Rattle.fk_sim_block.specs.Suits.{writes}
 use Rattle.fk_sim_block.specs.Block.{Enters}
+use Rattle.fk_sim_block.specs.Node.{node_register, body_register, space_frames, space_blocks}
 use Rattle.fk_sim_block.specs.Node.{control_address}
-use Rattle.fk_gen.specs.Registers.{a0, a1, a2, a3}
 use Rattle.fk_gen.specs.Keeps.{Keeps, DoesAnd, peak}
 use Rattle.fk_gen_flow.specs.Calls.{most_privates, most_own}
 
@@ -63,22 +63,22 @@ result_word (c ∷ calls) = frame_end (length calls) - suc (length c.values)
 -- of that call begins, if it gives one back.
 abbrev pub frames_behind : (framed : Bool) → Processor → Hart → ℕ
 frames_behind true p h = control_address (p.call.frames 0)
-frames_behind false p h = h.registers a2
+frames_behind false p h = space_frames h
 
 -- a hart keeps what it knows of its node, but where the frames of the group end, and all words
 -- below one
 pub record KeepsBelow (word frames : ℕ) (h h' : Hart) : Type 0 where
-  pub node : h'.registers a0 ≡ h.registers a0
-  pub body : h'.registers a1 ≡ h.registers a1
-  pub frames_end : h'.registers a2 ≡ frames
-  pub blocks : h'.registers a3 ≡ h.registers a3
+  pub node : h'.registers node_register ≡ h.registers node_register
+  pub body : h'.registers body_register ≡ h.registers body_register
+  pub frames_end : space_frames h' ≡ frames
+  pub blocks : space_blocks h' ≡ space_blocks h
   pub words : (j : ℕ) → j < word → h'.local j ≡ h.local j
 
 -- What the block of an operation keeps. A call keeps all words below its own frame, and the end of
 -- a call those below the result. Other operations keep what blocks without a call do.
 abbrev pub KeepsFor : Places → Operation → (depth : ℕ) → Processor → (h h' : Hart) → Type 0
 KeepsFor places (Enter arguments) depth p h h' =
-    KeepsBelow (frame_end (length p.callers)) (h.registers a2) h h'
+    KeepsBelow (frame_end (length p.callers)) (space_frames h) h h'
 KeepsFor places (Leave gives framed) depth p h h' =
     KeepsBelow (result_word p.callers) (frames_behind framed p h) h h'
 KeepsFor places operation depth p h h' =

@@ -6,9 +6,10 @@ use Rattle.fk_asm.specs.Block.{MarkedLine}
 use Rattle.fk_sim_block.specs.Stands.{Places, frame_register, end_register, rank_register}
 use Rattle.fk_sim_block.specs.Stands.{size_register, local_register, shared_register, heap_register}
 use Rattle.fk_sim_block.specs.Stands.{shared_mask_register, device_register, heap_mask_register}
-use Rattle.fk_gen.specs.Registers.{t0, a0, a1}
+use Rattle.fk_gen.specs.Registers.{t0}
 use Rattle.fk_gen.specs.Lines.{quiet, at_private, high_part, low_part}
 use Rattle.fk_gen.specs.InPlace.{HasLabels, LinesAt}
+use Rattle.fk_sim_block.specs.Node.{node_register, body_register}
 use Rattle.fk_gen_flow.specs.Flow.{jump_block}
 
 -- Sets the registers that are not 0 at the beginning, for `of_file` private variables of file
@@ -24,7 +25,7 @@ register_lines of_file =
     quiet (Lui heap_mask_register 0xffff0) ∷ quiet (Addi heap_mask_register heap_mask_register 3) ∷
     quiet (Lui device_register 0x30000) ∷ quiet (Lw rank_register device_register 20) ∷
     quiet (Lw size_register device_register 24) ∷
-    quiet (Lui a0 0x18400) ∷ quiet (Addi a1 size_register 0) ∷ []
+    quiet (Lui node_register 0x18400) ∷ quiet (Addi body_register size_register 0) ∷ []
 
 -- Sets the first value of a private variable of file scope, and of those from index i on.
 abbrev pub first_line : (i first : ℕ) → List MarkedLine

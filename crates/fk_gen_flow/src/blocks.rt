@@ -12,9 +12,9 @@ ghost use Rattle.fk_isa.specs.Fits.{Fits};
 use crate::calls::emit_enter;
 use crate::registers::FRAMES;
 use fk_asm::{Assembler, Blocks};
-use fk_gen::numbers::{AT_GROUP_FRAME, TO_CONTROL, at_value};
+use fk_gen::numbers::{AT_GROUP_FRAME, TO_CONTROL};
 use fk_gen::registers::{DEVICES, END, FRAME, T0, T1, T2, ZERO};
-use fk_gen::{BlockLine, Placed, emit_lines};
+use fk_gen::{BlockLine, Placed, emit_lines, operand};
 use fk_isa::Instruction;
 use fk_meaning_operation::Operation;
 use std::alloc::AllocError;
@@ -98,7 +98,7 @@ fn emit_branch(
     emit_lines(
         into,
         &[
-            BlockLine::commits(Instruction::Lw(T0, END, at_value(depth))),
+            BlockLine::commits(operand(T0, depth)),
             BlockLine::quiet(passes(onward)),
             BlockLine::goes_to(Instruction::Jal(ZERO, 0), FIRST_LABEL + target),
         ],
@@ -172,7 +172,7 @@ fn emit_leaving(
     ensures begun { OnErr result (HasBegun (leaving_lines commits gives depth) into.old into.new) }
 {
     if gives {
-        let result = first_line(commits, Instruction::Lw(T0, END, at_value(depth)));
+        let result = first_line(commits, operand(T0, depth));
         emit_lines(
             into,
             &[

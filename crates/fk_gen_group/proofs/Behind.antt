@@ -8,7 +8,7 @@ use Rattle.fk_image.specs.declared.Image.{Image}
 use Rattle.fk_machine.specs.Hart.{Hart, Setting as MachineSetting}
 use Rattle.fk_sim_nodes.specs.Node.{Member}
 use Rattle.fk_sim_block.specs.Owner.{Owner, number_of}
-use Rattle.fk_sim_block.specs.Stands.{Places, HasValues, StandsAt, frame_end}
+use Rattle.fk_sim_block.specs.Stands.{Places, HasValues, StandsAt, top_register, value_in, zero_register}
 use Rattle.fk_sim_block.specs.Suits.{Flows, nothing}
 use Rattle.fk_sim_block.specs.Block.{Enters, gone_to}
 use Rattle.fk_gen.proofs.Standing.{InMemory, SameRegisters, in_memory, stands_with, with_list, nothing_written}
@@ -28,7 +28,7 @@ kept first h r k lt = k.others r (λ e. omega arith) (λ e. omega arith) (λ e. 
 
 pub same_registers : (first h : Hart) → KeepsMost first h → SameRegisters first h
 same_registers first h k = (
-  k.others 0 (λ e. omega arith) (λ e. omega arith) (λ e. omega arith),
+  k.others zero_register (λ e. omega arith) (λ e. omega arith) (λ e. omega arith),
   kept first h 8 k (omega arith),
   kept first h 9 k (omega arith),
   kept first h 18 k (omega arith),
@@ -51,8 +51,8 @@ module _ (core : List CoreOp) (image : Image) (bound : ℕ → ℕ) (places : Pl
     (place : IsInPlace core image bound places nestings i op operation) (j : ℕ) (flows : Flows core places.frames nothing i j) (stay : LevelsStay nestings i j) where
   -- its processor may have other values, which stand in its frame
   pub goes_behind_with : (setting : Setting) (t : MachineSetting) (runs : Option ℕ) (begin : ℕ) (vs : List ℕ) (m : Member) (p : Owner) (h : Hart) → Enters core image places setting t i op operation p m.hart
-      → IsMember places nestings setting runs begin m p → HasValues m.hart.local (frame_end (length p.runner.has.callers)) vs → h.ended ≡ false → h.local ≡ m.hart.local → SameRegisters m.hart h
-      → h.registers 21 ≡ m.hart.registers 21 → h.pc ≡ 4 * places.block j
+      → IsMember places nestings setting runs begin m p → HasValues (value_in m.hart (length p.runner.has.callers)) vs → h.ended ≡ false → h.local ≡ m.hart.local → SameRegisters m.hart h
+      → h.registers top_register ≡ m.hart.registers top_register → h.pc ≡ 4 * places.block j
       → StandsAt places (with_list core places j vs p) h
       × HasNestings places nestings setting.processors (number_of p) h.local j p.runner.left.callers p.runner.has.callers p.runner.has.outer
   goes_behind_with setting t runs begin vs m p h en member held live local same top pc =
@@ -82,7 +82,7 @@ module _ (core : List CoreOp) (image : Image) (bound : ℕ → ℕ) (places : Pl
       )
 
   pub goes_behind : (setting : Setting) (t : MachineSetting) (runs : Option ℕ) (begin : ℕ) (m : Member) (p : Owner) (h : Hart) → Enters core image places setting t i op operation p m.hart
-      → IsMember places nestings setting runs begin m p → h.ended ≡ false → h.local ≡ m.hart.local → SameRegisters m.hart h → h.registers 21 ≡ m.hart.registers 21
+      → IsMember places nestings setting runs begin m p → h.ended ≡ false → h.local ≡ m.hart.local → SameRegisters m.hart h → h.registers top_register ≡ m.hart.registers top_register
       → h.pc ≡ 4 * places.block j
       → StandsAt places (gone_to j p) h
       × HasNestings places nestings setting.processors (number_of p) h.local j p.runner.left.callers p.runner.has.callers p.runner.has.outer

@@ -21,7 +21,7 @@ use Rattle.fk_gen.proofs.Does.{local_part, asks}
 use Rattle.fk_gen.proofs.Values.{length_before}
 use Rattle.fk_gen_flow.specs.Keeps.{KeepsBelow, frames_behind, result_word}
 use Rattle.fk_gen_flow.proofs.Frames.{last_of}
-use Rattle.fk_sim_block.specs.Node.{Nestings, StandsInNode, HasOuter, HasNestings, LieBelow}
+use Rattle.fk_sim_block.specs.Node.{Nestings, StandsInNode, HasOuter, HasNestings, LieBelow, space_frames}
 use Rattle.fk_sim_block.specs.Lockstep.{IsMember}
 use Rattle.fk_gen_group.specs.InNode.{GivesLevels, HasNoLevels}
 use Rattle.fk_gen_group.proofs.Levels.{lies_below, values_behind, outer_of_call, outer_of_caller, many_callers}
@@ -53,7 +53,7 @@ module _ (core : List CoreOp) (image : Image) (places : Places) (nestings : Nest
       by_answer d s s' (serve (request (Enter n) p.runner.has) (found s p.heap) (number_of p)) (sym (asks core image places setting i op (Enter n) s p stands refl refl at) ∙ e)
 
   pub enters_in_node : (t : MachineSetting) (runs : Option ℕ) (first : ℕ) (m : Member) (h' : Hart) (d : Doing) → Enters core image places setting t i op (Enter n) p m.hart
-      → IsMember places nestings setting runs first m p → HasDone core image places d h' → KeepsBelow (frame_end (length p.runner.has.callers)) (m.hart.registers 12) m.hart h' → HasEntered d
+      → IsMember places nestings setting runs first m p → HasDone core image places d h' → KeepsBelow (frame_end (length p.runner.has.callers)) (space_frames m.hart) m.hart h' → HasEntered d
       → StandsInNode places nestings setting runs (owner_of d) h'
   enters_in_node t runs first m h' d en member done keeps did =
       let w = length p.runner.has.callers in

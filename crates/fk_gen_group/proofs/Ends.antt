@@ -18,14 +18,15 @@ use Rattle.fk_sim_nodes.proofs.Runs.{cycle_map}
 use Rattle.fk_sim_nodes.proofs.Members.{cycle_commits}
 use Rattle.fk_sim_nodes.proofs.OnePlace.{private_of_all}
 use Rattle.fk_sim_block.specs.Owner.{Owner, number_of, core_source}
-use Rattle.fk_sim_block.specs.Stands.{Places}
+use Rattle.fk_sim_block.specs.Stands.{Places, zero_register, number_register, rank_register, size_register}
 use Rattle.fk_sim_block.specs.Block.{Enters}
 use Rattle.fk_gen.specs.Lines.{label_of, goes_to}
 use Rattle.fk_isa.specs.declared.instruction.Instruction.TheVariants as isa
 use Rattle.fk_gen.proofs.Walk.{Quiets, Plain, TellsNumber, TellsHarts, quiet_lines, walk, told_of, walked, lines_split, runs_join}
 use Rattle.fk_gen.proofs.Jumps.{jumps, goes_to_pc, jal_private}
-use Rattle.fk_sim_block.specs.Node.{Nestings, OwnsHeader, IsRoot, HasOuter, HasSaved, past_levels, saved_at, root_words}
+use Rattle.fk_sim_block.specs.Node.{Nestings, OwnsHeader, IsRoot, HasOuter, HasSaved, past_levels, saved_at, root_words, node_register, body_register}
 use Rattle.fk_sim_block.specs.Lockstep.{IsMember, AllComeAlone, AllEnter, LevelsStay, IsInStart, AreInStart, NoneSaved, is_due}
+use Rattle.fk_gen.specs.Registers.{t0}
 use Rattle.fk_gen_group.specs.Laws.{IsInPlace, GroupsEnd}
 use Rattle.fk_gen_group.proofs.Members.{Both, all_stand, at_block, each_standing, all_alone, all_due}
 use Rattle.fk_gen_group.proofs.Behind.{goes_behind}
@@ -47,14 +48,14 @@ module _ (places : Places) (nestings : Nestings) (processors number : ℕ) where
   )
 
 module _ (core : List CoreOp) (image : Image) (bound : ℕ → ℕ) (places : Places) (nestings : Nestings) (i : ℕ) (op : CoreOp) (place : IsInPlace core image bound places nestings i op End)
-    (leads : LevelsStay nestings i op.target) (setting : Setting) (t0 : MachineSetting) (mine : Words) (first : ℕ) (owns : OwnsHeader mine first) (highest lowest size : ℕ) where
+    (leads : LevelsStay nestings i op.target) (setting : Setting) (cycle0 : MachineSetting) (mine : Words) (first : ℕ) (owns : OwnsHeader mine first) (highest lowest size : ℕ) where
   record Came (m : Member) (p : Owner) : Type 0 where
-    pub enters : Enters core image places setting t0 i op End p m.hart
+    pub enters : Enters core image places setting cycle0 i op End p m.hart
     pub member : IsMember places nestings setting None first m p
     pub start : IsInStart nestings p
 
   abbrev committed : Member → Hart
-  committed m = writes m.hart 18 (word_sum (m.hart.registers 0) 0)
+  committed m = writes m.hart 18 (word_sum (m.hart.registers zero_register) 0)
 
   -- a member that has committed
   record Ended (m : Member) (p : Owner) : Type 0 where
@@ -69,7 +70,7 @@ module _ (core : List CoreOp) (image : Image) (bound : ℕ → ℕ) (places : Pl
       record { hart = m.hart; came = came; is = refl; at = omega arith }
 
   abbrev rest : Quiets
-  rest = (Lui 5 0x30000, Plain) ∷ (Lw 19 5 20, TellsNumber) ∷ (Lw 20 5 24, TellsHarts) ∷ (Addi 11 20 0, Plain) ∷ (Lui 10 0x18400, Plain) ∷ []
+  rest = (Lui t0 0x30000, Plain) ∷ (Lw rank_register t0 20, TellsNumber) ∷ (Lw size_register t0 24, TellsHarts) ∷ (Addi body_register size_register 0, Plain) ∷ (Lui node_register 0x18400, Plain) ∷ []
 
   abbrev behind : MachineSetting → Member → Hart
   behind t m = jumps (walk (told_of t m.number) rest m.hart) 0 (4 * bound (label_of op.target))
@@ -77,7 +78,7 @@ module _ (core : List CoreOp) (image : Image) (bound : ℕ → ℕ) (places : Pl
   runs : (t : MachineSetting) (m : Member) (p : Owner) → Holds image t → Ended m p → RunsPrivately image t m.number 6 m.hart (behind t m)
   runs t m p holds e =
       let k = suc (places.block i) in
-      let lines = lines_split image bound k (quiet_lines rest) (goes_to (isa.Jal 0 0) (label_of op.target) ∷ []) place.block.lines.1 in
+      let lines = lines_split image bound k (quiet_lines rest) (goes_to (isa.Jal zero_register 0) (label_of op.target) ∷ []) place.block.lines.1 in
       let live = ap (λ h. h.ended) e.is ∙ e.came.enters.at.live in
       let w = walked image bound t m.number holds rest k m.hart lines.0 e.at live (tt, (refl, (refl, (tt, (tt, tt))))) in
       runs_join image t m.number 5 1 m.hart (walk (told_of t m.number) rest m.hart) (behind t m) w.runs (
@@ -93,9 +94,9 @@ module _ (core : List CoreOp) (image : Image) (bound : ℕ → ℕ) (places : Pl
   abbrev Back : List Level → MachineSetting → Member → Hart → Owner → Type 0
   Back outer t m h p = IsMember places nestings setting (Some setting.processors) root_words (record m { hart = h }) (left_to outer p)
 
-  back : (m : Member) (p : Owner) → Ended m p → Back p.runner.has.outer (later t0) m (behind (later t0) m) p
+  back : (m : Member) (p : Owner) → Ended m p → Back p.runner.has.outer (later cycle0) m (behind (later cycle0) m) p
   back m p e =
-      let t = later t0 in
+      let t = later cycle0 in
       let first_hart = e.hart in
       let en = e.came.enters in
       let member = e.came.member in
@@ -103,7 +104,7 @@ module _ (core : List CoreOp) (image : Image) (bound : ℕ → ℕ) (places : Pl
       let l = start.root in
       let callers = p.runner.left.callers in
       let hx = goes_to_pc first_hart (4 * places.block op.target) in
-      let next = goes_behind core image bound places nestings i op End place op.target (place.fits.goes_on true) leads setting t0 None first (record m { hart = first_hart }) p hx en member en.at.live refl
+      let next = goes_behind core image bound places nestings i op End place op.target (place.fits.goes_on true) leads setting cycle0 None first (record m { hart = first_hart }) p hx en member en.at.live refl
       (refl, refl, refl, refl, refl, refl, refl, refl, refl, refl, refl, refl) refl refl in
       let s = next.0.stands in
       let held = subst (λ o. HasOuter places nestings setting.processors (number_of p) first_hart.local (op.target ∷ callers) o) start.outer next.1.0 in
@@ -155,15 +156,15 @@ module _ (core : List CoreOp) (image : Image) (bound : ℕ → ℕ) (places : Pl
   -- ---- all of them
 
   abbrev Gone : List Member → List Owner → Type 0
-  Gone ms ps = AllComeAlone places nestings setting image (later t0) 6 (λ p. Some setting.processors) root_words ms (map (λ p. left_to p.runner.has.outer p) ps)
+  Gone ms ps = AllComeAlone places nestings setting image (later cycle0) 6 (λ p. Some setting.processors) root_words ms (map (λ p. left_to p.runner.has.outer p) ps)
 
-  all_gone : (ms : List Member) (ps : List Owner) → Holds image t0 → Both Ended ms ps → Gone ms ps
+  all_gone : (ms : List Member) (ps : List Owner) → Holds image cycle0 → Both Ended ms ps → Gone ms ps
   all_gone [] [] holds all = tt
   all_gone (m ∷ ms) (p ∷ ps) holds all =
-      (record { hart = behind (later t0) m; private = runs (later t0) m p holds all.0; member = back m p all.0 }, all_gone ms ps holds all.1)
+      (record { hart = behind (later cycle0) m; private = runs (later cycle0) m p holds all.0; member = back m p all.0 }, all_gone ms ps holds all.1)
   all_gone ms ps holds all = absurd (assumption all)
 
-  came_all : (ms : List Member) (ps : List Owner) → AllEnter core image places nestings i op End setting t0 None first ms ps → AreInStart nestings ps → Both Came ms ps
+  came_all : (ms : List Member) (ps : List Owner) → AllEnter core image places nestings i op End setting cycle0 None first ms ps → AreInStart nestings ps → Both Came ms ps
   came_all [] [] all start = tt
   came_all (m ∷ ms) (p ∷ ps) all start = (record { enters = all.0; member = all.1; start = start.0 }, came_all ms ps all.2 start.1)
   came_all ms ps all start = absurd (assumption all)
@@ -171,19 +172,19 @@ module _ (core : List CoreOp) (image : Image) (bound : ℕ → ℕ) (places : Pl
   due_here : (m : Member) (p : Owner) → Came m p → (has_room End p.runner.has ≡ true) × (p.runner.left.at ≡ i)
   due_here m p came = (refl, came.enters.index)
 
-  together : (ms : List Member) (ps : List Owner) (own : Memory) → Holds image t0 → Both Came ms ps
-      → Together (core_source core setting) image mine t0 1 0 ms ps own
+  together : (ms : List Member) (ps : List Owner) (own : Memory) → Holds image cycle0 → Both Came ms ps
+      → Together (core_source core setting) image mine cycle0 1 0 ms ps own
       (λ ms' ds own'. (ds ≡ map (is_due core i op End) ps) × (Gone ms' ps × (own' ≡ own)))
   together ms ps own holds all =
-      let stand = all_stand (places.block i) Came ms ps (λ m p came. at_block core image places nestings i op End setting t0 first m p came.enters) all in
-      cycle_commits (core_source core setting) image mine t0 1 ms ps (map (is_due core i op End) ps) own (λ ms' own'. Gone ms' ps × (own' ≡ own))
+      let stand = all_stand (places.block i) Came ms ps (λ m p came. at_block core image places nestings i op End setting cycle0 first m p came.enters) all in
+      cycle_commits (core_source core setting) image mine cycle0 1 ms ps (map (is_due core i op End) ps) own (λ ms' own'. Gone ms' ps × (own' ≡ own))
       owns.apart
       (all_due core setting i op End Came ms ps place.stands refl due_here all)
-      (cycle_map image mine t0 1 ms own (λ ms' own'. (ms' ≡ on_each committed ms) × (own' ≡ own)) (λ ms' own'. Gone ms' ps × (own' ≡ own))
+      (cycle_map image mine cycle0 1 ms own (λ ms' own'. (ms' ≡ on_each committed ms) × (own' ≡ own)) (λ ms' own'. Gone ms' ps × (own' ≡ own))
       (λ ms' own' x.
       (all_gone ms' ps holds (subst (λ l. Both Ended l ps) (sym x.0) (each_standing (places.block i) Came Ended committed ms ps ended stand all)), x.1))
-      (private_of_all image mine t0 (places.block i) 1 (Addi 18 0 0) committed ms own holds place.block.lines.0 stand
-      (all_alone Came t0 (Addi 18 0 0) committed ms ps (λ m p came s. (s.reserved, addi t0 m.number 18 0 0 m.hart s)) all)))
+      (private_of_all image mine cycle0 (places.block i) 1 (Addi number_register zero_register 0) committed ms own holds place.block.lines.0 stand
+      (all_alone Came cycle0 (Addi number_register zero_register 0) committed ms ps (λ m p came s. (s.reserved, addi cycle0 m.number 18 0 0 m.hart s)) all)))
 
 pub groups_end : GroupsEnd
 groups_end core image bound places nestings i op lowest size place leads setting t mine first [] [] own owns all start = record { counted = tt; chain = (refl, (tt, refl)) }

@@ -16,9 +16,9 @@ use Rattle.fk_sim_nodes.proofs.Runs.{cycle_map}
 use Rattle.fk_sim_nodes.proofs.Members.{cycle_commits}
 use Rattle.fk_sim_nodes.proofs.OnePlace.{private_of_all}
 use Rattle.fk_sim_block.specs.Owner.{Owner, core_source}
-use Rattle.fk_sim_block.specs.Stands.{Places}
+use Rattle.fk_sim_block.specs.Stands.{Places, size_register}
 use Rattle.fk_sim_block.specs.Block.{Enters}
-use Rattle.fk_sim_block.specs.Node.{Nestings}
+use Rattle.fk_sim_block.specs.Node.{Nestings, body_register}
 use Rattle.fk_sim_block.proofs.Spaces.{space_kept}
 use Rattle.fk_sim_block.specs.Lockstep.{IsMember, AllComeAlone, AllEnter, AreOfSize, HaveParted, highest_value, stepped, is_due}
 use Rattle.fk_gen_group.specs.Laws.{IsInPlace, GroupsSetFree}
@@ -34,7 +34,7 @@ module _ (core : List CoreOp) (image : Image) (bound : ℕ → ℕ) (places : Pl
     pub size_is : p.runner.has.level.size ≡ size
 
   abbrev free_hart : Member → Hart
-  free_hart m = writes m.hart 11 (word_sum (m.hart.registers 20) 0)
+  free_hart m = writes m.hart 11 (word_sum (m.hart.registers size_register) 0)
 
   -- a member that has come to the next block
   record IsNext (m : Member) (p : Owner) : Type 0 where
@@ -88,8 +88,8 @@ module _ (core : List CoreOp) (image : Image) (bound : ℕ → ℕ) (places : Pl
       cycle_map image mine t 1 ms own (λ ms' own'. (ms' ≡ on_each free_hart ms) × (own' ≡ own)) Next
       (λ ms' own' x.
       (all_free ms' ps (subst (λ l. Both IsNext l ps) (sym x.0) (each_standing (places.block i) Came IsNext free_hart ms ps set_free stand all)), x.1))
-      (private_of_all image mine t (places.block i) 1 (Addi 11 20 0) free_hart ms own holds place.block.lines.0 stand
-      (all_alone Came t (Addi 11 20 0) free_hart ms ps (λ m p came s. (s.reserved, addi t m.number 11 20 0 m.hart s)) all))
+      (private_of_all image mine t (places.block i) 1 (Addi body_register size_register 0) free_hart ms own holds place.block.lines.0 stand
+      (all_alone Came t (Addi body_register size_register 0) free_hart ms ps (λ m p came s. (s.reserved, addi t m.number 11 20 0 m.hart s)) all))
 
 pub groups_set_free : GroupsSetFree
 groups_set_free core image bound places nestings i op lowest size few place setting t mine first [] [] own owns all sized =

@@ -24,10 +24,10 @@ use Rattle.fk_sim_nodes.specs.Alone.{Holds, RunsPrivately, later, in_cycles}
 use Rattle.fk_sim_nodes.specs.OneHart.{OneDoes}
 use Rattle.fk_sim_nodes.proofs.InPlace.{step_at}
 use Rattle.fk_sim_block.specs.Owner.{Owner, number_of, core_source}
-use Rattle.fk_sim_block.specs.Stands.{Places, frame_start, frame_end, group_word, local_address}
+use Rattle.fk_sim_block.specs.Stands.{Places, frame_start, frame_end, group_word, local_address, end_register, device_register, zero_register, frame_register, number_register, rank_register, size_register, top_register, local_register, shared_register, heap_register, shared_mask_register, heap_mask_register}
 use Rattle.fk_sim_block.specs.Suits.{TakesFrame}
 use Rattle.fk_sim_block.specs.Block.{Enters}
-use Rattle.fk_sim_block.specs.Node.{Nestings, KnowsSpace, HasOuter, first_word, control_address, saved_at}
+use Rattle.fk_sim_block.specs.Node.{Nestings, KnowsSpace, HasOuter, first_word, control_address, saved_at, frames_register, blocks_register, space_frames, node_register}
 use Rattle.fk_sim_block.specs.Lockstep.{IsMember, IsInGroup, is_due}
 use Rattle.fk_gen.specs.Lines.{quiet, high_part, low_part, add_by, add_number, at_group_frame}
 use Rattle.fk_gen.specs.InPlace.{LinesAt}
@@ -36,6 +36,7 @@ use Rattle.fk_gen.proofs.Walk.{Quiets, Plain, LocalAt, walk, walked, private, ru
 use Rattle.fk_gen.proofs.Jumps.{goes_to_pc, bgeu_taken, bgeu_on}
 use Rattle.fk_gen.proofs.Does.{holds_in_cycles}
 use Rattle.fk_gen.proofs.Standing.{InMemory, in_memory, stands_with, stands_in_space, with_frame, frame_written}
+use Rattle.fk_gen.specs.Registers.{t0, t1}
 use Rattle.fk_gen_group.specs.Blocks.{frame_lines}
 use Rattle.fk_gen_group.specs.Laws.{IsInPlace, GroupsTakeFrames}
 use Rattle.fk_gen_group.proofs.Members.{due_part, fault_part}
@@ -48,8 +49,8 @@ group_below places (suc n) = omega arith
 
 module _ (core : List CoreOp) (image : Image) (bound : ℕ → ℕ) (places : Places) (nestings : Nestings) (i : ℕ) (op : CoreOp) (nesting words : ℕ)
     (place : IsInPlace core image bound places nestings i op (Frame nesting words)) (small : op.site < 2 ^ 32)
-    (setting : Setting) (first highest lowest size : ℕ) (t0 : MachineSetting) (m : Member) (p : Owner)
-    (en : Enters core image places setting t0 i op (Frame nesting words) p m.hart) (member : IsMember places nestings setting None first m p) (inside : IsInGroup p) where
+    (setting : Setting) (first highest lowest size : ℕ) (cycle0 : MachineSetting) (m : Member) (p : Owner)
+    (en : Enters core image places setting cycle0 i op (Frame nesting words) p m.hart) (member : IsMember places nestings setting None first m p) (inside : IsInGroup p) where
   abbrev n : ℕ
   n = length p.runner.has.callers
 
@@ -62,7 +63,7 @@ module _ (core : List CoreOp) (image : Image) (bound : ℕ → ℕ) (places : Pl
   at_block : m.hart.pc ≡ 4 * k
   at_block = en.at.at ∙ ap (λ j. 4 * places.block j) en.index
 
-  known : (m.hart.registers 12 ≡ control_address space.frames) × (m.hart.registers 13 ≡ control_address space.blocks)
+  known : (m.hart.registers frames_register ≡ control_address space.frames) × (m.hart.registers blocks_register ≡ control_address space.blocks)
   known = subst (λ o. KnowsSpace p.runner.has.level o m.hart) inside.outer member.node.space
 
   -- ---- where the frame ends
@@ -70,37 +71,37 @@ module _ (core : List CoreOp) (image : Image) (bound : ℕ → ℕ) (places : Pl
   -- the hart after so many lines, with that address in t0
   record HasSum (count : ℕ) : Type 0 where
     pub hart : Hart
-    pub runs : RunsPrivately image t0 m.number count m.hart hart
+    pub runs : RunsPrivately image cycle0 m.number count m.hart hart
     pub at : hart.pc ≡ 4 * (k + count)
     pub live : hart.ended ≡ false
-    pub sum : hart.registers 5 ≡ word (m.hart.registers 12 + 4 * words)
+    pub sum : hart.registers t0 ≡ word (m.hart.registers frames_register + 4 * words)
     pub local : hart.local ≡ m.hart.local
     pub same : (r : ℕ) → (r == 5) ≡ false → hart.registers r ≡ m.hart.registers r
 
   sum_by : (short : Bool) → (high_part (4 * words) == 0) ≡ short → LinesAt image bound k (map quiet (add_by short (4 * words) 12)) → HasSum (length (add_by short (4 * words) 12))
   sum_by true e lines =
       let number = 4 * words in
-      let quiets : Quiets = (Addi 5 12 (low_part number), Plain) ∷ [] in
-      let w = walked image bound t0 m.number en.running.code quiets k m.hart lines at_block en.at.live (tt, tt) in
+      let quiets : Quiets = (Addi t0 frames_register (low_part number), Plain) ∷ [] in
+      let w = walked image bound cycle0 m.number en.running.code quiets k m.hart lines at_block en.at.live (tt, tt) in
       record {
-        hart = walk (told_of t0 m.number) quiets m.hart;
+        hart = walk (told_of cycle0 m.number) quiets m.hart;
         runs = w.runs;
         at = w.pc;
         live = w.live;
-        sum = sum_of_low (m.hart.registers 12) (low_part number) number (number_of_low_part number e);
+        sum = sum_of_low (space_frames m.hart) (low_part number) number (number_of_low_part number e);
         local = refl;
         same = λ r f. rw f;
       }
   sum_by false e lines =
       let number = 4 * words in
-      let quiets : Quiets = (Lui 5 (high_part number), Plain) ∷ (Addi 5 5 (low_part number), Plain) ∷ (Add 5 5 12, Plain) ∷ [] in
-      let w = walked image bound t0 m.number en.running.code quiets k m.hart lines at_block en.at.live (tt, (tt, (tt, tt))) in
+      let quiets : Quiets = (Lui t0 (high_part number), Plain) ∷ (Addi t0 t0 (low_part number), Plain) ∷ (Add t0 t0 frames_register, Plain) ∷ [] in
+      let w = walked image bound cycle0 m.number en.running.code quiets k m.hart lines at_block en.at.live (tt, (tt, (tt, tt))) in
       record {
-        hart = walk (told_of t0 m.number) quiets m.hart;
+        hart = walk (told_of cycle0 m.number) quiets m.hart;
         runs = w.runs;
         at = w.pc;
         live = w.live;
-        sum = sum_of_parts (m.hart.registers 12) (word_sum (high_part number * 4096) (low_part number)) number (number_of_parts number);
+        sum = sum_of_parts (space_frames m.hart) (word_sum (high_part number * 4096) (low_part number)) number (number_of_parts number);
         local = refl;
         same = λ r f. rw f;
       }
@@ -108,20 +109,20 @@ module _ (core : List CoreOp) (image : Image) (bound : ℕ → ℕ) (places : Pl
   -- ---- the two ways
 
   abbrev Done : (count : ℕ) → Type 0
-  Done count = OneDoes (core_source core setting) image t0 1 (count + 4) 0 m p (Takes core image places nestings i op (Frame nesting words) setting first highest lowest size m.number p)
+  Done count = OneDoes (core_source core setting) image cycle0 1 (count + 4) 0 m p (Takes core image places nestings i op (Frame nesting words) setting first highest lowest size m.number p)
 
   module _ (count : ℕ) (sum : HasSum count) (lines : LinesAt image bound (k + count) (frame_lines op.site)) (next : places.block (suc i) ≡ k + count + 8) where
     abbrev k1 : ℕ
     k1 = k + count
 
-    abbrev t1 : MachineSetting
-    t1 = in_cycles count t0
+    abbrev cycle1 : MachineSetting
+    cycle1 = in_cycles count cycle0
 
     abbrev h2 : Hart
     h2 = writes sum.hart 6 (0xf8000 * 4096)
 
-    holds1 : Holds image t1
-    holds1 = holds_in_cycles image count t0 en.running.code
+    holds1 : Holds image cycle1
+    holds1 = holds_in_cycles image count cycle0 en.running.code
 
     -- without room the site faults
     faults : free space < words → Done count
@@ -145,34 +146,34 @@ module _ (core : List CoreOp) (image : Image) (bound : ℕ → ℕ) (places : Pl
         let v4 = high_part op.site * 4096 in
         let v5 = word_sum v4 (low_part op.site) in
         let h3 = goes_to_pc h2 (word_sum h2.pc 4) in
-        let h4 = writes h3 6 v4 in
-        let h5 = writes h4 6 v5 in
-        let t2 = later t1 in
-        let t3 = later t2 in
-        let t4 = later t3 in
-        let t5 = in_cycles (count + 4) t0 in
+        let h4 = writes h3 t1 v4 in
+        let h5 = writes h4 t1 v5 in
+        let cycle2 = later cycle1 in
+        let cycle3 = later cycle2 in
+        let t4 = later cycle3 in
+        let t5 = in_cycles (count + 4) cycle0 in
         let holds = en.running.code in
-        let b : h2.registers 13 ≡ control_address space.blocks = sum.same 13 refl ∙ blocks in
+        let b : h2.registers blocks_register ≡ control_address space.blocks = sum.same blocks_register refl ∙ blocks in
         let e2 : h2.pc ≡ 4 * suc k1 = omega arith in
         let e3 : h3.pc ≡ 4 * suc (suc k1) = omega arith in
         let e4 : h4.pc ≡ 4 * suc (suc (suc k1)) = omega arith in
         let e5 : h5.pc ≡ 4 * suc (suc (suc (suc k1))) = omega arith in
-        let device : h5.registers 26 ≡ 0x30000000 = sum.same 26 refl ∙ en.at.stands.devices in
+        let device : h5.registers device_register ≡ 0x30000000 = sum.same device_register refl ∙ en.at.stands.devices in
         let no_room = ap (λ x. is_some (if x then None else Some (record space { frames = space.frames + words }))) (lt-ltb (free space) words lt) in
         record {
           committing = h5;
-          runs = runs_join image t0 m.number count 4 m.hart sum.hart h5 sum.runs (
+          runs = runs_join image cycle0 m.number count 4 m.hart sum.hart h5 sum.runs (
             h2,
-            private image t1 m.number k1 (Lui 6 0xf8000) sum.hart h2 holds1 l0 at1 sum.live (λ s. (s.reserved, refl)),
+            private image cycle1 m.number k1 (Lui t1 0xf8000) sum.hart h2 holds1 l0 at1 sum.live (λ s. (s.reserved, refl)),
             (
               h3,
-              bgeu_on image t2 m.number (suc k1) 13 5 16 h2 holds1 l1 e2 sum.live (lt-leb (h2.registers 5) (h2.registers 13) (omega arith)),
+              bgeu_on image cycle2 m.number (suc k1) 13 5 16 h2 holds1 l1 e2 sum.live (lt-leb (h2.registers t0) (h2.registers blocks_register) (omega arith)),
               (
                 h4,
-                private image t3 m.number (suc (suc k1)) (Lui 6 (high_part op.site)) h3 h4 holds1 l2 e3 sum.live (λ s. (s.reserved, refl)),
+                private image cycle3 m.number (suc (suc k1)) (Lui t1 (high_part op.site)) h3 h4 holds1 l2 e3 sum.live (λ s. (s.reserved, refl)),
                 (
                   h5,
-                  private image t4 m.number (suc (suc (suc k1))) (Addi 6 6 (low_part op.site)) h4 h5 holds1 l3 e4 sum.live (λ s. (s.reserved, refl)),
+                  private image t4 m.number (suc (suc (suc k1))) (Addi t1 t1 (low_part op.site)) h4 h5 holds1 l3 e4 sum.live (λ s. (s.reserved, refl)),
                   refl,
                 ),
               ),
@@ -185,7 +186,7 @@ module _ (core : List CoreOp) (image : Image) (bound : ℕ → ℕ) (places : Pl
               site = op.site;
               part = fault_part core setting i op (Frame nesting words) s p place.stands refl no_room en.index;
               stops = λ earlier sh shows.
-                  step_at image (suc (suc (suc (suc k1)))) 1 (Sw 26 6 8) l4 t5 (holds_in_cycles image (count + 4) t0 holds) m.number h5 sh e5
+                  step_at image (suc (suc (suc (suc k1)))) 1 (Sw device_register t1 8) l4 t5 (holds_in_cycles image (count + 4) cycle0 holds) m.number h5 sh e5
                   ∙ sw-fault t5 m.number 26 6 8 h5 sh (omega (arith, device)) (ap (λ a. place_of (word_sum a 8)) device ∙ place_of-fault)
                   ∙ ap (λ v. Stops (Faulted v m.number)) (number_of_parts op.site ∙ site_is);
             });
@@ -197,19 +198,19 @@ module _ (core : List CoreOp) (image : Image) (bound : ℕ → ℕ) (places : Pl
 
     -- else the frames of the group end where it does, and the header has its address
     abbrev address : ℕ
-    address = word_sum (0xf8000 * 4096) (sum.hart.registers 12)
+    address = word_sum (0xf8000 * 4096) (sum.hart.registers frames_register)
 
     abbrev h3 : Hart
     h3 = goes_to_pc h2 (word_sum h2.pc 16)
 
     abbrev h4 : Hart
-    h4 = writes h3 6 address
+    h4 = writes h3 t1 address
 
     abbrev h5 : Hart
     h5 = record (moves h4) { local = put sum.hart.local (group_word n) address }
 
     abbrev h6 : Hart
-    h6 = writes h5 12 (word_sum (sum.hart.registers 5) 0)
+    h6 = writes h5 frames_register (word_sum (sum.hart.registers t0) 0)
 
     abbrev larger : Space
     larger = record space { frames = space.frames + words }
@@ -225,7 +226,7 @@ module _ (core : List CoreOp) (image : Image) (bound : ℕ → ℕ) (places : Pl
         let within = is.within in
         let shared = is.shared in
         let frames = known.0 in
-        let same = sum.same 12 refl in
+        let same = sum.same frames_register refl in
         omega arith
 
     memory : put m.hart.local (group_word n) (address_of space.frames) ≡ h5.local
@@ -262,8 +263,8 @@ module _ (core : List CoreOp) (image : Image) (bound : ℕ → ℕ) (places : Pl
         let from' = subst (λ c. saved_at places nestings c i ≤ x) many from in
         same x (λ e. omega arith))
         (subst (λ a. HasOuter places nestings setting.processors (number_of p) m.hart.local (a ∷ callers) p.runner.has.outer) here member.node.outer.0) in
-        let frames' : h6.registers 12 ≡ control_address larger.frames = omega arith in
-        let blocks' : h6.registers 13 ≡ control_address larger.blocks = sum.same 13 refl ∙ blocks in
+        let frames' : h6.registers frames_register ≡ control_address larger.frames = omega arith in
+        let blocks' : h6.registers blocks_register ≡ control_address larger.blocks = sum.same blocks_register refl ∙ blocks in
         let level' : Level = record (p.runner.has.level) { space = larger } in
         let first_same : first_word level' p.runner.has.outer ≡ first_word p.runner.has.level p.runner.has.outer =
         ap (first_word level') inside.outer ∙ sym (ap (first_word p.runner.has.level) inside.outer) in
@@ -275,22 +276,22 @@ module _ (core : List CoreOp) (image : Image) (bound : ℕ → ℕ) (places : Pl
             stands =
                 stands_in_space places (with_frame core places (suc i) nesting space.frames p) h6 larger
                 (stands_with places p (with_frame core places (suc i) nesting space.frames p) m.hart h6 stands (
-                  sum.same 0 refl,
-                  sum.same 8 refl,
-                  sum.same 9 refl,
-                  sum.same 18 refl,
-                  sum.same 19 refl,
-                  sum.same 20 refl,
-                  sum.same 22 refl,
-                  sum.same 23 refl,
-                  sum.same 24 refl,
-                  sum.same 25 refl,
-                  sum.same 26 refl,
-                  sum.same 27 refl,
-                ) refl refl (sum.same 21 refl ∙ stands.top) written);
+                  sum.same zero_register refl,
+                  sum.same frame_register refl,
+                  sum.same end_register refl,
+                  sum.same number_register refl,
+                  sum.same rank_register refl,
+                  sum.same size_register refl,
+                  sum.same local_register refl,
+                  sum.same shared_register refl,
+                  sum.same heap_register refl,
+                  sum.same shared_mask_register refl,
+                  sum.same device_register refl,
+                  sum.same heap_mask_register refl,
+                ) refl refl (sum.same top_register refl ∙ stands.top) written);
           };
           node = record {
-            node = sum.same 10 refl ∙ member.node.node ∙ sym (ap control_address first_same);
+            node = sum.same node_register refl ∙ member.node.node ∙ sym (ap control_address first_same);
             body = tt;
             space = subst (λ o. KnowsSpace level' o h6) (sym inside.outer) (frames', blocks');
             outer = (outer, member.node.outer.1);
@@ -317,36 +318,36 @@ module _ (core : List CoreOp) (image : Image) (bound : ℕ → ℕ) (places : Pl
         let l7 = lines.1.1.1.1.1.1.1.0 in
         let near = l7.within in
         let k5 = suc (suc (suc (suc (suc k1)))) in
-        let t2 = later t1 in
-        let t3 = later t2 in
-        let t4 = later t3 in
-        let t5 = in_cycles (count + 4) t0 in
-        let b : h2.registers 13 ≡ control_address space.blocks = sum.same 13 refl ∙ blocks in
+        let cycle2 = later cycle1 in
+        let cycle3 = later cycle2 in
+        let t4 = later cycle3 in
+        let t5 = in_cycles (count + 4) cycle0 in
+        let b : h2.registers blocks_register ≡ control_address space.blocks = sum.same blocks_register refl ∙ blocks in
         let e2 : h2.pc ≡ 4 * suc k1 = omega arith in
         let e3 : h3.pc ≡ 4 * k5 = omega arith in
         let e4 : h4.pc ≡ 4 * suc k5 = omega arith in
         let e5 : h5.pc ≡ 4 * suc (suc k5) = omega arith in
         let e6 : h6.pc ≡ 4 * places.block (suc i) = omega arith in
-        let end : h4.registers 9 ≡ local_address (frame_end n) = sum.same 9 refl ∙ en.at.stands.behind in
-        let word_at = value_place (h4.registers 9) n 61 end calls (omega arith) (omega arith) in
+        let end : h4.registers end_register ≡ local_address (frame_end n) = sum.same end_register refl ∙ en.at.stands.behind in
+        let word_at = value_place (h4.registers end_register) n 61 end calls (omega arith) (omega arith) in
         let not_full = le-ltb (free space) words le in
         let room = ap (λ x. is_some (if x then None else Some larger)) not_full in
         let is_taken : frame space words ≡ Some larger = ap (λ x. if x then None else Some larger) not_full in
         record {
           committing = h5;
-          runs = runs_join image t0 m.number count 4 m.hart sum.hart h5 sum.runs (
+          runs = runs_join image cycle0 m.number count 4 m.hart sum.hart h5 sum.runs (
             h2,
-            private image t1 m.number k1 (Lui 6 0xf8000) sum.hart h2 holds1 l0 at1 sum.live (λ s. (s.reserved, refl)),
+            private image cycle1 m.number k1 (Lui t1 0xf8000) sum.hart h2 holds1 l0 at1 sum.live (λ s. (s.reserved, refl)),
             (
               h3,
-              bgeu_taken image t2 m.number (suc k1) 13 5 16 h2 holds1 l1 e2 sum.live (le-leb (h2.registers 5) (h2.registers 13) (omega arith)) (omega arith),
+              bgeu_taken image cycle2 m.number (suc k1) 13 5 16 h2 holds1 l1 e2 sum.live (le-leb (h2.registers t0) (h2.registers blocks_register) (omega arith)) (omega arith),
               (
                 h4,
-                private image t3 m.number k5 (Add 6 6 12) h3 h4 holds1 l5 e3 sum.live (λ s. (s.reserved, refl)),
+                private image cycle3 m.number k5 (Add t1 t1 frames_register) h3 h4 holds1 l5 e3 sum.live (λ s. (s.reserved, refl)),
                 (
                   h5,
-                  private image t4 m.number (suc k5) (Sw 9 6 at_group_frame) h4 h5 holds1 l6 e4 sum.live
-                      (λ s. can_run_goes (Sw 9 6 at_group_frame) (LocalAt (group_word n)) h4 (word_at.0, word_at.1) t4 m.number s),
+                  private image t4 m.number (suc k5) (Sw end_register t1 at_group_frame) h4 h5 holds1 l6 e4 sum.live
+                      (λ s. can_run_goes (Sw end_register t1 at_group_frame) (LocalAt (group_word n)) h4 (word_at.0, word_at.1) t4 m.number s),
                   refl,
                 ),
               ),
@@ -362,7 +363,7 @@ module _ (core : List CoreOp) (image : Image) (bound : ℕ → ℕ) (places : Pl
               part = due_part core setting i op (Frame nesting words) s p place.stands refl room en.index;
               goes = λ earlier sh shows. (
                 sh,
-                step_at image (suc (suc k5)) 1 (Addi 12 5 0) l7 t5 (holds_in_cycles image (count + 4) t0 en.running.code) m.number h5 sh e5,
+                step_at image (suc (suc k5)) 1 (Addi frames_register t0 0) l7 t5 (holds_in_cycles image (count + 4) cycle0 en.running.code) m.number h5 sh e5,
                 shows,
                 λ j e. refl,
               );

@@ -22,7 +22,7 @@ use Rattle.fk_sim_nodes.specs.Node.{Member}
 use Rattle.fk_sim_nodes.specs.Source.{Part, Passes, Breaks}
 use Rattle.fk_sim_nodes.specs.OneHart.{OneDoes}
 use Rattle.fk_sim_block.specs.Owner.{Commons, Owner, Doing, number_of, owner_of, found, as_part, is_hire, part, core_source}
-use Rattle.fk_sim_block.specs.Stands.{Places, HasFrame, frame_start}
+use Rattle.fk_sim_block.specs.Stands.{Places, frame_start, zero_register, FrameInHart}
 use Rattle.fk_sim_block.specs.Next.{OpAt, step_at}
 use Rattle.fk_sim_block.specs.Ready.{is_alone}
 use Rattle.fk_sim_block.specs.Suits.{writes}
@@ -32,7 +32,7 @@ use Rattle.fk_gen.specs.Lines.{label_of}
 use Rattle.fk_gen.proofs.Standing.{stands_with}
 use Rattle.fk_gen.proofs.Jumps.{jumps, jal_private}
 use Rattle.fk_gen.proofs.Does.{local_part, asks, hired_part}
-use Rattle.fk_sim_block.specs.Node.{Nestings, StandsInNode, KnowsSpace, HasOuter, HasNestings, LieBelow, saved_at, first_word, control_address}
+use Rattle.fk_sim_block.specs.Node.{Nestings, StandsInNode, KnowsSpace, HasOuter, HasNestings, LieBelow, saved_at, first_word, control_address, node_register, body_register, frames_register, blocks_register}
 use Rattle.fk_sim_block.proofs.Spaces.{space_kept}
 use Rattle.fk_sim_block.specs.Lockstep.{IsMember}
 use Rattle.fk_sim_block.specs.Law.{Cycles, BlockDoesInNode, HasDoneInNode, way_by, way_of}
@@ -49,15 +49,15 @@ pub record SameGroup (p q : Processor) : Type 0 where
 
 -- one that keeps a0 to a3, and finds the levels round its processor, which is in the same group
 pub stands_in_node : (places : Places) (nestings : Nestings) (setting : Setting) (runs : Option ℕ) (first : ℕ) (m : Member) (p q : Owner) (h' : Hart)
-    → IsMember places nestings setting runs first m p → h'.registers 10 ≡ m.hart.registers 10 → h'.registers 11 ≡ m.hart.registers 11 → h'.registers 12 ≡ m.hart.registers 12
-    → h'.registers 13 ≡ m.hart.registers 13 → SameGroup p.runner.has q.runner.has
+    → IsMember places nestings setting runs first m p → h'.registers node_register ≡ m.hart.registers node_register → h'.registers body_register ≡ m.hart.registers body_register → h'.registers frames_register ≡ m.hart.registers frames_register
+    → h'.registers blocks_register ≡ m.hart.registers blocks_register → SameGroup p.runner.has q.runner.has
     → HasNestings places nestings setting.processors (number_of p) h'.local q.runner.left.at q.runner.left.callers q.runner.has.callers p.runner.has.outer
     → StandsInNode places nestings setting runs q h'
 stands_in_node places nestings setting runs first m p q h' member node body frames blocks group held = record {
   node =
       node ∙ member.node.node
       ∙ sym (ap (λ l. control_address (first_word l q.runner.has.outer)) group.level ∙ ap (λ o. control_address (first_word p.runner.has.level o)) group.outer);
-  body = body_kept runs (m.hart.registers 11) (h'.registers 11) body member.node.body;
+  body = body_kept runs (m.hart.registers body_register) (h'.registers body_register) body member.node.body;
   space =
       subst (λ l. KnowsSpace l q.runner.has.outer h') (sym group.level)
       (subst (λ o. KnowsSpace p.runner.has.level o h') (sym group.outer) (space_kept p.runner.has.level p.runner.has.outer m.hart h' frames blocks member.node.space));
@@ -74,14 +74,14 @@ word_with_frames : (frames : ℕ) (level : Level) (outer : List Level) → first
 word_with_frames frames level [] = refl
 word_with_frames frames level (o ∷ outer) = refl
 
-space_with_frames : (frames : ℕ) (level : Level) (outer : List Level) (h h' : Hart) → h'.registers 12 ≡ control_address frames → h'.registers 13 ≡ h.registers 13
+space_with_frames : (frames : ℕ) (level : Level) (outer : List Level) (h h' : Hart) → h'.registers frames_register ≡ control_address frames → h'.registers blocks_register ≡ h.registers blocks_register
     → KnowsSpace level outer h → KnowsSpace (with_frames frames level) outer h'
 space_with_frames frames level [] h h' e f known = tt
 space_with_frames frames level (o ∷ outer) h h' e f known = (e, f ∙ known.1)
 
 pub stands_with_frames : (places : Places) (nestings : Nestings) (setting : Setting) (runs : Option ℕ) (first frames : ℕ) (m : Member) (p q : Owner) (h' : Hart)
-    → IsMember places nestings setting runs first m p → h'.registers 10 ≡ m.hart.registers 10 → h'.registers 11 ≡ m.hart.registers 11 → h'.registers 12 ≡ control_address frames
-    → h'.registers 13 ≡ m.hart.registers 13 → q.runner.has.number ≡ p.runner.has.number → q.runner.has.level ≡ with_frames frames p.runner.has.level
+    → IsMember places nestings setting runs first m p → h'.registers node_register ≡ m.hart.registers node_register → h'.registers body_register ≡ m.hart.registers body_register → h'.registers frames_register ≡ control_address frames
+    → h'.registers blocks_register ≡ m.hart.registers blocks_register → q.runner.has.number ≡ p.runner.has.number → q.runner.has.level ≡ with_frames frames p.runner.has.level
     → q.runner.has.outer ≡ p.runner.has.outer
     → HasNestings places nestings setting.processors (number_of p) h'.local q.runner.left.at q.runner.left.callers q.runner.has.callers p.runner.has.outer
     → StandsInNode places nestings setting runs q h'
@@ -91,7 +91,7 @@ stands_with_frames places nestings setting runs first frames m p q h' member nod
       node =
           node ∙ member.node.node ∙ ap control_address (sym (word_with_frames frames p.runner.has.level p.runner.has.outer))
           ∙ sym (ap (λ x. control_address (first_word x q.runner.has.outer)) level ∙ ap (λ o. control_address (first_word l o)) outer);
-      body = body_kept runs (m.hart.registers 11) (h'.registers 11) body member.node.body;
+      body = body_kept runs (m.hart.registers body_register) (h'.registers body_register) body member.node.body;
       space =
           subst (λ x. KnowsSpace x q.runner.has.outer h') (sym level)
           (subst (λ o. KnowsSpace l o h') (sym outer) (space_with_frames frames p.runner.has.level p.runner.has.outer m.hart h' end blocks member.node.space));
@@ -301,9 +301,9 @@ jumps_stay_in_node core image bound places nestings i op block flows few stay se
     let n = length p.runner.has.callers in
     let callers = p.runner.left.callers in
     let pc : h.pc ≡ 4 * places.block i = member.at.at ∙ ap (λ j. 4 * places.block j) at in
-    let running = subst (λ a. HasFrame places h.local n a p.runner.has.call) at s.running in
+    let running = subst (λ a. FrameInHart places h n a p.runner.has.call) at s.running in
     record {
-      hart = jumps h 0 (4 * bound (label_of op.target));
+      hart = jumps h zero_register (4 * bound (label_of op.target));
       private = jal_private image bound t m.number (places.block i) 0 (label_of op.target) h holds block.lines.0 (block.labels.within (label_of op.target)) pc member.at.live;
       at = record {
         live = member.at.live;
@@ -324,7 +324,7 @@ jumps_stay_in_node core image bound places nestings i op block flows few stay se
       node = record {
         node = member.node.node;
         body = member.node.body;
-        space = space_kept p.runner.has.level p.runner.has.outer h (jumps h 0 (4 * bound (label_of op.target))) refl refl member.node.space;
+        space = space_kept p.runner.has.level p.runner.has.outer h (jumps h zero_register (4 * bound (label_of op.target))) refl refl member.node.space;
         outer = (
           outer_by places nestings setting.processors (number_of p) h.local h.local i op.target callers p.runner.has.outer few stay (λ x le lt. refl) (λ x le lt. refl)
               (subst (λ a. HasOuter places nestings setting.processors (number_of p) h.local (a ∷ callers) p.runner.has.outer) at member.node.outer.0),

@@ -20,12 +20,13 @@ use Rattle.fk_sim_block.specs.Suits.{Flows, nothing}
 use Rattle.fk_sim_block.specs.Block.{Enters, gone_to}
 use Rattle.fk_gen.specs.InPlace.{HasBlock}
 use Rattle.fk_gen.proofs.Walk.{private}
-use Rattle.fk_sim_block.specs.Node.{Nestings, StandsInNode, OwnsHeader, control_address, barrier_word, closing_word, body_register}
+use Rattle.fk_sim_block.specs.Node.{Nestings, StandsInNode, OwnsHeader, control_address, barrier_word, closing_word, body_register, node_register}
 use Rattle.fk_gen_group.specs.Meeting.{IsMeeting, HasMeeting, IsReadyToMeet}
 use Rattle.fk_sim_block.proofs.Spaces.{space_kept}
 use Rattle.fk_sim_block.specs.Lockstep.{IsMember}
 use Rattle.fk_gen_group.specs.Blocks.{meeting_of, meet_block}
 use Rattle.fk_sim_block.specs.Joint.{is_meeting}
+use Rattle.fk_gen.specs.Registers.{t0, t1, t2}
 use Rattle.fk_gen_group.specs.Meet.{ComesToMeet, BlockComesToMeet}
 use Rattle.fk_gen_group.specs.Laws.{IsInPlace}
 use Rattle.fk_gen_group.proofs.Steps.{harts_arrive}
@@ -33,12 +34,12 @@ use Rattle.fk_gen_group.proofs.Behind.{KeepsMost, kept, same_registers, body_kep
 
 -- a register with the number of members, which the lines leave
 record IsCount (size : ℕ) : Type 0 where
-  pub t0 : size ≢ 5
-  pub t1 : size ≢ 6
-  pub t2 : size ≢ 7
+  pub not_t0 : size ≢ t0
+  pub not_t1 : size ≢ t1
+  pub not_t2 : size ≢ t2
 
 meeting_is : (size : ℕ) → IsCount size → IsMeeting (meeting_of size)
-meeting_is size is = record { arrivals_t0 = λ e. omega arith; arrivals_t1 = λ e. omega arith; size_t0 = is.t0; size_t1 = is.t1 }
+meeting_is size is = record { arrivals_t0 = λ e. omega arith; arrivals_t1 = λ e. omega arith; size_t0 = is.not_t0; size_t1 = is.not_t1 }
 
 module _ (core : List CoreOp) (image : Image) (bound : ℕ → ℕ) (places : Places) (nestings : Nestings) (i : ℕ) (op : CoreOp) (operation : Operation)
     (place : IsInPlace core image bound places nestings i op operation) (flows : Flows core places.frames nothing i (suc i)) where
@@ -51,7 +52,7 @@ module _ (core : List CoreOp) (image : Image) (bound : ℕ → ℕ) (places : Pl
         next.0,
         record {
           node = kept m.hart h 10 same (omega arith) ∙ member.node.node;
-          body = body_kept runs (m.hart.registers 11) (h.registers 11) (kept m.hart h 11 same (omega arith)) member.node.body;
+          body = body_kept runs (m.hart.registers body_register) (h.registers body_register) (kept m.hart h 11 same (omega arith)) member.node.body;
           space = space_kept p.runner.has.level p.runner.has.outer m.hart h (kept m.hart h 12 same (omega arith)) (kept m.hart h 13 same (omega arith)) member.node.space;
           outer = next.1;
         },
@@ -59,7 +60,7 @@ module _ (core : List CoreOp) (image : Image) (bound : ℕ → ℕ) (places : Pl
 
   -- with the address of a word of its node
   abbrev with_word : (word : ℕ) → Hart → Hart
-  with_word word h = writes h 7 (word_sum (h.registers 10) (4 * word))
+  with_word word h = writes h t2 (word_sum (h.registers node_register) (4 * word))
 
   ready : (setting : Setting) (t : MachineSetting) (mine : Words) (runs : Option ℕ) (first word size n : ℕ) (m : Member) (p : Owner) → OwnsHeader mine first → word < 8 → IsCount size
       → Enters core image places setting t i op operation p m.hart → IsMember places nestings setting runs first m p → m.hart.registers size ≡ n
@@ -72,7 +73,7 @@ module _ (core : List CoreOp) (image : Image) (bound : ℕ → ℕ) (places : Pl
         nought = en.at.stands.nought;
         within = omega arith;
         arrivals = omega arith;
-        size = rw (ne_eqb size 7 is.t2) so_many;
+        size = rw (ne_eqb size t2 is.not_t2) so_many;
       }
 
   meets : (word size : ℕ) → word < 8 → IsCount size → HasBlock image bound places i (meet_block word size) → (setting : Setting) (t : MachineSetting) (mine : Words) (runs : Option ℕ) (first n : ℕ) (m : Member) (p : Owner)
@@ -104,7 +105,7 @@ module _ (core : List CoreOp) (image : Image) (bound : ℕ → ℕ) (places : Pl
             omega arith,
             (
               comes.3.1.0,
-              (h1, private image t m.number k (Addi 7 10 (4 * word)) m.hart h1 en.running.code lines.0 pc en.at.live (λ s. (s.reserved, addi t m.number 7 10 (4 * word) m.hart s)), comes.3.1.1),
+              (h1, private image t m.number k (Addi t2 node_register (4 * word)) m.hart h1 en.running.code lines.0 pc en.at.live (λ s. (s.reserved, addi t m.number 7 10 (4 * word) m.hart s)), comes.3.1.1),
               comes.3.1.2,
             ),
           );
@@ -121,10 +122,10 @@ module _ (core : List CoreOp) (image : Image) (bound : ℕ → ℕ) (places : Pl
       }
 
 body_is : IsCount body_register
-body_is = record { t0 = λ e. omega arith; t1 = λ e. omega arith; t2 = λ e. omega arith }
+body_is = record { not_t0 = λ e. omega arith; not_t1 = λ e. omega arith; not_t2 = λ e. omega arith }
 
 size_is : IsCount size_register
-size_is = record { t0 = λ e. omega arith; t1 = λ e. omega arith; t2 = λ e. omega arith }
+size_is = record { not_t0 = λ e. omega arith; not_t1 = λ e. omega arith; not_t2 = λ e. omega arith }
 
 pub blocks_come : (core : List CoreOp) (image : Image) (bound : ℕ → ℕ) (places : Places) (nestings : Nestings) (i : ℕ) (op : CoreOp) (operation : Operation) → is_meeting operation ≡ true
     → IsInPlace core image bound places nestings i op operation → BlockComesToMeet core image bound places nestings i op operation

@@ -10,6 +10,7 @@ use Rattle.fk_sim_nodes.specs.Phase.{Phase, Coming, Waiting, Leaving, polled}
 use Rattle.fk_sim_block.specs.Node.{Polling}
 use Rattle.fk_sim_block.specs.Joint.{Polls, IsArriving, IsLeaving, GoesToLeave, GoesToPoll, KeepsPolling, IsInPhaseBy}
 use Rattle.fk_gen.proofs.Does.{holds_in_cycles}
+use Rattle.fk_gen.specs.Registers.{t0}
 use Rattle.fk_gen_group.specs.Meeting as lines
 use Rattle.fk_gen_group.specs.Meeting.{Meeting, HasMeeting, IsReadyToMeet, Keeps, HasLeft, count_of_leaving, lead}
 use Rattle.fk_gen_group.specs.Blocks.{meeting_of}
@@ -58,7 +59,7 @@ module _ (g : Meeting) (image : Image) (bound : ℕ → ℕ) (k w n number : ℕ
   polls_of h keeps pc = kept_at g first h (k + 7) ready.live keeps pc
 
   polls_by : (t : Setting) (h : Hart) → t.finished % 2 ≡ 1 → Keeps g first h
-      → ((t.finished % 2 ≡ 1) × (h.pc ≡ 4 * (k + 7))) ⊎ ((t.finished % 2 ≡ 0) × (h.pc ≡ 4 * (k + 8)) × (h.registers 5 ≢ n)) → Polls polling first h
+      → ((t.finished % 2 ≡ 1) × (h.pc ≡ 4 * (k + 7))) ⊎ ((t.finished % 2 ≡ 0) × (h.pc ≡ 4 * (k + 8)) × (h.registers t0 ≢ n)) → Polls polling first h
   polls_by t h odd keeps (inl at) = polls_of h keeps at.1
   polls_by t h odd keeps (inr at) = let even = at.0 in absurd (omega (arith, odd, even))
 

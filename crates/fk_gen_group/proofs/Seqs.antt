@@ -22,26 +22,27 @@ use Rattle.fk_sim_nodes.proofs.Runs.{cycle_map}
 use Rattle.fk_sim_nodes.proofs.Members.{cycle_commits}
 use Rattle.fk_sim_nodes.proofs.OnePlace.{private_of_all, stores_of_all, adds_of_all}
 use Rattle.fk_sim_block.specs.Owner.{Owner, Doing, number_of, core_source}
-use Rattle.fk_sim_block.specs.Stands.{Places}
+use Rattle.fk_sim_block.specs.Stands.{Places, zero_register}
 use Rattle.fk_sim_block.specs.Block.{Enters}
 use Rattle.fk_gen.specs.Lines.{label_of}
 use Rattle.fk_gen.proofs.Walk.{private}
 use Rattle.fk_gen.proofs.Jumps.{jumps, goes_to_pc, jal_private, beq_taken, beq_on}
-use Rattle.fk_sim_block.specs.Node.{Nestings, OwnsHeader, control_address, agreed_word}
+use Rattle.fk_sim_block.specs.Node.{Nestings, OwnsHeader, control_address, agreed_word, node_register, body_register}
 use Rattle.fk_sim_block.proofs.Spaces.{space_kept}
 use Rattle.fk_sim_block.specs.Lockstep.{IsMember, AllComeAlone, LevelsStay, HaveParted, NoneIs, IsLowest, one_runs, is_due}
+use Rattle.fk_gen.specs.Registers.{t0, t1, t2}
 use Rattle.fk_gen_group.specs.Laws.{IsInPlace, GroupsSendOne}
 use Rattle.fk_gen_group.proofs.Members.{Both, all_stand, entered, at_block, each_on, stand_on, all_alone, all_at_own, all_due}
 use Rattle.fk_gen_group.proofs.Behind.{KeepsMost, kept, same_registers, goes_behind}
 
 module _ (core : List CoreOp) (image : Image) (bound : ℕ → ℕ) (places : Places) (nestings : Nestings) (i : ℕ) (op : CoreOp) (place : IsInPlace core image bound places nestings i op Seq)
-    (leads : LevelsStay nestings i op.target) (setting : Setting) (t0 : MachineSetting) (mine : Words) (first : ℕ) (owns : OwnsHeader mine first) (highest lowest size : ℕ) where
+    (leads : LevelsStay nestings i op.target) (setting : Setting) (cycle0 : MachineSetting) (mine : Words) (first : ℕ) (owns : OwnsHeader mine first) (highest lowest size : ℕ) where
   abbrev word : ℕ
   word = first + agreed_word
 
   -- a member as it came, and while it has all but the free registers
   abbrev Came : Member → Owner → Type 0
-  Came m p = Enters core image places setting t0 i op Seq p m.hart × IsMember places nestings setting None first m p
+  Came m p = Enters core image places setting cycle0 i op Seq p m.hart × IsMember places nestings setting None first m p
 
   record Near (m : Member) (p : Owner) : Type 0 where
     pub hart : Hart
@@ -60,24 +61,24 @@ module _ (core : List CoreOp) (image : Image) (bound : ℕ → ℕ) (places : Pl
     others = λ r a b c. others r a b c ∙ near.others r a b c;
   }
 
-  nought : (m : Member) (p : Owner) → Near m p → m.hart.registers 0 ≡ 0
-  nought m p near = near.others 0 (λ e. omega arith) (λ e. omega arith) (λ e. omega arith) ∙ near.came.0.at.stands.nought
+  nought : (m : Member) (p : Owner) → Near m p → m.hart.registers zero_register ≡ 0
+  nought m p near = near.others zero_register (λ e. omega arith) (λ e. omega arith) (λ e. omega arith) ∙ near.came.0.at.stands.nought
 
   -- with the address of the node's word in t2, and with 1 in t1
   record Addressed (m : Member) (p : Owner) : Type 0 where
     pub near : Near m p
-    pub address : m.hart.registers 7 ≡ control_address word
+    pub address : m.hart.registers t2 ≡ control_address word
 
   record Ready (m : Member) (p : Owner) : Type 0 where
     pub near : Near m p
-    pub address : m.hart.registers 7 ≡ control_address word
-    pub one : m.hart.registers 6 ≡ 1
+    pub address : m.hart.registers t2 ≡ control_address word
+    pub one : m.hart.registers t1 ≡ 1
 
   abbrev addressed_hart : Member → Hart
-  addressed_hart m = writes m.hart 7 (word_sum (m.hart.registers 10) 8)
+  addressed_hart m = writes m.hart 7 (word_sum (m.hart.registers node_register) 8)
 
   abbrev ready_hart : Member → Hart
-  ready_hart m = writes m.hart 6 (word_sum (m.hart.registers 0) 1)
+  ready_hart m = writes m.hart 6 (word_sum (m.hart.registers zero_register) 1)
 
   addressed : (m : Member) (p : Owner) → Came m p → Addressed (record m { hart = addressed_hart m }) p
   addressed m p came =
@@ -96,13 +97,13 @@ module _ (core : List CoreOp) (image : Image) (bound : ℕ → ℕ) (places : Pl
   stored : (m : Member) (p : Owner) → Ready m p → Ready (record m { hart = onward m.hart }) p
   stored m p r = record { near = near_on m p (onward m.hart) refl refl (λ j x y z. refl) r.near; address = r.address; one = r.one }
 
-  at_word : (m : Member) (p : Owner) → Ready m p → IsOwnWord mine (m.hart.registers 7) word
+  at_word : (m : Member) (p : Owner) → Ready m p → IsOwnWord mine (m.hart.registers t2) word
   at_word m p r =
       let within = owns.within in
       let e = r.address in
       record { aligned = omega arith; place = place_of-control _ word (omega arith) (omega arith); own = owns.own agreed_word (omega arith) }
 
-  at_stored : (m : Member) (p : Owner) → Ready m p → IsOwnWord mine (word_sum (m.hart.registers 7) 0) word
+  at_stored : (m : Member) (p : Owner) → Ready m p → IsOwnWord mine (word_sum (m.hart.registers t2) 0) word
   at_stored m p r =
       let within = owns.within in
       let e = r.address in
@@ -120,16 +121,16 @@ module _ (core : List CoreOp) (image : Image) (bound : ℕ → ℕ) (places : Pl
   noughts : (v : ℕ) (ms : List Member) (ps : List Owner) → Both Ready ms ps → v ≡ 0 → last_or v (values_for (λ m. word) 0 word ms) ≡ 0
   noughts v [] [] all e = e
   noughts v (m ∷ ms) (p ∷ ps) all e =
-      ap (last_or v) (same_word 0 m ms) ∙ noughts (m.hart.registers 0) ms ps all.1 (nought m p all.0.near)
+      ap (last_or v) (same_word 0 m ms) ∙ noughts (m.hart.registers zero_register) ms ps all.1 (nought m p all.0.near)
   noughts v ms ps all e = absurd (assumption all)
 
   -- ---- each finds how many have added 1 before
 
   abbrev Ones : List Member → Type 0
   Ones [] = Unit {0}
-  Ones (m ∷ ms) = (m.hart.registers 6 ≡ 1) × Ones ms
+  Ones (m ∷ ms) = (m.hart.registers t1 ≡ 1) × Ones ms
 
-  ones_more : (ms : List Member) (m : Member) → Ones ms → m.hart.registers 6 ≡ 1 → Ones (ms ++ m ∷ [])
+  ones_more : (ms : List Member) (m : Member) → Ones ms → m.hart.registers t1 ≡ 1 → Ones (ms ++ m ∷ [])
   ones_more [] m all e = (e, tt)
   ones_more (x ∷ ms) m all e = (all.0, ones_more ms m all.1 e)
 
@@ -137,13 +138,13 @@ module _ (core : List CoreOp) (image : Image) (bound : ℕ → ℕ) (places : Pl
   sum_ones v [] ones lt = omega arith
   sum_ones v (m ∷ ms) ones lt =
       let one = ones.0 in
-      let rest = sum_ones (word_sum v (m.hart.registers 6)) ms ones.1 (omega arith) in
+      let rest = sum_ones (word_sum v (m.hart.registers t1)) ms ones.1 (omega arith) in
       ap (sum_from v) (same_word 6 m ms) ∙ rest ∙ omega arith
 
   -- it finds 0, or not
   record Found (lowest_is : Bool) (m : Member) (p : Owner) : Type 0 where
     pub near : Near m p
-    pub found : (m.hart.registers 5 == m.hart.registers 0) ≡ lowest_is
+    pub found : (m.hart.registers t0 == m.hart.registers zero_register) ≡ lowest_is
 
   found_more : (own : Memory) (before ms : List Member) (ps : List Owner) → own word ≡ 0 → Ones before → 0 < length before → length before + length ms < 2 ^ 32 → Both Ready ms ps
       → Both (Found false) (each_finds (λ m. word) 5 6 own before ms) ps
@@ -156,7 +157,7 @@ module _ (core : List CoreOp) (image : Image) (bound : ℕ → ℕ) (places : Pl
       let many = length-append before (m ∷ []) in (
         record {
           near = near_on m p (onward_with 5 v m.hart) refl refl (λ r x y z. rw (ne_eqb r 5 x)) all.0.near;
-          found = ne_eqb v (m.hart.registers 0) (λ f. omega (arith, f));
+          found = ne_eqb v (m.hart.registers zero_register) (λ f. omega (arith, f));
         },
         found_more own (before ++ m ∷ []) ms ps e (ones_more before m ones all.0.one) (omega arith) (omega arith) all.1,
       )
@@ -173,7 +174,7 @@ module _ (core : List CoreOp) (image : Image) (bound : ℕ → ℕ) (places : Pl
   found_all own (m ∷ ms) (p ∷ ps) e few all = (
     record {
       near = near_on m p (onward_with 5 (own word) m.hart) refl refl (λ r x y z. rw (ne_eqb r 5 x)) all.0.near;
-      found = eq-eqb (own word) (m.hart.registers 0) (e ∙ sym (nought m p all.0.near));
+      found = eq-eqb (own word) (m.hart.registers zero_register) (e ∙ sym (nought m p all.0.near));
     },
     found_more own (m ∷ []) ms ps e (all.0.one, tt) (omega arith) (omega arith) all.1,
   )
@@ -209,11 +210,11 @@ module _ (core : List CoreOp) (image : Image) (bound : ℕ → ℕ) (places : Pl
         λ some. x.1 word ∙ noughts_of (own word) ms ps all some,
         λ j ne. x.1 j ∙ ap (last_or (own j)) (no_values 0 j ms ne),
       ))
-      (stores_of_all image mine t k 0 7 0 0 (λ m. word) ms own holds at stand (all_at_own Ready mine (λ h. word_sum (h.registers 7) 0) word ms ps at_stored all))
+      (stores_of_all image mine t k 0 7 0 0 (λ m. word) ms own holds at stand (all_at_own Ready mine (λ h. word_sum (h.registers t2) 0) word ms ps at_stored all))
     where
       noughts_of : (v : ℕ) (ms : List Member) (ps : List Owner) → Both Ready ms ps → ((v ≡ 0) ⊎ (ms ≡ [] → ⊥)) → last_or v (values_for (λ m. word) 0 word ms) ≡ 0
       noughts_of v [] [] all some = ⊎_elim (λ z. z) (λ f. absurd (f refl)) some
-      noughts_of v (m ∷ ms) (p ∷ ps) all some = ap (last_or v) (same_word 0 m ms) ∙ noughts (m.hart.registers 0) ms ps all.1 (nought m p all.0.near)
+      noughts_of v (m ∷ ms) (p ∷ ps) all some = ap (last_or v) (same_word 0 m ms) ∙ noughts (m.hart.registers zero_register) ms ps all.1 (nought m p all.0.near)
       noughts_of v ms ps all some = absurd (assumption all)
 
   add_cycle : (t : MachineSetting) (ms : List Member) (ps : List Owner) (own : Memory) → Holds image t → own word ≡ 0 → length ms ≤ 1024 → AllAreAt (suc (suc (suc (places.block i)))) ms → Both Ready ms ps
@@ -229,7 +230,7 @@ module _ (core : List CoreOp) (image : Image) (bound : ℕ → ℕ) (places : Pl
         subst (λ l. FoundAll l ps) (sym x.0) (found_all own ms ps e few all),
         λ j ne. x.1 j ∙ ap (sum_from (own j)) (no_values 6 j ms ne),
       ))
-      (adds_of_all image mine t k 1 5 7 6 (λ m. word) ms own holds at stand (all_at_own Ready mine (λ h. h.registers 7) word ms ps at_word all))
+      (adds_of_all image mine t k 1 5 7 6 (λ m. word) ms own holds at stand (all_at_own Ready mine (λ h. h.registers t2) word ms ps at_word all))
 
   -- ---- behind the commit
 
@@ -241,7 +242,7 @@ module _ (core : List CoreOp) (image : Image) (bound : ℕ → ℕ) (places : Pl
   Goes b m p = IsMember places nestings setting (if b then Some 1 else None) first m (went b p)
 
   abbrev lowest_hart : Hart → Hart
-  lowest_hart h = writes (goes_to_pc h (word_sum h.pc 8)) 11 (word_sum (h.registers 0) 1)
+  lowest_hart h = writes (goes_to_pc h (word_sum h.pc 8)) 11 (word_sum (h.registers zero_register) 1)
 
   abbrev other_hart : Hart → Hart
   other_hart h = jumps (goes_to_pc h (word_sum h.pc 4)) 0 (4 * bound (label_of op.target))
@@ -261,14 +262,14 @@ module _ (core : List CoreOp) (image : Image) (bound : ℕ → ℕ) (places : Pl
       let h1 = goes_to_pc m.hart (word_sum m.hart.pc 8) in
       let zero_is = nought m p near in
       let most : KeepsMost near.hart m.hart = record { live = near.live; local = near.local; others = near.others } in
-      let behind = goes_behind core image bound places nestings i op Seq place (suc i) (place.fits.goes_on true) place.stay setting t0 None first (record m { hart = near.hart }) p (lowest_hart m.hart) en member near.live near.local
+      let behind = goes_behind core image bound places nestings i op Seq place (suc i) (place.fits.goes_on true) place.stay setting cycle0 None first (record m { hart = near.hart }) p (lowest_hart m.hart) en member near.live near.local
       (same_registers near.hart m.hart most) (kept near.hart m.hart 21 most (omega arith)) (omega arith) in (
         (
           h1,
           beq_taken image t m.number k 5 0 8 m.hart holds at pc near.live f.found (omega arith),
           (
             lowest_hart m.hart,
-            private image (later t) m.number (suc (suc k)) (Addi 11 0 1) h1 (lowest_hart m.hart) holds last (omega arith) near.live (λ s. (s.reserved, addi (later t) m.number 11 0 1 h1 s)),
+            private image (later t) m.number (suc (suc k)) (Addi body_register zero_register 1) h1 (lowest_hart m.hart) holds last (omega arith) near.live (λ s. (s.reserved, addi (later t) m.number 11 0 1 h1 s)),
             refl,
           ),
         ),
@@ -298,7 +299,7 @@ module _ (core : List CoreOp) (image : Image) (bound : ℕ → ℕ) (places : Pl
       let member = near.came.1 in
       let h1 = goes_to_pc m.hart (word_sum m.hart.pc 4) in
       let most : KeepsMost near.hart (other_hart m.hart) = record { live = near.live; local = near.local; others = near.others } in
-      let behind = goes_behind core image bound places nestings i op Seq place op.target (place.fits.goes_on false) leads setting t0 None first (record m { hart = near.hart }) p (other_hart m.hart) en member near.live near.local
+      let behind = goes_behind core image bound places nestings i op Seq place op.target (place.fits.goes_on false) leads setting cycle0 None first (record m { hart = near.hart }) p (other_hart m.hart) en member near.live near.local
       (same_registers near.hart (other_hart m.hart) most) (kept near.hart (other_hart m.hart) 21 most (omega arith)) (ap (λ k. 4 * k) (place.block.labels.blocks op.target)) in (
         (
           h1,
@@ -359,47 +360,47 @@ module _ (core : List CoreOp) (image : Image) (bound : ℕ → ℕ) (places : Pl
   some_members P ms p ps all e = subst (λ l. Both P l (p ∷ ps)) e all
 
   abbrev Parted : List Owner → Memory → List Member → Memory → Type 0
-  Parted ps before ms own = HaveParted core image places nestings i op Seq setting (later (in_cycles 3 t0)) 2 (one_runs lowest) first lowest size ps before ms own
+  Parted ps before ms own = HaveParted core image places nestings i op Seq setting (later (in_cycles 3 cycle0)) 2 (one_runs lowest) first lowest size ps before ms own
 
   abbrev Goal : List Owner → Memory → List Member → List Doing → Memory → Type 0
   Goal ps own ms' ds own' =
       (ds ≡ map (is_due core i op Seq) ps) × Parted ps own ms' own'
 
-  together : (ms : List Member) (p : Owner) (others : List Owner) (own : Memory) → Holds image t0 → length (p ∷ others) ≤ 1024 → IsLowest lowest (p ∷ others) → Both Came ms (p ∷ others)
-      → Together (core_source core setting) image mine t0 1 3 ms (p ∷ others) own (Goal (p ∷ others) own)
+  together : (ms : List Member) (p : Owner) (others : List Owner) (own : Memory) → Holds image cycle0 → length (p ∷ others) ≤ 1024 → IsLowest lowest (p ∷ others) → Both Came ms (p ∷ others)
+      → Together (core_source core setting) image mine cycle0 1 3 ms (p ∷ others) own (Goal (p ∷ others) own)
   together ms p others own holds few is all =
       let ps = p ∷ others in
-      let t1 = later t0 in
-      let t2 = later t1 in
-      let t3 = later t2 in
-      let t4 = later t3 in
+      let cycle1 = later cycle0 in
+      let cycle2 = later cycle1 in
+      let cycle3 = later cycle2 in
+      let t4 = later cycle3 in
       let source = core_source core setting in
       let k = places.block i in
       let lines = place.block.lines in
-      cycle_map image mine t0 0 ms own (λ ms1 own1. AllAreAt (suc k) ms1 × Both Addressed ms1 ps × (own1 ≡ own))
-      (λ ms1 own1. NodeCycle image mine t1 0 ms1 own1 (λ ms2 own2. NodeCycle image mine t2 0 ms2 own2 (λ ms3 own3. Commits source image mine t3 1 ms3 ps own3 (Goal ps own))))
+      cycle_map image mine cycle0 0 ms own (λ ms1 own1. AllAreAt (suc k) ms1 × Both Addressed ms1 ps × (own1 ≡ own))
+      (λ ms1 own1. NodeCycle image mine cycle1 0 ms1 own1 (λ ms2 own2. NodeCycle image mine cycle2 0 ms2 own2 (λ ms3 own3. Commits source image mine cycle3 1 ms3 ps own3 (Goal ps own))))
       (λ ms1 own1 x.
-      cycle_map image mine t1 0 ms1 own1 (λ ms2 own2. AllAreAt (suc (suc k)) ms2 × Both Ready ms2 ps × (own2 ≡ own1))
-      (λ ms2 own2. NodeCycle image mine t2 0 ms2 own2 (λ ms3 own3. Commits source image mine t3 1 ms3 ps own3 (Goal ps own)))
+      cycle_map image mine cycle1 0 ms1 own1 (λ ms2 own2. AllAreAt (suc (suc k)) ms2 × Both Ready ms2 ps × (own2 ≡ own1))
+      (λ ms2 own2. NodeCycle image mine cycle2 0 ms2 own2 (λ ms3 own3. Commits source image mine cycle3 1 ms3 ps own3 (Goal ps own)))
       (λ ms2 own2 y.
-      cycle_map image mine t2 0 ms2 own2
+      cycle_map image mine cycle2 0 ms2 own2
       (λ ms3 own3. AllAreAt (suc (suc (suc k))) ms3 × Both Ready ms3 ps × (((own2 word ≡ 0) ⊎ (ms2 ≡ [] → ⊥)) → own3 word ≡ 0) × ((j : ℕ) → j ≢ word → own3 j ≡ own2 j))
-      (λ ms3 own3. Commits source image mine t3 1 ms3 ps own3 (Goal ps own))
+      (λ ms3 own3. Commits source image mine cycle3 1 ms3 ps own3 (Goal ps own))
       (λ ms3 own3 z.
-      cycle_commits source image mine t3 1 ms3 ps (map (is_due core i op Seq) ps) own3 (λ ms4 own4. Parted ps own ms4 own4)
+      cycle_commits source image mine cycle3 1 ms3 ps (map (is_due core i op Seq) ps) own3 (λ ms4 own4. Parted ps own ms4 own4)
       owns.apart
       (all_due core setting i op Seq Ready ms3 ps place.stands refl due_here z.1)
       (let many = as_many Ready ms3 ps z.1 in
-      cycle_map image mine t3 1 ms3 own3 (λ ms4 own4. AllAreAt (suc (suc (suc (suc k)))) ms4 × FoundAll ms4 ps × ((j : ℕ) → j ≢ word → own4 j ≡ own3 j))
+      cycle_map image mine cycle3 1 ms3 own3 (λ ms4 own4. AllAreAt (suc (suc (suc (suc k)))) ms4 × FoundAll ms4 ps × ((j : ℕ) → j ≢ word → own4 j ≡ own3 j))
       (λ ms4 own4. Parted ps own ms4 own4)
       (λ ms4 own4 u.
       record { come = all_gone t4 ms4 ps holds u.0 u.1 is; others = λ j ne. u.2 j ne ∙ z.3 j ne ∙ ap (λ o. o j) y.2 ∙ ap (λ o. o j) x.2 })
-      (add_cycle t3 ms3 ps own3 holds (z.2 (inr (some_members Ready ms2 p others y.1))) (omega arith) z.0 z.1)))
-      (store_cycle t2 ms2 ps own2 holds y.0 y.1))
-      (alone_cycle t1 (suc k) 6 0 1 Addressed Ready ms1 ps own1 holds lines.1.0 ready x.0 x.1))
-      (alone_cycle t0 k 7 10 8 Came Addressed ms ps own holds lines.0 addressed (all_stand k Came ms ps (λ m p came. at_block core image places nestings i op Seq setting t0 first m p came.0) all) all)
+      (add_cycle cycle3 ms3 ps own3 holds (z.2 (inr (some_members Ready ms2 p others y.1))) (omega arith) z.0 z.1)))
+      (store_cycle cycle2 ms2 ps own2 holds y.0 y.1))
+      (alone_cycle cycle1 (suc k) 6 0 1 Addressed Ready ms1 ps own1 holds lines.1.0 ready x.0 x.1))
+      (alone_cycle cycle0 k 7 10 8 Came Addressed ms ps own holds lines.0 addressed (all_stand k Came ms ps (λ m p came. at_block core image places nestings i op Seq setting cycle0 first m p came.0) all) all)
 
-  none : (own : Memory) → Together (core_source core setting) image mine t0 1 3 [] [] own (Goal [] own)
+  none : (own : Memory) → Together (core_source core setting) image mine cycle0 1 3 [] [] own (Goal [] own)
   none own = record { counted = tt; chain = (refl, record { come = tt; others = λ j ne. refl }) }
 
 pub groups_send_one : GroupsSendOne

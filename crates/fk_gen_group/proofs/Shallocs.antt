@@ -27,21 +27,23 @@ use Rattle.fk_sim_nodes.specs.Alone.{later}
 use Rattle.fk_sim_nodes.specs.OneHart.{OneDoes}
 use Rattle.fk_sim_nodes.proofs.InPlace.{step_at}
 use Rattle.fk_sim_block.specs.Owner.{Owner, number_of, core_source}
-use Rattle.fk_sim_block.specs.Stands.{Places, frame_end}
+use Rattle.fk_sim_block.specs.Stands.{Places, zero_register, value_in}
 use Rattle.fk_sim_block.specs.Suits.{Flows, nothing}
 use Rattle.fk_sim_block.specs.Block.{Enters}
-use Rattle.fk_sim_block.specs.Node.{Nestings, KnowsSpace, HasOuter, first_word, control_address}
+use Rattle.fk_sim_block.specs.Node.{Nestings, KnowsSpace, HasOuter, first_word, control_address, frames_register, blocks_register}
 use Rattle.fk_sim_block.specs.Lockstep.{IsMember, IsInGroup, is_due}
-use Rattle.fk_gen.specs.Lines.{at_value}
 use Rattle.fk_gen.proofs.Difference.{difference}
-use Rattle.fk_gen.proofs.Values.{other_word, value_at, value_place, values_put}
+use Rattle.fk_gen.proofs.Values.{other_word, values_put}
 use Rattle.fk_gen.proofs.Sizes.{ones, words_small, words_large}
-use Rattle.fk_gen.proofs.Walk.{Quiets, Plain, LocalAt, walk, walked, can_run_goes, told_of}
+use Rattle.fk_gen.proofs.Walk.{Quiets, Plain, walk, walked, can_run_goes, told_of}
 use Rattle.fk_gen.proofs.Standing.{InMemory, in_memory, stands_with, stands_in_space, with_list, value_written}
+use Rattle.fk_gen.specs.Registers.{t0, t1, t2}
 use Rattle.fk_gen_group.specs.Laws.{IsInPlace, GroupsTakeBlocks}
 use Rattle.fk_gen_group.proofs.Members.{due_part}
 use Rattle.fk_gen_group.proofs.Levels.{below_values, lies_below, outer_on, many_callers}
 use Rattle.fk_gen_group.proofs.Taking.{Takes, step_together}
+use Rattle.fk_gen.proofs.ValueLines.{place_word, operand_is, operand_runs, result_line, place_reached}
+use Rattle.fk_gen.specs.Operands.{operand}
 
 -- ---- what the instructions come to, of a size and of where the free words begin and end
 
@@ -177,26 +179,25 @@ module _ (core : List CoreOp) (image : Image) (bound : ℕ → ℕ) (places : Pl
 
   -- the word of the last value
   abbrev w : ℕ
-  w = frame_end n - op.depth
+  w = place_word n op.depth
 
-  known : (h.registers 12 ≡ control_address space.frames) × (h.registers 13 ≡ control_address space.blocks)
+  known : (h.registers frames_register ≡ control_address space.frames) × (h.registers blocks_register ≡ control_address space.blocks)
   known = subst (λ o. KnowsSpace p.runner.has.level o h) inside.outer member.node.space
 
-  value_is : h.local w ≡ last vs
+  value_is : value_in h n op.depth ≡ last vs
   value_is =
       let depth = en.ready.depth in
       let positive = place.fits.values in
-      let k : op.depth ≡ length vs - 0 = omega arith in
-      ap (λ d. h.local (frame_end n - d)) k ∙ value_at 0 h.local (frame_end n) vs (omega arith) en.at.stands.running.values
+      operand_is (value_in h n) op.depth vs en.at.stands.running.values depth (omega arith)
 
   abbrev first_hart : Hart
-  first_hart = writes h 5 (h.local w)
+  first_hart = writes h t0 (h.local w)
 
   abbrev rest : Quiets
   rest =
-      (isa.Addi 5 5 3, Plain) ∷ (isa.Andi 5 5 0xfffffffc, Plain) ∷ (isa.Sub 6 13 12, Plain) ∷ (isa.Addi 7 5 0xffffffff, Plain) ∷ (isa.Sltu 7 7 6, Plain) ∷
-      (isa.Sub 7 0 7, Plain) ∷ (isa.And 5 5 7, Plain) ∷ (isa.Sub 13 13 5, Plain) ∷ (isa.Lui 6 0xf8000, Plain) ∷ (isa.Add 6 6 13, Plain) ∷ (isa.And 6 6 7, Plain) ∷
-      (isa.Sw 9 6 (at_value op.depth), LocalAt w) ∷ []
+      (isa.Addi t0 t0 3, Plain) ∷ (isa.Andi t0 t0 0xfffffffc, Plain) ∷ (isa.Sub t1 blocks_register frames_register, Plain) ∷ (isa.Addi t2 t0 0xffffffff, Plain) ∷ (isa.Sltu t2 t2 t1, Plain) ∷
+      (isa.Sub t2 zero_register t2, Plain) ∷ (isa.And t0 t0 t2, Plain) ∷ (isa.Sub blocks_register blocks_register t0, Plain) ∷ (isa.Lui t1 0xf8000, Plain) ∷ (isa.Add t1 t1 blocks_register, Plain) ∷ (isa.And t1 t1 t2, Plain) ∷
+      result_line t1 n op.depth ∷ []
 
   abbrev last_hart : Hart
   last_hart = walk (told_of (later t) m.number) rest first_hart
@@ -219,19 +220,19 @@ module _ (core : List CoreOp) (image : Image) (bound : ℕ → ℕ) (places : Pl
       let many = many_callers places nestings h.local callers p.runner.has.callers stands.waiting in
       let home = ap places.frames.is_main (sym here) ∙ stands.running.home in
       let below = lies_below places nestings n i op.depth home place.levels in
-      let a = allots (last vs) (h.registers 12) (h.registers 13) p.runner.has en.ready.may (last_is_word vs en.ready.in_range.values) known.0 known.1 in
-      let answer = answer_by 0 (last vs) (h.registers 12) (h.registers 13) in
+      let a = allots (last vs) (h.registers frames_register) (h.registers blocks_register) p.runner.has en.ready.may (last_is_word vs en.ready.in_range.values) known.0 known.1 in
+      let answer = answer_by 0 (last vs) (h.registers frames_register) (h.registers blocks_register) in
       let smaller : Space = record space { blocks = a.index } in
       let level' : Level = record (p.runner.has.level) { space = smaller } in
-      let found = ap (λ z. answer_by z (h.local w) (h.registers 12) (h.registers 13)) stands.nought ∙ ap (λ x. answer_by 0 x (h.registers 12) (h.registers 13)) value_is in
-      let blocks' : last_hart.registers 13 ≡ control_address a.index =
-      ap (λ z. end_by z (h.local w) (h.registers 12) (h.registers 13)) stands.nought ∙ ap (λ x. end_by 0 x (h.registers 12) (h.registers 13)) value_is ∙ a.end in
+      let found = ap (λ z. answer_by z (h.local w) (h.registers frames_register) (h.registers blocks_register)) stands.nought ∙ ap (λ x. answer_by 0 x (h.registers frames_register) (h.registers blocks_register)) value_is in
+      let blocks' : last_hart.registers blocks_register ≡ control_address a.index =
+      ap (λ z. end_by z (h.local w) (h.registers frames_register) (h.registers blocks_register)) stands.nought ∙ ap (λ x. end_by 0 x (h.registers frames_register) (h.registers blocks_register)) value_is ∙ a.end in
       let local : put h.local w answer ≡ last_hart.local = sym (ap (put h.local w) found) in
       let listed = with_list core places (suc i) (answer ∷ before 1 vs) p in
       let memory : InMemory places last_hart.local listed =
       subst (λ l. InMemory places l listed) local
       (value_written core places h.local p i (suc i) op.depth answer (answer ∷ before 1 vs) few calls here place.fits.room (omega arith) flows (in_memory places p h stands)
-      (values_put 1 op.depth h.local (frame_end n) answer vs (omega arith) (omega arith) (omega arith) stands.running.values)) in
+      (values_put 1 op.depth h.local n answer vs (omega arith) (omega arith) (omega arith) stands.running.values)) in
       let outer =
       outer_on places nestings setting.processors (number_of p) h.local last_hart.local i (suc i) op.depth callers p.runner.has.outer few place.stay
       (subst (λ k. below_values places nestings k i op.depth) (sym many) below)
@@ -265,14 +266,14 @@ module _ (core : List CoreOp) (image : Image) (bound : ℕ → ℕ) (places : Pl
       let positive = place.fits.values in
       let header = place.fits.room.header in
       let calls = en.ready.in_range.waiting in
-      let at_word = value_place (h.registers 9) n op.depth en.at.stands.behind calls (omega arith) (omega arith) in
+      let at_word = operand_runs t0 n op.depth h en.at.stands.behind calls (omega arith) (omega arith) in
       let pc : h.pc ≡ 4 * k = en.at.at ∙ ap (λ j. 4 * places.block j) en.index in
       let l0 = place.block.lines.0 in
       let near = l0.within in
       let pc1 : first_hart.pc ≡ 4 * suc k = omega arith in
       let walks =
       walked image bound (later t) m.number en.running.code rest (suc k) first_hart place.block.lines.1 pc1 en.at.live
-      (tt, (tt, (tt, (tt, (tt, (tt, (tt, (tt, (tt, (tt, (tt, ((at_word.0, at_word.1), tt)))))))))))) in
+      (tt, (tt, (tt, (tt, (tt, (tt, (tt, (tt, (tt, (tt, (tt, (at_word, tt)))))))))))) in
       let next = place.block.next in
       let long : suc k + 12 ≡ places.block (suc i) = omega arith in
       record {
@@ -287,9 +288,9 @@ module _ (core : List CoreOp) (image : Image) (bound : ℕ → ℕ) (places : Pl
             done = is_due core i op Block p;
             part = due_part core setting i op Block s p place.stands refl refl en.index;
             goes = λ earlier sh shows.
-                let alone = can_run_goes (isa.Lw 5 9 (at_value op.depth)) (LocalAt w) h (at_word.0, at_word.1) t m.number sh in (
+                let alone = can_run_goes (operand t0 op.depth) (place_reached n op.depth) h at_word t m.number sh in (
                   record sh { reserved = alone.0 },
-                  step_at image k 1 (isa.Lw 5 9 (at_value op.depth)) l0 t en.running.code m.number h sh pc ∙ alone.1,
+                  step_at image k 1 (operand t0 op.depth) l0 t en.running.code m.number h sh pc ∙ alone.1,
                   record { words = shows.words; output = shows.output; common = shows.common },
                   λ j e. refl,
                 );

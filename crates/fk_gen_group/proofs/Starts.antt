@@ -22,16 +22,16 @@ use Rattle.fk_sim_nodes.proofs.Members.{cycle_commits}
 use Rattle.fk_sim_nodes.proofs.OnePlace.{loads_of_all, stores_of_all}
 use Rattle.fk_sim_nodes.specs.Phase.{Coming}
 use Rattle.fk_sim_block.specs.Owner.{Owner, number_of, core_source}
-use Rattle.fk_sim_block.specs.Stands.{Places, StandsAt, StandsFor}
+use Rattle.fk_sim_block.specs.Stands.{Places, StandsAt, StandsFor, zero_register, end_register, rank_register, size_register, device_register, value_in, frame_register, number_register, top_register, local_register, shared_register, heap_register, shared_mask_register, heap_mask_register}
 use Rattle.fk_sim_block.specs.Suits.{Flows, nothing}
 use Rattle.fk_sim_block.specs.Block.{IsRunning, Enters}
-use Rattle.fk_gen.specs.Lines.{quiet, at_value, label_of, high_part, low_part}
+use Rattle.fk_gen.specs.Lines.{quiet, label_of, high_part, low_part}
 use Rattle.fk_gen.specs.InPlace.{LinesAt}
 use Rattle.fk_gen.proofs.Values.{values_before, number_of_parts}
 use Rattle.fk_gen.proofs.Standing.{SameRegisters, in_memory, stands_with, with_list}
 use Rattle.fk_gen.proofs.Walk.{Quiets, Plain, LocalAt, TellsInputs, quiet_lines, walk, told_of, walked, lines_split, runs_join, private, can_run_goes}
 use Rattle.fk_gen.proofs.Jumps.{jumps, goes_to_pc, jal_private, jalr_goes}
-use Rattle.fk_sim_block.specs.Node.{Polling, Nestings, IsRoot, HasOuter, HasNestings, HasSaved, OwnsHeader, past_levels, saved_at, first_word, root_words, closing_word, agreed_word, control_address}
+use Rattle.fk_sim_block.specs.Node.{Polling, Nestings, IsRoot, HasOuter, HasNestings, HasSaved, OwnsHeader, past_levels, saved_at, first_word, root_words, closing_word, agreed_word, control_address, node_register, frames_register, blocks_register, body_register}
 use Rattle.fk_sim_block.specs.Lockstep.{IsMember, LevelsStay, NoneSaved, highest_value, is_due}
 use Rattle.fk_sim_block.specs.Joint.{Polls}
 use Rattle.fk_sim_block.specs.Start.{IsInRoot, MeetsUntil, HasMet, AllHaveMet, ComesToPart, AllComeToParts, HaveStarted, size_of_start, runs_behind_start}
@@ -46,6 +46,9 @@ use Rattle.fk_gen_group.proofs.Last.{value_word, is_value, is_last}
 use Rattle.fk_gen_group.proofs.Behind.{goes_behind_with}
 use Rattle.fk_gen_group.proofs.Sizes.{sized, sized_is, below_lesser, halfway, halfway_is}
 use Rattle.fk_sim_block.proofs.Spaces.{space_kept}
+use Rattle.fk_gen.specs.Registers.{ra, t0, t1, t2, t3}
+use Rattle.fk_gen.specs.Operands.{operand}
+use Rattle.fk_gen_group.specs.Start.{value_found}
 
 -- the root is round a processor that enters the group
 under_root : (places : Places) (nestings : Nestings) (processors number : ℕ) (m : Memory) (indices : List ℕ) (l : Level) → IsRoot processors number l → NoneSaved nestings indices
@@ -79,14 +82,14 @@ module _ (core : List CoreOp) (image : Image) (bound : ℕ → ℕ) (places : Pl
 
   abbrev size_code : Quiets
   size_code =
-      (Srli 6 28 31, Plain) ∷ (Sltiu 6 6 1, Plain) ∷ (Mul 28 28 6, Plain) ∷ (Sltu 6 28 20, Plain) ∷ (Mul 28 28 6, Plain) ∷
-      (Sltiu 6 6 1, Plain) ∷ (Mul 6 20 6, Plain) ∷ (Add 28 28 6, Plain) ∷ []
+      (Srli t1 t3 31, Plain) ∷ (Sltiu t1 t1 1, Plain) ∷ (Mul t3 t3 t1, Plain) ∷ (Sltu t1 t3 size_register, Plain) ∷ (Mul t3 t3 t1, Plain) ∷
+      (Sltiu t1 t1 1, Plain) ∷ (Mul t1 size_register t1, Plain) ∷ (Add t3 t3 t1, Plain) ∷ []
 
   abbrev group_code : Quiets
   group_code =
-      (Addi 20 28 0, Plain) ∷ (Lw 5 26 28, TellsInputs) ∷ (Slli 5 5 2, Plain) ∷ (Lui 6 (high_part (group_words globals)), Plain) ∷
-      (Addi 6 6 (low_part (group_words globals)), Plain) ∷ (Add 10 5 6, Plain) ∷ (Addi 12 10 32, Plain) ∷
-      (Lui 5 0x18400, Plain) ∷ (Add 5 5 10, Plain) ∷ (Srli 5 5 3, Plain) ∷ (Slli 13 5 2, Plain) ∷ []
+      (Addi size_register t3 0, Plain) ∷ (Lw t0 device_register 28, TellsInputs) ∷ (Slli t0 t0 2, Plain) ∷ (Lui t1 (high_part (group_words globals)), Plain) ∷
+      (Addi t1 t1 (low_part (group_words globals)), Plain) ∷ (Add node_register t0 t1, Plain) ∷ (Addi frames_register node_register 32, Plain) ∷
+      (Lui t0 0x18400, Plain) ∷ (Add t0 t0 node_register, Plain) ∷ (Srli t0 t0 3, Plain) ∷ (Slli blocks_register t0 2, Plain) ∷ []
 
   lines_behind : LinesAt image bound (base + 11) telling_lines × LinesAt image bound (base + 13) size_lines × LinesAt image bound (base + 21) (parting_lines globals)
   lines_behind =
@@ -103,13 +106,13 @@ module _ (core : List CoreOp) (image : Image) (bound : ℕ → ℕ) (places : Pl
   some = let filled = place.values in omega arith
 
   abbrev loaded : Hart → Hart
-  loaded h = writes h 28 (h.local (value_word op.depth h))
+  loaded h = writes h t3 (value_found op.depth h)
 
   abbrev linked : Hart → Hart
   linked h = jumps (loaded h) 1 (4 * base)
 
   abbrev coming : Hart → Hart
-  coming h = writes (linked h) 7 (word_sum ((linked h).registers 10) (4 * closing_word))
+  coming h = writes (linked h) 7 (word_sum ((linked h).registers node_register) (4 * closing_word))
 
   abbrev there : Polling
   there = record { at = base + 11; changes = λ r. (r == 5) || (r == 6) }
@@ -151,12 +154,12 @@ module _ (core : List CoreOp) (image : Image) (bound : ℕ → ℕ) (places : Pl
         let within = lines_of_meeting.0.within in
         let pc : h.pc ≡ 4 * k = en.at.at ∙ ap (λ j. 4 * places.block j) en.index in
         let v = is_value core image bound places nestings i op Begin place setting t p h h some en refl in
-        let load : (s : _) → _ = can_run_goes (Lw 28 9 (at_value op.depth)) (LocalAt (value_word op.depth h)) h (v.within, v.address) t number in
-        let t1 = later t in
-        let t2 = later t1 in
-        let t3 = later t2 in
+        let load : (s : _) → _ = can_run_goes (operand t3 op.depth) (LocalAt (value_word op.depth h)) h (v.within, v.address) t number in
+        let cycle1 = later t in
+        let cycle2 = later cycle1 in
+        let cycle3 = later cycle2 in
         let has : HasMeeting gathering image bound (suc base) = record { fits = gathering_is; lines = lines_of_meeting.1 } in
-        let arrives = harts_arrive gathering image bound (suc base) (root_words + closing_word) setting.processors number t3 first has en.running.code ready (omega arith) in
+        let arrives = harts_arrive gathering image bound (suc base) (root_words + closing_word) setting.processors number cycle3 first has en.running.code ready (omega arith) in
         let d = arrives.0 in
         let most = arrives.2 in
         let even = arrives.3.0 in (
@@ -174,13 +177,13 @@ module _ (core : List CoreOp) (image : Image) (bound : ℕ → ℕ) (places : Pl
                     arrives.3.1.0,
                     (
                       loaded h,
-                      private image t number k (Lw 28 9 (at_value op.depth)) h (loaded h) en.running.code block.0 pc en.at.live load,
+                      private image t number k (operand t3 op.depth) h (loaded h) en.running.code block.0 pc en.at.live load,
                       (
                         linked h,
-                        jal_private image bound t1 number (suc k) 1 start_label (loaded h) en.running.code block.1.0 (place.block.labels.within start_label) (omega arith) en.at.live,
+                        jal_private image bound cycle1 number (suc k) 1 start_label (loaded h) en.running.code block.1.0 (place.block.labels.within start_label) (omega arith) en.at.live,
                         (
                           first,
-                          private image t2 number base (Addi 7 10 (4 * closing_word)) (linked h) first en.running.code lines_of_meeting.0 refl en.at.live (λ s. (s.reserved, addi t2 number 7 10 (4 * closing_word) (linked h) s)),
+                          private image cycle2 number base (Addi t2 node_register (4 * closing_word)) (linked h) first en.running.code lines_of_meeting.0 refl en.at.live (λ s. (s.reserved, addi cycle2 number 7 10 (4 * closing_word) (linked h) s)),
                           arrives.3.1.1,
                         ),
                       ),
@@ -193,18 +196,18 @@ module _ (core : List CoreOp) (image : Image) (bound : ℕ → ℕ) (places : Pl
 
   -- ---- members that have met
 
-  module _ (setting : Setting) (t0 : MachineSetting) (mine : Words) (lowest : ℕ) (owns : OwnsHeader mine root_words) (running : IsRunning image setting t0) where
+  module _ (setting : Setting) (cycle0 : MachineSetting) (mine : Words) (lowest : ℕ) (owns : OwnsHeader mine root_words) (running : IsRunning image setting cycle0) where
     abbrev Met : Member → Owner → Type 0
     Met m p = HasMet core image places nestings i op there coming setting m p
 
-    value_is : (m : Member) (p : Owner) → Met m p → m.hart.registers 28 ≡ last (values p.runner.has)
+    value_is : (m : Member) (p : Owner) → Met m p → m.hart.registers t3 ≡ last (values p.runner.has)
     value_is m p met =
         met.met.others 28 refl ∙ is_last core image bound places nestings i op Begin place setting met.cycle p met.first some met.enters
 
-    at_agreed : (m : Member) (p : Owner) → Met m p → IsOwnWord mine (word_sum (m.hart.registers 10) 8) (root_words + agreed_word)
+    at_agreed : (m : Member) (p : Owner) → Met m p → IsOwnWord mine (word_sum (m.hart.registers node_register) 8) (root_words + agreed_word)
     at_agreed m p met =
-        own_word mine root_words agreed_word (m.hart.registers 10) owns (omega arith)
-        (met.met.others 10 refl ∙ met.member.node.node ∙ ap control_address met.member.words)
+        own_word mine root_words agreed_word (m.hart.registers node_register) owns (omega arith)
+        (met.met.others node_register refl ∙ met.member.node.node ∙ ap control_address met.member.words)
 
     -- one that has stored its value, and one that knows what is agreed
     record Stored (m : Member) (p : Owner) : Type 0 where
@@ -223,14 +226,14 @@ module _ (core : List CoreOp) (image : Image) (bound : ℕ → ℕ) (places : Pl
     tells : (v x : ℕ) → x ≡ v → (m : Member) (p : Owner) → Stored m p → Knows v (record m { hart = onward_with 28 x m.hart }) p
     tells v x e m p s = record { hart = s.hart; met = s.met; is = ap (λ y. onward_with 28 y m.hart) e ∙ ap (onward_with 28 v) s.is }
 
-    still_at_agreed : (m : Member) (p : Owner) → Stored m p → IsOwnWord mine (word_sum (m.hart.registers 10) 8) (root_words + agreed_word)
-    still_at_agreed m p s = subst (λ h. IsOwnWord mine (word_sum (h.registers 10) 8) (root_words + agreed_word)) (sym s.is) (at_agreed (record m { hart = s.hart }) p s.met)
+    still_at_agreed : (m : Member) (p : Owner) → Stored m p → IsOwnWord mine (word_sum (m.hart.registers node_register) 8) (root_words + agreed_word)
+    still_at_agreed m p s = subst (λ h. IsOwnWord mine (word_sum (h.registers node_register) 8) (root_words + agreed_word)) (sym s.is) (at_agreed (record m { hart = s.hart }) p s.met)
 
     -- ---- each to its part
 
     module _ (v : ℕ) (m : Member) (p : Owner) (knows : Knows v m p) where
       abbrev t : MachineSetting
-      t = later (later t0)
+      t = later (later cycle0)
 
       abbrev met : Met (record m { hart = knows.hart }) p
       met = knows.met
@@ -254,17 +257,17 @@ module _ (core : List CoreOp) (image : Image) (bound : ℕ → ℕ) (places : Pl
           let pc = w.pc in
           (w.runs, omega arith, w.live)
 
-      size_known : sized_hart.registers 28 ≡ size_of_start setting v
+      size_known : sized_hart.registers t3 ≡ size_of_start setting v
       size_known =
-          let e : knows.hart.registers 20 ≡ setting.processors = met.met.others 20 refl ∙ met.enters.at.stands.size ∙ met.root.level.size in
+          let e : knows.hart.registers size_register ≡ setting.processors = met.met.others size_register refl ∙ met.enters.at.stands.size ∙ met.root.level.size in
           ap (sized v) e ∙ sized_is v setting.processors running.few
 
-      goes_on : nat_lt (sized_hart.registers 19) (sized_hart.registers 28) ≡ is_taken v p.runner.has
+      goes_on : nat_lt (sized_hart.registers rank_register) (sized_hart.registers t3) ≡ is_taken v p.runner.has
       goes_on =
-          let e : knows.hart.registers 19 ≡ number_of p = met.met.others 19 refl ∙ met.enters.at.stands.rank ∙ met.root.level.rank in
-          ap (λ n. nat_lt n (sized_hart.registers 28)) e ∙ ap (nat_lt (number_of p)) size_known ∙ below_lesser (number_of p) (not_negative v) setting.processors met.enters.number
+          let e : knows.hart.registers rank_register ≡ number_of p = met.met.others rank_register refl ∙ met.enters.at.stands.rank ∙ met.root.level.rank in
+          ap (λ n. nat_lt n (sized_hart.registers t3)) e ∙ ap (nat_lt (number_of p)) size_known ∙ below_lesser (number_of p) (not_negative v) setting.processors met.enters.number
 
-      link : knows.hart.registers 1 ≡ 4 * (places.block i + 2)
+      link : knows.hart.registers ra ≡ 4 * (places.block i + 2)
       link =
           let within = place.block.lines.1.0.within in
           let e = met.met.others 1 refl in
@@ -273,18 +276,18 @@ module _ (core : List CoreOp) (image : Image) (bound : ℕ → ℕ) (places : Pl
 
       same : SameRegisters met.first sized_hart
       same = (
-        met.met.others 0 refl,
-        met.met.others 8 refl,
-        met.met.others 9 refl,
-        met.met.others 18 refl,
-        met.met.others 19 refl,
-        met.met.others 20 refl,
-        met.met.others 22 refl,
-        met.met.others 23 refl,
-        met.met.others 24 refl,
-        met.met.others 25 refl,
-        met.met.others 26 refl,
-        met.met.others 27 refl,
+        met.met.others zero_register refl,
+        met.met.others frame_register refl,
+        met.met.others end_register refl,
+        met.met.others number_register refl,
+        met.met.others rank_register refl,
+        met.met.others size_register refl,
+        met.met.others local_register refl,
+        met.met.others shared_register refl,
+        met.met.others heap_register refl,
+        met.met.others shared_mask_register refl,
+        met.met.others device_register refl,
+        met.met.others heap_mask_register refl,
       )
 
       abbrev others_values : List ℕ
@@ -297,8 +300,8 @@ module _ (core : List CoreOp) (image : Image) (bound : ℕ → ℕ) (places : Pl
       behind_at j stay onward e =
           let flows = subst (λ a. Flows core places.frames nothing i a) e (place.fits.goes_on onward) in
           goes_behind_with core image bound places nestings i op Begin place j flows stay setting met.cycle (Some setting.processors) root_words others_values (record m { hart = met.first }) p
-          (goes_to_pc sized_hart (4 * places.block j)) met.enters met.member (values_before 1 met.first.local _ (values p.runner.has) met.enters.at.stands.running.values)
-          met.met.live met.met.local same (met.met.others 21 refl) refl
+          (goes_to_pc sized_hart (4 * places.block j)) met.enters met.member (values_before 1 (value_in met.first (length p.runner.has.callers)) (values p.runner.has) met.enters.at.stands.running.values)
+          met.met.live met.met.local same (met.met.others top_register refl) refl
 
       -- ---- one that isn't below the size
 
@@ -306,32 +309,32 @@ module _ (core : List CoreOp) (image : Image) (bound : ℕ → ℕ) (places : Pl
       back_hart = jumps (moves sized_hart) 0 (4 * (places.block i + 2))
 
       abbrev waiting_hart : Hart
-      waiting_hart = jumps back_hart 0 (4 * bound (label_of op.target))
+      waiting_hart = jumps back_hart zero_register (4 * bound (label_of op.target))
 
       goes_back : is_taken v p.runner.has ≡ false → RunsPrivately image t m.number 11 told_hart waiting_hart
       goes_back e =
           let parting = lines_behind.2 in
           let near = parting.1.0.within in
           let within = place.block.lines.1.1.0.within in
-          let t1 = in_cycles 8 t in
-          let t2 = later t1 in
-          let t3 = later t2 in
+          let cycle1 = in_cycles 8 t in
+          let cycle2 = later cycle1 in
+          let cycle3 = later cycle2 in
           let pc = sizes.1 in
           let to = link in
           let aligned : 4 * (places.block i + 2) % 4 ≡ 0 = omega arith in
-          let target : word_sum (knows.hart.registers 1) 0 / 2 * 2 ≡ 4 * (places.block i + 2) = omega arith in
+          let target : word_sum (knows.hart.registers ra) 0 / 2 * 2 ≡ 4 * (places.block i + 2) = omega arith in
           let here : back_hart.pc ≡ 4 * suc (suc (places.block i)) = omega arith in
           runs_join image t m.number 8 3 told_hart sized_hart waiting_hart sizes.0 (
             moves sized_hart,
-            private image t1 m.number (base + 21) (Bltu 19 28 8) sized_hart (moves sized_hart) running.code parting.0 pc sizes.2
-                (λ s. (s.reserved, bltu-passed t1 m.number 19 28 8 sized_hart s (goes_on ∙ e))),
+            private image cycle1 m.number (base + 21) (Bltu rank_register t3 8) sized_hart (moves sized_hart) running.code parting.0 pc sizes.2
+                (λ s. (s.reserved, bltu-passed cycle1 m.number 19 28 8 sized_hart s (goes_on ∙ e))),
             (
               back_hart,
-              private image t2 m.number (suc (base + 21)) (Jalr 0 1 0) (moves sized_hart) back_hart running.code parting.1.0 (omega arith) sizes.2
-                  (λ s. (s.reserved, jalr_goes t2 m.number 0 1 0 (4 * (places.block i + 2)) (moves sized_hart) s target aligned)),
+              private image cycle2 m.number (suc (base + 21)) (Jalr zero_register ra 0) (moves sized_hart) back_hart running.code parting.1.0 (omega arith) sizes.2
+                  (λ s. (s.reserved, jalr_goes cycle2 m.number 0 1 0 (4 * (places.block i + 2)) (moves sized_hart) s target aligned)),
               (
                 waiting_hart,
-                jal_private image bound t3 m.number (suc (suc (places.block i))) 0 (label_of op.target) back_hart running.code place.block.lines.1.1.0 (place.block.labels.within (label_of op.target)) here sizes.2,
+                jal_private image bound cycle3 m.number (suc (suc (places.block i))) 0 (label_of op.target) back_hart running.code place.block.lines.1.1.0 (place.block.labels.within (label_of op.target)) here sizes.2,
                 refl,
               ),
             ),
@@ -348,9 +351,9 @@ module _ (core : List CoreOp) (image : Image) (bound : ℕ → ℕ) (places : Pl
               stands = stands_anywhere places (with_list core places op.target others_values p) (goes_to_pc sized_hart (4 * places.block op.target)) (4 * bound (label_of op.target)) next.0.stands;
             };
             node = record {
-              node = met.met.others 10 refl ∙ met.member.node.node;
-              body = met.met.others 11 refl ∙ met.member.node.body;
-              space = space_kept p.runner.has.level p.runner.has.outer met.first waiting_hart (met.met.others 12 refl) (met.met.others 13 refl) met.member.node.space;
+              node = met.met.others node_register refl ∙ met.member.node.node;
+              body = met.met.others body_register refl ∙ met.member.node.body;
+              space = space_kept p.runner.has.level p.runner.has.outer met.first waiting_hart (met.met.others frames_register refl) (met.met.others blocks_register refl) met.member.node.space;
               outer = next.1;
             };
             words = refl;
@@ -365,33 +368,33 @@ module _ (core : List CoreOp) (image : Image) (bound : ℕ → ℕ) (places : Pl
       told_part = walk (told_of (later (in_cycles 8 t)) m.number) group_code part_hart
 
       abbrev body_hart : Hart
-      body_hart = jumps told_part 0 (4 * (places.block i + 3))
+      body_hart = jumps told_part zero_register (4 * (places.block i + 3))
 
       goes_in : is_taken v p.runner.has ≡ true → RunsPrivately image t m.number 21 told_hart body_hart
       goes_in e =
           let parting = lines_behind.2 in
-          let tail = lines_split image bound (suc (suc (base + 21))) (quiet_lines group_code) (quiet (Jalr 0 1 4) ∷ []) parting.1.1 in
+          let tail = lines_split image bound (suc (suc (base + 21))) (quiet_lines group_code) (quiet (Jalr zero_register ra 4) ∷ []) parting.1.1 in
           let near = tail.0.0.within in
           let last_near = tail.1.0.within in
           let within = place.block.lines.1.1.0.within in
-          let t1 = in_cycles 8 t in
-          let t2 = later t1 in
+          let cycle1 = in_cycles 8 t in
+          let cycle2 = later cycle1 in
           let pc = sizes.1 in
           let to = link in
-          let devices : knows.hart.registers 26 ≡ 0x30000000 = met.met.others 26 refl ∙ met.enters.at.stands.devices in
+          let devices : knows.hart.registers device_register ≡ 0x30000000 = met.met.others device_register refl ∙ met.enters.at.stands.devices in
           let part_pc : part_hart.pc ≡ 4 * suc (suc (base + 21)) = omega arith in
-          let w = walked image bound t2 m.number running.code group_code (suc (suc (base + 21))) part_hart tail.0 part_pc sizes.2 (tt, (ap (λ a. word_sum a 28) devices, (tt, (tt, (tt, (tt, (tt, (tt, (tt, (tt, (tt, tt))))))))))) in
+          let w = walked image bound cycle2 m.number running.code group_code (suc (suc (base + 21))) part_hart tail.0 part_pc sizes.2 (tt, (ap (λ a. word_sum a 28) devices, (tt, (tt, (tt, (tt, (tt, (tt, (tt, (tt, (tt, tt))))))))))) in
           let aligned : 4 * (places.block i + 3) % 4 ≡ 0 = omega arith in
-          let target : word_sum (knows.hart.registers 1) 4 / 2 * 2 ≡ 4 * (places.block i + 3) = omega arith in
+          let target : word_sum (knows.hart.registers ra) 4 / 2 * 2 ≡ 4 * (places.block i + 3) = omega arith in
           let k = suc (suc (base + 21)) + 11 in
           runs_join image t m.number 8 13 told_hart sized_hart body_hart sizes.0 (
             part_hart,
-            private image t1 m.number (base + 21) (Bltu 19 28 8) sized_hart part_hart running.code parting.0 pc sizes.2
-                (λ s. (s.reserved, bltu-taken t1 m.number 19 28 8 sized_hart s (goes_on ∙ e) (omega arith))),
-            runs_join image t2 m.number 11 1 part_hart told_part body_hart w.runs (
+            private image cycle1 m.number (base + 21) (Bltu rank_register t3 8) sized_hart part_hart running.code parting.0 pc sizes.2
+                (λ s. (s.reserved, bltu-taken cycle1 m.number 19 28 8 sized_hart s (goes_on ∙ e) (omega arith))),
+            runs_join image cycle2 m.number 11 1 part_hart told_part body_hart w.runs (
               body_hart,
-              private image (in_cycles 11 t2) m.number k (Jalr 0 1 4) told_part body_hart running.code tail.1.0 w.pc w.live
-                  (λ s. (s.reserved, jalr_goes (in_cycles 11 t2) m.number 0 1 4 (4 * (places.block i + 3)) told_part s target aligned)),
+              private image (in_cycles 11 cycle2) m.number k (Jalr zero_register ra 4) told_part body_hart running.code tail.1.0 w.pc w.live
+                  (λ s. (s.reserved, jalr_goes (in_cycles 11 cycle2) m.number 0 1 4 (4 * (places.block i + 3)) told_part s target aligned)),
               refl,
             ),
           )
@@ -406,7 +409,7 @@ module _ (core : List CoreOp) (image : Image) (bound : ℕ → ℕ) (places : Pl
         heap = p.heap;
       }
 
-      group_words_is : body_hart.registers 10 ≡ control_address p.runner.has.level.space.low
+      group_words_is : body_hart.registers node_register ≡ control_address p.runner.has.level.space.low
       group_words_is =
           let few = shared.few in
           let few_inputs = running.few_inputs in
@@ -417,7 +420,7 @@ module _ (core : List CoreOp) (image : Image) (bound : ℕ → ℕ) (places : Pl
           omega arith
 
       -- the space of the group, which is whole
-      group_frames_is : body_hart.registers 12 ≡ control_address p.runner.has.level.space.frames
+      group_frames_is : body_hart.registers frames_register ≡ control_address p.runner.has.level.space.frames
       group_frames_is =
           let words = group_words_is in
           let low = ap (λ (s : _). s.low) met.root.space in
@@ -428,7 +431,7 @@ module _ (core : List CoreOp) (image : Image) (bound : ℕ → ℕ) (places : Pl
           let globals_is = running.globals in
           ap (λ a. word_sum a 32) words ∙ omega arith
 
-      group_blocks_is : body_hart.registers 13 ≡ control_address p.runner.has.level.space.blocks
+      group_blocks_is : body_hart.registers blocks_register ≡ control_address p.runner.has.level.space.blocks
       group_blocks_is =
           let words = group_words_is in
           let low = ap (λ (s : _). s.low) met.root.space in
@@ -523,7 +526,7 @@ module _ (core : List CoreOp) (image : Image) (bound : ℕ → ℕ) (places : Pl
     -- ---- all of them
 
     abbrev AllCome : ℕ → List Member → List Owner → Type 0
-    AllCome v ms ps = AllComeToParts core image places nestings i op setting (later (later t0)) (λ onward. if onward then 21 else 11) v lowest ms ps
+    AllCome v ms ps = AllComeToParts core image places nestings i op setting (later (later cycle0)) (λ onward. if onward then 21 else 11) v lowest ms ps
 
     all_come : (v : ℕ) (ms : List Member) (ps : List Owner) → Both (Knows v) ms ps → AllCome v ms ps
     all_come v [] [] all = tt
@@ -547,11 +550,11 @@ module _ (core : List CoreOp) (image : Image) (bound : ℕ → ℕ) (places : Pl
       pub agreed : own (root_words + agreed_word) ≡ last_or (before (root_words + agreed_word)) (tops ps)
       pub others : (j : ℕ) → (j ≡ root_words + agreed_word → ⊥) → own j ≡ before j
 
-    store_cycle : (ms : List Member) (ps : List Owner) (own : Memory) → Both Met ms ps → NodeCycle image mine t0 0 ms own (λ ms' own'. HaveStored ps own ms' own')
+    store_cycle : (ms : List Member) (ps : List Owner) (own : Memory) → Both Met ms ps → NodeCycle image mine cycle0 0 ms own (λ ms' own'. HaveStored ps own ms' own')
     store_cycle ms ps own all =
         let k = base + 11 in
         let w = root_words + agreed_word in
-        cycle_map image mine t0 0 ms own
+        cycle_map image mine cycle0 0 ms own
         (λ ms' own'. (ms' ≡ on_each (λ m. onward m.hart) ms) × ((j : ℕ) → own' j ≡ last_or (own j) (values_for (λ m. w) 28 j ms)) × AllAreAt (suc k) ms')
         (λ ms' own'. HaveStored ps own ms' own')
         (λ ms' own' x. record {
@@ -560,36 +563,36 @@ module _ (core : List CoreOp) (image : Image) (bound : ℕ → ℕ) (places : Pl
           agreed = x.1 w ∙ ap (last_or (own w)) (values_of Met 28 w (λ p. last (values p.runner.has)) ms ps value_is all);
           others = λ j ne. x.1 j ∙ ap (last_or (own j)) (no_values 28 w j ms ne);
         })
-        (stores_of_all image mine t0 k 0 10 28 8 (λ m. w) ms own running.code lines_behind.0.0 (all_stand k Met ms ps (λ m p met. (met.met.at, met.met.live)) all)
-        (all_at_own Met mine (λ h. word_sum (h.registers 10) 8) w ms ps at_agreed all))
+        (stores_of_all image mine cycle0 k 0 10 28 8 (λ m. w) ms own running.code lines_behind.0.0 (all_stand k Met ms ps (λ m p met. (met.met.at, met.met.live)) all)
+        (all_at_own Met mine (λ h. word_sum (h.registers node_register) 8) w ms ps at_agreed all))
 
     abbrev Behind : List Owner → Memory → List Member → Memory → Type 0
-    Behind ps own ms' own' = HaveStarted core image places nestings i op setting (later (later t0)) (λ onward. if onward then 21 else 11) lowest ps own ms' own'
+    Behind ps own ms' own' = HaveStarted core image places nestings i op setting (later (later cycle0)) (λ onward. if onward then 21 else 11) lowest ps own ms' own'
 
-    commit_cycle : (ms : List Member) (ps : List Owner) (before own : Memory) → HaveStored ps before ms own → NodeCycle image mine (later t0) 1 ms own (λ ms' own'. Behind ps before ms' own')
+    commit_cycle : (ms : List Member) (ps : List Owner) (before own : Memory) → HaveStored ps before ms own → NodeCycle image mine (later cycle0) 1 ms own (λ ms' own'. Behind ps before ms' own')
     commit_cycle ms ps before own has =
         let w = root_words + agreed_word in
         let v = last_or (before w) (tops ps) in
         let h : Member → Hart = λ m. onward_with 28 (own w) m.hart in
-        cycle_map image mine (later t0) 1 ms own (λ ms' own'. (ms' ≡ on_each h ms) × (own' ≡ own) × AllAreAt (suc (suc (base + 11))) ms') (λ ms' own'. Behind ps before ms' own')
+        cycle_map image mine (later cycle0) 1 ms own (λ ms' own'. (ms' ≡ on_each h ms) × (own' ≡ own) × AllAreAt (suc (suc (base + 11))) ms') (λ ms' own'. Behind ps before ms' own')
         (λ ms' own' x. record {
           parts =
               all_come (highest_value ps) ms' ps
               (told_highest Knows (before w) ms' ps (subst (λ l. Both (Knows v) l ps) (sym x.0) (each_on Stored (Knows v) h ms ps (tells v (own w) has.agreed) has.stored)));
           others = λ j ne. ap (λ o. o j) x.1 ∙ has.others j ne;
         })
-        (loads_of_all image mine (later t0) (suc (base + 11)) 1 28 10 8 (λ m. w) ms own running.code lines_behind.0.1.0 has.stand
-        (all_at_own Stored mine (λ h. word_sum (h.registers 10) 8) w ms ps still_at_agreed has.stored))
+        (loads_of_all image mine (later cycle0) (suc (base + 11)) 1 28 10 8 (λ m. w) ms own running.code lines_behind.0.1.0 has.stand
+        (all_at_own Stored mine (λ h. word_sum (h.registers node_register) 8) w ms ps still_at_agreed has.stored))
 
     together : (ms : List Member) (ps : List Owner) (own : Memory) → Both Met ms ps
-        → Together (core_source core setting) image mine t0 1 1 ms ps own (λ ms' ds own'. (ds ≡ map (is_due core i op Begin) ps) × Behind ps own ms' own')
+        → Together (core_source core setting) image mine cycle0 1 1 ms ps own (λ ms' ds own'. (ds ≡ map (is_due core i op Begin) ps) × Behind ps own ms' own')
     together ms ps own all =
         let source = core_source core setting in
-        let t1 = later t0 in
-        cycle_map image mine t0 0 ms own (λ ms' own'. HaveStored ps own ms' own')
-        (λ ms' own'. Commits source image mine t1 1 ms' ps own' (λ ms'' ds own''. (ds ≡ map (is_due core i op Begin) ps) × Behind ps own ms'' own''))
+        let cycle1 = later cycle0 in
+        cycle_map image mine cycle0 0 ms own (λ ms' own'. HaveStored ps own ms' own')
+        (λ ms' own'. Commits source image mine cycle1 1 ms' ps own' (λ ms'' ds own''. (ds ≡ map (is_due core i op Begin) ps) × Behind ps own ms'' own''))
         (λ ms' own' has.
-        cycle_commits source image mine t1 1 ms' ps (map (is_due core i op Begin) ps) own' (λ ms'' own''. Behind ps own ms'' own'')
+        cycle_commits source image mine cycle1 1 ms' ps (map (is_due core i op Begin) ps) own' (λ ms'' own''. Behind ps own ms'' own'')
         owns.apart
         (all_due core setting i op Begin Stored ms' ps place.stands refl due_here has.stored)
         (commit_cycle ms' ps own own' has))

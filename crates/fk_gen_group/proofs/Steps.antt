@@ -20,6 +20,8 @@ use Rattle.fk_sim_nodes.specs.Phase.{Outside, Away, Coming, Waiting, Leaving}
 use Rattle.fk_gen.specs.InPlace.{LinesAt, resolved, count_of_commit}
 use Rattle.fk_gen.proofs.Walk.{private}
 use Rattle.fk_gen.proofs.Values.{same_word, other_word}
+use Rattle.fk_sim_block.specs.Stands.{zero_register}
+use Rattle.fk_gen.specs.Registers.{t0, t1}
 use Rattle.fk_gen_group.specs.Meeting.{Meeting, HasMeeting, IsReadyToMeet, Keeps, IsArriving, IsInPhase, Turn, leaving_line, count_of_leaving, meeting_lines, HartsArrive, HartsMove}
 use Rattle.fk_gen_group.proofs.Performs.{place_of-cycle, lw-cycle, andi, goes_to, beq-taken, beq-passed, bne-taken, bne-passed}
 
@@ -28,10 +30,10 @@ use Rattle.fk_gen_group.proofs.Performs.{place_of-cycle, lw-cycle, andi, goes_to
 pub keeps_first : (g : Meeting) (h : Hart) → Keeps g h h
 keeps_first g h = record { live = refl; local = refl; others = λ r a b. refl }
 
-keeps_t0 : (g : Meeting) (first h : Hart) (v : ℕ) → Keeps g first h → Keeps g first (writes h 5 v)
+keeps_t0 : (g : Meeting) (first h : Hart) (v : ℕ) → Keeps g first h → Keeps g first (writes h t0 v)
 keeps_t0 g first h v k = record { live = k.live; local = k.local; others = λ r a b. rw (ne_eqb r 5 a) (k.others r a b) }
 
-keeps_t1 : (g : Meeting) (first h : Hart) (v : ℕ) → Keeps g first h → Keeps g first (writes h 6 v)
+keeps_t1 : (g : Meeting) (first h : Hart) (v : ℕ) → Keeps g first h → Keeps g first (writes h t1 v)
 keeps_t1 g first h v k = record { live = k.live; local = k.local; others = λ r a b. rw (ne_eqb r 6 b) (k.others r a b) }
 
 -- a hart that only moves
@@ -41,7 +43,7 @@ keeps_pc g first h pc k = record { live = k.live; local = k.local; others = k.ot
 -- ---- to the addition
 
 abbrev first_1 : Hart → Hart
-first_1 h = writes h 5 (0x30000 * 4096)
+first_1 h = writes h t0 (0x30000 * 4096)
 
 abbrev first_2 : Setting → Hart → Hart
 first_2 t h = writes (first_1 h) 5 (t.finished + 1)
@@ -50,7 +52,7 @@ abbrev first_3 : Setting → Hart → Hart
 first_3 t h = writes (first_2 t h) 5 (bit_and (t.finished + 1) 1)
 
 abbrev first_4 : Setting → Hart → Hart
-first_4 t h = writes (first_3 t h) 6 (word_sum (h.registers 0) 1)
+first_4 t h = writes (first_3 t h) 6 (word_sum (h.registers zero_register) 1)
 
 keeps_4 : (g : Meeting) (t : Setting) (h : Hart) → Keeps g h (first_4 t h)
 keeps_4 g t h = keeps_t1 g h (first_3 t h) _ (keeps_t0 g h (first_2 t h) _ (keeps_t0 g h (first_1 h) _ (keeps_t0 g h h _ (keeps_first g h))))
@@ -60,18 +62,18 @@ four : (g : Meeting) (image : Image) (bound : ℕ → ℕ) (k number d : ℕ) (t
 four g image bound k number d t h h' at holds live pc rest =
     let w = at.1.1.1.0.within in (
       first_1 h,
-      private image t number k (Lui 5 0x30000) h (first_1 h) holds at.0 pc live (λ s. (s.reserved, lui t number 5 0x30000 h s)),
+      private image t number k (Lui t0 0x30000) h (first_1 h) holds at.0 pc live (λ s. (s.reserved, lui t number 5 0x30000 h s)),
       (
         first_2 t h,
-        private image (later t) number (suc k) (Lw 5 5 16) (first_1 h) (first_2 t h) holds at.1.0 (omega arith) live
+        private image (later t) number (suc k) (Lw t0 t0 16) (first_1 h) (first_2 t h) holds at.1.0 (omega arith) live
             (λ s. (s.reserved, lw-cycle (later t) number 5 5 16 (first_1 h) s refl place_of-cycle)),
         (
           first_3 t h,
-          private image (later (later t)) number (suc (suc k)) (Andi 5 5 1) (first_2 t h) (first_3 t h) holds at.1.1.0 (omega arith) live
+          private image (later (later t)) number (suc (suc k)) (Andi t0 t0 1) (first_2 t h) (first_3 t h) holds at.1.1.0 (omega arith) live
               (λ s. (s.reserved, andi (later (later t)) number 5 5 1 (first_2 t h) s)),
           (
             first_4 t h,
-            private image (later (later (later t))) number (suc (suc (suc k))) (Addi 6 0 1) (first_3 t h) (first_4 t h) holds at.1.1.1.0 (omega arith) live
+            private image (later (later (later t))) number (suc (suc (suc k))) (Addi t1 zero_register 1) (first_3 t h) (first_4 t h) holds at.1.1.1.0 (omega arith) live
                 (λ s. (s.reserved, addi (later (later (later t))) number 6 0 1 (first_3 t h) s)),
             rest,
           ),
@@ -89,7 +91,7 @@ last_bit n = and_mask n 1
 abbrev taken : Setting → Hart → Hart
 taken t h = goes_to (first_4 t h) (word_sum (first_4 t h).pc 8)
 
-taken_arrives : (g : Meeting) (image : Image) (k n : ℕ) (t : Setting) (h : Hart) → k < 262144 → h.pc ≡ 4 * k → h.registers 0 ≡ 0 → IsArriving g image k n h (taken t h)
+taken_arrives : (g : Meeting) (image : Image) (k n : ℕ) (t : Setting) (h : Hart) → k < 262144 → h.pc ≡ 4 * k → h.registers zero_register ≡ 0 → IsArriving g image k n h (taken t h)
 taken_arrives g image k n t h lt pc zero_is = record {
   at = let e = pc_4 k t h lt pc in omega arith;
   keeps = keeps_pc g h (first_4 t h) _ (keeps_4 g t h);
@@ -105,7 +107,7 @@ arrives_even g image bound k w n number t h at holds r pc even =
     let lt = at.1.1.1.1.0.within in
     let zero_is = r.nought in
     let pc4 = pc_4 k t h (omega arith) pc in
-    let same : bit_and (t.finished + 1) 1 ≡ h.registers 0 = last_bit (t.finished + 1) ∙ even ∙ sym zero_is in (
+    let same : bit_and (t.finished + 1) 1 ≡ h.registers zero_register = last_bit (t.finished + 1) ∙ even ∙ sym zero_is in (
       5,
       omega arith,
       omega arith,
@@ -115,7 +117,7 @@ arrives_even g image bound k w n number t h at holds r pc even =
           taken t h,
           four g image bound k number 1 t h (taken t h) at holds r.live pc (
             taken t h,
-            private image (in_cycles 4 t) number (suc (suc (suc (suc k)))) (Beq 5 0 8) (first_4 t h) (taken t h) holds at.1.1.1.1.0 (omega arith) r.live
+            private image (in_cycles 4 t) number (suc (suc (suc (suc k)))) (Beq t0 zero_register 8) (first_4 t h) (taken t h) holds at.1.1.1.1.0 (omega arith) r.live
                 (λ s. (s.reserved, beq-taken (in_cycles 4 t) number 5 0 8 (first_4 t h) s same (omega arith))),
             refl,
           ),
@@ -126,9 +128,9 @@ arrives_even g image bound k w n number t h at holds r pc even =
 
 -- where it is odd one instruction more is run
 abbrev passed : Setting → Hart → Hart
-passed t h = writes (moves (first_4 t h)) 0 (word_sum (h.registers 0) 0)
+passed t h = writes (moves (first_4 t h)) 0 (word_sum (h.registers zero_register) 0)
 
-passed_arrives : (g : Meeting) (image : Image) (k n : ℕ) (t : Setting) (h : Hart) → k + 6 < 262144 → h.pc ≡ 4 * k → h.registers 0 ≡ 0 → IsArriving g image k n h (passed t h)
+passed_arrives : (g : Meeting) (image : Image) (k n : ℕ) (t : Setting) (h : Hart) → k + 6 < 262144 → h.pc ≡ 4 * k → h.registers zero_register ≡ 0 → IsArriving g image k n h (passed t h)
 passed_arrives g image k n t h lt pc zero_is = record {
   at = let e = pc_4 k t h (omega arith) pc in omega arith;
   keeps = keeps_pc g h (first_4 t h) _ (keeps_4 g t h);
@@ -142,7 +144,7 @@ arrives_odd g image bound k w n number t h at holds r pc odd =
     let zero_is = r.nought in
     let pc4 = pc_4 k t h (omega arith) pc in
     let bit = last_bit (t.finished + 1) in
-    let differ : (bit_and (t.finished + 1) 1 == h.registers 0) ≡ false = ne_eqb _ _ (λ e. omega (arith, e)) in (
+    let differ : (bit_and (t.finished + 1) 1 == h.registers zero_register) ≡ false = ne_eqb _ _ (λ e. omega (arith, e)) in (
       6,
       omega arith,
       omega arith,
@@ -152,11 +154,11 @@ arrives_odd g image bound k w n number t h at holds r pc odd =
           passed t h,
           four g image bound k number 2 t h (passed t h) at holds r.live pc (
             moves (first_4 t h),
-            private image (in_cycles 4 t) number (suc (suc (suc (suc k)))) (Beq 5 0 8) (first_4 t h) (moves (first_4 t h)) holds at.1.1.1.1.0 (omega arith) r.live
+            private image (in_cycles 4 t) number (suc (suc (suc (suc k)))) (Beq t0 zero_register 8) (first_4 t h) (moves (first_4 t h)) holds at.1.1.1.1.0 (omega arith) r.live
                 (λ s. (s.reserved, beq-passed (in_cycles 4 t) number 5 0 8 (first_4 t h) s differ)),
             (
               passed t h,
-              private image (in_cycles 5 t) number (suc (suc (suc (suc (suc k))))) (Addi 0 0 0) (moves (first_4 t h)) (passed t h) holds at.1.1.1.1.1.0 (omega arith) r.live
+              private image (in_cycles 5 t) number (suc (suc (suc (suc (suc k))))) (Addi zero_register zero_register 0) (moves (first_4 t h)) (passed t h) holds at.1.1.1.1.1.0 (omega arith) r.live
                   (λ s. (s.reserved, addi (in_cycles 5 t) number 0 0 0 (moves (first_4 t h)) s)),
               refl,
             ),
@@ -183,13 +185,13 @@ at_addition : (g : Meeting) (image : Image) (bound : ℕ → ℕ) (k : ℕ) → 
 at_addition g image bound k at =
     let e : suc (suc (suc (suc (suc (suc k))))) ≡ k + 6 = omega arith in subst (λ j. IsAt image j (AmoAddW 0 g.arrivals 6 false false) 0) e at.1.1.1.1.1.1.0
 
-at_load : (g : Meeting) (image : Image) (bound : ℕ → ℕ) (k : ℕ) → LinesAt image bound k (meeting_lines g) → IsAt image (k + 7) (Lw 5 g.arrivals 0) 0
+at_load : (g : Meeting) (image : Image) (bound : ℕ → ℕ) (k : ℕ) → LinesAt image bound k (meeting_lines g) → IsAt image (k + 7) (Lw t0 g.arrivals 0) 0
 at_load g image bound k at =
-    let e : suc (suc (suc (suc (suc (suc (suc k)))))) ≡ k + 7 = omega arith in subst (λ j. IsAt image j (Lw 5 g.arrivals 0) 0) e at.1.1.1.1.1.1.1.0
+    let e : suc (suc (suc (suc (suc (suc (suc k)))))) ≡ k + 7 = omega arith in subst (λ j. IsAt image j (Lw t0 g.arrivals 0) 0) e at.1.1.1.1.1.1.1.0
 
-at_branch : (g : Meeting) (image : Image) (bound : ℕ → ℕ) (k : ℕ) → LinesAt image bound k (meeting_lines g) → IsAt image (k + 8) (Bne 5 g.size (2 ^ 32 - 4)) 0
+at_branch : (g : Meeting) (image : Image) (bound : ℕ → ℕ) (k : ℕ) → LinesAt image bound k (meeting_lines g) → IsAt image (k + 8) (Bne t0 g.size (2 ^ 32 - 4)) 0
 at_branch g image bound k at =
-    let e : suc (suc (suc (suc (suc (suc (suc (suc k))))))) ≡ k + 8 = omega arith in subst (λ j. IsAt image j (Bne 5 g.size (2 ^ 32 - 4)) 0) e at.1.1.1.1.1.1.1.1.0
+    let e : suc (suc (suc (suc (suc (suc (suc (suc k))))))) ≡ k + 8 = omega arith in subst (λ j. IsAt image j (Bne t0 g.size (2 ^ 32 - 4)) 0) e at.1.1.1.1.1.1.1.1.0
 
 leaving_at : (image : Image) (bound : ℕ → ℕ) (k : ℕ) (b : Bool) (i : Instruction) → IsAt image k (resolved bound k (leaving_line b i).line) (count_of_commit (leaving_line b i).commit)
     → IsAt image k i (count_of_leaving b)
@@ -281,7 +283,7 @@ arriving_turn g image bound mine k w n t first m own has is holds r a even =
     keeps_zero = keeps_pc g first m.hart _ a.keeps
 
     goes : (sh : Shared) → step t m.number m.hart sh
-        ≡ Goes h' (record sh { control = put sh.control w (word_sum (sh.control w) (m.hart.registers 6)); reserved = cleared sh.reserved (m.hart.registers g.arrivals) })
+        ≡ Goes h' (record sh { control = put sh.control w (word_sum (sh.control w) (m.hart.registers t1)); reserved = cleared sh.reserved (m.hart.registers g.arrivals) })
     goes sh =
         let i = at_addition g image bound k has.lines in
         let wide = r.within in
@@ -305,7 +307,7 @@ loading_turn g image bound mine k w n t first m own has is holds r keeps odd pc 
           let wide = r.within in
           let word : m.hart.registers g.arrivals ≡ 0x18000000 + 4 * w = still g first m.hart g.arrivals _ keeps has.fits.arrivals_t0 has.fits.arrivals_t1 r.arrivals in
           within_none mine t m.number m.hart h' sh own sh.reserved holds_own
-          (step_at image (k + 7) 0 (Lw 5 g.arrivals 0) i t holds m.number m.hart sh pc
+          (step_at image (k + 7) 0 (Lw t0 g.arrivals 0) i t holds m.number m.hart sh pc
           ∙ lw-control t m.number 5 g.arrivals 0 w m.hart sh (omega arith) (place_of-control _ w wide (omega arith))
           ∙ ap (λ v. Goes (writes m.hart 5 v) sh) (holds_own w is));
     }
@@ -337,7 +339,7 @@ loading_turn g image bound mine k w n t first m own has is holds r keeps odd pc 
         }
 
 looping_turn : (g : Meeting) (image : Image) (bound : ℕ → ℕ) (mine : Words) (k w n : ℕ) (t : Setting) (first : Hart) (m : Member) (own : Memory) → HasMeeting g image bound k → Holds image t
-    → IsReadyToMeet g w n first → Keeps g first m.hart → t.finished % 2 ≡ 0 → m.hart.pc ≡ 4 * (k + 8) → m.hart.registers 5 ≢ n → Turn g image mine k w n first t Waiting m own
+    → IsReadyToMeet g w n first → Keeps g first m.hart → t.finished % 2 ≡ 0 → m.hart.pc ≡ 4 * (k + 8) → m.hart.registers t0 ≢ n → Turn g image mine k w n first t Waiting m own
 looping_turn g image bound mine k w n t first m own has holds r keeps even pc few =
     let i = at_branch g image bound k has.lines in
     let lt = i.within in
@@ -352,7 +354,7 @@ looping_turn g image bound mine k w n t first m own has holds r keeps even pc fe
         live = keeps.live ∙ r.live;
         counted = counted_at image h (k + 8) 0 pc i.counted;
         goes = λ sh holds_own. within_none mine t m.number h h' sh own sh.reserved holds_own
-            (step_at image (k + 8) 0 (Bne 5 g.size (2 ^ 32 - 4)) i t holds m.number h sh pc
+            (step_at image (k + 8) 0 (Bne t0 g.size (2 ^ 32 - 4)) i t holds m.number h sh pc
             ∙ bne-taken t m.number 5 g.size (2 ^ 32 - 4) h sh (ne_eqb _ _ (λ e. few (e ∙ size))) (omega arith));
       };
       arrivals = refl;
@@ -362,7 +364,7 @@ looping_turn g image bound mine k w n t first m own has holds r keeps even pc fe
     }
 
 passing_turn : (g : Meeting) (image : Image) (bound : ℕ → ℕ) (mine : Words) (k w n : ℕ) (t : Setting) (first : Hart) (m : Member) (own : Memory) → HasMeeting g image bound k → Holds image t
-    → IsReadyToMeet g w n first → Keeps g first m.hart → t.finished % 2 ≡ 0 → m.hart.pc ≡ 4 * (k + 8) → m.hart.registers 5 ≡ n → Turn g image mine k w n first t (Leaving 1) m own
+    → IsReadyToMeet g w n first → Keeps g first m.hart → t.finished % 2 ≡ 0 → m.hart.pc ≡ 4 * (k + 8) → m.hart.registers t0 ≡ n → Turn g image mine k w n first t (Leaving 1) m own
 passing_turn g image bound mine k w n t first m own has holds r keeps even pc all =
     let i = at_branch g image bound k has.lines in
     let lt = i.within in
@@ -376,7 +378,7 @@ passing_turn g image bound mine k w n t first m own has holds r keeps even pc al
         live = keeps.live ∙ r.live;
         counted = counted_at image h (k + 8) 0 pc i.counted;
         goes = λ sh holds_own. within_none mine t m.number h (moves h) sh own sh.reserved holds_own
-            (step_at image (k + 8) 0 (Bne 5 g.size (2 ^ 32 - 4)) i t holds m.number h sh pc ∙ bne-passed t m.number 5 g.size (2 ^ 32 - 4) h sh (all ∙ sym size));
+            (step_at image (k + 8) 0 (Bne t0 g.size (2 ^ 32 - 4)) i t holds m.number h sh pc ∙ bne-passed t m.number 5 g.size (2 ^ 32 - 4) h sh (all ∙ sym size));
       };
       arrivals = refl;
       others = λ j ne. refl;
@@ -413,7 +415,7 @@ leaving_turn g image bound mine k w n t first m own has is holds r keeps pc =
 
 waiting_turn : (g : Meeting) (image : Image) (bound : ℕ → ℕ) (mine : Words) (k w n : ℕ) (t : Setting) (first : Hart) (m : Member) (own : Memory) → HasMeeting g image bound k → mine w ≡ true → Holds image t
     → IsReadyToMeet g w n first → Keeps g first m.hart
-    → (((t.finished % 2 ≡ 1) × (m.hart.pc ≡ 4 * (k + 7))) ⊎ ((t.finished % 2 ≡ 0) × (m.hart.pc ≡ 4 * (k + 8)) × (m.hart.registers 5 ≢ n)))
+    → (((t.finished % 2 ≡ 1) × (m.hart.pc ≡ 4 * (k + 7))) ⊎ ((t.finished % 2 ≡ 0) × (m.hart.pc ≡ 4 * (k + 8)) × (m.hart.registers t0 ≢ n)))
     → Turn g image mine k w n first t Waiting m own
 waiting_turn g image bound mine k w n t first m own has is holds r keeps (inl (odd, pc)) =
     loading_turn g image bound mine k w n t first m own has is holds r keeps odd pc (cases_eq (own w) n)

@@ -14,9 +14,11 @@ use Rattle.fk_isa.specs.declared.instruction.Instruction.TheVariants.{AmoAddW}
 use Rattle.fk_asm.specs.Block.{MarkedLine}
 use Rattle.fk_sim_block.specs.Stands.{end_register, number_register, rank_register, size_register}
 use Rattle.fk_sim_block.specs.Stands.{device_register}
-use Rattle.fk_gen.specs.Registers.{zero_register, ra, t0, t1, t2, t3}
-use Rattle.fk_gen.specs.Lines.{quiet, commits, goes_to, first_commits, at_value, at_group_frame}
+use Rattle.fk_sim_block.specs.Stands.{zero_register}
+use Rattle.fk_gen.specs.Registers.{ra, t0, t1, t2, t3}
+use Rattle.fk_gen.specs.Lines.{quiet, commits, goes_to, first_commits, at_group_frame}
 use Rattle.fk_gen.specs.Lines.{label_of, high_part, low_part, add_number, to_data}
+use Rattle.fk_gen.specs.Operands.{operand, result}
 use Rattle.fk_gen.specs.InPlace.{LinesAt}
 use Rattle.fk_gen.specs.declared.placed.Placed.{Placed}
 use Rattle.fk_sim_block.specs.Node.{node_register, body_register, frames_register, blocks_register}
@@ -43,9 +45,8 @@ closing_block = meet_block closing_word size_register
 -- in the next.
 abbrev pub agree_block : (depth : ℕ) → List MarkedLine
 agree_block depth =
-    quiet (Lw t0 end_register (at_value depth)) ∷ quiet (Sw node_register t0 (4 * agreed_word)) ∷
-    commits (Lw t0 node_register (4 * agreed_word))
-    ∷ quiet (Sw end_register t0 (at_value depth)) ∷ []
+    quiet (operand t0 depth) ∷ quiet (Sw node_register t0 (4 * agreed_word)) ∷
+    commits (Lw t0 node_register (4 * agreed_word)) ∷ quiet (result t0 depth) ∷ []
 
 -- All members run the body of a `farm`, each by itself.
 abbrev pub farm_block : List MarkedLine
@@ -108,11 +109,10 @@ frame_takes words = length (add_number (4 * words) frames_register) + 4
 abbrev pub shalloc_block : (depth : ℕ) → List MarkedLine
 shalloc_block d =
     first_commits (
-    Lw t0 end_register (at_value d) ∷ Addi t0 t0 3 ∷ Andi t0 t0 0xfffffffc ∷
+    operand t0 d ∷ Addi t0 t0 3 ∷ Andi t0 t0 0xfffffffc ∷
     Sub t1 blocks_register frames_register ∷ Addi t2 t0 0xffffffff ∷ Sltu t2 t2 t1 ∷
     Sub t2 zero_register t2 ∷ And t0 t0 t2 ∷ Sub blocks_register blocks_register t0 ∷
-    Lui t1 to_data ∷ Add t1 t1 blocks_register ∷ And t1 t1 t2
-    ∷ Sw end_register t1 (at_value d) ∷ []
+    Lui t1 to_data ∷ Add t1 t1 blocks_register ∷ And t1 t1 t2 ∷ result t1 d ∷ []
     )
 
 -- ---- the beginning of `start`
@@ -125,7 +125,7 @@ start_label = 57
 -- word after that, where the group goes on.
 abbrev pub begin_block : (depth target : ℕ) → List MarkedLine
 begin_block depth target =
-    quiet (Lw t3 end_register (at_value depth)) ∷ goes_to (Jal ra 0) start_label
+    quiet (operand t3 depth) ∷ goes_to (Jal ra 0) start_label
     ∷ goes_to (Jal zero_register 0) (label_of target) ∷ []
 
 -- All processors meet in the root, where leaving is no operation.

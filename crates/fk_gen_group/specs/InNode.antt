@@ -10,7 +10,7 @@ use Rattle.fk_sim_block.specs.Next.{OpAt}
 use Rattle.fk_sim_block.specs.Ready.{is_alone}
 use Rattle.fk_sim_block.specs.Suits.{Flows, nothing, writes}
 use Rattle.fk_isa.specs.declared.instruction.Instruction.TheVariants.{Jal}
-use Rattle.fk_gen.specs.Registers.{zero_register}
+use Rattle.fk_sim_block.specs.Stands.{zero_register}
 use Rattle.fk_gen.specs.Lines.{goes_to, label_of}
 use Rattle.fk_gen.specs.InPlace.{HasBlock}
 use Rattle.fk_gen.specs.Keeps.{peak}

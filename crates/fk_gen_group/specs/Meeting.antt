@@ -12,7 +12,8 @@ use Rattle.fk_sim_nodes.specs.Node.{Member, Words}
 use Rattle.fk_sim_nodes.specs.Alone.{Holds, RunsPrivately, Stays, later}
 use Rattle.fk_sim_nodes.specs.Phase.{Phase, Outside, Away, Coming, Waiting, Leaving, Moves}
 use Rattle.fk_sim_nodes.specs.Phase.{word_after}
-use Rattle.fk_gen.specs.Registers.{zero_register, t0, t1}
+use Rattle.fk_sim_block.specs.Stands.{zero_register}
+use Rattle.fk_gen.specs.Registers.{t0, t1}
 use Rattle.fk_gen.specs.Lines.{quiet, commits}
 use Rattle.fk_gen.specs.InPlace.{LinesAt}
 use Rattle.fk_sim_block.specs.Node.{control_address, root_words}

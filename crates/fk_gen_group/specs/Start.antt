@@ -15,14 +15,18 @@ use Rattle.fk_gen_group.specs.Blocks.{start_label}
 abbrev pub gathered_at : (bound : ℕ → ℕ) → Polling
 gathered_at bound = record { at = bound start_label + 11; changes = λ r. (r == t0) || (r == t1) }
 
+-- The value at a place, where the address of the frame's end leads.
+abbrev pub value_found : (place : ℕ) → Hart → ℕ
+value_found place h =
+    h.local ((word_sum (h.registers end_register) (at_value place) - 0x20000000) / 4)
+
 -- What a hart is when it comes to that meeting: it has loaded its last value, of `depth` values,
 -- into t3, has linked to the word after its jump, and has the address of the root's closing word in
 -- t2.
 abbrev pub who_comes : (bound : ℕ → ℕ) → (depth : ℕ) → Hart → Hart
 who_comes bound depth h =
-    let value = h.local ((word_sum (h.registers end_register) (at_value depth) - 0x20000000) / 4) in
-    let linked =
-    set_register (set_register h.registers t3 value) ra (word_sum (word_sum h.pc 4) 4) in
+    let loaded = set_register h.registers t3 (value_found depth h) in
+    let linked = set_register loaded ra (word_sum (word_sum h.pc 4) 4) in
     record h {
       registers = set_register linked t2 (word_sum (linked node_register) (4 * closing_word));
       pc = word_sum (4 * bound start_label) 4;

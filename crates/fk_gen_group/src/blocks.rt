@@ -9,9 +9,9 @@ ghost use Rattle.fk_gen_group.specs.Blocks.{shalloc_block};
 
 use crate::start::START_LABEL;
 use fk_asm::{Assembler, Blocks};
-use fk_gen::numbers::{AT_GROUP_FRAME, TO_DATA, at_value, high_part, low_part};
+use fk_gen::numbers::{AT_GROUP_FRAME, TO_DATA, high_part, low_part};
 use fk_gen::registers::{DEVICES as DEVICE, END, NUMBER, RA, RANK, SIZE, T0, T1, T2, T3, ZERO};
-use fk_gen::{BlockLine, Placed, emit_lines, emit_sum};
+use fk_gen::{BlockLine, Placed, emit_lines, emit_sum, operand, result};
 use fk_gen_flow::registers::{BLOCKS, BODY, FRAMES, NODE};
 use fk_isa::Instruction;
 use fk_meaning_operation::Operation;
@@ -112,7 +112,7 @@ fn begin(into: &mut Assembler, depth: u32, target: u32) -> Result<(), AllocError
     emit_lines(
         into,
         &[
-            BlockLine::quiet(Instruction::Lw(T3, END, at_value(depth))),
+            BlockLine::quiet(operand(T3, depth)),
             BlockLine::goes_to(Instruction::Jal(RA, 0), START_LABEL),
             BlockLine::goes_to(Instruction::Jal(ZERO, 0), FIRST_LABEL + target),
         ],
@@ -129,10 +129,10 @@ fn agree(into: &mut Assembler, depth: u32) -> Result<(), AllocError>
     emit_lines(
         into,
         &[
-            BlockLine::quiet(Instruction::Lw(T0, END, at_value(depth))),
+            BlockLine::quiet(operand(T0, depth)),
             BlockLine::quiet(Instruction::Sw(NODE, T0, AGREED)),
             BlockLine::commits(Instruction::Lw(T0, NODE, AGREED)),
-            BlockLine::quiet(Instruction::Sw(END, T0, at_value(depth))),
+            BlockLine::quiet(result(T0, depth)),
         ],
     )
 }
@@ -238,7 +238,7 @@ fn shalloc(into: &mut Assembler, depth: u32) -> Result<(), AllocError>
     emit_lines(
         into,
         &[
-            BlockLine::commits(Instruction::Lw(T0, END, at_value(depth))),
+            BlockLine::commits(operand(T0, depth)),
             BlockLine::quiet(Instruction::Addi(T0, T0, 3)),
             BlockLine::quiet(Instruction::Andi(T0, T0, 0xffff_fffc)),
             BlockLine::quiet(Instruction::Sub(T1, BLOCKS, FRAMES)),
@@ -250,7 +250,7 @@ fn shalloc(into: &mut Assembler, depth: u32) -> Result<(), AllocError>
             BlockLine::quiet(Instruction::Lui(T1, TO_DATA)),
             BlockLine::quiet(Instruction::Add(T1, T1, BLOCKS)),
             BlockLine::quiet(Instruction::And(T1, T1, T2)),
-            BlockLine::quiet(Instruction::Sw(END, T1, at_value(depth))),
+            BlockLine::quiet(result(T1, depth)),
         ],
     )
 }

@@ -22,6 +22,7 @@ use Rattle.fk_asm.specs.Block.{MarkedLine}
 use Rattle.fk_gen.specs.declared.placed.Placed.{Placed}
 use Rattle.fk_gen.specs.Lines.{quiet, commits, first_commits, high_part, load_by, load_number, add_by, add_number}
 use Rattle.fk_gen.specs.Registers.{t0, t1}
+use Rattle.fk_gen.specs.Operands.{operand, result}
 use Rattle.fk_core_liveness.specs.declared.set.Set.{Set}
 use Rattle.fk_gen_access.specs.Blocks as accesses
 use Rattle.fk_gen_access.specs.Heap as heap
@@ -260,7 +261,7 @@ join_length d sign first second = omega arith
 
 push_length : (d n : ℕ) → length (expressions.push_number d n) ≤ 15
 push_length d n =
-    let all = length-append (load_number n) (expressions.store_value t0 (d + 1) ∷ []) in
+    let all = length-append (load_number n) (result t0 (d + 1) ∷ []) in
     let number = number_few (high_part n == 0) n in
     omega arith
 
@@ -272,10 +273,10 @@ sum_few : (short : Bool) (n register : ℕ) → length (add_by short n register)
 sum_few true n register = omega arith
 sum_few false n register = omega arith
 
-frame_word_length : (is_first : Bool) (d word : ℕ) → length (expressions.frame_word is_first word ++ expressions.store_value t0 (d + 1) ∷ []) ≤ 15
+frame_word_length : (is_first : Bool) (d word : ℕ) → length (expressions.frame_word is_first word ++ result t0 (d + 1) ∷ []) ≤ 15
 frame_word_length true d word = omega arith
 frame_word_length false d word =
-    let all = length-append (add_number (4 * word) t1) (expressions.store_value t0 (d + 1) ∷ []) in
+    let all = length-append (add_number (4 * word) t1) (result t0 (d + 1) ∷ []) in
     let sum = sum_few (high_part (4 * word) == 0) (4 * word) t1 in
     omega arith
 
@@ -300,7 +301,7 @@ code_length globals d (o.Apply sign) = omega arith
 code_length globals d (o.Binary sign false) = join_length d sign t0 t1
 code_length globals d (o.Binary sign true) = join_length d sign t1 t0
 code_length globals d (o.Index size) =
-    index_length d size (size == 4) (expressions.load_value t0 (d - 1)) (expressions.load_value t1 d) (Add t0 t0 t1) (expressions.store_value t0 (d - 1))
+    index_length d size (size == 4) (operand t0 (d - 1)) (operand t1 d) (Add t0 t0 t1) (result t0 (d - 1))
 code_length globals d operation = omega arith
 
 expression_words : (globals d : ℕ) (operation : Option Operation)
