@@ -9,10 +9,10 @@ use Rattle.fk_meaning.specs.Round.{State}
 use Rattle.fk_core.specs.declared.op.CoreOp.{CoreOp}
 use Rattle.fk_core.specs.Next.{Position, landing, next}
 use Rattle.fk_lockstep.proofs.Round.{first_is, at_below}
-use Rattle.fk_lockstep_one_group.specs.Where.{Where, InRoot, InGroup}
-use Rattle.fk_lockstep_one_group.specs.Placed.{HasLevels}
-use Rattle.fk_lockstep_one_group.proofs.Known.{at_group}
-use Rattle.fk_lockstep_one_group.proofs.Moves.{ends_in_root}
+use Rattle.fk_lockstep_tree.specs.Where.{Where, InRoot, InGroup}
+use Rattle.fk_lockstep_tree.specs.Placed.{HasLevels}
+use Rattle.fk_lockstep_tree.proofs.Known.{at_group}
+use Rattle.fk_lockstep_tree.proofs.Moves.{ends_in_root}
 use Rattle.fk_sim_block.specs.Owner.{Owner}
 use Rattle.fk_sim_block.specs.Node.{Nestings}
 use Rattle.fk_sim_rounds.specs.Next.{landed}

@@ -15,11 +15,11 @@ use Rattle.fk_core.specs.Next.{Position, position, landing, next}
 use Rattle.fk_sim_nodes.specs.Source.{AllPass}
 use Rattle.fk_sim_match.specs.Stage.{Stage, distance, count_for, counts_for}
 use Rattle.fk_lockstep.specs.OneProgram.{AreTogether, HaveOneProgram}
-use Rattle.fk_lockstep_one_group.specs.Where.{Where, GoesNext, GoesFor, Goes}
-use Rattle.fk_lockstep_one_group.specs.Placed.{IsPlaced, HasOneGroup}
-use Rattle.fk_lockstep_one_group.specs.Steps as one
-use Rattle.fk_lockstep_one_group.specs.Rounds.{IsSingle, stepping}
-use Rattle.fk_lockstep_one_group.proofs.Known.{rounds_are_known}
+use Rattle.fk_lockstep_tree.specs.Where.{Where, GoesNext, GoesFor, Goes}
+use Rattle.fk_lockstep_tree.specs.Placed.{IsPlaced, HasOneGroup}
+use Rattle.fk_lockstep_tree.specs.Steps as one
+use Rattle.fk_lockstep_tree.specs.Rounds.{IsSingle, stepping}
+use Rattle.fk_lockstep_tree.proofs.Known.{rounds_are_known}
 use Rattle.fk_lockstep.proofs.Round.{first_is}
 use Rattle.fk_sim_block.specs.Owner.{Commons, Owner, Doing, core_source}
 use Rattle.fk_lockstep_nodes.specs.Steps.{only}

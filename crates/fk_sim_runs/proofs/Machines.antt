@@ -8,7 +8,7 @@ use Rattle.fk_meaning.specs.Round.{Runner, State}
 use Rattle.fk_meaning.specs.Schedule.{Schedule, first_processor, beginners, run, ArePossible}
 use Rattle.fk_core.specs.declared.op.CoreOp.{CoreOp}
 use Rattle.fk_core.specs.Next.{Position, position, next, list_opening}
-use Rattle.fk_lockstep_one_group.specs.Runs.{AreSingle}
+use Rattle.fk_lockstep_tree.specs.Runs.{AreSingle}
 use Rattle.fk_image.specs.declared.Image.{Image}
 use Rattle.fk_sim_block.specs.Stands.{Places}
 use Rattle.fk_sim_block.specs.Block.{beginner}

@@ -15,9 +15,9 @@ use Rattle.fk_meaning.specs.Round.{Runner, State, body_of}
 use Rattle.fk_core.specs.declared.op.CoreOp.{CoreOp}
 use Rattle.fk_core.specs.Next.{Position, position, landing, next}
 use Rattle.fk_lockstep.proofs.Round.{at_below}
-use Rattle.fk_lockstep_one_group.specs.Where.{Where, InRoot, Waits, InGroup, InBody, BehindBody, goes, Goes}
-use Rattle.fk_lockstep_one_group.specs.Placed.{where_at, HasLevels, IsPlaced}
-use Rattle.fk_lockstep_one_group.proofs.Moves.{goes_on}
+use Rattle.fk_lockstep_tree.specs.Where.{Where, InRoot, Waits, InGroup, InBody, BehindBody, goes, Goes}
+use Rattle.fk_lockstep_tree.specs.Placed.{where_at, HasLevels, IsPlaced}
+use Rattle.fk_lockstep_tree.proofs.Moves.{goes_on}
 use Rattle.fk_sim_block.specs.Owner.{Heaps, Owner}
 use Rattle.fk_sim_block.specs.Next.{step_at}
 use Rattle.fk_sim_block.specs.Ready.{is_no_step, MayDo, IsReady}

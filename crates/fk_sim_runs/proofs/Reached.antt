@@ -13,11 +13,11 @@ use Rattle.fk_core.specs.declared.op.CoreOp.{CoreOp}
 use Rattle.fk_core.specs.Next.{Position, position, landing, next, list_opening}
 use Rattle.fk_lockstep.proofs.Round.{first_is, at_below, settled_length}
 use Rattle.fk_lockstep_frames.proofs.Lists.{lists_tell_frames}
-use Rattle.fk_lockstep_one_group.specs.Rounds.{IsSingle, stepping}
-use Rattle.fk_lockstep_one_group.specs.Runs.{AreSingle}
-use Rattle.fk_lockstep_one_group.proofs.Acts.{Acts, acts, stepping_length, result_is}
-use Rattle.fk_lockstep_one_group.proofs.Opening.{begins_at}
-use Rattle.fk_lockstep_one_group.proofs.Runs.{are_all, round_by_round}
+use Rattle.fk_lockstep_tree.specs.Rounds.{IsSingle, stepping}
+use Rattle.fk_lockstep_tree.specs.Runs.{AreSingle}
+use Rattle.fk_lockstep_tree.proofs.Acts.{Acts, acts, stepping_length, result_is}
+use Rattle.fk_lockstep_tree.proofs.Opening.{begins_at}
+use Rattle.fk_lockstep_tree.proofs.Runs.{are_all, round_by_round}
 use Rattle.fk_sim_block.specs.Next.{step_at}
 use Rattle.fk_sim_block.specs.Lists.{StaysInList}
 use Rattle.fk_sim_rounds.specs.InRange.{ListsStayInRange}

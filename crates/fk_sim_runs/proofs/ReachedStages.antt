@@ -18,7 +18,7 @@ use Rattle.fk_core.specs.Next.{Position, landing, next}
 use Rattle.fk_sim_nodes.specs.Phase.{Phase, Leaving}
 use Rattle.fk_sim_match.specs.Stage.{Commits, Unites, Stage, Ended, Acts, Meets, count_of_stage, counts_for, Pairwise, Remains, IsOver}
 use Rattle.fk_lockstep.proofs.Round.{first_is, some_at}
-use Rattle.fk_lockstep_one_group.proofs.Acts.{acts, counts_as}
+use Rattle.fk_lockstep_tree.proofs.Acts.{acts, counts_as}
 use Rattle.fk_sim_block.specs.Owner.{Owner, Doing}
 use Rattle.fk_sim_block.specs.Next.{OpAt, step_at}
 use Rattle.fk_sim_block.specs.Node.{Nestings}

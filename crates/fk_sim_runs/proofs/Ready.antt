@@ -8,7 +8,7 @@ use Rattle.fk_tree.proofs.Shapes.{some-given}
 use Rattle.fk_tree.proofs.Begins.{root_some}
 use Rattle.fk_meaning.specs.Processor.{Setting, group_space}
 use Rattle.fk_machine.specs.Cycle.{cycle}
-use Rattle.fk_lockstep_one_group.specs.Placed.{IsOfOneGroup}
+use Rattle.fk_lockstep_tree.specs.Placed.{IsOfOneGroup}
 use Rattle.fk_sim_block.specs.Node.{IsAtRest}
 use Rattle.fk_sim_match.specs.Nodes.{first_of}
 use Rattle.fk_sim_rounds.specs.Rest.{HasNoGroup}

@@ -7,7 +7,7 @@ use Rattle.fk_tree.specs.Tree.{Node, Tree, parent, kind, is_waiting}
 use Rattle.fk_tree.specs.Sound.{awaits, IsSound}
 use Rattle.fk_tree.proofs.Shapes.{from_within}
 use Rattle.fk_meaning.specs.Processor.{Setting, group_space}
-use Rattle.fk_lockstep_one_group.specs.Placed.{IsOfOneGroup, HasGroup}
+use Rattle.fk_lockstep_tree.specs.Placed.{IsOfOneGroup, HasGroup}
 use Rattle.fk_sim_match.specs.Laws.{HasOneGroup}
 use Rattle.fk_sim_match.proofs.Nodes.{one_group_has_space}
 use Rattle.fk_sim_runs.specs.Facts.{spaces_of, HasSpace, ReachedTreesHaveSpaces}

@@ -19,8 +19,8 @@ use Rattle.fk_sim_block.specs.Lists.{StaysInList}
 use Rattle.fk_sim_block.specs.Node.{Nestings}
 use Rattle.fk_sim_block.specs.Law.{is_shared_step}
 use Rattle.fk_sim_rounds.proofs.Way.{no_jump}
-use Rattle.fk_lockstep_one_group.specs.Where.{Where, InRoot, Waits, InGroup, InBody, BehindBody, stays, goes}
-use Rattle.fk_lockstep_one_group.specs.Placed.{where_in}
+use Rattle.fk_lockstep_tree.specs.Where.{Where, InRoot, Waits, InGroup, InBody, BehindBody, stays, goes}
+use Rattle.fk_lockstep_tree.specs.Placed.{where_in}
 use Rattle.fk_sim_runs.specs.Lists.{IsOfOneGroup}
 use Rattle.fk_sim_runs.specs.Reached.{the_end}
 

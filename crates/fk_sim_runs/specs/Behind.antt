@@ -9,7 +9,7 @@ use Rattle.fk_meaning.specs.Round.{Runner, State, result, is_possible}
 use Rattle.fk_meaning.specs.Schedule.{Schedule, run, ArePossible}
 use Rattle.fk_core.specs.declared.op.CoreOp.{CoreOp}
 use Rattle.fk_core.specs.Next.{Position, next, list_opening}
-use Rattle.fk_lockstep_one_group.specs.Runs.{AreSingle}
+use Rattle.fk_lockstep_tree.specs.Runs.{AreSingle}
 use Rattle.fk_sim_nodes.specs.Source.{AllPass}
 use Rattle.fk_sim_match.specs.Stage.{Stage, counts_for, Pairwise, Remains}
 use Rattle.fk_sim_block.specs.Owner.{Commons, Owner, Doing, core_source}

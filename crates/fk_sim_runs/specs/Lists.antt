@@ -4,7 +4,7 @@ use Rattle.fk_meaning_operation.specs.declared.operation.Operation.{Operation}
 use Rattle.fk_core.specs.declared.op.CoreOp.{CoreOp}
 use Rattle.fk_core.specs.Next.{position, landing, is_jump, follows, next}
 use Rattle.fk_core.specs.WellFormed.{IsOperation, IsWellFormed}
-use Rattle.fk_lockstep_one_group.specs.Runs.{AlwaysOneGroup}
+use Rattle.fk_lockstep_tree.specs.Runs.{AlwaysOneGroup}
 use Rattle.fk_sim_block.specs.Next.{OpAt}
 use Rattle.fk_sim_block.specs.Lists.{StaysInList, is_end, AlwaysMay}
 use Rattle.fk_sim_block.specs.Node.{Nestings}

@@ -9,8 +9,8 @@ use Rattle.fk_core.specs.declared.op.CoreOp.{CoreOp}
 use Rattle.fk_core.specs.Numbers.{operation_of}
 use Rattle.fk_core.specs.Next.{Position, position, landing, next, list_opening}
 use Rattle.fk_lockstep.specs.OneProgram.{HaveOneProgram}
-use Rattle.fk_lockstep_one_group.specs.Placed.{HasOneGroup}
-use Rattle.fk_lockstep_one_group.specs.Runs.{AreSingle, BeginAtOne}
+use Rattle.fk_lockstep_tree.specs.Placed.{HasOneGroup}
+use Rattle.fk_lockstep_tree.specs.Runs.{AreSingle, BeginAtOne}
 use Rattle.fk_sim_block.specs.Ready.{MayDo, IsInRange}
 use Rattle.fk_sim_block.specs.Lists.{StaysInList}
 use Rattle.fk_sim_rounds.specs.InRange.{AreGiven}
