@@ -513,7 +513,7 @@ module _ {W : Type 0} (next : W → Option (Step W)) (set : Setting) (round : Ro
   around h a = length a.runner.has.outer
 
   not_zero : (g : ℕ) → kind old g ≡ Some Lockstep → g ≢ 0
-  not_zero g e zero = base.sound.free (sym (ap (kind old) zero) ∙ e)
+  not_zero g e is_zero = base.sound.free (sym (ap (kind old) is_zero) ∙ e)
 
   abbrev begun_of : ℕ → Tree
   begun_of g = record old { given = first g }
@@ -720,14 +720,14 @@ module _ {W : Type 0} (next : W → Option (Step W)) (set : Setting) (round : Ro
     -- ---- the group of a start begins
 
     abbrev begun_by : (e : does_by g ≡ Some o.Begin) (all : All g o.Begin) → g ≡ 0 → Parting h a lt g at o.Begin e all
-    begun_by e all zero = record { many_parts = 1; into = first_part (count_of g); tree_is = ap (λ (m : ℕ). t.split m 1 (first_part (count_of g)) (begun_of g)) (sym zero) }
+    begun_by e all is_zero = record { many_parts = 1; into = first_part (count_of g); tree_is = ap (λ (m : ℕ). t.split m 1 (first_part (count_of g)) (begun_of g)) (sym is_zero) }
 
     begins : (e : does_by g ≡ Some o.Begin) (all : All g o.Begin) → g ≡ 0 → kind old g ≡ Some (Asynchronous false) → Stands h (settle h a)
-    begins e all zero kind_is =
+    begins e all is_zero kind_is =
         moves h a lt g at o.Begin e all (λ to goes' size size_is. by_taken to size size_is (is_taken (agreed acting (members old g)) it) refl (subst (λ (q : Where). goes q o.Begin (is_taken (agreed acting (members old g)) it) ≡ Some to) in_root goes'))
       where
         none_above : around h a ≡ 0
-        none_above = root_outer set old spaces h g it.level it.outer its_levels zero
+        none_above = root_outer set old spaces h g it.level it.outer its_levels is_zero
 
         in_root : here.place ≡ InRoot
         in_root =
@@ -736,10 +736,10 @@ module _ {W : Type 0} (next : W → Option (Step W)) (set : Setting) (round : Ro
 
         many_root : length (members old g) ≡ set.processors
         many_root =
-            ap (λ (m : ℕ). length (members old m)) zero ∙ ap (λ (l : List ℕ). length l) base.sound.root ∙ length-below set.processors []
+            ap (λ (m : ℕ). length (members old m)) is_zero ∙ ap (λ (l : List ℕ). length l) base.sound.root ∙ length-below set.processors []
             ∙ (let none' : set.processors + 0 ≡ set.processors = omega arith in none')
 
-        few' : nat_lt h count ≡ is_taken (agreed acting (members old g)) it
+        few' : nat_lt h (count_of g) ≡ is_taken (agreed acting (members old g)) it
         few' =
             ap (λ (m : ℕ). nat_lt h (min (not_negative (agreed acting (members old g))) m)) many_root ∙ few_of h (not_negative (agreed acting (members old g))) set.processors lt
             ∙ ap (λ (m : ℕ). nat_lt m (not_negative (agreed acting (members old g)))) (sym here.number_is)
@@ -748,7 +748,7 @@ module _ {W : Type 0} (next : W → Option (Step W)) (set : Setting) (round : Ro
         into_is b is' = ap (λ (c : Bool). if c then Some 0 else None) (few' ∙ is')
 
         level_is : it.level ≡ first_level set h
-        level_is = root_first set old spaces h g it.level it.outer its_levels zero
+        level_is = root_first set old spaces h g it.level it.outer its_levels is_zero
 
         low_level : (whose (lowest (members old g))).level.space ≡ group_space set
         low_level =
@@ -756,18 +756,18 @@ module _ {W : Type 0} (next : W → Option (Step W)) (set : Setting) (round : Ro
             let low = lowest (members old g) in
             let its = is_placed low l.0 in
             let levels = subst (λ (m : ℕ). AreLevels set old spaces low m l.0.runner.has.level l.0.runner.has.outer) (all.stand low l.1) its.levels in
-            ap (λ (q : Processor). q.level.space) l.2 ∙ ap (λ (x : Level). x.space) (root_first set old spaces low g l.0.runner.has.level l.0.runner.has.outer levels zero)
+            ap (λ (q : Processor). q.level.space) l.2 ∙ ap (λ (x : Level). x.space) (root_first set old spaces low g l.0.runner.has.level l.0.runner.has.outer levels is_zero)
 
         by_taken : (to : Where) (size : ℕ) → size ≡ length (members new (new.places h)) → (b : Bool) → is_taken (agreed acting (members old g)) it ≡ b → Some (if b then InGroup 0 else Waits 0) ≡ Some to
             → Arrives h to (if b then enter_level (start_level it size) (drop_last 1 it) else drop_last 1 it)
         by_taken to size size_is true is' goes' =
             subst (λ (q : Where). Arrives h q (enter_level (start_level it size) (drop_last 1 it))) (ap (λ (m : ℕ). InGroup m) none_above ∙ first_is (InGroup 0) to goes')
-            (enters_there h a lt g at o.Begin e all (begun_by e all zero) 0 (enter_level (start_level it size) (drop_last 1 it)) (into_is true is') (omega arith) refl refl
+            (enters_there h a lt g at o.Begin e all (begun_by e all is_zero) 0 (enter_level (start_level it size) (drop_last 1 it)) (into_is true is') (omega arith) refl refl
             (record { number = ap (λ (x : Level). x.number) (sym level_is); rank = here.number_is ∙ ap (λ (x : Level). x.rank) (sym level_is) })
             (ap (λ (x : Level). range_of x.space) level_is ∙ ap range_of (sym low_level)) size_is)
         by_taken to size size_is false is' goes' =
             subst (λ (q : Where). Arrives h q (drop_last 1 it)) (ap (λ (m : ℕ). Waits m) none_above ∙ first_is (Waits 0) to goes')
-            (waits_there h a lt g at o.Begin e all (begun_by e all zero) (drop_last 1 it) (into_is false is') refl refl refl)
+            (waits_there h a lt g at o.Begin e all (begun_by e all is_zero) (drop_last 1 it) (into_is false is') refl refl refl)
 
     steps : (op : Operation) (e : does_by g ≡ Some op) (all : All g op) → StepFits old g op → Stands h (settle h a)
     steps o.Begin e all fits = begins e all fits.0 fits.1

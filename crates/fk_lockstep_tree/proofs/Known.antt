@@ -23,7 +23,7 @@ use Rattle.fk_lockstep.proofs.Round.{first_is, all_at, at_below, lowest_member}
 use Rattle.fk_lockstep_tree.specs.Where.{Where, InRoot, Waits, InGroup, InBody, BehindBody, goes}
 use Rattle.fk_lockstep_tree.specs.Ranges.{ranges_of}
 use Rattle.fk_lockstep_tree.specs.Placed.{where_in, where_at, IsPlaced}
-use Rattle.fk_lockstep_nodes.specs.Steps.{Keeps, Does, KeepsOrDoes, StepsBy, stepping}
+use Rattle.fk_lockstep_nodes.specs.Steps.{Keeps, Does, KeepsOrDoes, StepsBy, MayStep, stepping}
 use Rattle.fk_lockstep_tree.specs.Steps.{StepFits, AreKnown}
 use Rattle.fk_lockstep_tree.specs.Rounds.{IsRound, RoundsAreKnown}
 use Rattle.fk_lockstep_tree.proofs.Moves.{OfGroups, root_begins, waiters_resume, group_steps, bodies_meet, others_meet, joint_tells, not_alone, joint_is_step, goes_on}
@@ -416,13 +416,16 @@ module _ {W : Type 0} (next : W → Option (Step W)) (set : Setting) (round : Ro
       subst (λ (x : Acting W). (x.runner.has.number ≡ 0 + i) × KeepsOrDoes (does_of (s.tree.places (0 + i))) x.due) same
       (number_at i a ∙ sym none, subst (λ (n : ℕ). KeepsOrDoes (does_of (s.tree.places n)) a.acting.due) (sym none) (each_steps i a lt)))
 
-  pub known : AreKnown s.tree actors
+  pub may_of : (g : ℕ) (op : Operation) → does_of g ≡ Some op → MayStep s.tree g op
+  may_of g op e =
+      let all = together_of g op e in
+      record { there = has_some s.tree g all.one all.member; stand = all.stand; root = λ begins. (subst (λ (x : Operation). StepFits s.tree g x) begins all.fits).0 }
+
+  known : AreKnown s.tree actors
   known = record {
     does = does_of;
     steps = steps_known;
-    may = λ g op e.
-        let all = together_of g op e in
-        record { there = has_some s.tree g all.one all.member; stand = all.stand; root = λ begins. (subst (λ (x : Operation). StepFits s.tree g x) begins all.fits).0 };
+    may = may_of;
     fits = λ g op e. (together_of g op e).fits;
   }
 

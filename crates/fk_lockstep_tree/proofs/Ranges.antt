@@ -123,16 +123,16 @@ module _ {W : Type 0} (next : W → Option (Step W)) (set : Setting) (s : State 
       on_way_for zero g much has' =
           let there = some-given set.processors tree sound g (has_some tree g h has') in
           absurd (omega (arith, much, there))
-      on_way_for (suc fuel) g much has' = by (child_below g tree.given)
+      on_way_for (suc fuel) g much has' = by (λ m le in_m. on_way_for fuel m le in_m) (child_below g tree.given)
         where
-          by : Child g ⊎ ((m : ℕ) → m < tree.given → m ≢ 0 → parent tree m ≡ g → Has tree m h → ⊥) → OnWay g (tree.places h) outer
-                by (inl found) =
+          by : ((m : ℕ) → tree.given ≤ m + fuel → Has tree m h → OnWay m (tree.places h) outer) → Child g ⊎ ((m : ℕ) → m < tree.given → m ≢ 0 → parent tree m ≡ g → Has tree m h → ⊥) → OnWay g (tree.places h) outer
+          by further (inl found) =
               let m = found.0 in
               let up = found.2 in
               let lower = has.upward m found.1 (has_some tree m h found.3) in
-              let below = on_way_for fuel m (omega (arith, much, lower, up)) found.3 in
+              let below = further m (omega (arith, much, lower, up)) found.3 in
               subst (λ (k : ℕ). OnWay k (tree.places h) outer) up (one_up m (tree.places h) l outer levels below found.1)
-          by (inr none) =
+          by further (inr none) =
               begins_way g (tree.places h) outer
               (sym (sound.only h g (record {
                 member = has';
@@ -192,8 +192,8 @@ module _ {W : Type 0} (next : W → Option (Step W)) (set : Setting) (s : State 
         levels_read h (parent tree n) up outer (sound.among n h ne has') levels.3,
       )
 
-  parent_there : (g : ℕ) → g ≢ 0 → tree.nodes g ≢ None → tree.nodes (parent tree g) ≢ None
-  parent_there g ne there = awaits-some tree (parent tree g) g (sound.awaited g ne there)
+  parent_lives : (g : ℕ) → g ≢ 0 → tree.nodes g ≢ None → tree.nodes (parent tree g) ≢ None
+  parent_lives g ne there = awaits-some tree (parent tree g) g (sound.awaited g ne there)
 
   pub has_tree : HasTree next set s
   has_tree = record {
@@ -215,7 +215,7 @@ module _ {W : Type 0} (next : W → Option (Step W)) (set : Setting) (s : State 
       whole = λ g ne there up. read_there g ne there ∙ has.ranges.whole g ne there up;
       nested = λ g ne there up.
           let p = parent tree g in
-          subst (λ (x : Space). (x.low + 8 ≤ (ranges_of s g).low) × ((ranges_of s g).high ≤ x.high)) (sym (read_there p up (parent_there g ne there)))
+          subst (λ (x : Space). (x.low + 8 ≤ (ranges_of s g).low) × ((ranges_of s g).high ≤ x.high)) (sym (read_there p up (parent_lives g ne there)))
           (subst (λ (x : Space). ((spaces p).low + 8 ≤ x.low) × (x.high ≤ (spaces p).high)) (sym (read_there g ne there)) (has.ranges.nested g ne there up));
       apart = λ g k ne ne' differ there there' up.
           subst (λ (x : Space). (x.high ≤ (ranges_of s k).low) ⊎ ((ranges_of s k).high ≤ x.low)) (sym (read_there g ne there))
@@ -356,15 +356,15 @@ module _ {W : Type 0} (next : W → Option (Step W)) (set : Setting) (round : Ro
     to : m < first node + parts by (values (whose (low node)))
 
   begins_at : (m g : ℕ) → g ≡ 0 → does g ≡ Some o.Begin → first g ≤ m → m < first g + 1 → new.nodes m ≢ None → BeginsAt m
-  begins_at m g zero e from to there =
+  begins_at m g is_zero e from to there =
       let count = min (not_negative (agreed (after.acting next set round s is) (members old g))) (length (members old g)) in
       let ms = filter (λ j. is_in (m - first g) (first_part count j)) (members old 0) in
       let node : new.nodes m ≡ node_of ms 0 Lockstep
       = trees.part_steps next set round s base g o.Begin e m from to ∙ new_nodes 0 1 (first_part count) (begun_of g) m (from_within (first g) 1 m from to) in
       record {
-        does_is = subst (λ (k : ℕ). does k ≡ Some o.Begin) zero e;
+        does_is = subst (λ (k : ℕ). does k ≡ Some o.Begin) is_zero e;
         up = ap t.parent_of node ∙ parent-node_of ms 0 Lockstep (λ none. there (node ∙ none));
-        number = (let same : m ≡ first g = omega (arith, from, to) in same) ∙ ap first zero;
+        number = (let same : m ≡ first g = omega (arith, from, to) in same) ∙ ap first is_zero;
       }
 
   splits_at : (m g : ℕ) (by : SplitKind) → does g ≡ Some (o.Split by) → first g ≤ m → m < first g + parts by (values (whose (low g))) → new.nodes m ≢ None → SplitsAt m
@@ -444,7 +444,7 @@ module _ {W : Type 0} (next : W → Option (Step W)) (set : Setting) (round : Ro
       subst (λ (q : Processor). has_room (o.Split by) q ≡ true) (sym known) (subst (λ (x : Operation). has_room x a.runner.has ≡ true) op_is d.room)
 
   not_zero : (g : ℕ) (by : SplitKind) → does g ≡ Some (o.Split by) → g ≢ 0
-  not_zero g by e zero = let all = all_do g (o.Split by) e in base.sound.free (sym (ap (kind old) zero) ∙ all.fits)
+  not_zero g by e is_zero = let all = all_do g (o.Split by) e in base.sound.free (sym (ap (kind old) is_zero) ∙ all.fits)
 
   begins_space : (m : ℕ) → old.given ≤ m → BeginsAt m → spaces' m ≡ range_of (group_space set)
   begins_space m ge b =

@@ -12,7 +12,7 @@ use Rattle.fk_meaning.specs.Round.{Step, State, Round, Acting, lowest, who, agre
 use Rattle.fk_lockstep_nodes.specs.Steps.{NodesStep, tree_by}
 use Rattle.fk_lockstep_nodes.proofs.Nodes.{nodes_step}
 use Rattle.fk_lockstep_tree.specs.Rounds.{IsRound}
-use Rattle.fk_lockstep_tree.proofs.Known.{actors, many, does_of, Together, together_of, steps_known, known, there_at}
+use Rattle.fk_lockstep_tree.proofs.Known.{actors, many, does_of, Together, together_of, steps_known, may_of}
 
 module _ {W : Type 0} (next : W → Option (Step W)) (set : Setting) (round : Round) (s : State W) (is : IsRound next set round s) where
   abbrev pub old : Tree
@@ -31,7 +31,7 @@ module _ {W : Type 0} (next : W → Option (Step W)) (set : Setting) (round : Ro
   new = all_changes acting old acting old
 
   pub stepped : NodesStep old new whose does
-  stepped = nodes_step acting old set.processors is.sound does (known next set round s is).may (many next set round s is) (steps_known next set round s is)
+  stepped = nodes_step acting old set.processors is.sound does (may_of next set round s is) (many next set round s is) (steps_known next set round s is)
 
   -- the tree where a node steps by itself
   abbrev pub own : (g : ℕ) → Operation → Tree
