@@ -58,13 +58,13 @@ last_end cs (i ∷ is) (inr below) = last_more (length cs) i is (ends_short cs i
 -- and the last ones of these are as before
 pub last_again : (k n : ℕ) (xs : List ℕ) → k ≤ n → last_of k (last_of n xs) ≡ last_of k xs
 last_again k n [] le = refl
-last_again k n (x ∷ xs) le = by (nat_lt (length xs) n) refl
+last_again k n (x ∷ xs) le = by (last_again k n xs le) (nat_lt (length xs) n) refl
   where
-    by : (b : Bool) → nat_lt (length xs) n ≡ b → last_of k (if b then x ∷ xs else last_of n xs) ≡ last_of k (x ∷ xs)
-    by true e = refl
-    by false e =
+    by : last_of k (last_of n xs) ≡ last_of k xs → (b : Bool) → nat_lt (length xs) n ≡ b → last_of k (if b then x ∷ xs else last_of n xs) ≡ last_of k (x ∷ xs)
+    by same true e = refl
+    by same false e =
         let far : n ≤ length xs = ⊎_elim (λ lt. absurd (false≢true (sym e ∙ lt-ltb (length xs) n lt))) (λ le'. le') (cases_lt (length xs) n) in
-        last_again k n xs le ∙ sym (last_more k x xs (omega (arith, le, far)))
+        same ∙ sym (last_more k x xs (omega (arith, le, far)))
 
 -- an operation leaves the calls that run, begins one, or ends the last one
 abbrev Turns : List ℕ → List ℕ → Type 0

@@ -1,5 +1,5 @@
 -- An operation leads a processor from place to place, and so does what comes after the parts and bodies that it is in.
-use Rattle.std.proofs.Common.{◌≡◌, ⊎_elim, ℕ, zero, suc, Bool, true, false, List, [], ◌∷◌, ◌++◌, map, Option, Some, None, sym, refl, ◌∙◌, subst}
+use Rattle.std.proofs.Common.{◌≡◌, ap, ⊎_elim, ℕ, zero, suc, Bool, true, false, List, [], ◌∷◌, ◌++◌, map, Option, Some, None, sym, refl, ◌∙◌, subst}
 use Rattle.std.specs.Prelude.{if◌then◌else◌}
 use Rattle.fk_meaning_operation.specs.declared.operation.Operation.{Operation}
 use Rattle.fk_meaning_operation.specs.declared.operation.Operation.TheVariants as o
@@ -54,7 +54,7 @@ begin_joint o.Begin e = refl
 begin_joint op e = absurd (cc)
 
 left_same : (p left q left' : Where) → Some (turning p left) ≡ Some (turning q left') → left' ≡ left
-left_same p left q left' e = cc
+left_same p left q left' e = ap (λ (l : Loop). l.left) (sym (first_is (turning p left) (turning q left') e))
 
 module _ (may_call : (in_group : Bool) → (function : ℕ) → Bool) (bodies : ℕ → Code ℕ) (main : ℕ) (facts : AreLed may_call bodies main) where
   abbrev has_body : ℕ → Bool
