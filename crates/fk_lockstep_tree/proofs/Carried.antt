@@ -391,13 +391,13 @@ module _ {V : Type 0} (next_in : V → Option (Step V)) (outs_in : V → List V)
       let v = x.work in
       subst (λ (p : Position). Next n round alone (held v p) (option_map (carried (seat core) v (next_in v)) (next core p))) (sym is.at)
       (subst (λ (b : Option (Step Position)). Next n round alone (held v (seat core is.raw)) (option_map (carried (seat core) v (next_in v)) b)) (sym (seat_next core leads_on is.raw))
-      (by (next_in v) refl (next core is.raw) (is_carried.same v is.raw is.related) (λ m. fs (suc m))))
+      (by (λ round' alone' y b f'. framed_held n round' alone' y b f') (next_in v) refl (next core is.raw) (is_carried.same v is.raw is.related) (λ m. fs (suc m))))
     where
-      one : (s : Step V) (u : Step Position) → next_in x.work ≡ Some s → Same R (Some s) (Some u)
+      one : ((round' : ℕ) (alone' : Bool) (y : Held V) → IsBeside y → IsFramed next_in outs_in depth round' alone' y.work → FramedFor (next_held next_in core) outs_held depth_held n round' alone' y) → (s : Step V) (u : Step Position) → next_in x.work ≡ Some s → Same R (Some s) (Some u)
           → ((m : ℕ) → FramesGoOn next_in outs_in depth (FramedFor next_in outs_in depth m) round alone s.operation x.work s.rest)
           → FramesGoOn (next_held next_in core) outs_held depth_held (FramedFor (next_held next_in core) outs_held depth_held n) round alone s.operation (held x.work (seat core is.raw))
           (λ onward. held (s.rest onward) (seat core (u.rest onward)))
-      one s u e h k =
+      one more s u e h k =
           let first = k 0 in
           record {
             calls = calls_held (calling s.operation) x.work (seat core is.raw) s.rest (λ onward. seat core (u.rest onward)) first.calls;
@@ -406,16 +406,17 @@ module _ {V : Type 0} (next_in : V → Option (Step V)) (outs_in : V → List V)
             outermost = first.outermost;
             met = λ split. as_deep (depth x.work) (seat core (u.rest true)).callers (outs_in (s.rest true)) (first.met split);
             goes_on = λ onward.
-                framed_held n (round_after s.operation onward round) (alone_after s.operation round alone) (held (s.rest onward) (seat core (u.rest onward)))
+                more (round_after s.operation onward round) (alone_after s.operation round alone) (held (s.rest onward) (seat core (u.rest onward)))
                 (record { raw = u.rest onward; related = h.2 onward; at = refl; good = is_carried.goes_on x.work s is.good e onward }) (λ m. (k m).goes_on onward);
           }
 
-      by : (a : Option (Step V)) → next_in x.work ≡ a → (b : Option (Step Position)) → Same R a b
+      by : ((round' : ℕ) (alone' : Bool) (y : Held V) → IsBeside y → IsFramed next_in outs_in depth round' alone' y.work → FramedFor (next_held next_in core) outs_held depth_held n round' alone' y)
+          → (a : Option (Step V)) → next_in x.work ≡ a → (b : Option (Step Position)) → Same R a b
           → ((m : ℕ) → FramedNext next_in outs_in depth (FramedFor next_in outs_in depth m) round alone x.work a)
           → Next n round alone (held x.work (seat core is.raw)) (option_map (carried (seat core) x.work a) b)
-      by None e None h k = tt
-      by (Some s) e (Some u) h k =
+      by more None e None h k = tt
+      by more (Some s) e (Some u) h k =
           subst (λ (op : Operation). FramesGoOn (next_held next_in core) outs_held depth_held (FramedFor (next_held next_in core) outs_held depth_held n) round alone op (held x.work (seat core is.raw))
-          (λ onward. held (s.rest onward) (seat core (u.rest onward)))) h.0 (one s u e h k)
-      by None e (Some u) h k = absurd h
-      by (Some s) e None h k = absurd h
+          (λ onward. held (s.rest onward) (seat core (u.rest onward)))) h.0 (one more s u e h k)
+      by more None e (Some u) h k = absurd h
+      by more (Some s) e None h k = absurd h

@@ -55,62 +55,62 @@ may_call in_group (suc zero) = true
 may_call true (suc (suc zero)) = true
 may_call in_group f = false
 
-resumes : Leads may_call InRoot None Waits behind_start InRoot
+resumes : Leads may_call InRoot None (Waits 0) behind_start InRoot
 resumes = (InRoot, (λ w. refl), ((λ w. refl), refl, refl))
 
-closes : (place : Where) → goes place (o.Meet true) true ≡ Some InGroup → goes place (o.Meet true) false ≡ Some InGroup
-    → Leads may_call InRoot None place behind_farm Waits
-closes place a b = (InGroup, by, (Waits, (λ w. refl), refl))
+closes : (place : Where) → goes place (o.Meet true) true ≡ Some (InGroup 0) → goes place (o.Meet true) false ≡ Some (InGroup 0)
+    → Leads may_call InRoot None place behind_farm (Waits 0)
+closes place a b = (InGroup 0, by, (Waits 0, (λ w. refl), refl))
   where
-    by : (onward : Bool) → goes place (o.Meet true) onward ≡ Some InGroup
+    by : (onward : Bool) → goes place (o.Meet true) onward ≡ Some (InGroup 0)
     by true = a
     by false = b
 
-farms : Leads may_call InRoot None InGroup from_farm Waits
-farms = (InBody, BehindBody, InBody, BehindBody, refl, refl, refl, refl, closes InBody refl refl, closes BehindBody refl refl)
+farms : Leads may_call InRoot None (InGroup 0) from_farm (Waits 0)
+farms = (InBody 0, BehindBody 0, InBody 0, BehindBody 0, refl, refl, refl, refl, closes (InBody 0) refl refl, closes (BehindBody 0) refl refl)
 
-seqs : Leads may_call InRoot None InGroup from_seq Waits
+seqs : Leads may_call InRoot None (InGroup 0) from_seq (Waits 0)
 seqs = (
-  InBody,
-  BehindBody,
-  InBody,
-  BehindBody,
+  InBody 0,
+  BehindBody 0,
+  InBody 0,
+  BehindBody 0,
   refl,
   refl,
-  (InBody, (λ w. refl), refl),
+  (InBody 0, (λ w. refl), refl),
   refl,
-  (InGroup, (λ w. refl), farms),
-  (InGroup, (λ w. refl), farms),
+  (InGroup 0, (λ w. refl), farms),
+  (InGroup 0, (λ w. refl), farms),
 )
 
-ifs : Leads may_call InRoot None InGroup from_if Waits
+ifs : Leads may_call InRoot None (InGroup 0) from_if (Waits 0)
 ifs = (
-  InGroup,
+  InGroup 0,
   (λ w. refl),
   (
-    InGroup,
+    InGroup 0,
     (λ w. refl),
-    (InGroup, InGroup, InGroup, InGroup, refl, refl, (InGroup, (λ w. refl), (InGroup, (λ w. refl), refl)), refl, seqs, seqs),
+    (InGroup 0, InGroup 0, InGroup 0, InGroup 0, refl, refl, (InGroup 0, (λ w. refl), (InGroup 0, (λ w. refl), refl)), refl, seqs, seqs),
   ),
 )
 
-opens : Leads may_call InGroup None InGroup opening InGroup
-opens = (InGroup, (λ w. refl), (InGroup, (λ w. refl), (InGroup, (λ w. refl), (InGroup, (λ w. refl), (InGroup, (λ w. refl), refl)))))
+opens : Leads may_call (InGroup 0) None (InGroup 0) opening (InGroup 0)
+opens = (InGroup 0, (λ w. refl), (InGroup 0, (λ w. refl), (InGroup 0, (λ w. refl), (InGroup 0, (λ w. refl), (InGroup 0, (λ w. refl), refl)))))
 
-calls : Leads may_call InRoot None InGroup (perform 25 (o.Push 1) (perform 26 o.Agree (call 27 (o.Enter 1) 2 opening from_if))) Waits
-calls = (InGroup, (λ w. refl), (InGroup, (λ w. refl), ((λ w. refl), refl, opens, ifs)))
+calls : Leads may_call InRoot None (InGroup 0) (perform 25 (o.Push 1) (perform 26 o.Agree (call 27 (o.Enter 1) 2 opening from_if))) (Waits 0)
+calls = (InGroup 0, (λ w. refl), (InGroup 0, (λ w. refl), ((λ w. refl), refl, opens, ifs)))
 
-group : Leads may_call InRoot None InGroup in_start Waits
-group = (InGroup, (λ w. refl), ((λ w. refl), refl, refl, calls))
+group : Leads may_call InRoot None (InGroup 0) in_start (Waits 0)
+group = (InGroup 0, (λ w. refl), ((λ w. refl), refl, refl, calls))
 
 -- processors by themselves take no words of their group's space, and give none back
 alone_take_none : (onward : Bool)
-    → (goes InRoot (o.Frame 1 1) onward ≡ None) × (goes InBody (o.Frame 1 1) onward ≡ None) × (goes InRoot o.Block onward ≡ None) × (goes InBody o.Block onward ≡ None)
-    × (goes InBody (o.Leave false true) onward ≡ None)
+    → (goes InRoot (o.Frame 1 1) onward ≡ None) × (goes (InBody 0) (o.Frame 1 1) onward ≡ None) × (goes InRoot o.Block onward ≡ None) × (goes (InBody 0) o.Block onward ≡ None)
+    × (goes (InBody 0) (o.Leave false true) onward ≡ None)
 alone_take_none onward = (refl, refl, refl, refl, refl)
 
 behind : Leads may_call InRoot None InRoot behind_loop InRoot
-behind = (InRoot, (λ w. refl), (InRoot, (λ w. refl), (InGroup, Waits, Waits, Waits, refl, refl, group, refl, resumes, resumes)))
+behind = (InRoot, (λ w. refl), (InRoot, (λ w. refl), (InGroup 0, Waits 0, Waits 0, Waits 0, refl, refl, group, refl, resumes, resumes)))
 
 shaped : AreShaped bodies
 shaped zero = (
@@ -158,12 +158,12 @@ shaped (suc zero) = ((inl refl, (inl refl, (refl, tt))), inr refl)
 shaped (suc (suc zero)) = ((inl refl, (inl refl, (inl refl, (inl refl, (inl refl, (refl, tt)))))), inr refl)
 shaped (suc (suc (suc f))) = (tt, inl refl)
 
-in_group : (f : ℕ) → is_closed (bodies f) ≡ true → may_call true f ≡ true → Leads may_call InGroup None InGroup (bodies f) InGroup
-in_group zero c e = absurd (true≢false (sym e))
-in_group (suc zero) c e = (InGroup, (λ w. refl), (InGroup, (λ w. refl), ((λ w. refl), refl, refl)))
-in_group (suc (suc zero)) c e =
-    (InGroup, (λ w. refl), (InGroup, (λ w. refl), (InGroup, (λ w. refl), (InGroup, (λ w. refl), (InGroup, (λ w. refl), ((λ w. refl), refl, refl))))))
-in_group (suc (suc (suc f))) c e = absurd (true≢false (sym e))
+in_group : (n f : ℕ) → is_closed (bodies f) ≡ true → may_call true f ≡ true → Leads may_call (InGroup n) None (InGroup n) (bodies f) (InGroup n)
+in_group n zero c e = absurd (true≢false (sym e))
+in_group n (suc zero) c e = (InGroup n, (λ w. refl), (InGroup n, (λ w. refl), ((λ w. refl), refl, refl)))
+in_group n (suc (suc zero)) c e =
+    (InGroup n, (λ w. refl), (InGroup n, (λ w. refl), (InGroup n, (λ w. refl), (InGroup n, (λ w. refl), (InGroup n, (λ w. refl), ((λ w. refl), refl, refl))))))
+in_group n (suc (suc (suc f))) c e = absurd (true≢false (sym e))
 
 in_root : (f : ℕ) → is_closed (bodies f) ≡ true → may_call false f ≡ true → Leads may_call InRoot None InRoot (bodies f) InRoot
 in_root zero c e = absurd (true≢false (sym e))
@@ -171,11 +171,11 @@ in_root (suc zero) c e = (InRoot, (λ w. refl), (InRoot, (λ w. refl), ((λ w. r
 in_root (suc (suc zero)) c e = absurd (true≢false (sym e))
 in_root (suc (suc (suc f))) c e = absurd (true≢false (sym e))
 
-in_body : (f : ℕ) → is_closed (bodies f) ≡ true → may_call false f ≡ true → Leads may_call InBody None InBody (bodies f) InBody
-in_body zero c e = absurd (true≢false (sym e))
-in_body (suc zero) c e = (InBody, (λ w. refl), (InBody, (λ w. refl), ((λ w. refl), refl, refl)))
-in_body (suc (suc zero)) c e = absurd (true≢false (sym e))
-in_body (suc (suc (suc f))) c e = absurd (true≢false (sym e))
+in_body : (n f : ℕ) → is_closed (bodies f) ≡ true → may_call false f ≡ true → Leads may_call (InBody n) None (InBody n) (bodies f) (InBody n)
+in_body n zero c e = absurd (true≢false (sym e))
+in_body n (suc zero) c e = (InBody n, (λ w. refl), (InBody n, (λ w. refl), ((λ w. refl), refl, refl)))
+in_body n (suc (suc zero)) c e = absurd (true≢false (sym e))
+in_body n (suc (suc (suc f))) c e = absurd (true≢false (sym e))
 
 are_led : AreLed may_call bodies 0
 are_led = record {
@@ -184,8 +184,9 @@ are_led = record {
   in_root = in_root;
   in_body = in_body;
   main_of = (
-    (InRoot, (λ w. refl), (refl, (λ w. refl), refl)),
-    ((λ w. refl), refl, refl, (refl, refl)),
+    InRoot,
+    (InRoot, (λ w. refl), (InRoot, refl, (refl, refl), refl)),
+    ((λ w. refl), refl, refl, (InRoot, refl, refl)),
     refl,
     behind,
   );

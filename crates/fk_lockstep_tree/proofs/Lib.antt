@@ -24,6 +24,7 @@ pub mod Held
 pub mod Whole
 pub mod Run
 mod Example
+mod SplitExample
 mod PassedOver
 pub mod Beside
 pub mod Carried

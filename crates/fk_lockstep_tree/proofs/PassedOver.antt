@@ -1,18 +1,22 @@
--- A schedule of possible rounds that isn't lawful, since it passes a processor over. After it, too, a program with one group at
--- a time has at most one group.
-use Rattle.std.proofs.Common.{◌≡◌, ℕ, zero, suc, ◌+◌, ◌<◌, false, [], ◌∷◌, length, take, Option, Some, ap, ◌∙◌, sym, refl, subst, arith}
+-- A schedule of possible rounds that isn't lawful, since it passes a processor over. After it, too, processors are in the tree.
+use Rattle.std.proofs.Common.{◌≡◌, ℕ, zero, suc, ◌+◌, ◌<◌, true, false, List, [], ◌∷◌, length, take, Option, Some, None, ap, ◌∙◌, sym, refl, subst, arith}
 use Rattle.std.specs.Prelude.{slice_get}
 use Rattle.fk_meaning_operation.specs.declared.operation.Operation.TheVariants.{DropLast}
-use Rattle.fk_meaning.specs.Processor.{Setting, setting_of}
+use Rattle.fk_space.specs.Space.{IsSpace}
+use Rattle.fk_meaning.specs.Processor.{Setting, setting_of, group_space}
 use Rattle.fk_meaning.specs.Round.{Step, State, Round, result}
 use Rattle.fk_meaning.specs.Schedule.{Schedule, opening, run, IsIn, CouldAct, IsLawful}
 use Rattle.fk_lockstep.specs.Course.{ByItself, FollowsFor}
+use Rattle.fk_lockstep.specs.Frames.{FramedFor}
 use Rattle.fk_lockstep.specs.OneProgram.{KeepOneProgram}
+use Rattle.fk_lockstep.specs.OneSpace.{KeepOneSpace}
+use Rattle.fk_lockstep_frames.specs.Nests.{Nest, OfFunction, ToldFor}
+use Rattle.fk_lockstep_frames.proofs.Runs.{frames_are_as_told}
 use Rattle.fk_lockstep_tree.specs.Where.{InRoot, GoesFor}
-use Rattle.fk_lockstep_tree.specs.Placed.{HasOneGroup}
-use Rattle.fk_lockstep_tree.specs.Rounds.{IsSingle}
+use Rattle.fk_lockstep_tree.specs.Placed.{HasTree}
+use Rattle.fk_lockstep_tree.specs.Rounds.{IsSingle, HaveOwnSpaces}
 use Rattle.fk_lockstep_tree.specs.Runs.{AreSingle}
-use Rattle.fk_lockstep_tree.proofs.Runs.{AllPossible, all_are, runs_have_one_group}
+use Rattle.fk_lockstep_tree.proofs.Runs.{AllPossible, all_are, runs_stay_in_trees}
 
 abbrev Spins : Type 0
 Spins = Unit {0}
@@ -67,10 +71,38 @@ goes_on : (n : ℕ) → GoesFor next n InRoot tt
 goes_on zero = tt
 goes_on (suc n) = λ onward. (InRoot, refl, goes_on n)
 
-has_one_group : (n : ℕ) → KeepOneProgram next 2 (run next set (rounds n) first) × HasOneGroup next set (run next set (rounds n) first)
-has_one_group n =
-    runs_have_one_group Spins next (λ work. []) tt 2 [] [] (λ i. 0) (rounds n) follows goes_on (omega arith) (all_are next set (rounds n) first (all_possible n)) (all_single n)
-    (ap (λ (s : State Spins). s.fault) (behind n))
+is_framed : (n : ℕ) → FramedFor next (λ work. []) (λ work. 0) n 0 true tt
+is_framed zero = tt
+is_framed (suc n) = record {
+  calls = λ onward. refl;
+  in_group = λ takes. absurd (cc);
+  own = λ takes. absurd (cc);
+  outermost = λ begins. absurd (cc);
+  met = λ splits. absurd (cc);
+  goes_on = λ onward. is_framed n;
+}
+
+-- the nests of a processor that never enters a function or a part
+abbrev nests : Spins → List Nest
+nests work = OfFunction None ∷ []
+
+is_told : (n : ℕ) → ToldFor next nests n tt
+is_told zero = tt
+is_told (suc n) = (record { may = tt; on = λ onward. refl }, λ onward. is_told n)
+
+space : IsSpace (group_space set)
+space = record { header = omega arith; ordered = omega arith; within = omega arith; shared = omega arith }
+
+have_spaces : (schedule : Schedule) → HaveOwnSpaces (run next set schedule first)
+have_spaces schedule h r at =
+    let told = frames_are_as_told Spins next nests tt refl is_told set schedule 2 [] [] (λ i. 0) space h r at in
+    let taken = told.spaces in
+    taken.0.space
+
+in_tree : (n : ℕ) → KeepOneProgram next 2 (run next set (rounds n) first) × KeepOneSpace (run next set (rounds n) first) × HasTree next set (run next set (rounds n) first)
+in_tree n =
+    runs_stay_in_trees Spins next (λ work. []) (λ work. 0) tt 2 [] [] (λ i. 0) (rounds n) follows goes_on refl is_framed have_spaces (omega arith)
+    (all_are next set (rounds n) first (all_possible n)) (all_single n) (ap (λ (s : State Spins). s.fault) (behind n))
 
 -- processor 1 could act before each round, and is in none
 could : CouldAct next set 1 first
