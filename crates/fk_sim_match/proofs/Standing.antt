@@ -267,7 +267,6 @@ module _ (core : List CoreOp) (image : Image) (places : Places) (nestings : Nest
         ))
         (law.steps i op operation 0 0 stands stays setting t mine (first g) ms ps own owns all asked)
 
-    -- or each goes on by itself
     -- a member stands in its own node
     own_node : (bodies : Option ℕ) (begin : ℕ) (m : Member) (q : Owner) → IsMember places nestings setting bodies begin m q
         → IsMember places nestings setting bodies (first_word q.runner.has.level q.runner.has.outer) m q
