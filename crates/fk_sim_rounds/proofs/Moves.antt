@@ -44,7 +44,7 @@ use Rattle.fk_sim_match.specs.Behind.{runs_of, HaveMoved, blocks_of, IsAskedToMo
 use Rattle.fk_sim_match.proofs.Nodes.{tells}
 use Rattle.fk_sim_match.proofs.Rounds.{not_none, leaf_place, lockstep_kind}
 use Rattle.fk_sim_rounds.specs.Next.{JumpsLead, landed, all_landed, IsHome, HaveNext}
-use Rattle.fk_sim_rounds.specs.Comes.{IsNode}
+use Rattle.fk_sim_rounds.specs.Comes.{most_between, IsNode}
 use Rattle.fk_lockstep_nodes.specs.Steps.{StepsBy}
 use Rattle.fk_sim_rounds.specs.After.{actings, tree_after, owner_after, owners_after, halts, is_halt, DoesStep, ArePlaces, AllGoOn, GroupsGoOn}
 use Rattle.fk_sim_rounds.specs.Rounds.{IsBefore, IsTree, StepIsKnown, IsKnownRound}
@@ -164,6 +164,10 @@ committed_there old new g k number (n ∷ ns) (n' ∷ ns') (h ∷ hs) (a ∷ aft
     committed_add (n' == k) a (of_node k ns' afters)
     (λ e. parts.0 (eq-eqb n g (here.0 ∙ from number (omega arith) (omega arith) (sym there.0 ∙ eqb-true n' k e))))
     (committed_there old new g k (suc number) ns ns' hs afters here.1 there.1 many many' (λ i le lt at. from i (omega (arith, le)) (omega (arith, lt)) at) parts.1)
+committed_there old new g k number [] (n' ∷ ns') [] afters here there many many' from all = absurd many'
+committed_there old new g k number [] (n' ∷ ns') (h ∷ hs) afters here there many many' from all = absurd many
+committed_there old new g k number (n ∷ ns) [] [] afters here there many many' from all = absurd many
+committed_there old new g k number (n ∷ ns) [] (h ∷ hs) afters here there many many' from all = absurd many'
 committed_there old new g k number ns ns' hs afters here there many many' from all = absurd (assumption (many, many'))
 
 -- ---- what a step makes of a processor, whatever the size where it isn't in a group of that size
@@ -317,12 +321,12 @@ module _ (core : List CoreOp) (image : Image) (places : Places) (nestings : Nest
     some_doings : length doings ≡ 0 → ⊥
     some_doings = there_are nodes g ds (somebody setting.processors old before.sound nodes before.stand before.many g kind) (many_length nodes hs ds left.done_as_many).1
 
-    record HasMoved : Type 0 where
-      committed : AllHaveCommitted (of_node g nodes left.afters)
-      fact : HaveMoved core image places nestings setting (first_of spaces g) (later t) doings the_members (own' g)
-      same : fact.operation ≡ operation
+    pub record HasMoved : Type 0 where
+      pub committed : AllHaveCommitted (of_node g nodes left.afters)
+      pub fact : HaveMoved core image places nestings setting (first_of spaces g) (later t) (of_node g nodes ds) (of_node g nodes (numbered 0 hs)) (own' g)
+      pub same : fact.operation ≡ operation
 
-    has_moved : HasMoved
+    pub has_moved : HasMoved
     has_moved =
         let x = acted core image places nestings setting plan (first_of spaces) (later t) g (of_node g nodes left.afters) the_members (of_node g nodes ps) doings (own' g) operation all_step some_doings
         (moves_change operation moves)
@@ -347,12 +351,12 @@ module _ (core : List CoreOp) (image : Image) (places : Places) (nestings : Nest
 
     -- ---- who stands there
 
-    record Here (m : Member) (d : Doing) : Type 0 where
-      at : old.places m.number ≡ g
-      lt : m.number < setting.processors
-      home : IsHome (tree_after old ds) spaces m.number (settle d)
-      number_is : d.acting.runner.has.number ≡ m.number
-      who_is : who (actings ds) m.number ≡ d.acting.runner.has
+    pub record Here (m : Member) (d : Doing) : Type 0 where
+      pub at : old.places m.number ≡ g
+      pub lt : m.number < setting.processors
+      pub home : IsHome (tree_after old ds) spaces m.number (settle d)
+      pub number_is : d.acting.runner.has.number ≡ m.number
+      pub who_is : who (actings ds) m.number ≡ d.acting.runner.has
 
     all_here : (number : ℕ) (ns : List ℕ) (gs : List Hart) (afters : List (Option Stage)) (xs : List Doing) → ArePlaces old number ns → number + length ns ≡ setting.processors
         → AreAsMany ns gs afters → AreAsMany ns gs xs → AllGoOn core nestings setting (tree_after old ds) spaces number afters xs (map settle xs) → StepsBy old round.does number (actings xs)
@@ -625,7 +629,7 @@ module _ (core : List CoreOp) (image : Image) (places : Places) (nestings : Nest
           behind.sound behind.spaced round.does round.steps changed move on next at_changed lock_changed g operation Own
       moved_each m p d known' lt land home s0 a locks alone due' remains on' =
           let one = locks (ap (λ k. plan.in_lockstep k) known'.0 ∙ lock) in
-          let soon = λ k. (near core image places nestings cycles firsts main setting old (tree_after old ds) spaces nodes nodes' t stages hs ps ds own own' control the_law leads before left has behind.sound
+          let soon : (k : ℕ) → distance_of k ≤ most_between = λ k. (near core image places nestings cycles firsts main setting old (tree_after old ds) spaces nodes nodes' t stages hs ps ds own own' control the_law leads before left has behind.sound
           behind.spaced round.does round.steps changed move on next at_changed lock_changed k).soon in
           ⊎_elim
           (λ locked.

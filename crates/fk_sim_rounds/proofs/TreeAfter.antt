@@ -327,7 +327,7 @@ module _ (p : ℕ) (old : Tree) (sound : IsSound p old) (ds : List Doing) (round
   split_kind g kind is = ap kind_of (divides g kind is) ∙ kind-turned (Waiting (step.first g) (count_at g kind)) (old.nodes g) (known_there g (o.Split kind) (round.known g (o.Split kind) is))
 
   -- whose parts have a number among them
-  Gives : (m g : ℕ) → Type 0
+  abbrev Gives : (m g : ℕ) → Type 0
   Gives m g = (step.first g ≤ m) × (m < (by g (round.does g)).given)
 
   gives_or : (m g : ℕ) → Gives m g ⊎ (Gives m g → ⊥)
