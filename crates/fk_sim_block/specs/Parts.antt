@@ -73,8 +73,8 @@ pub record AreToDivide (by : SplitKind) (space : Space) (count : ℕ) (ps : List
   pub is_space : IsSpace space
   pub all : AllAreToDivide by space count ps
 
--- A processor is in a part of an implicit split: it has the `@` and `$` of the level around it. That
--- is the level of a group with a space, and the frame of the call has it.
+-- A processor is in a part of an implicit split: it has the `@` and `$` of the level around it.
+-- That is the level of a group with a space, and the frame of the call has it.
 pub record IsInPart (nestings : Nestings) (p : Owner) : Type 0 where
   pub around : Level
   pub beyond : Level
