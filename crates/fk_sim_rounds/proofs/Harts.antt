@@ -4,7 +4,7 @@ use Rattle.std.specs.Prelude.{◌==◌, map}
 use Rattle.std.proofs.lemmas.Bool.{cases_Bool, eqb-true, false≢true}
 use Rattle.fk_space.specs.Space.{Space}
 use Rattle.fk_tree.specs.Tree as trees
-use Rattle.fk_tree.specs.Tree.{Tree, kind_of, members_of}
+use Rattle.fk_tree.specs.Tree.{Tree}
 use Rattle.fk_tree.specs.Sound.{IsSound}
 use Rattle.fk_meaning.specs.Processor.{Setting}
 use Rattle.fk_meaning.specs.Round.{Runner, Acting}

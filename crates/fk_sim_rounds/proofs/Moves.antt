@@ -1,6 +1,6 @@
 -- Behind a round in which groups divide, shrink and end: how each of their members goes on by itself, and which groups are in lockstep then.
 use Rattle.std.proofs.Common.{◌≡◌, ◌≢◌, ℕ, zero, suc, ◌+◌, ◌-◌, ◌≤◌, ◌<◌, List, [], ◌∷◌, length, Option, Some, None, Bool, true, false, sym, ap, subst, ◌∙◌, refl, arith, ◌⊎◌, inl, inr, ⊎_elim, eq-eqb, filter}
-use Rattle.std.specs.Prelude.{◌==◌, ◌&&◌, ◌||◌, not, nat_le, map, is_some, if◌then◌else◌}
+use Rattle.std.specs.Prelude.{◌==◌, ◌&&◌, map, is_some, if◌then◌else◌}
 use Rattle.std.proofs.lemmas.Bool.{cases_Bool, cases_eq, ne_eqb, eqb-true, false≢true, and_parts, and_from}
 use Rattle.fk_num.specs.Word.{Memory}
 use Rattle.fk_space.specs.Space.{Space}
@@ -8,10 +8,10 @@ use Rattle.fk_tree.specs.declared.node.Kind.{Kind}
 use Rattle.fk_tree.specs.declared.node.Kind.TheVariants.{Lockstep, Waiting}
 use Rattle.fk_tree.specs.Tree as trees
 use Rattle.fk_tree.specs.Tree.{Tree, kind_of, is_in, is_member, is_waiting}
-use Rattle.fk_tree.specs.Sound.{Has, awaits, is_ascending}
+use Rattle.fk_tree.specs.Sound.{awaits, is_ascending}
 use Rattle.fk_tree.proofs.Begins.{length-root}
 use Rattle.fk_tree.proofs.Lists.{member_kept, kept_member}
-use Rattle.fk_tree.proofs.Shapes.{has_some, kind-turned, some-given}
+use Rattle.fk_tree.proofs.Shapes.{has_some, some-given}
 use Rattle.fk_meaning_operation.specs.declared.operation.SplitKind.{SplitKind}
 use Rattle.fk_meaning_operation.specs.declared.operation.Operation.{Operation}
 use Rattle.fk_meaning_operation.specs.declared.operation.Operation.TheVariants as o
