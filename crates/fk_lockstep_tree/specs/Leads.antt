@@ -43,10 +43,12 @@ module _ {A : Type 0} (may_call : (in_group : Bool) → (function : ℕ) → Boo
       × Leads f l first a one × Leads f l second b other × Leads f l one rest e
       × Leads f l other rest e
   Leads f l p (while test body step rest) e =
-      (left : Where) × Leads f (Some (turning p left)) p test p × Leads f (Some (turning p left)) p body p
+      (left : Where) × Leads f (Some (turning p left)) p test p
+      × Leads f (Some (turning p left)) p body p
       × Leads f (Some (turning p left)) p step p × Leads f l left rest e
   Leads f l p (until body test rest) e =
-      (left : Where) × Leads f (Some (turning p left)) p body p × Leads f (Some (turning p left)) p test p
+      (left : Where) × Leads f (Some (turning p left)) p body p
+      × Leads f (Some (turning p left)) p test p
       × Leads f l left rest e
   Leads f l p (turn test body step rest) e = ⊥
   Leads f l p (again test body step rest) e = ⊥

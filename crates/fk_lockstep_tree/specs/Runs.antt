@@ -1,6 +1,6 @@
 -- Runs of programs whose processors go through groups and bodies.
-use Rattle.std.specs.Prelude.{◌≡◌, ℕ, ◌≤◌, false, true, List, [], ◌∷◌, Option, Some, None, slice_get}
-use Rattle.std.specs.Prelude.{slice_index}
+use Rattle.std.specs.Prelude.{◌≡◌, ℕ, ◌≤◌, false, true, List, [], ◌∷◌, Option, Some, None}
+use Rattle.std.specs.Prelude.{slice_get, slice_index}
 use Rattle.fk_num.specs.Word.{Memory}
 use Rattle.fk_space.specs.Space.{IsSpace}
 use Rattle.fk_tree.specs.Sound.{IsSound}

@@ -8,9 +8,9 @@ use Rattle.fk_meaning_operation.specs.declared.operation.Operation.TheVariants a
 use Rattle.fk_meaning.specs.Round.{Acting}
 use Rattle.fk_lockstep_nodes.specs.Steps.{StepsBy, MayStep}
 
--- the nodes at which steps may change the tree: all processors begin in the root; those who wait for
--- parts resume; a group splits, shrinks, comes to a body, or ends; and the processors that have a
--- body meet
+-- the nodes at which steps may change the tree: all processors begin in the root; those who wait
+-- for parts resume; a group splits, shrinks, comes to a body, or ends; and the processors that have
+-- a body meet
 abbrev pub StepFits : Tree → (g : ℕ) → Operation → Type 0
 StepFits tree g o.Begin = (g ≡ 0) × (t.kind tree g ≡ Some (Asynchronous false))
 StepFits tree g o.Resume =

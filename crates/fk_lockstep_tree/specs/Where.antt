@@ -45,8 +45,8 @@ abbrev pub shrinks : (depth : ℕ) → (onward : Bool) → Option Where
 shrinks zero onward = None
 shrinks (suc n) onward = Some (if onward then InGroup (suc n) else Waits (suc n))
 
--- where a processor is after an operation; `None` if the operation may not occur there. Only a group
--- splits, and takes frames and blocks of its space and gives frames back
+-- where a processor is after an operation; `None` if the operation may not occur there. Only a
+-- group splits, takes frames and blocks of its space, and gives frames back
 abbrev pub goes : Where → Operation → (onward : Bool) → Option Where
 goes InRoot (o.Leave gives true) onward = None
 goes InRoot o.Begin onward = Some (if onward then InGroup 0 else Waits 0)

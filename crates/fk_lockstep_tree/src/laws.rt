@@ -54,8 +54,9 @@ pub fn code_goes()
 
 /// If a program goes through its groups, parts and bodies in their order, then so does each list
 /// that has its code and in which no two operations have one site. After every schedule of possible
-/// rounds in which each processor does at most one operation, the members of a group in lockstep are
-/// at one index and have one space, and each processor is where its operations and its levels tell.
+/// rounds in which each processor does at most one operation, the members of a group in lockstep
+/// are at one index and have one space, and each processor is where its operations and its levels
+/// tell.
 pub fn lists_stay_in_trees()
     ensures { ListsStayInTrees }
 {}

@@ -1,6 +1,6 @@
 -- What is known of a reached state, in the form that the laws of machines need.
-use Rattle.std.specs.Prelude.{◌≡◌, ◌≢◌, ℕ, ◌+◌, ◌^◌, ◌<◌, ◌≤◌, List, length, Some, None, true, false}
-use Rattle.std.specs.Prelude.{slice_get, ◌⊎◌}
+use Rattle.std.specs.Prelude.{◌≡◌, ◌≢◌, ℕ, ◌+◌, ◌^◌, ◌<◌, ◌≤◌, List, length, Some, None, true}
+use Rattle.std.specs.Prelude.{false, slice_get, ◌⊎◌}
 use Rattle.fk_meaning_operation.specs.declared.operation.Operation.TheVariants.{Begin}
 use Rattle.fk_tree.specs.declared.node.Kind.TheVariants.{Lockstep, Asynchronous}
 use Rattle.fk_tree.specs.Tree as trees

@@ -23,8 +23,8 @@ pub record IsOfTree (core : List CoreOp) (nestings : Nestings) (main : ℕ) : Ty
   pub within : (i : ℕ) (op : CoreOp) (operation : Operation) → OpAt core i op operation
       → is_end operation ≡ false
       → (onward : Bool) → StaysInList core (follows core operation i op.target [] onward)
-  -- At each index the nests of the call are known, and a frame saves as many levels as the pass over
-  -- the list tells.
+  -- At each index the nests of the call are known, and a frame saves as many levels as the pass
+  -- over the list tells.
   pub frames : HasLocalFrames core main
   pub nest : (index : ℕ) → Nesting
   pub nested : NestingsFit core main nest
