@@ -50,7 +50,7 @@ module _ (runs_reach : RunsReach) (core : List CoreOp) (main : ℕ) (firsts : Li
 
   pub reached : (schedule : Schedule) → ArePossible (next core) setting schedule first → AreSingle schedule → (state schedule).fault ≡ None → IsReached core setting (state schedule)
   reached schedule possible single none =
-      runs_reach core nestings main carries.one_group image.globals.items firsts input p schedule some given possible single none
+      runs_reach core nestings main carries.tree image.globals.items firsts input p schedule some given possible single none
 
   -- ---- the opening
 
@@ -60,11 +60,11 @@ module _ (runs_reach : RunsReach) (core : List CoreOp) (main : ℕ) (firsts : Li
       let none : 0 + number ≡ number = omega arith in
       let at : slice_get first.runners number ≡ Some r
       = beginner_at setting (slice_index firsts) (position main []) 0 p number lt ∙ ap (λ k. Some (first_runner setting (slice_index firsts) (position main []) k)) none in
-      let within = carries.one_group.begins in
+      let within = carries.tree.begins in
       let heap = (beginner setting (slice_index firsts) main number).heap in
-      reached_processors_have_next core nestings main setting first number r heap carries.one_group (reached [] tt tt refl) at
+      reached_processors_have_next core nestings main setting first number r heap carries.tree (reached [] tt tt refl) at
       (λ e. let same : main ≡ length core = ap (λ w. w.at) e in omega (arith, within, same))
 
   pub opens : OpensWith core image places nestings (spaces_of setting) firsts main input p
   opens =
-      openings_are_followed core image places nestings cycles firsts main (spaces_of setting) input p carries.blocks carries.one_group.jumps some few is_input.few is_input.room begins_at
+      openings_are_followed core image places nestings cycles firsts main (spaces_of setting) input p carries.blocks carries.tree.jumps some few is_input.few is_input.room begins_at
