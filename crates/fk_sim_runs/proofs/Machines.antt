@@ -22,7 +22,7 @@ use Rattle.fk_sim_runs.specs.Facts.{spaces_of}
 use Rattle.fk_sim_runs.proofs.Nexts.{reached_processors_have_next}
 use Rattle.fk_sim_runs.specs.Opening.{OpensWith}
 use Rattle.fk_sim_runs.proofs.Opening.{openings_are_followed}
-use Rattle.fk_sim_runs.specs.Follow.{CarriesGroups}
+use Rattle.fk_sim_runs.specs.Follow.{CarriesTrees}
 
 -- a processor before the first round
 abbrev first_runner : Setting → (firsts : Memory) → (left : Position) → (number : ℕ) → Runner Position
@@ -34,7 +34,7 @@ beginner_at set firsts left h (suc count) zero lt = ap (λ k. Some (first_runner
 beginner_at set firsts left h (suc count) (suc i) lt =
     beginner_at set firsts left (suc h) count i (omega (arith, lt)) ∙ ap (λ k. Some (first_runner set firsts left k)) (omega arith)
 
-module _ (runs_reach : RunsReach) (core : List CoreOp) (main : ℕ) (firsts : List ℕ) (places : Places) (nestings : Nestings) (cycles : Cycles) (image : Image) (carries : CarriesGroups core main firsts places nestings cycles image)
+module _ (runs_reach : RunsReach) (core : List CoreOp) (main : ℕ) (firsts : List ℕ) (places : Places) (nestings : Nestings) (cycles : Cycles) (image : Image) (carries : CarriesTrees core main firsts places nestings cycles image)
     (input : List ℕ) (p : ℕ) (is_input : IsInput image input) (some : 1 ≤ p) (few : p ≤ 1024) where
   abbrev pub setting : Setting
   setting = setting_of p image.globals.items input

@@ -29,11 +29,11 @@ use Rattle.fk_sim_runs.specs.Pace.{AreInTime}
 use Rattle.fk_sim_runs.specs.Runs.{StandsBeside, IsRound, GoesFurther, AlwaysGoesFurther, places_in, IsBehind}
 use Rattle.fk_sim_runs.proofs.Turning.{stay_length}
 use Rattle.fk_sim_runs.proofs.Runs.{few_harts, stand_in, many_in, machines_follow_group_runs, orderly_rounds_go_further, unions_go_further, starts_go_further}
-use Rattle.fk_sim_runs.specs.Follow.{CarriesGroups, MachinesFollowGroups}
+use Rattle.fk_sim_runs.specs.Follow.{CarriesTrees, MachinesFollowTrees}
 use Rattle.fk_sim_runs.proofs.Begin.{all_begin, begins_at}
 use Rattle.fk_sim_runs.proofs.Machines as reaching
 
-module _ (runs_reach : RunsReach) (runs_reach_rounds : RunsReachRounds) (core : List CoreOp) (main : ℕ) (firsts : List ℕ) (places : Places) (nestings : Nestings) (cycles : Cycles) (image : Image) (carries : CarriesGroups core main firsts places nestings cycles image)
+module _ (runs_reach : RunsReach) (runs_reach_rounds : RunsReachRounds) (core : List CoreOp) (main : ℕ) (firsts : List ℕ) (places : Places) (nestings : Nestings) (cycles : Cycles) (image : Image) (carries : CarriesTrees core main firsts places nestings cycles image)
     (input : List ℕ) (p : ℕ) (is_input : IsInput image input) (some : 1 ≤ p) (few : p ≤ 1024) where
   abbrev setting : Setting
   setting = reaching.setting runs_reach core main firsts places nestings cycles image carries input p is_input some few
@@ -136,8 +136,8 @@ module _ (runs_reach : RunsReach) (runs_reach_rounds : RunsReachRounds) (core : 
         further s nodes printed stages m (record { before = both.0; after = both.1 }) running uniting stands r;
   }
 
-pub machines_follow_groups : RunsReach → RunsReachRounds → MachinesFollowGroups
-machines_follow_groups runs_reach runs_reach_rounds core main firsts places nestings cycles image carries input p n is_input some few =
+pub machines_follow_trees : RunsReach → RunsReachRounds → MachinesFollowTrees
+machines_follow_trees runs_reach runs_reach_rounds core main firsts places nestings cycles image carries input p n is_input some few =
     let setting = reaching.setting runs_reach core main firsts places nestings cycles image carries input p is_input some few in
     machines_follow_group_runs core image places nestings cycles firsts main (spaces_of setting) input p n carries.blocks carries.tree.jumps few
     (reaching.opens runs_reach core main firsts places nestings cycles image carries input p is_input some few)
