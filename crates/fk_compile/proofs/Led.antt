@@ -14,11 +14,11 @@ use Rattle.fk_meaning.specs.Shape.{of_function}
 use Rattle.fk_meaning.specs.Shaped.{BodyShaped, FunctionsShaped}
 use Rattle.fk_meaning.proofs.Spine.{untrue}
 use Rattle.fk_meaning.proofs.NestedPrograms.{body_shaped}
-use Rattle.fk_lockstep_one_group.specs.Where.{Where}
+use Rattle.fk_lockstep_tree.specs.Where.{Where}
 use Rattle.fk_lockstep_structure.specs.Placed as w
 use Rattle.fk_lockstep_structure.specs.InPlace.{NoneShared, BodyInPlace, FunctionsInPlace}
 use Rattle.fk_lockstep_structure.specs.Inner.{FunctionsInner}
-use Rattle.fk_lockstep_one_group.specs.Leads.{Leads}
+use Rattle.fk_lockstep_tree.specs.Leads.{Leads}
 use Rattle.fk_compile_text.specs.Built.{operations, operations_in}
 use Rattle.fk_compile_text.specs.Plain.{is_plain}
 use Rattle.fk_lower_laws.proofs.Along.{EachOf, each_of, front, back, along}

@@ -17,12 +17,12 @@ use Rattle.fk_meaning_forms.specs.Statements.{Inside, is_scalar, used, used_or, 
 use Rattle.fk_meaning.specs.Behind.{is_shrink, shrinks}
 use Rattle.fk_meaning.specs.Shape.{Exits, none, of_test, of_turn, Either, Shape}
 use Rattle.fk_meaning.proofs.Spine.{untrue, test_is}
-use Rattle.fk_lockstep_one_group.specs.Where.{Where, InRoot, Waits, InGroup, InBody, BehindBody, goes}
+use Rattle.fk_lockstep_tree.specs.Where.{Where, InRoot, Waits, InGroup, InBody, BehindBody, goes}
 use Rattle.fk_lockstep_structure.specs.Placed as w
 use Rattle.fk_lockstep_structure.specs.Placed.{Who, is_group, is_outermost, inner}
 use Rattle.fk_lockstep_structure.specs.InPlace.{Splits, Calls, InPlace, OptionInPlace, VariablesInPlace, NoneShared, StatementInPlace, StatementsInPlace}
 use Rattle.fk_lockstep_structure.proofs.Behind.{either_no}
-use Rattle.fk_lockstep_one_group.specs.Leads.{Comes, Leads}
+use Rattle.fk_lockstep_tree.specs.Leads.{Comes, Leads}
 use Rattle.fk_compile_text.specs.Plain.{is_plain}
 use Rattle.fk_lower_laws.specs.Unsplit.{AllOf}
 use Rattle.fk_compile.proofs.Wants as wants

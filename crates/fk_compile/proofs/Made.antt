@@ -25,7 +25,7 @@ use Rattle.fk_gen_list.specs.Cycles.{cycles_of}
 use Rattle.fk_gen_list.specs.Laws.{none_saved}
 use Rattle.fk_gen_list.specs.Whole.{GivesGroupLaw}
 use Rattle.fk_compile.specs.PlainLists.{StepsFindValues}
-use Rattle.fk_sim_runs.specs.Follow.{CarriesGroups}
+use Rattle.fk_sim_runs.specs.Follow.{CarriesTrees}
 use Rattle.fk_core_liveness.specs.declared.set.Set.{Set}
 use Rattle.fk_lower_laws.specs.Certain.{HasFrames}
 use Rattle.fk_gen_list.specs.Generable.{IsGenerable, HasCode, places_in}
@@ -108,7 +108,7 @@ module _ (program : ProgramTree) (facts : Facts) (layout : Layout) (laid : IsLay
         carries =
             subst
             (λ (firsts : List ℕ).
-            CarriesGroups core main firsts (places_in core law.0 p.held.frames) (none_saved law.1) (cycles_of core (vec_len layout.words) kept) image)
+            CarriesTrees core main firsts (places_in core law.0 p.held.frames) (none_saved law.1) (cycles_of core (vec_len layout.words) kept) image)
             laid.firsts
             (record {
               one_group = p.grouped.one_group law.1;

@@ -5,8 +5,8 @@ use Rattle.fk_core_flat.proofs.FlatCode.{flat_lists_have_code}
 use Rattle.fk_core_flat.proofs.Programs.{forms_are_shaped}
 use Rattle.fk_check_laws.proofs.Programs.{correct_programs_fit}
 use Rattle.fk_lockstep_structure.proofs.Programs.{programs_follow}
-use Rattle.fk_lockstep_one_group.proofs.Run.{code_goes}
-use Rattle.fk_lockstep_one_group.proofs.Lists.{lists_have_one_group}
+use Rattle.fk_lockstep_tree.proofs.Run.{code_goes}
+use Rattle.fk_lockstep_tree.proofs.Lists.{lists_have_one_group}
 use Rattle.fk_check_laws.specs.Valid.{may_call}
 use Rattle.fk_check_laws.proofs.PlacedPrograms.{valid_programs_are_in_place}
 use Rattle.fk_check_laws.proofs.Spaces.{valid_programs_are_inner}

@@ -23,11 +23,11 @@ use Rattle.fk_meaning.proofs.Spine.{untrue}
 use Rattle.fk_meaning.proofs.Kept.{entered}
 use Rattle.fk_lockstep.proofs.Kept as k
 use Rattle.fk_lockstep.proofs.Kept.{is_of_value, SharesAgree, all_agree, IsKept}
-use Rattle.fk_lockstep_one_group.specs.Where.{Where, InRoot, Waits, InGroup, InBody, stays}
+use Rattle.fk_lockstep_tree.specs.Where.{Where, InRoot, Waits, InGroup, InBody, stays}
 use Rattle.fk_lockstep_structure.specs.Placed.{Who, OfGroup, OfBody, OfMain, is_group, inner}
 use Rattle.fk_lockstep_structure.specs.InPlace.{Splits, Calls, InPlace, NoneShared}
 use Rattle.fk_lockstep_structure.proofs.Behind.{either_no}
-use Rattle.fk_lockstep_one_group.specs.Leads.{is_in_group, Comes, Leads}
+use Rattle.fk_lockstep_tree.specs.Leads.{is_in_group, Comes, Leads}
 use Rattle.fk_compile_text.specs.Plain.{is_plain}
 use Rattle.fk_lower_laws.specs.Unsplit.{AllOf}
 

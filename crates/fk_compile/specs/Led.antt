@@ -6,7 +6,7 @@ use Rattle.fk_meaning_forms.specs.Program.{functions_of, no_signature, bodies_of
 use Rattle.fk_core_flat.specs.Laws.{AreShaped}
 use Rattle.fk_lockstep_structure.specs.InPlace.{IsInPlace}
 use Rattle.fk_lockstep_structure.specs.Inner.{FunctionsInner}
-use Rattle.fk_lockstep_one_group.specs.Led.{AreLed}
+use Rattle.fk_lockstep_tree.specs.Led.{AreLed}
 use Rattle.fk_compile_text.specs.Plain.{ArePlain}
 
 -- The code of such a program leads from place to place, if only groups call functions with a frame.

@@ -9,8 +9,8 @@ use Rattle.fk_core.specs.declared.op.CoreOp.{CoreOp}
 use Rattle.fk_core.specs.Next.{position, landing, next}
 use Rattle.fk_core_flat.specs.Laws.{IsFlat}
 use Rattle.fk_lower_text.specs.Lowered.{HasSites}
-use Rattle.fk_lockstep_one_group.specs.Runs.{AlwaysOneGroup}
-use Rattle.fk_lockstep_one_group.specs.Lists.{HasOwnSites}
+use Rattle.fk_lockstep_tree.specs.Runs.{AlwaysOneGroup}
+use Rattle.fk_lockstep_tree.specs.Lists.{HasOwnSites}
 use Rattle.fk_compile_text.specs.Plain.{ArePlain}
 use Rattle.fk_compile.specs.OneProgram.{IsLaidOut}
 

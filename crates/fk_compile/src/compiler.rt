@@ -13,7 +13,7 @@ use fk_compile_text::{GlobalRow, Refusal, built_text};
 use fk_gen_list::generate;
 use fk_image::Image;
 use fk_sim_rounds::laws::programs_are_followed;
-use fk_sim_runs::laws::machines_follow_groups;
+use fk_sim_runs::laws::machines_follow_trees;
 use std::alloc::Global;
 
 /// A text that is compiled.
@@ -50,7 +50,7 @@ pub fn compile<'a>(alloc: Global, source: &'a [u8]) -> Result<Compiled<'a>, Refu
     are_words(&layout.firsts);
     are_words(&layout.words);
     steps_find_values();
-    machines_follow_groups();
+    machines_follow_trees();
     programs_are_followed();
     let image = Image {
         code: code.words,

@@ -1,8 +1,10 @@
 -- What is left to do and an index where it stands have the same next operation.
-use Rattle.std.proofs.Common.{◌≡◌, ℕ, suc, Bool, true, false, List, [], ◌∷◌, length, slice_get, Some, None, ap, ◌∙◌, sym, refl, subst}
+use Rattle.std.proofs.Common.{◌≡◌, ◌⊎◌, inl, inr, ℕ, suc, Bool, true, false, List, [], ◌∷◌, ◌++◌, length, slice_get, Some, None, ap, ◌∙◌, sym, refl, subst}
 use Rattle.std.specs.Prelude.{if◌then◌else◌}
 use Rattle.fk_meaning_operation.specs.declared.operation.Operation.{Operation}
+use Rattle.fk_meaning_operation.specs.declared.operation.Operation.TheVariants as ops
 use Rattle.fk_meaning.specs.Alike.{Same}
+use Rattle.fk_meaning.specs.Behind.{shrinks, tail, grown, past, works, waiting, outs}
 use Rattle.fk_meaning_forms.specs.Code.{Code, done, perform, choose, while, until, turn, again, quit, break, continue, call, ends, append}
 use Rattle.fk_meaning.specs.Left.{broken, continued, opened, settled}
 use Rattle.fk_meaning.specs.Next as source
@@ -50,6 +52,15 @@ first_before (ends n op rest) more e = refl
 no_more : (ops : List CoreOp) → slice_get ops (length ops) ≡ None
 no_more [] = refl
 no_more (op ∷ ops) = no_more ops
+
+-- these are the last of some calls
+abbrev pub IsEndOf : (last all : List ℕ) → Type 0
+IsEndOf last [] = last ≡ []
+IsEndOf last (i ∷ is) = (last ≡ i ∷ is) ⊎ IsEndOf last is
+
+all_calls : (is : List ℕ) → IsEndOf is is
+all_calls [] = refl
+all_calls (i ∷ is) = inl refl
 
 module _ (core : List CoreOp) (entry : ℕ → ℕ) where
   -- what is left of a run stands from an index on to the end of the list, with the loops that are under way
@@ -354,3 +365,79 @@ module _ (core : List CoreOp) (entry : ℕ → ℕ) where
 
     pub body_at : (f : ℕ) → IsAt (going (bodies f) []) (position (entry f) [])
     body_at f = goes (bodies f) None (entry f) [] [] (whole (bodies f) (entry f) (bodies_at f)) tt
+
+    -- ---- where others are met
+
+    -- work stands in the list, with the last of these calls under way
+    pub record StandsBelow (is : List ℕ) (w : Work) : Type 0 where
+      pub index : ℕ
+      pub calls : List ℕ
+      pub ends : IsEndOf calls is
+      pub stands : IsAt w (position index calls)
+
+    abbrev pub AllStand : (is : List ℕ) → List Work → Type 0
+    AllStand is [] = Unit {0}
+    AllStand is (w ∷ ws) = StandsBelow is w × AllStand is ws
+
+    ready_stands : (code : Code ℕ) (i : ℕ) (callers : List (Code ℕ)) (is : List ℕ) → Ready code i → Waiting callers is → StandsBelow is (record { left = code; callers = callers })
+    ready_stands code i callers is r a = record { index = i; calls = is; ends = all_calls is; stands = record { ready = r; callers = a } }
+
+    tail_stands : (callers codes : List (Code ℕ)) (is : List ℕ) → AllStand is (works callers codes) → AllStand is (works callers (tail codes))
+    tail_stands callers [] is all = tt
+    tail_stands callers (code ∷ codes) is all = all.1
+
+    grown_stands : (b : Bool) (code : Code ℕ) (callers codes : List (Code ℕ)) (is : List ℕ) → StandsBelow is (record { left = code; callers = callers }) → AllStand is (works callers codes)
+        → AllStand is (works callers (grown b code codes))
+    grown_stands true code callers codes is first all = (first, all)
+    grown_stands false code callers codes is first all = all
+
+    -- after each part and at the end of each body that is under way in some code
+    past_stands : (code : Code ℕ) (c : Around) (i : ℕ) (callers : List (Code ℕ)) (is : List ℕ) → Runs code c i → Waiting callers is → AllStand is (works callers (past code))
+    past_stands done c i callers is h a = tt
+    past_stands (perform n ops.End rest) c i callers is h a =
+        (ready_stands (settled rest) h.1 callers is (settles rest c h.1 h.4) a, past_stands rest c h.1 callers is h.4 a)
+    past_stands (perform n (ops.Meet true) rest) c i callers is h a =
+        (ready_stands (perform n (ops.Meet true) rest) i callers is (record { is_ready = refl; around = c; runs = h }) a, past_stands rest c h.1 callers is h.4 a)
+    past_stands (perform n (ops.Meet false) rest) c i callers is h a = past_stands rest c h.1 callers is h.4 a
+    past_stands (perform n op rest) c i callers is h a = past_stands rest c h.1 callers is h.4 a
+    past_stands (choose n ops.Farm x y rest) c i callers is h a = tail_stands callers (past rest) is (past_stands rest c h.3 callers is h.8 a)
+    past_stands (choose n ops.Seq x y rest) c i callers is h a = tail_stands callers (past rest) is (past_stands rest c h.3 callers is h.8 a)
+    past_stands (choose n op x y rest) c i callers is h a = past_stands rest c h.3 callers is h.8 a
+    past_stands (while t b s rest) c i callers is h a =
+        grown_stands (shrinks t) (settled rest) callers (past rest) is (ready_stands (settled rest) h.2.behind callers is (settles rest c h.2.behind h.9) a) (past_stands rest c h.2.behind callers is h.9 a)
+    past_stands (until b t rest) c i callers is h a =
+        grown_stands (shrinks t) (settled rest) callers (past rest) is (ready_stands (settled rest) h.2.behind callers is (settles rest c h.2.behind h.8) a) (past_stands rest c h.2.behind callers is h.8 a)
+    past_stands (turn t b s rest) c i callers is h a =
+        grown_stands (shrinks t) (settled rest) callers (past rest) is (ready_stands (settled rest) h.2.behind callers is (settles rest h.11 h.2.behind h.12) a)
+        (past_stands rest h.11 h.2.behind callers is h.12 a)
+    past_stands (again t b s rest) c i callers is h a =
+        grown_stands (shrinks t) (settled rest) callers (past rest) is (ready_stands (settled rest) h.2.behind callers is (settles rest h.11 h.2.behind h.12) a)
+        (past_stands rest h.11 h.2.behind callers is h.12 a)
+    past_stands (quit n op rest) c i callers is h a = past_stands rest c h.1 callers is h.6 a
+    past_stands (break rest) c i callers is h a = past_stands rest c h.0 callers is h.4 a
+    past_stands (continue rest) c i callers is h a = past_stands rest c h.0 callers is h.4 a
+    past_stands (call n op f opening rest) c i callers is h a = past_stands rest c h.3 callers is h.7 a
+    past_stands (ends n op rest) c i callers is h a = past_stands rest c h.1 callers is h.3 a
+
+    more_calls : (i : ℕ) (is : List ℕ) (ws : List Work) → AllStand is ws → AllStand (i ∷ is) ws
+    more_calls i is [] all = tt
+    more_calls i is (w ∷ ws) all =
+        let first = all.0 in
+        (record { index = first.index; calls = first.calls; ends = inr first.ends; stands = first.stands }, more_calls i is ws all.1)
+
+    both_stand : (is : List ℕ) (ws us : List Work) → AllStand is ws → AllStand is us → AllStand is (ws ++ us)
+    both_stand is [] us a b = b
+    both_stand is (w ∷ ws) us a b = (a.0, both_stand is ws us a.1 b)
+
+    waiting_stand : (callers : List (Code ℕ)) (is : List ℕ) → Waiting callers is → AllStand is (waiting callers)
+    waiting_stand [] [] a = tt
+    waiting_stand (code ∷ callers) (i ∷ is) a =
+        more_calls i is (works callers (past code) ++ waiting callers)
+        (both_stand is (works callers (past code)) (waiting callers) (past_stands code a.0.0 i callers is a.0.1 a.1) (waiting_stand callers is a.1))
+    waiting_stand [] (i ∷ is) a = absurd a
+    waiting_stand (code ∷ callers) [] a = absurd a
+
+    pub outs_stand : (w : Work) (at : Position) → IsAt w at → AllStand at.callers (outs w)
+    outs_stand w at h =
+        both_stand at.callers (works w.callers (past w.left)) (waiting w.callers) (past_stands w.left h.ready.around at.at w.callers at.callers h.ready.runs h.callers)
+        (waiting_stand w.callers at.callers h.callers)

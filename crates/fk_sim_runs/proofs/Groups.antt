@@ -9,10 +9,10 @@ use Rattle.fk_meaning.specs.Round.{State}
 use Rattle.fk_core.specs.declared.op.CoreOp.{CoreOp}
 use Rattle.fk_core.specs.Next.{Position, landing, next}
 use Rattle.fk_lockstep.proofs.Round.{first_is, at_below}
-use Rattle.fk_lockstep_one_group.specs.Where.{Where, InRoot, InGroup}
-use Rattle.fk_lockstep_one_group.specs.Placed.{HasLevels}
-use Rattle.fk_lockstep_one_group.proofs.Known.{at_group}
-use Rattle.fk_lockstep_one_group.proofs.Moves.{ends_in_root}
+use Rattle.fk_lockstep_tree.specs.Where.{Where, InRoot, InGroup}
+use Rattle.fk_lockstep_tree.specs.Placed.{HasLevels}
+use Rattle.fk_lockstep_tree.proofs.Known.{at_group}
+use Rattle.fk_lockstep_tree.proofs.Moves.{ends_in_root}
 use Rattle.fk_sim_block.specs.Owner.{Owner}
 use Rattle.fk_sim_block.specs.Node.{Nestings}
 use Rattle.fk_sim_rounds.specs.Next.{landed}
@@ -21,7 +21,7 @@ use Rattle.fk_sim_rounds.specs.Program.{IsInStep, AllInStep}
 use Rattle.fk_sim_rounds.proofs.Agreed.{place_at}
 use Rattle.fk_sim_rounds.proofs.Program.{runner_at, groups_have_next}
 use Rattle.fk_sim_rounds.proofs.Way.{ended_next}
-use Rattle.fk_sim_runs.specs.Lists.{IsOfOneGroup}
+use Rattle.fk_sim_runs.specs.Lists.{IsOfTree}
 use Rattle.fk_sim_runs.specs.Reached.{the_end, IsReached}
 use Rattle.fk_sim_runs.specs.Facts.{ReachedGroupsHaveNext}
 use Rattle.fk_sim_runs.proofs.Ways.{StepOf}
@@ -42,15 +42,15 @@ all_in_step core nestings g number (n ∷ ns) (p ∷ ps) many each = (
 all_in_step core nestings g number [] (p ∷ ps) many each = absurd (omega (arith, many))
 all_in_step core nestings g number (n ∷ ns) [] many each = absurd (omega (arith, many))
 
-module _ (core : List CoreOp) (nestings : Nestings) (main : ℕ) (setting : Setting) (s : State Position) (ps : List Owner) (g : ℕ) (list : IsOfOneGroup core nestings main)
+module _ (core : List CoreOp) (nestings : Nestings) (main : ℕ) (setting : Setting) (s : State Position) (ps : List Owner) (g : ℕ) (list : IsOfTree core nestings main)
     (is : IsReached core setting s) (runners : s.runners ≡ runners_of ps) (kind : trees.kind s.tree g ≡ Some Lockstep) where
   not_root : g ≢ 0
-  not_root none = is.sound.free (ap (trees.kind s.tree) (sym none) ∙ kind)
+  not_root none = is.stands.sound.free (ap (trees.kind s.tree) (sym none) ∙ kind)
 
   one_in_step : (h : ℕ) (p : Owner) → slice_get ps h ≡ Some p → s.tree.places h ≡ g → IsInStep core nestings h (landed core p)
   one_in_step h p there place =
       let at : slice_get s.runners h ≡ Some p.runner = ap (λ l. slice_get l h) runners ∙ runner_at ps h p there in
-      let placed = is.one_group.placed h p.runner at in
+      let placed = is.stands.tree.placed h p.runner at in
       let in_group : placed.place ≡ InGroup = at_group s.tree h placed.place g not_root place kind placed.there in
       let going : p.runner.left ≢ the_end core
       = λ e.
@@ -85,9 +85,9 @@ module _ (core : List CoreOp) (nestings : Nestings) (main : ℕ) (setting : Sett
 
 pub reached_groups_have_next : ReachedGroupsHaveNext
 reached_groups_have_next core nestings main setting s nodes ps g list is few places many runners kind =
-    let as_many : length s.runners ≡ setting.processors = is.one_group.many in
+    let as_many : length s.runners ≡ setting.processors = is.stands.tree.many in
     let long : length ps ≡ setting.processors = sym (runners_length ps) ∙ ap (λ l. length l) (sym runners) ∙ as_many in
-    groups_have_next core nestings setting.processors s nodes ps g few is.sound places many runners is.one_program kind
+    groups_have_next core nestings setting.processors s nodes ps g few is.stands.sound places many runners is.stands.one_program kind
     (all_in_step core nestings g 0 nodes ps (many ∙ sym long)
     (λ i n p at there e.
     let lt = at_below nodes i n at in

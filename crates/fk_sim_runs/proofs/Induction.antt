@@ -3,8 +3,8 @@ use Rattle.std.proofs.Common.{◌≡◌, ℕ, zero, suc, List, [], ◌∷◌, �
 use Rattle.fk_meaning.specs.Processor.{Setting}
 use Rattle.fk_meaning.specs.Round.{State, Fault, Round, result, is_possible, IsStopped}
 use Rattle.fk_meaning.specs.Schedule.{Schedule, run, ArePossible, CouldAct, KeepsPace, IsLawful, all_done}
-use Rattle.fk_lockstep_one_group.specs.Runs.{AreSingle}
-use Rattle.fk_lockstep_one_group.proofs.Runs.{run-append, AllPossible, all_are}
+use Rattle.fk_lockstep_tree.specs.Runs.{AreSingle}
+use Rattle.fk_lockstep_tree.proofs.Runs.{run-append, AllPossible, all_are}
 use Rattle.fk_core.specs.declared.op.CoreOp.{CoreOp}
 use Rattle.fk_core.specs.Next.{Position, next}
 use Rattle.fk_image.specs.declared.Image.{Image}

@@ -15,11 +15,12 @@ use Rattle.fk_core.specs.Next.{Position, position, landing, next}
 use Rattle.fk_sim_nodes.specs.Source.{AllPass}
 use Rattle.fk_sim_match.specs.Stage.{Stage, distance, count_for, counts_for}
 use Rattle.fk_lockstep.specs.OneProgram.{AreTogether, HaveOneProgram}
-use Rattle.fk_lockstep_one_group.specs.Where.{Where, GoesNext, GoesFor, Goes}
-use Rattle.fk_lockstep_one_group.specs.Placed.{IsPlaced, HasOneGroup}
-use Rattle.fk_lockstep_one_group.specs.Steps as one
-use Rattle.fk_lockstep_one_group.specs.Rounds.{IsSingle, stepping}
-use Rattle.fk_lockstep_one_group.proofs.Known.{rounds_are_known}
+use Rattle.fk_lockstep_tree.specs.Where.{Where, GoesNext, GoesFor, Goes}
+use Rattle.fk_lockstep_tree.specs.Placed.{IsPlaced, HasOneGroup}
+use Rattle.fk_lockstep_tree.specs.Steps as one
+use Rattle.fk_lockstep_nodes.specs.Steps.{stepping}
+use Rattle.fk_lockstep_tree.specs.Rounds.{IsSingle}
+use Rattle.fk_lockstep_tree.proofs.Known.{rounds_are_known}
 use Rattle.fk_lockstep.proofs.Round.{first_is}
 use Rattle.fk_sim_block.specs.Owner.{Commons, Owner, Doing, core_source}
 use Rattle.fk_lockstep_nodes.specs.Steps.{only}
@@ -145,9 +146,9 @@ pub reached_rounds_are_known : ReachedRoundsAreKnown
 reached_rounds_are_known core nestings main setting stages s ps did shared shared' list is order beside possible all =
     let round = counts_for stages in
     let known = rounds_are_known Position (next core) setting round (landed_state core s) (record {
-      sound = is.sound;
-      one_program = one_program core list.jumps setting s is.one_program;
-      one_group = one_group core list.jumps setting s is.one_group;
+      sound = is.stands.sound;
+      one_program = one_program core list.jumps setting s is.stands.one_program;
+      one_group = one_group core list.jumps setting s is.stands.tree;
       single = counts_single stages;
       possible = possible_landed core list.jumps setting s round possible;
     }) in

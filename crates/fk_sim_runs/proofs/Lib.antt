@@ -1,5 +1,6 @@
 -- the tree
 pub mod Trees
+pub mod Levels
 -- where operations stand, and where they go on
 pub mod Ways
 -- what each processor does next

@@ -8,7 +8,7 @@ use Rattle.fk_meaning.specs.Round.{Runner, State}
 use Rattle.fk_meaning.specs.Schedule.{Schedule, first_processor, beginners, run, ArePossible}
 use Rattle.fk_core.specs.declared.op.CoreOp.{CoreOp}
 use Rattle.fk_core.specs.Next.{Position, position, next, list_opening}
-use Rattle.fk_lockstep_one_group.specs.Runs.{AreSingle}
+use Rattle.fk_lockstep_tree.specs.Runs.{AreSingle}
 use Rattle.fk_image.specs.declared.Image.{Image}
 use Rattle.fk_sim_block.specs.Stands.{Places}
 use Rattle.fk_sim_block.specs.Block.{beginner}
@@ -22,7 +22,7 @@ use Rattle.fk_sim_runs.specs.Facts.{spaces_of}
 use Rattle.fk_sim_runs.proofs.Nexts.{reached_processors_have_next}
 use Rattle.fk_sim_runs.specs.Opening.{OpensWith}
 use Rattle.fk_sim_runs.proofs.Opening.{openings_are_followed}
-use Rattle.fk_sim_runs.specs.Follow.{CarriesGroups}
+use Rattle.fk_sim_runs.specs.Follow.{CarriesTrees}
 
 -- a processor before the first round
 abbrev first_runner : Setting → (firsts : Memory) → (left : Position) → (number : ℕ) → Runner Position
@@ -34,7 +34,7 @@ beginner_at set firsts left h (suc count) zero lt = ap (λ k. Some (first_runner
 beginner_at set firsts left h (suc count) (suc i) lt =
     beginner_at set firsts left (suc h) count i (omega (arith, lt)) ∙ ap (λ k. Some (first_runner set firsts left k)) (omega arith)
 
-module _ (runs_reach : RunsReach) (core : List CoreOp) (main : ℕ) (firsts : List ℕ) (places : Places) (nestings : Nestings) (cycles : Cycles) (image : Image) (carries : CarriesGroups core main firsts places nestings cycles image)
+module _ (runs_reach : RunsReach) (core : List CoreOp) (main : ℕ) (firsts : List ℕ) (places : Places) (nestings : Nestings) (cycles : Cycles) (image : Image) (carries : CarriesTrees core main firsts places nestings cycles image)
     (input : List ℕ) (p : ℕ) (is_input : IsInput image input) (some : 1 ≤ p) (few : p ≤ 1024) where
   abbrev pub setting : Setting
   setting = setting_of p image.globals.items input
@@ -50,7 +50,7 @@ module _ (runs_reach : RunsReach) (core : List CoreOp) (main : ℕ) (firsts : Li
 
   pub reached : (schedule : Schedule) → ArePossible (next core) setting schedule first → AreSingle schedule → (state schedule).fault ≡ None → IsReached core setting (state schedule)
   reached schedule possible single none =
-      runs_reach core nestings main carries.one_group image.globals.items firsts input p schedule some given possible single none
+      runs_reach core nestings main carries.tree image.globals.items firsts input p schedule some given possible single none
 
   -- ---- the opening
 
@@ -60,11 +60,11 @@ module _ (runs_reach : RunsReach) (core : List CoreOp) (main : ℕ) (firsts : Li
       let none : 0 + number ≡ number = omega arith in
       let at : slice_get first.runners number ≡ Some r
       = beginner_at setting (slice_index firsts) (position main []) 0 p number lt ∙ ap (λ k. Some (first_runner setting (slice_index firsts) (position main []) k)) none in
-      let within = carries.one_group.begins in
+      let within = carries.tree.begins in
       let heap = (beginner setting (slice_index firsts) main number).heap in
-      reached_processors_have_next core nestings main setting first number r heap carries.one_group (reached [] tt tt refl) at
+      reached_processors_have_next core nestings main setting first number r heap carries.tree (reached [] tt tt refl) at
       (λ e. let same : main ≡ length core = ap (λ w. w.at) e in omega (arith, within, same))
 
   pub opens : OpensWith core image places nestings (spaces_of setting) firsts main input p
   opens =
-      openings_are_followed core image places nestings cycles firsts main (spaces_of setting) input p carries.blocks carries.one_group.jumps some few is_input.few is_input.room begins_at
+      openings_are_followed core image places nestings cycles firsts main (spaces_of setting) input p carries.blocks carries.tree.jumps some few is_input.few is_input.room begins_at

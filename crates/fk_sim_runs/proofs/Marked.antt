@@ -12,8 +12,9 @@ use Rattle.fk_lockstep.proofs.Rounds.{map_at, settled_at}
 use Rattle.fk_core.specs.declared.op.CoreOp.{CoreOp}
 use Rattle.fk_core.specs.Next.{Position, position, landing, next}
 use Rattle.fk_lockstep.proofs.Round.{first_is}
-use Rattle.fk_lockstep_one_group.specs.Rounds.{IsSingle, stepping}
-use Rattle.fk_lockstep_one_group.proofs.Acts.{Acts, acts, counts_as, result_is}
+use Rattle.fk_lockstep_nodes.specs.Steps.{stepping}
+use Rattle.fk_lockstep_tree.specs.Rounds.{IsSingle}
+use Rattle.fk_lockstep_tree.proofs.Acts.{Acts, acts, counts_as, result_is}
 use Rattle.fk_sim_rounds.specs.Next.{JumpsLead}
 use Rattle.fk_sim_rounds.specs.Beside.{landed_state}
 use Rattle.fk_sim_rounds.proofs.Landed.{landing_twice, next_landed}

@@ -15,9 +15,9 @@ use Rattle.fk_meaning.specs.Round.{Runner, State, body_of}
 use Rattle.fk_core.specs.declared.op.CoreOp.{CoreOp}
 use Rattle.fk_core.specs.Next.{Position, position, landing, next}
 use Rattle.fk_lockstep.proofs.Round.{at_below}
-use Rattle.fk_lockstep_one_group.specs.Where.{Where, InRoot, Waits, InGroup, InBody, BehindBody, goes, Goes}
-use Rattle.fk_lockstep_one_group.specs.Placed.{where_at, HasLevels, IsPlaced}
-use Rattle.fk_lockstep_one_group.proofs.Moves.{goes_on}
+use Rattle.fk_lockstep_tree.specs.Where.{Where, InRoot, Waits, InGroup, InBody, BehindBody, goes, Goes}
+use Rattle.fk_lockstep_tree.specs.Placed.{where_at, HasLevels, IsPlaced}
+use Rattle.fk_lockstep_tree.proofs.Moves.{goes_on}
 use Rattle.fk_sim_block.specs.Owner.{Heaps, Owner}
 use Rattle.fk_sim_block.specs.Next.{step_at}
 use Rattle.fk_sim_block.specs.Ready.{is_no_step, MayDo, IsReady}
@@ -28,7 +28,7 @@ use Rattle.fk_sim_block.specs.Start.{IsInRoot}
 use Rattle.fk_sim_match.specs.Nodes.{is_lockstep, body_at}
 use Rattle.fk_sim_match.specs.Rounds.{joint_at_word}
 use Rattle.fk_sim_rounds.specs.Next.{landed, MayMeet, MayByItself, HasNext}
-use Rattle.fk_sim_runs.specs.Lists.{IsOfOneGroup}
+use Rattle.fk_sim_runs.specs.Lists.{IsOfTree}
 use Rattle.fk_sim_runs.specs.Reached.{the_end, IsReached}
 use Rattle.fk_sim_runs.specs.Facts.{ReachedProcessorsHaveNext}
 use Rattle.fk_sim_runs.proofs.Ways.{StepOf, step_of_place, in_root, in_waiting, in_group, in_body, behind_body, Leading, leading}
@@ -91,9 +91,9 @@ root_levels core nestings setting p none levels = record {
   none = none_saved nestings none (landing core p.runner.left.at ∷ p.runner.left.callers);
 }
 
-module _ (core : List CoreOp) (nestings : Nestings) (main : ℕ) (setting : Setting) (s : State Position) (list : IsOfOneGroup core nestings main) (is : IsReached core setting s) where
+module _ (core : List CoreOp) (nestings : Nestings) (main : ℕ) (setting : Setting) (s : State Position) (list : IsOfTree core nestings main) (is : IsReached core setting s) where
   pub below : (h : ℕ) (r : Runner Position) → slice_get s.runners h ≡ Some r → h < setting.processors
-  below h r at = let lt = at_below s.runners h r at in let many = is.one_group.many in omega (arith, lt, many)
+  below h r at = let lt = at_below s.runners h r at in let many = is.stands.tree.many in omega (arith, lt, many)
 
   pub leads_to : (h : ℕ) (r : Runner Position) → slice_get s.runners h ≡ Some r → r.left ≢ the_end core → Leading core r.left
   leads_to h r at going = ⊎_elim (λ w. leading core list.well_formed.leads_on r.left w.at) (λ e. absurd (going e)) (is.within h r at)
@@ -109,7 +109,7 @@ module _ (core : List CoreOp) (nestings : Nestings) (main : ℕ) (setting : Sett
     operation = leads.operation
 
     abbrev pub placed : IsPlaced (next core) setting s.tree h r
-    placed = is.one_group.placed h r at
+    placed = is.stands.tree.placed h r at
 
     pub ready : IsReady leads.op operation (landed core p).runner
     ready = record {
@@ -119,7 +119,7 @@ module _ (core : List CoreOp) (nestings : Nestings) (main : ℕ) (setting : Sett
     }
 
     has : Has s.tree g h
-    has = (is.sound.placed h (below h r at)).member
+    has = (is.stands.sound.placed h (below h r at)).member
 
     abbrev runs : Bool
     runs = is_member h (body_of (trees.kind s.tree g) (trees.members s.tree g))
@@ -142,7 +142,7 @@ module _ (core : List CoreOp) (nestings : Nestings) (main : ℕ) (setting : Sett
     -- what the root is when nobody waits there
     root_kind : (alone : Bool) → trees.kind s.tree 0 ≡ Some (Asynchronous alone) → trees.kind s.tree 0 ≡ Some (Asynchronous false)
     root_kind alone e =
-        ⊎_elim (λ none. none.root) (λ one. let clash : Some (Asynchronous alone) ≡ Some (Waiting one.0 1) = sym e ∙ one.1.root in absurd (cc)) is.one_group.tree
+        ⊎_elim (λ none. none.root) (λ one. let clash : Some (Asynchronous alone) ≡ Some (Waiting one.0 1) = sym e ∙ one.1.root in absurd (cc)) is.stands.tree.tree
 
     at_start : operation ≡ o.Begin → g ≡ 0 → trees.kind s.tree 0 ≡ Some (Asynchronous false) → HasLevels setting InRoot r.has → Next
     at_start e none kind levels =

@@ -1,7 +1,11 @@
--- What is known of the states that runs of lists with one group at a time come to.
-use Rattle.std.proofs.Common.{◌≡◌, ◌⊎◌, inl, ⊎_elim, ℕ, ◌<◌, Bool, true, List, [], length, Option, Some, None, sym, ap, ◌∙◌, subst, arith}
+-- What is known of the states that runs of lists come to.
+use Rattle.std.proofs.Common.{◌≡◌, ◌⊎◌, inl, ⊎_elim, ℕ, ◌<◌, Bool, true, List, [], ◌∷◌, length, Option, Some, None, sym, ap, ◌∙◌, subst, arith}
 use Rattle.std.specs.Prelude.{slice_get, slice_index}
-use Rattle.std.proofs.lemmas.List.Elements.{All-nil}
+use Rattle.std.specs.Prelude.{All}
+use Rattle.std.proofs.lemmas.List.Elements.{All-nil, All-cons}
+use Rattle.fk_space.specs.Space.{Space, IsSpace}
+use Rattle.fk_lockstep_frames.specs.Nests.{Nest, outward}
+use Rattle.fk_lockstep_frames.specs.Taken.{spaces_of, AreTaken}
 use Rattle.fk_tree.specs.Tree as t
 use Rattle.fk_tree.specs.Tree.{Tree}
 use Rattle.fk_meaning.specs.Processor.{Setting, setting_of}
@@ -13,17 +17,18 @@ use Rattle.fk_core.specs.declared.op.CoreOp.{CoreOp}
 use Rattle.fk_core.specs.Next.{Position, position, landing, next, list_opening}
 use Rattle.fk_lockstep.proofs.Round.{first_is, at_below, settled_length}
 use Rattle.fk_lockstep_frames.proofs.Lists.{lists_tell_frames}
-use Rattle.fk_lockstep_one_group.specs.Rounds.{IsSingle, stepping}
-use Rattle.fk_lockstep_one_group.specs.Runs.{AreSingle}
-use Rattle.fk_lockstep_one_group.proofs.Acts.{Acts, acts, stepping_length, result_is}
-use Rattle.fk_lockstep_one_group.proofs.Opening.{begins_at}
-use Rattle.fk_lockstep_one_group.proofs.Runs.{are_all, round_by_round}
+use Rattle.fk_lockstep_nodes.specs.Steps.{stepping}
+use Rattle.fk_lockstep_tree.specs.Rounds.{IsSingle}
+use Rattle.fk_lockstep_tree.specs.Runs.{AreSingle}
+use Rattle.fk_lockstep_tree.proofs.Acts.{Acts, acts, stepping_length, result_is}
+use Rattle.fk_lockstep_tree.proofs.Opening.{begins_at}
+use Rattle.fk_lockstep_tree.proofs.Runs.{are_all, round_by_round}
 use Rattle.fk_sim_block.specs.Next.{step_at}
 use Rattle.fk_sim_block.specs.Lists.{StaysInList}
 use Rattle.fk_sim_rounds.specs.InRange.{ListsStayInRange}
 use Rattle.fk_sim_rounds.proofs.Way.{ended_next}
 use Rattle.fk_sim_block.specs.Node.{Nestings}
-use Rattle.fk_sim_runs.specs.Lists.{IsOfOneGroup}
+use Rattle.fk_sim_runs.specs.Lists.{IsOfTree}
 use Rattle.fk_sim_runs.specs.Facts.{HasSpace, ReachedStatesHaveNests}
 use Rattle.fk_sim_runs.specs.Reached.{the_end, RunsReach}
 use Rattle.fk_sim_runs.proofs.Trees.{is_space}
@@ -73,7 +78,7 @@ module _ (core : List CoreOp) (set : Setting) (round : Round) (s : State Positio
       = first_is r (settled_by actors s.tree new a.acting.runner a.acting.due) (sym at ∙ settled_at actors s.tree new actors h a.acting a.at) in
       subst (λ (x : Runner Position). IsThere core x.left) (sym same) (settled_there h a))
 
-module _ (core : List CoreOp) (nestings : Nestings) (main : ℕ) (list : IsOfOneGroup core nestings main) (words firsts input : List ℕ) (p : ℕ)
+module _ (core : List CoreOp) (nestings : Nestings) (main : ℕ) (list : IsOfTree core nestings main) (words firsts input : List ℕ) (p : ℕ)
     (room : HasSpace (setting_of p words input)) where
   abbrev set : Setting
   set = setting_of p words input
@@ -110,16 +115,22 @@ pub reached_states_have_nests : ReachedStatesHaveNests
 reached_states_have_nests core main frames words firsts input p schedule room h r at =
     lists_tell_frames core main frames words firsts input p schedule (is_space (setting_of p words input) room) h r at
 
+-- the spaces of the nests of a processor
+all_spaces : (nests : List Nest) (spaces : List Space) → AreTaken nests spaces → All IsSpace spaces
+all_spaces nests [] taken = All-nil IsSpace
+all_spaces nests (s ∷ spaces) taken = All-cons IsSpace s spaces taken.0.space (all_spaces (outward nests) spaces taken.1)
+
 pub runs_reach : ListsStayInRange → RunsReach
 runs_reach stay core nestings main list words firsts input p schedule some given possible single none =
-    let known = list.one_group p words input (slice_index firsts) schedule some possible single none in
+    let setting = setting_of p words input in
+    let space = is_space setting given.room in
     record {
-      sound = known.0;
-      one_program = known.1;
-      one_group = known.2;
-      beginners = known.3;
+      stands = list.in_tree p words firsts input schedule some space possible single none;
+      spaces = λ h r at.
+          let told = lists_tell_frames core main list.frames words firsts input p schedule space h r at in
+          all_spaces _ (spaces_of r.has) told.nests.spaces;
       within = all_there core nestings main list words firsts input p given.room schedule possible single none;
       depth = λ h r op at stands. list.well_formed.depths words firsts input p schedule possible none h r op at stands;
-      may = λ h r op operation at stands is_read. list.may words firsts input p schedule (is_space (setting_of p words input) given.room) h r op operation at stands is_read;
+      may = λ h r op operation at stands is_read. list.may words firsts input p schedule space h r op operation at stands is_read;
       in_range = λ h r at. stay core main words firsts input p schedule given h r at;
     }

@@ -5,10 +5,10 @@ use Rattle.fk_meaning.specs.Schedule.{Schedule, run}
 use Rattle.fk_meaning.specs.Processor.{setting_of}
 use Rattle.fk_core.specs.Next.{Position, next, list_opening}
 use Rattle.fk_sim_match.specs.Stage.{counts_for}
-use Rattle.fk_lockstep_one_group.specs.Rounds.{IsSingle}
-use Rattle.fk_lockstep_one_group.specs.Runs.{AreSingle}
-use Rattle.fk_lockstep_one_group.proofs.Acts.{result_is}
-use Rattle.fk_lockstep_one_group.proofs.Runs.{run-append, are_all, all_are, possible_before, running}
+use Rattle.fk_lockstep_tree.specs.Rounds.{IsSingle}
+use Rattle.fk_lockstep_tree.specs.Runs.{AreSingle}
+use Rattle.fk_lockstep_tree.proofs.Acts.{result_is}
+use Rattle.fk_lockstep_tree.proofs.Runs.{run-append, are_all, all_are, possible_before, running}
 use Rattle.fk_sim_runs.specs.Reached.{IsReached, RunsReach}
 use Rattle.fk_sim_runs.specs.Behind.{RunsReachRounds}
 use Rattle.fk_sim_runs.proofs.Known.{counts_single}

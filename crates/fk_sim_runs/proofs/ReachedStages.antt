@@ -18,7 +18,7 @@ use Rattle.fk_core.specs.Next.{Position, landing, next}
 use Rattle.fk_sim_nodes.specs.Phase.{Phase, Leaving}
 use Rattle.fk_sim_match.specs.Stage.{Commits, Unites, Stage, Ended, Acts, Meets, count_of_stage, counts_for, Pairwise, Remains, IsOver}
 use Rattle.fk_lockstep.proofs.Round.{first_is, some_at}
-use Rattle.fk_lockstep_one_group.proofs.Acts.{acts, counts_as}
+use Rattle.fk_lockstep_tree.proofs.Acts.{acts, counts_as}
 use Rattle.fk_sim_block.specs.Owner.{Owner, Doing}
 use Rattle.fk_sim_block.specs.Next.{OpAt, step_at}
 use Rattle.fk_sim_block.specs.Node.{Nestings}
@@ -30,7 +30,7 @@ use Rattle.fk_lockstep_nodes.specs.Steps.{KeepsOrDoes, only}
 use Rattle.fk_sim_rounds.specs.Rounds.{IsKnownRound}
 use Rattle.fk_sim_rounds.specs.Beside.{landed_runner, landed_state}
 use Rattle.fk_sim_rounds.proofs.Landed.{next_landed}
-use Rattle.fk_sim_runs.specs.Lists.{IsOfOneGroup}
+use Rattle.fk_sim_runs.specs.Lists.{IsOfTree}
 use Rattle.fk_sim_runs.specs.Facts.{BeginsGroup}
 use Rattle.fk_sim_runs.specs.Behind.{HadNext, UnitedHadNext, IsRoundOf, AreReached, ReachedStagesGoOn}
 use Rattle.fk_sim_runs.proofs.Ways.{next_at}
@@ -92,11 +92,11 @@ first_due core tree spaces [] [] r due at = absurd (cc)
 first_due core tree spaces [] (q ∷ rs) r due at = absurd due
 first_due core tree spaces (x ∷ stages) [] r due at = absurd due
 
-module _ (core : List CoreOp) (nestings : Nestings) (main : ℕ) (setting : Setting) (s : State Position) (stages : List Stage) (did : List Doing) (list : IsOfOneGroup core nestings main)
+module _ (core : List CoreOp) (nestings : Nestings) (main : ℕ) (setting : Setting) (s : State Position) (stages : List Stage) (did : List Doing) (list : IsOfTree core nestings main)
     (reached : AreReached core setting s stages) (round : IsRoundOf core setting s stages did) (spaces : ℕ → Space) (due : AllDue core s.tree spaces 0 stages (landed_state core s).runners) where
   no_group : BeginsGroup s.tree did → ⊥
   no_group begins =
-      let some = reached.before.sound.some in
+      let some = reached.before.stands.sound.some in
       let size = did_many core nestings main setting s stages did list reached round in
       let long = many core nestings main setting s stages did list reached round in
       let d = some_at did 0 (omega (arith, some, size)) in
@@ -110,7 +110,7 @@ module _ (core : List CoreOp) (nestings : Nestings) (main : ℕ) (setting : Sett
       let same : b.acting ≡ d.0.acting
       = first_is b.acting d.0.acting
       (sym b.at ∙ ap (λ l. slice_get l 0) (actors_are core nestings main setting s stages did list reached round) ∙ map_at (λ (x : Doing). x.acting) did 0 d.0 d.1) in
-      let place : s.tree.places 0 ≡ 0 = begins.stand 0 (subst (λ (l : List ℕ). trees.is_member 0 l ≡ true) (sym reached.before.sound.root) (below-has setting.processors 0 [] (omega (arith, some)))) in
+      let place : s.tree.places 0 ≡ 0 = begins.stand 0 (subst (λ (l : List ℕ). trees.is_member 0 l ≡ true) (sym reached.before.stands.sound.root) (below-has setting.processors 0 [] (omega (arith, some)))) in
       let x = first_due core s.tree spaces stages (map (landed_runner core) s.runners) (landed_runner core r.0) due at in
       let free : is_lockstep (trees.kind s.tree (s.tree.places 0)) ≡ false = ap (λ (n : ℕ). is_lockstep (trees.kind s.tree n)) place ∙ ap is_lockstep begins.kind in
       let does : DoesStep o.Begin d.0.acting.due = first_does did d.0 d.1 begins place in

@@ -8,7 +8,7 @@ use Rattle.fk_tree.proofs.Shapes.{some-given}
 use Rattle.fk_tree.proofs.Begins.{root_some}
 use Rattle.fk_meaning.specs.Processor.{Setting, group_space}
 use Rattle.fk_machine.specs.Cycle.{cycle}
-use Rattle.fk_lockstep_one_group.specs.Placed.{IsOfOneGroup}
+use Rattle.fk_lockstep_tree.specs.Placed.{IsOfTree}
 use Rattle.fk_sim_block.specs.Node.{IsAtRest}
 use Rattle.fk_sim_match.specs.Nodes.{first_of}
 use Rattle.fk_sim_rounds.specs.Rest.{HasNoGroup}
@@ -20,7 +20,7 @@ use Rattle.fk_sim_runs.specs.Ready.{ReachedCyclesStayReady, ReachedStartsFindHea
 use Rattle.fk_sim_runs.proofs.Known.{reached_rounds_are_known}
 
 -- a root that does not wait is alone
-alone_there : (tree : Tree) (alone : Bool) → IsOfOneGroup tree → trees.kind tree 0 ≡ Some (Asynchronous alone) → HasNoGroup tree
+alone_there : (tree : Tree) (alone : Bool) → IsOfTree tree → trees.kind tree 0 ≡ Some (Asynchronous alone) → HasNoGroup tree
 alone_there tree alone has kind = ⊎_elim (λ none g ne. none.none g ne) (λ one. absurd (let e = sym kind ∙ one.1.root in cc)) has
 
 one_header : (setting : Setting) → HasSpace setting → HaveOneHeader (spaces_of setting) (group_space setting).low
@@ -39,7 +39,7 @@ reached_cycles_stay_ready core image places nestings cycles firsts main setting 
     cycles_stay_ready core image places nestings cycles firsts main setting (spaces_of setting) s nodes printed stages m (group_space setting).low the_law list.jumps few running with possible
     (one_header setting small)
     (λ did shared all.
-    ⊎_elim (λ known. known_rounds_keep_groups s.tree did known) (λ begins. inr (λ none. alone_there s.tree false is.one_group.tree begins.kind))
+    ⊎_elim (λ known. known_rounds_keep_groups s.tree did known) (λ begins. inr (λ none. alone_there s.tree false is.stands.tree.tree begins.kind))
     (reached_rounds_are_known core nestings main setting stages s f.ps did f.shared shared list is f.order f.beside possible all))
     ready
 
@@ -47,5 +47,5 @@ pub reached_starts_find_headers : ReachedStartsFindHeaders
 reached_starts_find_headers core image places nestings main setting s nodes printed stages m list is small few running with possible ready =
     let header = one_header setting small in
     let rest = starts_stay_ready core image places nestings setting (spaces_of setting) s nodes printed stages m (group_space setting).low list.jumps few running with possible header
-    (alone_there s.tree with.followed.before.alone is.one_group.tree with.followed.before.kind) ready in
-    (record { rest = subst (λ k. IsAtRest k (cycle m).shared.control) (sym (header.same s.tree.given (given_some setting.processors s.tree is.sound))) rest; low = refl }, λ none. rest)
+    (alone_there s.tree with.followed.before.alone is.stands.tree.tree with.followed.before.kind) ready in
+    (record { rest = subst (λ k. IsAtRest k (cycle m).shared.control) (sym (header.same s.tree.given (given_some setting.processors s.tree is.stands.sound))) rest; low = refl }, λ none. rest)

@@ -8,7 +8,7 @@ use Rattle.fk_meaning.specs.Processor.{Setting, setting_of}
 use Rattle.fk_meaning_operation.specs.declared.operation.Operation.TheVariants.{Begin}
 use Rattle.fk_meaning.specs.Round.{Runner, State, result, is_possible, IsStopped}
 use Rattle.fk_meaning.specs.Schedule.{Schedule, SourceRunning, SourceFinished, SourceFaulted, run, CouldAct, IsLawful, all_done, stand_by}
-use Rattle.fk_lockstep_one_group.specs.Runs.{AreSingle}
+use Rattle.fk_lockstep_tree.specs.Runs.{AreSingle}
 use Rattle.fk_core.specs.declared.op.CoreOp.{CoreOp}
 use Rattle.fk_core.specs.Next.{Position, position, landing, next, list_opening}
 use Rattle.fk_image.specs.declared.Image.{Image}

@@ -19,9 +19,9 @@ use Rattle.fk_sim_block.specs.Lists.{StaysInList}
 use Rattle.fk_sim_block.specs.Node.{Nestings}
 use Rattle.fk_sim_block.specs.Law.{is_shared_step}
 use Rattle.fk_sim_rounds.proofs.Way.{no_jump}
-use Rattle.fk_lockstep_one_group.specs.Where.{Where, InRoot, Waits, InGroup, InBody, BehindBody, stays, goes}
-use Rattle.fk_lockstep_one_group.specs.Placed.{where_in}
-use Rattle.fk_sim_runs.specs.Lists.{IsOfOneGroup}
+use Rattle.fk_lockstep_tree.specs.Where.{Where, InRoot, Waits, InGroup, InBody, BehindBody, stays, goes}
+use Rattle.fk_lockstep_tree.specs.Placed.{where_in}
+use Rattle.fk_sim_runs.specs.Lists.{IsOfTree}
 use Rattle.fk_sim_runs.specs.Reached.{the_end}
 
 -- ---- which steps of the tree stand where
@@ -162,7 +162,7 @@ within_return core [] lt all = absurd (omega (arith, lt))
 within_return core (i ∷ callers) lt all = record { at = All-head (λ j. j < length core) i callers all; callers = All-tail (λ j. j < length core) i callers all }
 
 -- in the list, but behind a halt
-pub stays_within : (core : List CoreOp) (nestings : Nestings) (main : ℕ) → IsOfOneGroup core nestings main → (i : ℕ) (op : CoreOp) (operation : Operation) (r : Runner Position) (onward : Bool)
+pub stays_within : (core : List CoreOp) (nestings : Nestings) (main : ℕ) → IsOfTree core nestings main → (i : ℕ) (op : CoreOp) (operation : Operation) (r : Runner Position) (onward : Bool)
     → OpAt core i op operation → MayDo operation r → Below core r.left.callers → operation ≢ o.Halt → StaysInList core (follows core operation i op.target r.left.callers onward)
 stays_within core nestings main list i op (o.Leave gives framed) r onward at may all ne = within_return core r.left.callers may all
 stays_within core nestings main list i op o.Halt r onward at may all ne = absurd (ne refl)
@@ -170,7 +170,7 @@ stays_within core nestings main list i op operation r onward at may all ne =
     within_callers core operation i op.target r.left.callers onward (list.within i op operation at refl onward) all
 
 -- or at the end behind that
-pub goes_within : (core : List CoreOp) (nestings : Nestings) (main : ℕ) → IsOfOneGroup core nestings main → (i : ℕ) (op : CoreOp) (operation : Operation) (r : Runner Position) (onward : Bool)
+pub goes_within : (core : List CoreOp) (nestings : Nestings) (main : ℕ) → IsOfTree core nestings main → (i : ℕ) (op : CoreOp) (operation : Operation) (r : Runner Position) (onward : Bool)
     → OpAt core i op operation → MayDo operation r → Below core r.left.callers
     → StaysInList core (follows core operation i op.target r.left.callers onward) ⊎ (follows core operation i op.target r.left.callers onward ≡ the_end core)
 goes_within core nestings main list i op o.Halt r onward at may all = inr (ap (returned core) may)

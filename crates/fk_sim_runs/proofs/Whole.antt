@@ -29,11 +29,11 @@ use Rattle.fk_sim_runs.specs.Pace.{AreInTime}
 use Rattle.fk_sim_runs.specs.Runs.{StandsBeside, IsRound, GoesFurther, AlwaysGoesFurther, places_in, IsBehind}
 use Rattle.fk_sim_runs.proofs.Turning.{stay_length}
 use Rattle.fk_sim_runs.proofs.Runs.{few_harts, stand_in, many_in, machines_follow_group_runs, orderly_rounds_go_further, unions_go_further, starts_go_further}
-use Rattle.fk_sim_runs.specs.Follow.{CarriesGroups, MachinesFollowGroups}
+use Rattle.fk_sim_runs.specs.Follow.{CarriesTrees, MachinesFollowTrees}
 use Rattle.fk_sim_runs.proofs.Begin.{all_begin, begins_at}
 use Rattle.fk_sim_runs.proofs.Machines as reaching
 
-module _ (runs_reach : RunsReach) (runs_reach_rounds : RunsReachRounds) (core : List CoreOp) (main : ℕ) (firsts : List ℕ) (places : Places) (nestings : Nestings) (cycles : Cycles) (image : Image) (carries : CarriesGroups core main firsts places nestings cycles image)
+module _ (runs_reach : RunsReach) (runs_reach_rounds : RunsReachRounds) (core : List CoreOp) (main : ℕ) (firsts : List ℕ) (places : Places) (nestings : Nestings) (cycles : Cycles) (image : Image) (carries : CarriesTrees core main firsts places nestings cycles image)
     (input : List ℕ) (p : ℕ) (is_input : IsInput image input) (some : 1 ≤ p) (few : p ≤ 1024) where
   abbrev setting : Setting
   setting = reaching.setting runs_reach core main firsts places nestings cycles image carries input p is_input some few
@@ -54,7 +54,7 @@ module _ (runs_reach : RunsReach) (runs_reach_rounds : RunsReachRounds) (core : 
         → IsReady setting s.tree m.shared.control → IsReady setting (result (next core) setting (counts_for stages) s).tree (cycle m).shared.control
     ready_behind with possible ready =
         let f = with.followed in
-        reached_cycles_stay_ready core image places nestings cycles firsts main setting s nodes printed stages m carries.blocks carries.one_group are.before is_input.room
+        reached_cycles_stay_ready core image places nestings cycles firsts main setting s nodes printed stages m carries.blocks carries.tree are.before is_input.room
         (few_harts setting nodes m f.ps few f.before.as_many f.before.many) running with possible ready
 
     goes_on : GoesWith core image places nestings setting spaces s nodes printed stages m → AreInTime stages → IsReady setting s.tree m.shared.control
@@ -65,7 +65,7 @@ module _ (runs_reach : RunsReach) (runs_reach_rounds : RunsReachRounds) (core : 
         let round : IsRoundOf core setting s stages r.did
         = record { ps = r.makes.ps; shared = r.makes.shared; shared' = r.makes.store; order = r.makes.order; beside = r.makes.beside; possible = possible; passes = r.makes.passes } in
         let due = subst (AllDue core s.tree spaces 0 stages) f.beside.runners f.before.due in
-        let go = reached_stages_go_on core nestings main setting s stages r.afters r.did spaces carries.one_group is_input.room few are round due r.makes.stay in
+        let go = reached_stages_go_on core nestings main setting s stages r.afters r.did spaces carries.tree is_input.room few are round due r.makes.stay in
         let tree = (result (next core) setting (counts_for stages) s).tree in
         let behind : IsBehind core nestings setting spaces s stages m r.did r.afters
         = record {
@@ -81,7 +81,7 @@ module _ (runs_reach : RunsReach) (runs_reach_rounds : RunsReachRounds) (core : 
     unites with ready r =
         let f = with.followed in
         let possible = subst (λ x. is_possible (next core) setting x s ≡ true) r.round r.possible in
-        let begin = all_begin core carries.one_group.jumps s.tree spaces 0 stages s.runners (runners_of f.ps) r.all f.before.due f.beside.runners in
+        let begin = all_begin core carries.tree.jumps s.tree spaces 0 stages s.runners (runners_of f.ps) r.all f.before.due f.beside.runners in
         let land = reached_beginners_land_at_one_index core setting s are.before (λ h q at. begins_at core s.runners h q begin at) in
         unions_go_further core image places nestings setting spaces s nodes printed stages m land.0 r running with few land.1 (ready_behind with possible ready)
 
@@ -91,7 +91,7 @@ module _ (runs_reach : RunsReach) (runs_reach_rounds : RunsReachRounds) (core : 
         let f = to.followed in
         let before = f.before in
         let possible = subst (λ x. is_possible (next core) setting x s ≡ true) r.round r.possible in
-        let found = reached_starts_find_headers core image places nestings main setting s nodes printed stages m carries.one_group are.before is_input.room
+        let found = reached_starts_find_headers core image places nestings main setting s nodes printed stages m carries.tree are.before is_input.room
         (few_harts setting nodes m f.ps few before.as_many before.many) running to possible ready in
         let round : IsRoundOf core setting s stages r.did
         = record { ps = r.makes.ps; shared = r.makes.shared; shared' = r.makes.store; order = r.makes.order; beside = r.makes.beside; possible = possible; passes = r.makes.passes } in
@@ -99,8 +99,8 @@ module _ (runs_reach : RunsReach) (runs_reach_rounds : RunsReachRounds) (core : 
         let staged = (many_length nodes m.harts stages f.bound.stages_as_many).1 in
         let many = before.many in
         let runners = are.before.one_group.many in
-        let had = united_had_next core setting s f.ps f.shared f.i f.op r.afters carries.one_group.jumps f.beside f.stands f.about (omega (arith, kept, staged, many, runners)) in
-        let go = reached_rounds_go_on core nestings main setting s stages r.afters r.did carries.one_group is_input.room few are round had in
+        let had = united_had_next core setting s f.ps f.shared f.i f.op r.afters carries.tree.jumps f.beside f.stands f.about (omega (arith, kept, staged, many, runners)) in
+        let go = reached_rounds_go_on core nestings main setting s stages r.afters r.did carries.tree is_input.room few are round had in
         let tree = (result (next core) setting (counts_for stages) s).tree in
         let behind : IsBehind core nestings setting spaces s stages m r.did r.afters
         = record {
@@ -131,14 +131,14 @@ module _ (runs_reach : RunsReach) (runs_reach_rounds : RunsReachRounds) (core : 
         (reaching.reached runs_reach core main firsts places nestings cycles image carries input p is_input some few schedule lawful.possible single none) kind at next_is;
     further = λ schedule uniting nodes printed stages m lawful single stands running r lawful'.
         let s = state schedule in
-        let both = runs_reach_rounds core nestings main carries.one_group image.globals.items firsts input p schedule stages some
+        let both = runs_reach_rounds core nestings main carries.tree image.globals.items firsts input p schedule stages some
         (reaching.given runs_reach core main firsts places nestings cycles image carries input p is_input some few) lawful'.possible single (possible_of uniting s nodes printed stages m r) in
         further s nodes printed stages m (record { before = both.0; after = both.1 }) running uniting stands r;
   }
 
-pub machines_follow_groups : RunsReach → RunsReachRounds → MachinesFollowGroups
-machines_follow_groups runs_reach runs_reach_rounds core main firsts places nestings cycles image carries input p n is_input some few =
+pub machines_follow_trees : RunsReach → RunsReachRounds → MachinesFollowTrees
+machines_follow_trees runs_reach runs_reach_rounds core main firsts places nestings cycles image carries input p n is_input some few =
     let setting = reaching.setting runs_reach core main firsts places nestings cycles image carries input p is_input some few in
-    machines_follow_group_runs core image places nestings cycles firsts main (spaces_of setting) input p n carries.blocks carries.one_group.jumps few
+    machines_follow_group_runs core image places nestings cycles firsts main (spaces_of setting) input p n carries.blocks carries.tree.jumps few
     (reaching.opens runs_reach core main firsts places nestings cycles image carries input p is_input some few)
     (always runs_reach runs_reach_rounds core main firsts places nestings cycles image carries input p is_input some few)

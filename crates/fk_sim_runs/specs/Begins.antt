@@ -20,7 +20,7 @@ use Rattle.fk_sim_block.specs.Start.{IsInRoot}
 use Rattle.fk_sim_match.specs.Rounds.{IsDueAt}
 use Rattle.fk_sim_rounds.specs.Next.{landed}
 use Rattle.fk_sim_rounds.specs.Union.{AllLandAt}
-use Rattle.fk_sim_runs.specs.Lists.{IsOfOneGroup}
+use Rattle.fk_sim_runs.specs.Lists.{IsOfTree}
 use Rattle.fk_sim_runs.specs.Reached.{IsReached}
 
 -- A processor is about to begin the group of a `start`. The law says this of each processor at a
@@ -38,7 +38,7 @@ abbrev pub ReachedBeginnersAreInRoot : Type 0
 ReachedBeginnersAreInRoot =
     (core : List CoreOp) (nestings : Nestings) (main : ℕ) (setting : Setting) (s : State Position)
     (h : ℕ) (p : Owner)
-    → IsOfOneGroup core nestings main → IsReached core setting s → slice_get s.runners h
+    → IsOfTree core nestings main → IsReached core setting s → slice_get s.runners h
     ≡ Some p.runner → Begins core p.runner → IsInRoot nestings setting (landed core p)
 
 -- Where all processors are about to begin that group, jumps lead all to one index.

@@ -9,7 +9,7 @@ use Rattle.fk_meaning.specs.Round.{Runner, State, result, is_possible}
 use Rattle.fk_meaning.specs.Schedule.{Schedule, run, ArePossible}
 use Rattle.fk_core.specs.declared.op.CoreOp.{CoreOp}
 use Rattle.fk_core.specs.Next.{Position, next, list_opening}
-use Rattle.fk_lockstep_one_group.specs.Runs.{AreSingle}
+use Rattle.fk_lockstep_tree.specs.Runs.{AreSingle}
 use Rattle.fk_sim_nodes.specs.Source.{AllPass}
 use Rattle.fk_sim_match.specs.Stage.{Stage, counts_for, Pairwise, Remains}
 use Rattle.fk_sim_block.specs.Owner.{Commons, Owner, Doing, core_source}
@@ -22,7 +22,7 @@ use Rattle.fk_sim_rounds.specs.After.{owners_after, ArePlaces, GroupsGoOn}
 use Rattle.fk_sim_rounds.specs.Rounds.{IsTree, IsKnownRound}
 use Rattle.fk_sim_rounds.specs.Beside.{landed_state, AreInOrder, IsBeside}
 use Rattle.fk_sim_rounds.specs.Homes.{AllNext}
-use Rattle.fk_sim_runs.specs.Lists.{IsOfOneGroup}
+use Rattle.fk_sim_runs.specs.Lists.{IsOfTree}
 use Rattle.fk_sim_runs.specs.Reached.{IsReached}
 use Rattle.fk_sim_runs.specs.Facts.{spaces_of, HasSpace}
 
@@ -77,7 +77,7 @@ abbrev pub ReachedRoundsGoOn : Type 0
 ReachedRoundsGoOn =
     (core : List CoreOp) (nestings : Nestings) (main : ℕ) (setting : Setting) (s : State Position)
     (stages : List Stage) (afters : List (Option Stage)) (did : List Doing)
-    → IsOfOneGroup core nestings main → HasSpace setting → setting.processors ≤ 1024
+    → IsOfTree core nestings main → HasSpace setting → setting.processors ≤ 1024
     → AreReached core setting s stages → IsRoundOf core setting s stages did
     → HadNext core afters s.runners → GoAhead core setting s stages nestings did afters
 
@@ -87,7 +87,7 @@ abbrev pub ReachedStagesGoOn : Type 0
 ReachedStagesGoOn =
     (core : List CoreOp) (nestings : Nestings) (main : ℕ) (setting : Setting) (s : State Position)
     (stages : List Stage) (afters : List (Option Stage)) (did : List Doing)
-    (spaces : ℕ → Space) → IsOfOneGroup core nestings main → HasSpace setting
+    (spaces : ℕ → Space) → IsOfTree core nestings main → HasSpace setting
     → setting.processors ≤ 1024 → AreReached core setting s stages
     → IsRoundOf core setting s stages did → AllDue core s.tree spaces 0 stages
     (landed_state core s).runners → Pairwise Remains stages afters
@@ -96,7 +96,7 @@ ReachedStagesGoOn =
 -- In a run the states before and after its last round are reached.
 abbrev pub RunsReachRounds : Type 0
 RunsReachRounds =
-    (core : List CoreOp) (nestings : Nestings) (main : ℕ) → IsOfOneGroup core nestings main
+    (core : List CoreOp) (nestings : Nestings) (main : ℕ) → IsOfTree core nestings main
     → (words firsts input : List ℕ) (p : ℕ) (schedule : Schedule) (stages : List Stage)
     → let setting = setting_of p words input in
     let first = list_opening main words firsts input p in

@@ -1,17 +1,17 @@
 -- What is known of a reached state, in the form that the laws of machines need.
-use Rattle.std.specs.Prelude.{◌≡◌, ◌≢◌, ℕ, ◌+◌, ◌^◌, ◌≤◌, List, length, Some, true, false}
-use Rattle.std.specs.Prelude.{slice_get, ◌⊎◌}
-use Rattle.fk_space.specs.Space.{Space}
+use Rattle.std.specs.Prelude.{◌≡◌, ◌≢◌, ℕ, ◌+◌, ◌^◌, ◌<◌, ◌≤◌, List, length, Some, None, true}
+use Rattle.std.specs.Prelude.{false, slice_get, ◌⊎◌}
 use Rattle.fk_meaning_operation.specs.declared.operation.Operation.TheVariants.{Begin}
 use Rattle.fk_tree.specs.declared.node.Kind.TheVariants.{Lockstep, Asynchronous}
 use Rattle.fk_tree.specs.Tree as trees
 use Rattle.fk_tree.specs.Tree.{Tree}
-use Rattle.fk_meaning.specs.Processor.{Setting, setting_of, group_space}
-use Rattle.fk_meaning.specs.Round.{Runner, State, is_possible}
+use Rattle.fk_meaning.specs.Processor.{Setting, setting_of}
+use Rattle.fk_meaning.specs.Round.{Runner, State, result, is_possible}
 use Rattle.fk_meaning.specs.Schedule.{Schedule, run}
 use Rattle.fk_core.specs.declared.op.CoreOp.{CoreOp}
 use Rattle.fk_core.specs.Next.{Position, next, list_opening}
 use Rattle.fk_lockstep_frames.specs.Lists.{HasLocalFrames, HasToldFrames}
+use Rattle.fk_lockstep_tree.specs.Ranges.{ranges_of}
 use Rattle.fk_sim_nodes.specs.Node.{of_node}
 use Rattle.fk_sim_nodes.specs.Source.{AllPass}
 use Rattle.fk_sim_match.specs.Stage.{Stage, counts_for}
@@ -20,23 +20,37 @@ use Rattle.fk_sim_block.specs.Node.{Nestings}
 use Rattle.fk_sim_rounds.specs.Next.{landed, HasNext, HaveNext}
 use Rattle.fk_sim_rounds.specs.After.{runners_of, StepsAt, ArePlaces}
 use Rattle.fk_sim_rounds.specs.Rounds.{IsTree, IsKnownRound}
+use Rattle.fk_sim_rounds.specs.Homes.{AllHome}
 use Rattle.fk_sim_rounds.specs.Beside.{AreInOrder, IsBeside}
-use Rattle.fk_sim_runs.specs.Lists.{IsOfOneGroup}
+use Rattle.fk_sim_runs.specs.Lists.{IsOfTree}
 use Rattle.fk_sim_runs.specs.Reached.{the_end, IsReached}
-
--- Each group has all of the group space.
-abbrev pub spaces_of : Setting → (group : ℕ) → Space
-spaces_of setting g = group_space setting
 
 -- The globals and the input have room in one half of the words of shared data.
 abbrev pub HasSpace : Setting → Type 0
 HasSpace setting = setting.globals + setting.inputs ≤ 2 ^ 19
 
--- The tree is sound, and its nodes own words apart.
+-- The tree is sound, and its nodes own words apart: those that their lowest members tell.
 abbrev pub ReachedTreesHaveSpaces : Type 0
 ReachedTreesHaveSpaces =
     (core : List CoreOp) (setting : Setting) (s : State Position) → IsReached core setting s
-    → HasSpace setting → IsTree setting s.tree (spaces_of setting)
+    → IsTree setting s.tree (ranges_of s)
+
+-- The words of a group are the same after a round, if it is still there.
+abbrev pub ReachedRangesStay : Type 0
+ReachedRangesStay =
+    (core : List CoreOp) (nestings : Nestings) (main : ℕ) (setting : Setting) (stages : List Stage)
+    (s : State Position) (g : ℕ)
+    → let behind = result (next core) setting (counts_for stages) s in
+    IsOfTree core nestings main → IsReached core setting s → IsReached core setting behind
+    → is_possible (next core) setting (counts_for stages) s ≡ true
+    → g ≢ 0 → g < s.tree.given → behind.tree.nodes g ≢ None
+    → ranges_of behind g ≡ ranges_of s g
+
+-- All processors have the levels that the tree has at their nodes.
+abbrev pub ReachedProcessorsAreHome : Type 0
+ReachedProcessorsAreHome =
+    (core : List CoreOp) (setting : Setting) (s : State Position) (ps : List Owner)
+    → IsReached core setting s → s.runners ≡ runners_of ps → AllHome s.tree (ranges_of s) 0 ps
 
 -- ---- one processor
 
@@ -59,7 +73,7 @@ abbrev pub ReachedProcessorsHaveNext : Type 0
 ReachedProcessorsHaveNext =
     (core : List CoreOp) (nestings : Nestings) (main : ℕ) (setting : Setting) (s : State Position)
     (h : ℕ) (r : Runner Position) (heap : Heaps)
-    → IsOfOneGroup core nestings main → IsReached core setting s → slice_get s.runners h ≡ Some r
+    → IsOfTree core nestings main → IsReached core setting s → slice_get s.runners h ≡ Some r
     → r.left ≢ the_end core
     → let p : Owner = record { runner = r; heap = heap } in
     HasNext core nestings setting s.tree h (landed core p)
@@ -71,7 +85,7 @@ abbrev pub ReachedGroupsHaveNext : Type 0
 ReachedGroupsHaveNext =
     (core : List CoreOp) (nestings : Nestings) (main : ℕ) (setting : Setting) (s : State Position)
     (nodes : List ℕ) (ps : List Owner) (g : ℕ)
-    → IsOfOneGroup core nestings main → IsReached core setting s → setting.processors ≤ 1024
+    → IsOfTree core nestings main → IsReached core setting s → setting.processors ≤ 1024
     → ArePlaces s.tree 0 nodes → length nodes ≡ setting.processors
     → s.runners ≡ runners_of ps → trees.kind s.tree g ≡ Some Lockstep
     → HaveNext core nestings (of_node g nodes ps)
@@ -89,7 +103,7 @@ abbrev pub ReachedRoundsAreKnown : Type 0
 ReachedRoundsAreKnown =
     (core : List CoreOp) (nestings : Nestings) (main : ℕ) (setting : Setting) (stages : List Stage)
     (s : State Position) (ps : List Owner) (did : List Doing) (shared shared' : Commons)
-    → IsOfOneGroup core nestings main → IsReached core setting s → AreInOrder 0 s.runners
+    → IsOfTree core nestings main → IsReached core setting s → AreInOrder 0 s.runners
     → IsBeside core setting s ps shared
     → is_possible (next core) setting (counts_for stages) s ≡ true
     → AllPass (core_source core setting) (counts_for stages) ps shared did shared'

@@ -1,4 +1,5 @@
 pub mod Lists
+pub mod Levels
 pub mod Reached
 pub mod Facts
 pub mod Ready

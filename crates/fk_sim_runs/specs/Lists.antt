@@ -1,17 +1,20 @@
--- Lists with one group at a time.
+-- Lists whose processors go through groups, parts and bodies.
 use Rattle.std.specs.Prelude.{◌≡◌, ℕ, ◌<◌, List, [], length, Bool, true, false, Some, slice_get}
 use Rattle.fk_meaning_operation.specs.declared.operation.Operation.{Operation}
 use Rattle.fk_core.specs.declared.op.CoreOp.{CoreOp}
 use Rattle.fk_core.specs.Next.{position, landing, is_jump, follows, next}
 use Rattle.fk_core.specs.WellFormed.{IsOperation, IsWellFormed}
-use Rattle.fk_lockstep_one_group.specs.Runs.{AlwaysOneGroup}
+use Rattle.fk_core_nestings.specs.declared.nesting.Nesting.{Nesting}
+use Rattle.fk_core_nestings.specs.Nestings.{NestingsFit}
+use Rattle.fk_lockstep_frames.specs.Lists.{HasLocalFrames}
+use Rattle.fk_lockstep_tree.specs.Runs.{AlwaysInTree}
 use Rattle.fk_sim_block.specs.Next.{OpAt}
 use Rattle.fk_sim_block.specs.Lists.{StaysInList, is_end, AlwaysMay}
 use Rattle.fk_sim_block.specs.Node.{Nestings}
 
--- What a list needs to have one group at a time: conditions on each index, whatever branches its
+-- What a list needs to be followed by machines: conditions on each index, whatever branches its
 -- processors take, and conditions on all its runs of possible rounds.
-pub record IsOfOneGroup (core : List CoreOp) (nestings : Nestings) (main : ℕ) : Type 0 where
+pub record IsOfTree (core : List CoreOp) (nestings : Nestings) (main : ℕ) : Type 0 where
   pub begins : main < length core
   -- A jump leads to an operation.
   pub jumps : (i : ℕ) (op : CoreOp) → slice_get core i ≡ Some op → is_jump op ≡ true
@@ -20,11 +23,16 @@ pub record IsOfOneGroup (core : List CoreOp) (nestings : Nestings) (main : ℕ) 
   pub within : (i : ℕ) (op : CoreOp) (operation : Operation) → OpAt core i op operation
       → is_end operation ≡ false
       → (onward : Bool) → StaysInList core (follows core operation i op.target [] onward)
-  -- No frame has a saved level: around a group there is the root alone.
-  pub levels : (i : ℕ) → nestings.levels i ≡ 0
-  -- In every such run the members of a group in lockstep are at one index, and so are those who
-  -- begin a group; and there is one group at a time.
-  pub one_group : AlwaysOneGroup (next core) (λ w. landing core w.at) (position main [])
+  -- At each index the nests of the call are known, and a frame saves as many levels as the pass
+  -- over the list tells.
+  pub frames : HasLocalFrames core main
+  pub nest : (index : ℕ) → Nesting
+  pub nested : NestingsFit core main nest
+  pub levels : (i : ℕ) → nestings.levels i ≡ (nest i).levels
+  -- In every such run processors are where their operations, the tree and their levels tell. The
+  -- members of a group in lockstep are at one index and have one space, and those who begin a group
+  -- are at one index.
+  pub in_tree : AlwaysInTree (next core) (λ w. landing core w.at) (position main [])
   -- In every such run each processor has as many values as its operation expects, and may do it.
   pub well_formed : IsWellFormed core main
   pub may : AlwaysMay core main

@@ -1,34 +1,35 @@
--- States that are reached in runs of lists with one group at a time.
-use Rattle.std.specs.Prelude.{◌≡◌, ℕ, ◌≤◌, List, [], length, Some, None, slice_get, ◌⊎◌}
+-- States that are reached in runs of lists whose processors are in trees.
+use Rattle.std.specs.Prelude.{◌≡◌, ℕ, ◌≤◌, List, [], length, Some, None, slice_get, All, ◌⊎◌}
 use Rattle.fk_meaning_operation.specs.declared.operation.Operation.{Operation}
-use Rattle.fk_tree.specs.Sound.{IsSound}
-use Rattle.fk_meaning.specs.Processor.{Setting, setting_of, values}
+use Rattle.fk_space.specs.Space.{IsSpace}
+use Rattle.fk_meaning.specs.Processor.{Processor, Setting, setting_of, values}
 use Rattle.fk_meaning.specs.Round.{Runner, State}
 use Rattle.fk_meaning.specs.Schedule.{Schedule, run, ArePossible}
 use Rattle.fk_core.specs.declared.op.CoreOp.{CoreOp}
 use Rattle.fk_core.specs.Numbers.{operation_of}
 use Rattle.fk_core.specs.Next.{Position, position, landing, next, list_opening}
-use Rattle.fk_lockstep.specs.OneProgram.{HaveOneProgram}
-use Rattle.fk_lockstep_one_group.specs.Placed.{HasOneGroup}
-use Rattle.fk_lockstep_one_group.specs.Runs.{AreSingle, BeginAtOne}
+use Rattle.fk_lockstep_frames.specs.Taken.{spaces_of}
+use Rattle.fk_lockstep_tree.specs.Runs.{AreSingle, StandsInTree}
 use Rattle.fk_sim_block.specs.Ready.{MayDo, IsInRange}
 use Rattle.fk_sim_block.specs.Lists.{StaysInList}
 use Rattle.fk_sim_rounds.specs.InRange.{AreGiven}
 use Rattle.fk_sim_block.specs.Node.{Nestings}
-use Rattle.fk_sim_runs.specs.Lists.{IsOfOneGroup}
+use Rattle.fk_sim_runs.specs.Lists.{IsOfTree}
 
 -- The position of a processor with nothing left to do.
 abbrev pub the_end : List CoreOp → Position
 the_end core = position (length core) []
 
--- What is known of a reached state: its groups have one program, and processors that begin one are
--- at one index. There is one group at most. Each processor is in the list or at its end, has as
+-- The words of a processor's group, and those of each group around it, are a space.
+abbrev pub HasSpaces : Processor → Type 0
+HasSpaces p = All IsSpace (spaces_of p)
+
+-- What is known of a reached state: processors are where their operations, the tree and their
+-- levels tell, and their levels have spaces. Each processor is in the list or at its end, has as
 -- many values as its operation expects, may do it, and has words alone.
 pub record IsReached (core : List CoreOp) (setting : Setting) (s : State Position) : Type 0 where
-  pub sound : IsSound setting.processors s.tree
-  pub one_program : HaveOneProgram (next core) s
-  pub beginners : BeginAtOne (next core) (λ w. landing core w.at) s
-  pub one_group : HasOneGroup (next core) setting s
+  pub stands : StandsInTree (next core) (λ w. landing core w.at) setting s
+  pub spaces : (h : ℕ) (r : Runner Position) → slice_get s.runners h ≡ Some r → HasSpaces r.has
   pub within : (h : ℕ) (r : Runner Position) → slice_get s.runners h ≡ Some r
       → StaysInList core r.left ⊎ (r.left ≡ the_end core)
   pub depth : (h : ℕ) (r : Runner Position) (op : CoreOp) → slice_get s.runners h ≡ Some r
@@ -44,7 +45,7 @@ pub record IsReached (core : List CoreOp) (setting : Setting) (s : State Positio
 -- operation at most, from what a machine may be given.
 abbrev pub RunsReach : Type 0
 RunsReach =
-    (core : List CoreOp) (nestings : Nestings) (main : ℕ) → IsOfOneGroup core nestings main
+    (core : List CoreOp) (nestings : Nestings) (main : ℕ) → IsOfTree core nestings main
     → (words firsts input : List ℕ) (p : ℕ) (schedule : Schedule)
     → let setting = setting_of p words input in
     let first = list_opening main words firsts input p in

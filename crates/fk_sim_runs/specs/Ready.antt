@@ -16,7 +16,7 @@ use Rattle.fk_sim_block.specs.Law.{Cycles, GroupLaw}
 use Rattle.fk_sim_match.specs.Nodes.{first_of}
 use Rattle.fk_sim_rounds.specs.Machines.{GoesWith, GoesToStart}
 use Rattle.fk_sim_rounds.specs.RestInRuns.{IsReadyForGroup}
-use Rattle.fk_sim_runs.specs.Lists.{IsOfOneGroup}
+use Rattle.fk_sim_runs.specs.Lists.{IsOfTree}
 use Rattle.fk_sim_runs.specs.Reached.{IsReached}
 use Rattle.fk_sim_runs.specs.Facts.{spaces_of, HasSpace}
 
@@ -30,7 +30,7 @@ ReachedCyclesStayReady =
     (core : List CoreOp) (image : Image) (places : Places) (nestings : Nestings) (cycles : Cycles)
     (firsts : List ℕ) (main : ℕ) (setting : Setting)
     (s : State Position) (nodes : List ℕ) (printed : List ℕ) (stages : List Stage) (m : Machine)
-    → GroupLaw core image places nestings cycles firsts main → IsOfOneGroup core nestings main
+    → GroupLaw core image places nestings cycles firsts main → IsOfTree core nestings main
     → IsReached core setting s → HasSpace setting
     → length m.harts < 2 ^ 31 → is_running m.stand ≡ true
     → GoesWith core image places nestings setting (spaces_of setting) s nodes printed stages m
@@ -50,7 +50,7 @@ ReachedStartsFindHeaders =
     (core : List CoreOp) (image : Image) (places : Places) (nestings : Nestings) (main : ℕ)
     (setting : Setting)
     (s : State Position) (nodes : List ℕ) (printed : List ℕ) (stages : List Stage) (m : Machine)
-    → IsOfOneGroup core nestings main → IsReached core setting s → HasSpace setting
+    → IsOfTree core nestings main → IsReached core setting s → HasSpace setting
     → length m.harts < 2 ^ 31 → is_running m.stand ≡ true
     → GoesToStart core image places nestings setting (spaces_of setting) s nodes printed stages m
     → is_possible (next core) setting (counts_for stages) s ≡ true

@@ -7,7 +7,7 @@ use Rattle.fk_tree.specs.Tree.{Tree}
 use Rattle.fk_meaning.specs.Processor.{Setting, setting_of, group_space}
 use Rattle.fk_meaning.specs.Round.{State, result}
 use Rattle.fk_meaning.specs.Schedule.{Schedule, run, IsLawful}
-use Rattle.fk_lockstep_one_group.specs.Runs.{AreSingle}
+use Rattle.fk_lockstep_tree.specs.Runs.{AreSingle}
 use Rattle.fk_core.specs.declared.op.CoreOp.{CoreOp}
 use Rattle.fk_core.specs.Next.{Position, next, list_opening}
 use Rattle.fk_image.specs.declared.Image.{Image}

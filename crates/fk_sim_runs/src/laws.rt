@@ -15,7 +15,7 @@ ghost use Rattle.fk_sim_runs.specs.Turning.{PlansTurn, UnionsTurn, UnitedTurn};
 ghost use Rattle.fk_sim_runs.specs.Able.{WhoCouldActWill, WhoHasUnitedWill};
 ghost use Rattle.fk_sim_runs.specs.Runs.{MachinesFollowGroupRuns, OrderlyRoundsGoFurther};
 ghost use Rattle.fk_sim_runs.specs.Runs.{UnionsGoFurther, StartsGoFurther};
-ghost use Rattle.fk_sim_runs.specs.Follow.{MachinesFollowGroups};
+ghost use Rattle.fk_sim_runs.specs.Follow.{MachinesFollowTrees};
 
 /// After every schedule of possible rounds in which each processor does one operation at most, each
 /// processor is at an index of the list or at its end, may do its next operation, and its values
@@ -199,8 +199,8 @@ pub fn starts_go_further()
 /// included, are those of that core run.
 ///
 /// This holds for every input, 1 to 1,024 harts and every number of cycles.
-pub fn machines_follow_groups()
-    ensures { MachinesFollowGroups }
+pub fn machines_follow_trees()
+    ensures { MachinesFollowTrees }
 {
     runs_reach();
     runs_reach_rounds();

@@ -81,7 +81,7 @@ returns-clause-faithful c =
       fits = c.in_ok-text.ensures.fits;
       built = c.in_ok-text.ensures.built;
       faithful =
-          is_faithful tree text.facts list.ops.items list.main image c.machines_follow_groups.ensures c.programs_are_followed.ensures
+          is_faithful tree text.facts list.ops.items list.main image c.machines_follow_trees.ensures c.programs_are_followed.ensures
           (is_compiled tree text.facts layout c.in_ok-text.ensures.laid c.in_ok-text.ensures.fits list.ops.items kept.items list.main code image
           (record {
             list = c.in_ok-list.ensures.list;

@@ -1,0 +1,9 @@
+pub mod Where
+pub mod Ranges
+pub mod Placed
+pub mod Steps
+pub mod Rounds
+pub mod Runs
+pub mod Leads
+pub mod Led
+pub mod Lists

@@ -1,5 +1,0 @@
-use Rattle.fk_sim_runs.proofs.Whole.{machines_follow_groups}
-use Rattle.fk_sim_runs.proofs.laws.machines_follow_groups.Goals as goal
-
-pub returns : goal.returns
-returns c = machines_follow_groups c.runs_reach.ensures c.runs_reach_rounds.ensures
