@@ -22,6 +22,9 @@ t2 = 7
 abbrev pub t3 : ℕ
 t3 = 28
 
+abbrev pub t4 : ℕ
+t4 = 29
+
 -- The registers with what is known of the hart's node of the tree of groups.
 abbrev pub a0 : ℕ
 a0 = 10

@@ -8,4 +8,4 @@ mod placed;
 pub mod registers;
 
 pub use block_line::{BlockLine, emit_lines, emit_number, emit_sum};
-pub use placed::Placed;
+pub use placed::{Levels, Placed};
