@@ -16,6 +16,7 @@ saved_kept m m' at (suc n) (l ∷ levels) same held = (
     size = same (at + 4 * n) (omega arith) (omega arith) ∙ held.0.size;
     node = same (at + 4 * n + 1) (omega arith) (omega arith) ∙ held.0.node;
     blocks = same (at + 4 * n + 2) (omega arith) (omega arith) ∙ held.0.blocks;
+    frames = same (at + 4 * n + 3) (omega arith) (omega arith) ∙ held.0.frames;
   },
   saved_kept m m' at n levels (λ j le lt. same j le (omega arith)) held.1,
 )

@@ -32,9 +32,9 @@ use Rattle.fk_gen.proofs.Standing.{SameRegisters, in_memory, stands_with, with_l
 use Rattle.fk_gen.proofs.Walk.{Quiets, Plain, LocalAt, TellsInputs, quiet_lines, walk, told_of, walked, lines_split, runs_join, private, can_run_goes}
 use Rattle.fk_gen.proofs.Jumps.{jumps, goes_to_pc, jal_private, jalr_goes}
 use Rattle.fk_sim_block.specs.Node.{Polling, Nestings, IsRoot, HasOuter, HasNestings, HasSaved, OwnsHeader, past_levels, saved_at, first_word, root_words, closing_word, agreed_word, control_address}
-use Rattle.fk_sim_block.specs.Lockstep.{IsMember, LevelsStay, NoneSaved, highest_value, is_due}
+use Rattle.fk_sim_block.specs.Lockstep.{IsMember, LevelsStay, NoneSaved, highest_value, is_due, ComesByWay, AllComeByWay}
 use Rattle.fk_sim_block.specs.Joint.{Polls}
-use Rattle.fk_sim_block.specs.Start.{IsInRoot, MeetsUntil, HasMet, AllHaveMet, ComesToPart, AllComeToParts, HaveStarted, size_of_start, runs_behind_start}
+use Rattle.fk_sim_block.specs.Start.{IsInRoot, MeetsUntil, HasMet, AllHaveMet, HaveStarted, size_of_start, runs_behind_start}
 use Rattle.fk_gen_group.specs.Meeting.{IsMeeting, HasMeeting, IsReadyToMeet, HasLeft}
 use Rattle.fk_gen_group.specs.Blocks.{HasStart, start_label, gathering, meet_lines, telling_lines, size_lines, parting_lines, group_words}
 use Rattle.fk_gen_group.specs.Laws.{IsInPlace, GroupsStart}
@@ -507,7 +507,7 @@ module _ (core : List CoreOp) (image : Image) (bound : ℕ → ℕ) (places : Pl
 
       part_of : (hart : Hart) (taken : Bool) → is_taken v p.runner.has ≡ taken → RunsPrivately image t m.number (steps_behind taken) told_hart hart
           → IsMember places nestings setting (runs_behind_start setting taken) (first_word (went taken).runner.has.level (went taken).runner.has.outer) (record m { hart = hart }) (went taken)
-          → ComesToPart core image places nestings i op setting t steps_behind v lowest m p
+          → ComesByWay core image places nestings i op Begin setting t steps_behind (λ p. runs_behind_start setting (is_taken v p.runner.has)) v lowest (λ p. size_of_start setting v) m p
       part_of hart taken e runs member = record {
         hart = hart;
         runs = subst (λ h. RunsPrivately image t m.number (steps_behind (is_taken v p.runner.has)) h hart) (sym knows.is)
@@ -516,14 +516,17 @@ module _ (core : List CoreOp) (image : Image) (bound : ℕ → ℕ) (places : Pl
             subst (λ b. IsMember places nestings setting (runs_behind_start setting b) (first_word (went b).runner.has.level (went b).runner.has.outer) (record m { hart = hart }) (went b)) (sym e) member;
       }
 
-      by_way : (taken : Bool) → is_taken v p.runner.has ≡ taken → ComesToPart core image places nestings i op setting t steps_behind v lowest m p
+      by_way : (taken : Bool) → is_taken v p.runner.has ≡ taken
+          → ComesByWay core image places nestings i op Begin setting t steps_behind (λ p. runs_behind_start setting (is_taken v p.runner.has)) v lowest (λ p. size_of_start setting v) m p
       by_way true e = part_of body_hart true e (goes_in e) is_in_group
       by_way false e = part_of waiting_hart false e (goes_back e) waits
 
     -- ---- all of them
 
     abbrev AllCome : ℕ → List Member → List Owner → Type 0
-    AllCome v ms ps = AllComeToParts core image places nestings i op setting (later (later t0)) (λ onward. if onward then 21 else 11) v lowest ms ps
+    AllCome v ms ps =
+        AllComeByWay core image places nestings i op Begin setting (later (later t0)) (λ onward. if onward then 21 else 11) (λ p. runs_behind_start setting (is_taken v p.runner.has)) v lowest
+        (λ p. size_of_start setting v) ms ps
 
     all_come : (v : ℕ) (ms : List Member) (ps : List Owner) → Both (Knows v) ms ps → AllCome v ms ps
     all_come v [] [] all = tt

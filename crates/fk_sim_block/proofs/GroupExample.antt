@@ -3,8 +3,9 @@
 use Rattle.std.proofs.Common.{◌≡◌, ℕ, zero, suc, ◌*◌, ◌%◌, List, [], ◌∷◌, Bool, Some, None, true, false, sym, ap, subst, ◌∙◌, arith, refl, inl, eq-eqb}
 use Rattle.std.specs.Prelude.{◌==◌, if◌then◌else◌, slice_get}
 use Rattle.fk_num.specs.Word.{Memory, word_sum}
+use Rattle.fk_meaning_operation.specs.declared.operation.SplitKind.{SplitKind}
 use Rattle.fk_meaning_operation.specs.declared.operation.Operation.{Operation}
-use Rattle.fk_meaning_operation.specs.declared.operation.Operation.TheVariants.{DropLast, Begin, Halt, End}
+use Rattle.fk_meaning_operation.specs.declared.operation.Operation.TheVariants.{DropLast, Begin, Halt, End, Split, Shrink}
 use Rattle.fk_meaning.specs.Processor.{Setting, values, drop_last, before}
 use Rattle.fk_meaning.specs.Round.{done, taking}
 use Rattle.fk_core.specs.declared.op.CoreOp.{CoreOp}
@@ -296,6 +297,16 @@ no_end zero op at = let f = is_drop op End at in cc
 no_end (suc zero) op at = let f = is_halt op End at in cc
 no_end (suc (suc i)) op at = let f = at.stands in cc
 
+no_split : (i : ℕ) (op : CoreOp) (by : SplitKind) → OpAt core i op (Split by) → ⊥
+no_split zero op by at = let f = is_drop op (Split by) at in cc
+no_split (suc zero) op by at = let f = is_halt op (Split by) at in cc
+no_split (suc (suc i)) op by at = let f = at.stands in cc
+
+no_shrink : (i : ℕ) (op : CoreOp) → OpAt core i op Shrink → ⊥
+no_shrink zero op at = let f = is_drop op Shrink at in cc
+no_shrink (suc zero) op at = let f = is_halt op Shrink at in cc
+no_shrink (suc (suc i)) op at = let f = at.stands in cc
+
 no_begin : (i : ℕ) (op : CoreOp) → OpAt core i op Begin → ⊥
 no_begin zero op at = let f = is_drop op Begin at in cc
 no_begin (suc zero) op at = let f = is_halt op Begin at in cc
@@ -312,6 +323,10 @@ law_of image code = record {
   steps = λ i op operation lowest size at e. absurd (neither stays_in_step refl refl i op operation at e);
   parts = λ i op operation lowest size at e. absurd (neither sets_apart refl refl i op operation at e);
   ends = λ i op lowest size at. absurd (no_end i op at);
+  divides = λ i op by at implicit. absurd (no_split i op by at);
+  lacks = λ i op by at implicit. absurd (no_split i op by at);
+  shrinks = λ i op at. absurd (no_shrink i op at);
+  ends_part = λ i op at. absurd (no_end i op at);
   meets = λ i op operation at e. absurd (neither is_meeting refl refl i op operation at e);
   few_to_begin = λ i op at. absurd (no_begin i op at);
   starts = λ i op at. absurd (no_begin i op at);

@@ -10,3 +10,5 @@ pub mod Together
 pub mod GroupExample
 -- a call with an opening
 mod CallExample
+-- what a split makes of five processors
+mod PartsExample

@@ -4,10 +4,12 @@ use Rattle.std.specs.Prelude.{slice_get, slice_index}
 use Rattle.fk_meaning_operation.specs.Kinds.{class_of}
 use Rattle.fk_meaning_operation.specs.declared.kinds.Class.{Class}
 use Rattle.fk_meaning_operation.specs.declared.kinds.Class.TheVariants.{Local, Request, Tree}
+use Rattle.fk_meaning_operation.specs.declared.operation.SplitKind.{SplitKind}
 use Rattle.fk_meaning_operation.specs.declared.operation.Operation.{Operation}
 use Rattle.fk_meaning_operation.specs.declared.operation.Operation.TheVariants.{Agree, Begin, Farm}
 use Rattle.fk_meaning_operation.specs.declared.operation.Operation.TheVariants.{Seq, End, Halt}
-use Rattle.fk_meaning_operation.specs.declared.operation.Operation.TheVariants.{Frame, Block}
+use Rattle.fk_meaning_operation.specs.declared.operation.Operation.TheVariants.{Frame, Block, Split}
+use Rattle.fk_meaning_operation.specs.declared.operation.Operation.TheVariants.{Shrink}
 use Rattle.fk_meaning.specs.Processor.{Processor, Setting}
 use Rattle.fk_meaning.specs.Local.{is_onward}
 use Rattle.fk_core.specs.declared.op.CoreOp.{CoreOp}
@@ -27,6 +29,8 @@ use Rattle.fk_sim_block.specs.Node.{Nestings, StandsInNode}
 use Rattle.fk_sim_block.specs.Lockstep.{IsMember, StepTogether, PartTogether, EndTogether}
 use Rattle.fk_sim_block.specs.Lockstep.{AreInGroup, AreOfSize, IsLowest, one_runs}
 use Rattle.fk_sim_block.specs.Joint.{most_to_meet, is_meeting, BlockMeets}
+use Rattle.fk_sim_block.specs.Parts.{is_implicit, DividesTogether, FaultsTogether, ShrinksTogether}
+use Rattle.fk_sim_block.specs.Parts.{EndsPart}
 use Rattle.fk_sim_block.specs.Start.{most_united, most_to_start, BlockStarts}
 
 -- Which branch an operation takes, known before it is done. All but local operations go on.
@@ -124,7 +128,7 @@ module _ (core : List CoreOp) (image : Image) (places : Places) (nestings : Nest
         (cycles.behind i (way_of operation p.runner.has)) m p
         (λ h d. HasDoneInNode setting runs d h)
 
-    -- The law of blocks for groups. It doesn't cover splits.
+    -- The law of blocks for groups. It covers all operations but `fork`.
     pub record GroupLaw (firsts : List ℕ) (main : ℕ) : Type 0 where
       pub few_before : (i : ℕ) → cycles.before i ≤ most_before
       pub few_behind : (i : ℕ) (onward : Bool) → cycles.behind i onward ≤ most_behind
@@ -150,6 +154,16 @@ module _ (core : List CoreOp) (image : Image) (places : Places) (nestings : Nest
           (runs_behind operation lowest size) lowest size
       pub ends : (i : ℕ) (op : CoreOp) (lowest size : ℕ) → OpAt core i op End
           → EndTogether core image places nestings i op (cycles.behind i true) lowest size
+      -- Parts begin, shrink and end. A split without room is the fault of the lowest.
+      pub divides : (i : ℕ) (op : CoreOp) (by : SplitKind) → OpAt core i op (Split by)
+          → is_implicit by ≡ true → DividesTogether core image places nestings i op by
+          (cycles.before i) (cycles.behind i)
+      pub lacks : (i : ℕ) (op : CoreOp) (by : SplitKind) → OpAt core i op (Split by)
+          → is_implicit by ≡ true → FaultsTogether core image places nestings i op by
+      pub shrinks : (i : ℕ) (op : CoreOp) → OpAt core i op Shrink
+          → ShrinksTogether core image places nestings i op (cycles.before i) (cycles.behind i)
+      pub ends_part : (i : ℕ) (op : CoreOp) → OpAt core i op End
+          → EndsPart core image places nestings i op (cycles.behind i)
       -- Members who meet at an arrival word do so by phases.
       pub meets : (i : ℕ) (op : CoreOp) (operation : Operation) → OpAt core i op operation
           → is_meeting operation ≡ true

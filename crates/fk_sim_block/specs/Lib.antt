@@ -8,6 +8,7 @@ pub mod Lists
 pub mod Node
 pub mod Lockstep
 pub mod Joint
+pub mod Parts
 pub mod Start
 pub mod Law
 pub mod Laws

@@ -1,12 +1,13 @@
 -- Steps of the tree that all members of a group do in lockstep.
-use Rattle.std.specs.Prelude.{◌≡◌, ℕ, ◌+◌, ◌==◌, List, [], ◌∷◌, map, true, false, Option, Some}
-use Rattle.std.specs.Prelude.{None, if◌then◌else◌}
+use Rattle.std.specs.Prelude.{◌≡◌, ℕ, suc, ◌+◌, ◌==◌, List, [], ◌∷◌, map, Bool, true, false}
+use Rattle.std.specs.Prelude.{Option, Some, None, if◌then◌else◌}
 use Rattle.fk_num.specs.Word.{Memory}
 use Rattle.fk_meaning_operation.specs.declared.operation.Operation.{Operation}
 use Rattle.fk_meaning_operation.specs.declared.operation.Operation.TheVariants.{Agree, Begin, End}
+use Rattle.fk_meaning_operation.specs.declared.operation.Operation.TheVariants.{Split, Shrink}
 use Rattle.fk_meaning.specs.Processor.{Level, Setting, values, last}
 use Rattle.fk_meaning.specs.Round.{taking}
-use Rattle.fk_meaning.specs.Group.{does, goes_onward}
+use Rattle.fk_meaning.specs.Group.{does, goes_onward, taken_by}
 use Rattle.fk_core.specs.declared.op.CoreOp.{CoreOp}
 use Rattle.fk_core.specs.Next.{follows}
 use Rattle.fk_image.specs.declared.Image.{Image}
@@ -26,6 +27,8 @@ use Rattle.fk_sim_block.specs.Node.{agreed_word}
 abbrev pub values_of_step : Operation → ℕ
 values_of_step Agree = 1
 values_of_step Begin = 1
+values_of_step (Split by) = taken_by by
+values_of_step Shrink = 1
 values_of_step operation = 0
 
 -- The last value of the highest processor, in a list of processors in ascending number.
@@ -35,6 +38,12 @@ highest_value ps = last_or 0 (map (λ p. last (values p.runner.has)) ps)
 -- The frame of the call has the same levels at both indices.
 pub record LevelsStay (nestings : Nestings) (i j : ℕ) : Type 0 where
   pub levels : nestings.levels j ≡ nestings.levels i
+  pub behind : nestings.behind j ≡ nestings.behind i
+
+-- At the second index the frame of the call has one level more, after the same words. Such a level
+-- is saved where a part begins, and given back where the part ends.
+pub record LevelOpens (nestings : Nestings) (i j : ℕ) : Type 0 where
+  pub levels : nestings.levels j ≡ suc (nestings.levels i)
   pub behind : nestings.behind j ≡ nestings.behind i
 
 -- All processors are in groups of this size.
@@ -167,6 +176,32 @@ module _ (core : List CoreOp) (image : Image) (places : Places) (nestings : Nest
       → Together (core_source core setting) image mine t 1 before ms ps own
       (λ ms' ds own'. (ds ≡ map (is_due core i op operation) ps) × HaveParted setting
       (later (in_cycles before t)) behind runs' first lowest size ps own ms' own')
+
+module _ (core : List CoreOp) (image : Image) (places : Places) (nestings : Nestings) (i : ℕ)
+    (op : CoreOp) (operation : Operation) where
+  -- After a step each member goes on by itself. As many private instructions as its branch takes
+  -- lead it to where its processor goes on, in the node that it has then. The step looks at the
+  -- last value of the highest member and at the number of the lowest, and tells the size of the
+  -- group that each processor has then.
+  pub record ComesByWay (setting : Setting) (t : MachineSetting) (behind : (onward : Bool) → ℕ)
+      (bodies : Owner → Option ℕ) (highest lowest : ℕ) (size : Owner → ℕ) (m : Member)
+      (p : Owner) : Type 0 where
+    pub hart : Hart
+    pub runs : RunsPrivately image t m.number
+        (behind (goes_onward operation highest lowest p.runner.has)) m.hart hart
+    pub member :
+        let q = stepped core i op operation highest lowest (size p) p in
+        IsMember places nestings setting (bodies p)
+        (first_word q.runner.has.level q.runner.has.outer) (record m { hart = hart }) q
+
+  abbrev pub AllComeByWay : Setting → MachineSetting → (behind : (onward : Bool) → ℕ)
+      → (bodies : Owner → Option ℕ) → (highest lowest : ℕ) → (size : Owner → ℕ) → List Member
+      → List Owner → Type 0
+  AllComeByWay setting t behind bodies highest lowest size [] [] = Unit {0}
+  AllComeByWay setting t behind bodies highest lowest size (m ∷ ms) (p ∷ ps) =
+      ComesByWay setting t behind bodies highest lowest size m p
+      × AllComeByWay setting t behind bodies highest lowest size ms ps
+  AllComeByWay setting t behind bodies highest lowest size ms ps = ⊥
 
 -- The frames of these calls have no saved level.
 abbrev pub NoneSaved : Nestings → List ℕ → Type 0

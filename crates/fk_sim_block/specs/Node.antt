@@ -2,6 +2,7 @@
 use Rattle.std.specs.Prelude.{◌≡◌, ℕ, zero, suc, ◌+◌, ◌*◌, ◌^◌, ◌<◌, ◌≤◌, ◌==◌, List, [], ◌∷◌}
 use Rattle.std.specs.Prelude.{length, Bool, true, Option, IfSome}
 use Rattle.fk_num.specs.Word.{Memory}
+use Rattle.fk_space.specs.Space.{Space}
 use Rattle.fk_meaning.specs.Processor.{Call, Level, Setting}
 use Rattle.fk_machine.specs.Hart.{Hart}
 use Rattle.fk_sim_nodes.specs.Node.{Words, AreApart}
@@ -41,6 +42,10 @@ pub record OwnsHeader (mine : Words) (first : ℕ) : Type 0 where
   pub within : first + 8 ≤ root_words + 64
   pub own : (word : ℕ) → word < 8 → mine (first + word) ≡ true
   pub apart : AreApart mine (λ word. word == asked_word)
+
+-- A group that doesn't wait owns all words of its space, with those of the parts to come.
+pub record OwnsSpace (mine : Words) (space : Space) : Type 0 where
+  pub own : (word : ℕ) → space.low ≤ word → word < space.high → mine word ≡ true
 
 -- Nobody has arrived at an arrival word of the node.
 pub record IsAtRest (first : ℕ) (own : Memory) : Type 0 where
@@ -98,13 +103,14 @@ pub record IsRoot (processors processor : ℕ) (level : Level) : Type 0 where
   pub rank : level.rank ≡ processor
   pub size : level.size ≡ processors
 
--- A level has four words, of which three are used: the size of the group, and the addresses of its
--- node's first control word and of that of its first block. `@` and `$` stay in a part of any split
--- but a `fork`. How many words the frames take is known where a part ends.
+-- A level has four words: the size of the group, and the addresses of its node's first control
+-- word, of that of its first block, and of the first one after its frames. `@` and `$` stay in a
+-- part of any split but a `fork`.
 pub record HasLevel (memory : Memory) (at : ℕ) (level : Level) (outer : List Level) : Type 0 where
   pub size : memory at ≡ level.size
   pub node : memory (at + 1) ≡ control_address (first_word level outer)
   pub blocks : memory (at + 2) ≡ control_address level.space.blocks
+  pub frames : memory (at + 3) ≡ control_address level.space.frames
 
 -- `count` levels of a frame from a word on. The innermost level has the highest words.
 abbrev pub HasSaved : Memory → (at count : ℕ) → List Level → Type 0

@@ -10,15 +10,15 @@ use Rattle.fk_core.specs.declared.op.CoreOp.{CoreOp}
 use Rattle.fk_image.specs.declared.Image.{Image}
 use Rattle.fk_machine.specs.Hart.{Hart, Setting as MachineSetting}
 use Rattle.fk_sim_nodes.specs.Node.{Member, Words}
-use Rattle.fk_sim_nodes.specs.Alone.{Holds, RunsPrivately, later, in_cycles}
+use Rattle.fk_sim_nodes.specs.Alone.{Holds, later, in_cycles}
 use Rattle.fk_sim_nodes.specs.Together.{Together}
 use Rattle.fk_sim_nodes.specs.Phase.{Phase, Coming}
 use Rattle.fk_sim_block.specs.Owner.{Owner, number_of, core_source}
 use Rattle.fk_sim_block.specs.Stands.{Places}
 use Rattle.fk_sim_block.specs.Block.{IsRunning, Enters}
-use Rattle.fk_sim_block.specs.Node.{Polling, Nestings, IsRoot, OwnsHeader, first_word, root_words}
+use Rattle.fk_sim_block.specs.Node.{Polling, Nestings, IsRoot, OwnsHeader, root_words}
 use Rattle.fk_sim_block.specs.Node.{closing_word, agreed_word}
-use Rattle.fk_sim_block.specs.Lockstep.{IsMember, NoneSaved, highest_value, is_due, stepped}
+use Rattle.fk_sim_block.specs.Lockstep.{IsMember, NoneSaved, highest_value, is_due, AllComeByWay}
 use Rattle.fk_sim_block.specs.Joint.{Polls, KeepsPolling, IsInPhaseBy}
 
 -- A processor in the root, whose group space is whole.
@@ -77,32 +77,14 @@ module _ (core : List CoreOp) (image : Image) (places : Places) (nestings : Nest
       × AllHaveMet there coming setting ms ps
   AllHaveMet there coming setting ms ps = ⊥
 
-  -- After the commit `behind` private instructions, by its branch, lead a member to where its
-  -- processor goes on: to the body in the group of `start`, or to where those wait who are not in
-  -- the group.
-  pub record ComesToPart (setting : Setting) (t : MachineSetting) (behind : (onward : Bool) → ℕ)
-      (highest lowest : ℕ) (m : Member) (p : Owner) : Type 0 where
-    pub hart : Hart
-    pub runs : RunsPrivately image t m.number (behind (is_taken highest p.runner.has)) m.hart hart
-    pub member :
-        let q = stepped core i op Begin highest lowest (size_of_start setting highest) p in
-        IsMember places nestings setting (runs_behind_start setting (is_taken highest p.runner.has))
-        (first_word q.runner.has.level q.runner.has.outer)
-        (record m { hart = hart }) q
-
-  abbrev pub AllComeToParts : Setting → MachineSetting → (behind : (onward : Bool) → ℕ)
-      → (highest lowest : ℕ) → List Member → List Owner → Type 0
-  AllComeToParts setting t behind highest lowest [] [] = Unit {0}
-  AllComeToParts setting t behind highest lowest (m ∷ ms) (p ∷ ps) =
-      ComesToPart setting t behind highest lowest m p
-      × AllComeToParts setting t behind highest lowest ms ps
-  AllComeToParts setting t behind highest lowest ms ps = ⊥
-
-  -- All members come to their parts, and no word of the root has changed except the agreed value's.
+  -- Each member comes to the body in the group of `start`, or to where those wait who are not in
+  -- the group, and no word of the root has changed except the agreed value's.
   pub record HaveStarted (setting : Setting) (t : MachineSetting) (behind : (onward : Bool) → ℕ)
       (lowest : ℕ) (ps : List Owner) (before : Memory) (ms : List Member)
       (own : Memory) : Type 0 where
-    pub parts : AllComeToParts setting t behind (highest_value ps) lowest ms ps
+    pub parts : AllComeByWay core image places nestings i op Begin setting t behind
+        (λ p. runs_behind_start setting (is_taken (highest_value ps) p.runner.has))
+        (highest_value ps) lowest (λ p. size_of_start setting (highest_value ps)) ms ps
     pub others : (j : ℕ) → (j ≡ root_words + agreed_word → ⊥) → own j ≡ before j
 
   -- The block of the beginning of `start`. Each member comes to the root's closing word after at
