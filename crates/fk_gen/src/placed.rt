@@ -6,7 +6,7 @@ use fk_core::CoreOp;
 #[derive(Clone, Copy)]
 pub struct Levels {
     /// How many levels of groups its frame has.
-    pub saved: u32,
+    pub count: u32,
     /// The word after the frame's header at which the first of them begins.
     pub behind: u32,
 }

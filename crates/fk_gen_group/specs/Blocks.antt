@@ -1,6 +1,6 @@
 -- The blocks of the steps of groups.
-use Rattle.std.specs.Prelude.{◌≡◌, ℕ, zero, suc, ◌+◌, ◌*◌, ◌^◌, ◌<◌, ◌≤◌, List, [], ◌∷◌, ◌++◌, length}
-use Rattle.std.specs.Prelude.{Bool, true, false, Option, Some, map}
+use Rattle.std.specs.Prelude.{◌≡◌, ℕ, ◌+◌, ◌*◌, ◌^◌, ◌==◌, ◌<◌, ◌≤◌, List, [], ◌∷◌, ◌++◌, length}
+use Rattle.std.specs.Prelude.{Bool, true, false, Option, Some, map, if◌then◌else◌}
 use Rattle.fk_meaning_operation.specs.declared.operation.SplitKind.TheVariants.{Fork}
 use Rattle.fk_meaning_operation.specs.declared.operation.Operation.{Operation}
 use Rattle.fk_meaning_operation.specs.declared.operation.Operation.TheVariants.{Begin, Agree, Farm}
@@ -183,22 +183,21 @@ pub record HasStart (image : Image) (bound : ℕ → ℕ) : Type 0 where
   pub lines : LinesAt image bound (bound start_label) (start_lines (length image.globals.items))
 
 -- Where the frame has no levels, the group that ends is that of `start`.
-abbrev pub end_by : (saved : ℕ) → Levels → (target : ℕ) → List MarkedLine
-end_by zero levels target = end_block target
-end_by (suc saved) levels target = end_part_block levels target
+abbrev pub end_by : Levels → (target : ℕ) → List MarkedLine
+end_by levels target =
+    if levels.count == 0 then end_block target else end_part_block levels target
 
 abbrev pub block_by : Option Operation → Levels → (depth target site : ℕ) → List MarkedLine
 block_by (Some Begin) levels depth target site = begin_block depth target
 block_by (Some Agree) levels depth target site = agree_block depth
 block_by (Some Farm) levels depth target site = farm_block
 block_by (Some Seq) levels depth target site = seq_block target
-block_by (Some End) levels depth target site = end_by levels.saved levels target
+block_by (Some End) levels depth target site = end_by levels target
 block_by (Some Resume) levels depth target site = closing_block
 block_by (Some (Meet false)) levels depth target site = barrier_block
 block_by (Some (Meet true)) levels depth target site = closing_block
 block_by (Some (Frame nesting words)) levels depth target site = frame_block words site
 block_by (Some Block) levels depth target site = shalloc_block depth
-block_by (Some (Split Fork)) levels depth target site = []
 block_by (Some (Split by)) levels depth target site =
     split_block by levels depth target site
 block_by (Some Shrink) levels depth target site = shrink_block levels depth target
@@ -230,10 +229,10 @@ HasWords operation = Unit {0}
 
 -- The frame has room for the levels, and for one more where a split saves it. Only a part shrinks.
 abbrev pub LevelsFit : Option Operation → Levels → Type 0
-LevelsFit (Some (Split by)) levels = levels.behind + 4 * suc levels.saved ≤ 57
+LevelsFit (Some (Split by)) levels = levels.behind + 4 * (levels.count + 1) ≤ 57
 LevelsFit (Some Shrink) levels =
-    (levels.behind + 4 * levels.saved ≤ 57) × (0 < levels.saved)
-LevelsFit operation levels = levels.behind + 4 * levels.saved ≤ 57
+    (levels.behind + 4 * levels.count ≤ 57) × (0 < levels.count)
+LevelsFit operation levels = levels.behind + 4 * levels.count ≤ 57
 
 -- An operation of a group whose values and levels have room in a frame, and whose target has a
 -- label.

@@ -1,6 +1,6 @@
 -- The blocks of splits, of the ends of parts, and of loops that shrink.
-use Rattle.std.specs.Prelude.{ℕ, suc, ◌+◌, ◌-◌, ◌*◌, ◌^◌, List, [], ◌∷◌, ◌++◌, length, Bool, true}
-use Rattle.std.specs.Prelude.{false, map}
+use Rattle.std.specs.Prelude.{ℕ, ◌+◌, ◌-◌, ◌*◌, ◌^◌, List, [], ◌∷◌, ◌++◌, length, map, Bool, true}
+use Rattle.std.specs.Prelude.{false}
 use Rattle.fk_meaning_operation.specs.declared.operation.SplitKind.{SplitKind}
 use Rattle.fk_meaning_operation.specs.declared.operation.SplitKind.TheVariants.{IfAlone, IfElse}
 use Rattle.fk_meaning_operation.specs.declared.operation.SplitKind.TheVariants.{AndThen, OrElse}
@@ -10,12 +10,13 @@ use Rattle.fk_isa.specs.declared.instruction.Instruction.{Instruction}
 use Rattle.fk_isa.specs.declared.instruction.Instruction.TheVariants.{Lui, Jal, Jalr, Bne, Bgeu, Lw}
 use Rattle.fk_isa.specs.declared.instruction.Instruction.TheVariants.{Sw, Addi, Sltiu, Slli, Srli, Add}
 use Rattle.fk_isa.specs.declared.instruction.Instruction.TheVariants.{Sub, Sltu, Mul, AmoAddW}
+use Rattle.fk_asm.specs.Assembly.{straight}
 use Rattle.fk_asm.specs.Block.{MarkedLine}
 use Rattle.fk_sim_block.specs.Stands.{frame_register, end_register, size_register, device_register}
 use Rattle.fk_sim_block.specs.Node.{node_register, frames_register, blocks_register}
 use Rattle.fk_sim_block.specs.Node.{barrier_word, closing_word}
 use Rattle.fk_gen.specs.Registers.{zero_register, ra, t0, t1, t2, t3, t4}
-use Rattle.fk_gen.specs.Lines.{quiet, commits, goes_to, at_value, at_private, label_of}
+use Rattle.fk_gen.specs.Lines.{quiet, commits, goes_to, commit_of, at_value, at_private, label_of}
 use Rattle.fk_gen.specs.Lines.{high_part, low_part}
 use Rattle.fk_gen.specs.InPlace.{LinesAt}
 use Rattle.fk_gen.specs.declared.placed.Levels.{Levels}
@@ -24,9 +25,9 @@ use Rattle.fk_gen.specs.declared.placed.Levels.{Levels}
 abbrev pub minus : (n : ℕ) → ℕ
 minus n = 2 ^ 32 - n
 
--- The offset of the level after `count` others from the start of the frame.
-abbrev pub at_level : Levels → (count : ℕ) → ℕ
-at_level levels count = at_private (levels.behind + 4 * count)
+-- The word after the header at which the level after `count` others begins.
+abbrev pub level_word : Levels → (count : ℕ) → ℕ
+level_word levels count = levels.behind + 4 * count
 
 -- Without room the site goes to the device that faults.
 abbrev pub no_room : (site : ℕ) → List MarkedLine
@@ -62,15 +63,15 @@ parts_label by = one_part_label
 -- A processor goes to that code with its part in t3 and the address of the level in t2. It comes
 -- back right here if it waits, or is in the second part; one word after that if there is no room;
 -- and at the next block if it is in the first part.
-abbrev pub parting_lines : (label level target site : ℕ) → List MarkedLine
-parting_lines label level target site =
-    quiet (Addi t2 frame_register level) ∷ goes_to (Jal ra 0) label ∷
+abbrev pub parting_lines : (label word target site : ℕ) → List MarkedLine
+parting_lines label word target site =
+    quiet (Addi t2 frame_register (at_private word)) ∷ goes_to (Jal ra 0) label ∷
     goes_to (Jal zero_register 0) (label_of target) ∷ no_room site
 
 abbrev pub split_block : SplitKind → Levels → (depth target site : ℕ) → List MarkedLine
 split_block by levels d target site =
     map quiet (part_lines by d)
-    ++ parting_lines (parts_label by) (at_level levels levels.saved) target site
+    ++ parting_lines (parts_label by) (level_word levels levels.count) target site
 
 -- ---- the code that splits share
 
@@ -111,23 +112,24 @@ saving_lines =
     quiet (Addi node_register t1 0) ∷ quiet (Addi size_register t0 0)
     ∷ quiet (Addi frames_register t1 32) ∷ []
 
--- The blocks of the one part begin where those of its group do.
+-- The blocks of the one part begin where those of its group do. Two parts have blocks of their own.
+abbrev pub waiting_lines : List MarkedLine
+waiting_lines = quiet (Bne t3 zero_register 8) ∷ quiet (Jalr zero_register ra 0) ∷ []
+
 abbrev pub into_one_part : List MarkedLine
-into_one_part =
-    quiet (Bne t3 zero_register 8) ∷ quiet (Jalr zero_register ra 0)
-    ∷ (saving_lines ++ quiet (Jalr zero_register ra 16) ∷ [])
+into_one_part = quiet (Jalr zero_register ra 16) ∷ []
 
 abbrev pub into_two_parts : List MarkedLine
 into_two_parts =
-    saving_lines ++
-    (quiet (Add blocks_register t1 t4) ∷ quiet (Bne t3 zero_register 8) ∷
-    quiet (Jalr zero_register ra 16) ∷ quiet (Jalr zero_register ra 0) ∷ [])
+    quiet (Add blocks_register t1 t4) ∷ quiet (Bne t3 zero_register 8) ∷
+    quiet (Jalr zero_register ra 16) ∷ quiet (Jalr zero_register ra 0) ∷ []
 
 abbrev pub one_part_lines : List MarkedLine
-one_part_lines = one_part_place ++ (counting_lines t3 ++ into_one_part)
+one_part_lines =
+    one_part_place ++ (counting_lines t3 ++ (waiting_lines ++ (saving_lines ++ into_one_part)))
 
 abbrev pub two_parts_lines : List MarkedLine
-two_parts_lines = two_parts_place ++ (counting_lines t0 ++ into_two_parts)
+two_parts_lines = two_parts_place ++ (counting_lines t0 ++ (saving_lines ++ into_two_parts))
 
 -- The image has this code, at its labels.
 pub record HasParts (image : Image) (bound : ℕ → ℕ) : Type 0 where
@@ -136,27 +138,30 @@ pub record HasParts (image : Image) (bound : ℕ → ℕ) : Type 0 where
 
 -- ---- the way out of a part
 
--- The level of the group around a part. `first` is the line of the first instruction.
-abbrev pub outward_lines : (first : Instruction → MarkedLine) → (level target : ℕ)
-    → List MarkedLine
-outward_lines first level target =
-    first (Lw size_register frame_register level)
-    ∷ quiet (Lw node_register frame_register (level + 4))
-    ∷ quiet (Lw blocks_register frame_register (level + 8))
-    ∷ quiet (Lw frames_register frame_register (level + 12))
+-- The line of an instruction that may do the operation.
+abbrev pub with_commit : Bool → Instruction → MarkedLine
+with_commit commits i = record { line = straight i; commit = commit_of commits }
+
+-- The group around a part: its size, its node and its space.
+abbrev pub outward_lines : (commits : Bool) → (word target : ℕ) → List MarkedLine
+outward_lines commits word target =
+    with_commit commits (Lw size_register frame_register (at_private word))
+    ∷ quiet (Lw node_register frame_register (at_private (word + 1)))
+    ∷ quiet (Lw blocks_register frame_register (at_private (word + 2)))
+    ∷ quiet (Lw frames_register frame_register (at_private (word + 3)))
     ∷ goes_to (Jal zero_register 0) (label_of target) ∷ []
 
--- The innermost level of the frame.
+-- The word of the innermost level.
 abbrev pub last_level : Levels → ℕ
-last_level levels = at_level levels (levels.saved - 1)
+last_level levels = level_word levels (levels.count - 1)
 
 abbrev pub end_part_block : Levels → (target : ℕ) → List MarkedLine
-end_part_block levels target = outward_lines commits (last_level levels) target
+end_part_block levels target = outward_lines true (last_level levels) target
 
 -- ---- a loop that shrinks
 
--- Those whose value isn't 0 are counted at a word that is 0 in lockstep. They stay, as so many, and
--- the others go past the way out.
+-- Those whose value isn't 0 are counted at a word that is 0 in lockstep. They go past the way out,
+-- and stay as so many.
 abbrev pub staying_lines : (depth : ℕ) → List MarkedLine
 staying_lines d =
     quiet (Lw t3 end_register (at_value d)) ∷ quiet (Sltu t3 zero_register t3) ∷
@@ -165,10 +170,12 @@ staying_lines d =
     commits (Sw node_register zero_register (4 * barrier_word))
     ∷ quiet (Bne t3 zero_register 24) ∷ []
 
+abbrev pub size_line : List MarkedLine
+size_line = quiet (Addi size_register t0 0) ∷ []
+
 abbrev pub shrink_block : Levels → (depth target : ℕ) → List MarkedLine
 shrink_block levels d target =
-    staying_lines d
-    ++ (outward_lines quiet (last_level levels) target ++ quiet (Addi size_register t0 0) ∷ [])
+    staying_lines d ++ (outward_lines false (last_level levels) target ++ size_line)
 
 -- ---- cycles
 

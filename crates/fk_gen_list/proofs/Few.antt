@@ -102,7 +102,7 @@ is_op_at core i op operation at read = record { stands = at; no_jump = by (is_ju
     by true e = absurd (no_operation op operation e read)
     by false e = refl
 
-module _ (core : List CoreOp) (frames : Frames) (main : ℕ) (suits : Suits core frames main) (globals : ℕ) (some : globals ≤ 2 ^ 20) (kept : List sets.Set)
+module _ (core : List CoreOp) (frames : Frames) (main : ℕ) (suits : Suits core frames main) (globals : ℕ) (some : globals ≤ 2 ^ 20) (kept : List sets.Set) (saved : List Levels)
     (words : (i : ℕ) (op : CoreOp) → slice_get core i ≡ Some op → op.number < 2 ^ 32) where
   by_operation : (i : ℕ) (op : CoreOp) (here : Placed) (onward : Bool) (o : Option Operation) → here.op ≡ op → here.globals ≡ globals → slice_get core i ≡ Some op → operation_of op.kind op.number ≡ o
       → option_map_or (λ operation. behind_of here operation onward) o 0 ≤ most_behind
@@ -112,6 +112,6 @@ module _ (core : List CoreOp) (frames : Frames) (main : ℕ) (suits : Suits core
       (subst (λ (x : CoreOp). operation_of x.kind x.number ≡ Some operation) (sym same) read)
       (subst (λ x. Fits core frames i x operation) (sym same) (suits.fits i op operation (is_op_at core i op operation at read)))
 
-  pub few_behind_at : (i : ℕ) (onward : Bool) (o : Option CoreOp) → slice_get core i ≡ o → behind_at core globals kept i o onward ≤ most_behind
+  pub few_behind_at : (i : ℕ) (onward : Bool) (o : Option CoreOp) → slice_get core i ≡ o → behind_at core globals kept saved i o onward ≤ most_behind
   few_behind_at i onward None at = omega arith
-  few_behind_at i onward (Some op) at = by_operation i op (placed core globals kept i op) onward (operation_of op.kind op.number) refl refl at refl
+  few_behind_at i onward (Some op) at = by_operation i op (placed core globals kept saved i op) onward (operation_of op.kind op.number) refl refl at refl

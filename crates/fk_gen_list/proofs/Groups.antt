@@ -10,6 +10,7 @@ use Rattle.fk_sim_block.specs.Stands.{Places}
 use Rattle.fk_sim_block.specs.Next.{OpAt}
 use Rattle.fk_sim_block.specs.Suits.{Suits}
 use Rattle.fk_core_liveness.specs.declared.set.Set.{Set}
+use Rattle.fk_gen.specs.declared.placed.Levels.{Levels}
 use Rattle.fk_sim_block.specs.Node.{Nestings}
 use Rattle.fk_sim_block.specs.Lockstep.{StepTogether, PartTogether, EndTogether}
 use Rattle.fk_sim_block.specs.Joint.{most_to_meet, is_meeting, BlockMeets}
@@ -36,7 +37,7 @@ meeting_is_step (Meet closing) e = refl
 meeting_is_step Resume e = refl
 meeting_is_step operation e = absurd (cc)
 
-module _ (core : List CoreOp) (image : Image) (bound : ℕ → ℕ) (places : Places) (nestings : Nestings) (kept : List Set) (main : ℕ) (suits : Suits core places.frames main)
+module _ (core : List CoreOp) (image : Image) (bound : ℕ → ℕ) (places : Places) (nestings : Nestings) (kept : List Set) (saved : List Levels) (main : ℕ) (suits : Suits core places.frames main)
     (code : HasGroupCode core image bound places) (looks : StepsHaveValues core) (levels : HaveStepLevels core places nestings)
     (ranges : AreInRange core image) where
   in_place : (i : ℕ) (op : CoreOp) (operation : Operation) → OpAt core i op operation → is_group_step (Some operation) ≡ true → IsInPlace core image bound places nestings i op operation
@@ -57,7 +58,7 @@ module _ (core : List CoreOp) (image : Image) (bound : ℕ → ℕ) (places : Pl
   before i = before_at (slice_get core i)
 
   abbrev behind : (i : ℕ) → Bool → ℕ
-  behind i onward = behind_at core globals kept i (slice_get core i) onward
+  behind i onward = behind_at core globals kept saved i (slice_get core i) onward
 
   -- in the cycles that are told
   step_in : (i : ℕ) (op : CoreOp) (operation : Operation) (c d lowest size : ℕ) → OpAt core i op operation → c ≡ before i → d ≡ behind i true
@@ -70,19 +71,19 @@ module _ (core : List CoreOp) (image : Image) (bound : ℕ → ℕ) (places : Pl
   steps : (i : ℕ) (op : CoreOp) (operation : Operation) (lowest size : ℕ) → OpAt core i op operation → stays_in_step operation ≡ true
       → StepTogether core image places nestings i op operation (IsAskedOf operation lowest size) (before i) (behind i true) None (λ p. None) lowest size
   steps i op Agree lowest size stands e =
-      step_in i op Agree 2 1 lowest size stands (sym (before_is core globals kept i op Agree stands))
-      (sym (ap (λ (f : Bool → ℕ). f true) (behind_is core globals kept i op Agree stands)))
+      step_in i op Agree 2 1 lowest size stands (sym (before_is core globals kept saved i op Agree stands))
+      (sym (ap (λ (f : Bool → ℕ). f true) (behind_is core globals kept saved i op Agree stands)))
       (λ setting t mine first ms ps own owns enter asked.
       groups_agree core image bound places nestings i op lowest size (in_place i op Agree stands refl) setting t mine first ms ps own owns enter asked)
   steps i op (Frame nesting words) lowest size stands e =
       let step = Frame nesting words in
-      step_in i op step (frame_takes words) 0 lowest size stands (sym (before_is core globals kept i op step stands))
-      (sym (ap (λ (f : Bool → ℕ). f true) (behind_is core globals kept i op step stands)))
+      step_in i op step (frame_takes words) 0 lowest size stands (sym (before_is core globals kept saved i op step stands))
+      (sym (ap (λ (f : Bool → ℕ). f true) (behind_is core globals kept saved i op step stands)))
       (λ setting t mine first ms ps own owns enter asked.
       groups_take_frames core image bound places nestings i op nesting words lowest size (in_place i op step stands refl) (ranges.words i op stands.stands).0 setting t mine first ms ps own owns enter asked)
   steps i op Block lowest size stands e =
-      step_in i op Block 0 12 lowest size stands (sym (before_is core globals kept i op Block stands))
-      (sym (ap (λ (f : Bool → ℕ). f true) (behind_is core globals kept i op Block stands)))
+      step_in i op Block 0 12 lowest size stands (sym (before_is core globals kept saved i op Block stands))
+      (sym (ap (λ (f : Bool → ℕ). f true) (behind_is core globals kept saved i op Block stands)))
       (λ setting t mine first ms ps own owns enter asked.
       groups_take_blocks core image bound places nestings i op lowest size (in_place i op Block stands refl) setting t mine first ms ps own owns enter asked)
   steps i op operation lowest size stands e = absurd (cc)
@@ -103,17 +104,17 @@ module _ (core : List CoreOp) (image : Image) (bound : ℕ → ℕ) (places : Pl
   parts : (i : ℕ) (op : CoreOp) (operation : Operation) (lowest size : ℕ) → OpAt core i op operation → sets_apart operation ≡ true
       → PartTogether core image places nestings i op operation (IsAskedOf operation lowest size) (before i) (behind i true) None (runs_behind operation lowest size) lowest size
   parts i op Farm lowest size stands e =
-      parts_in i op Farm 0 0 lowest size stands (sym (before_is core globals kept i op Farm stands))
-      (sym (ap (λ (f : Bool → ℕ). f true) (behind_is core globals kept i op Farm stands))) (at_once i op lowest size stands)
+      parts_in i op Farm 0 0 lowest size stands (sym (before_is core globals kept saved i op Farm stands))
+      (sym (ap (λ (f : Bool → ℕ). f true) (behind_is core globals kept saved i op Farm stands))) (at_once i op lowest size stands)
   parts i op Seq lowest size stands e =
-      parts_in i op Seq 3 2 lowest size stands (sym (before_is core globals kept i op Seq stands))
-      (sym (ap (λ (f : Bool → ℕ). f true) (behind_is core globals kept i op Seq stands)))
+      parts_in i op Seq 3 2 lowest size stands (sym (before_is core globals kept saved i op Seq stands))
+      (sym (ap (λ (f : Bool → ℕ). f true) (behind_is core globals kept saved i op Seq stands)))
       (groups_send_one core image bound places nestings i op lowest size (in_place i op Seq stands refl) (levels.leads i op Seq stands refl))
   parts i op operation lowest size stands e = absurd (cc)
 
   ends : (i : ℕ) (op : CoreOp) (lowest size : ℕ) → OpAt core i op End → EndTogether core image places nestings i op (behind i true) lowest size
   ends i op lowest size stands =
-      subst (λ (f : Bool → ℕ). EndTogether core image places nestings i op (f true) lowest size) (sym (behind_is core globals kept i op End stands))
+      subst (λ (f : Bool → ℕ). EndTogether core image places nestings i op (f true) lowest size) (sym (behind_is core globals kept saved i op End stands))
       (groups_end core image bound places nestings i op lowest size (in_place i op End stands refl) (levels.leads i op End stands refl))
 
   meets : (i : ℕ) (op : CoreOp) (operation : Operation) → OpAt core i op operation → is_meeting operation ≡ true → BlockMeets core image places nestings i op operation most_to_meet
@@ -122,7 +123,7 @@ module _ (core : List CoreOp) (image : Image) (bound : ℕ → ℕ) (places : Pl
       (met.0, omega (arith, met.1), met.2)
 
   few_to_begin : (i : ℕ) (op : CoreOp) → OpAt core i op Begin → before i < most_united
-  few_to_begin i op stands = let e : before i ≡ 1 = before_is core globals kept i op Begin stands in omega (arith, e)
+  few_to_begin i op stands = let e : before i ≡ 1 = before_is core globals kept saved i op Begin stands in omega (arith, e)
 
   starts : nestings.start ≡ gathering_of core bound → (i : ℕ) (op : CoreOp) → OpAt core i op Begin
       → BlockStarts core image places nestings i op (nestings.start.there i) (nestings.start.coming i) most_to_start (before i) (behind i)
@@ -137,15 +138,15 @@ module _ (core : List CoreOp) (image : Image) (bound : ℕ → ℕ) (places : Pl
         starts = block.starts;
       } in
       let here : BlockStarts core image places nestings i op there coming most_to_start (before i) (behind i)
-      = subst (λ c. BlockStarts core image places nestings i op there coming most_to_start c (behind i)) (sym (before_is core globals kept i op Begin stands))
-      (subst (λ f. BlockStarts core image places nestings i op there coming most_to_start 1 f) (sym (behind_is core globals kept i op Begin stands)) begun) in
+      = subst (λ c. BlockStarts core image places nestings i op there coming most_to_start c (behind i)) (sym (before_is core globals kept saved i op Begin stands))
+      (subst (λ f. BlockStarts core image places nestings i op there coming most_to_start 1 f) (sym (behind_is core globals kept saved i op Begin stands)) begun) in
       let depth : option_map_or (λ o. o.depth) (slice_get core i) 0 ≡ op.depth = ap (λ o. option_map_or (λ x. x.depth) o 0) stands.stands in
       subst (λ g. BlockStarts core image places nestings i op (g.there i) (g.coming i) most_to_start (before i) (behind i)) (sym gathers)
       (subst (λ d. BlockStarts core image places nestings i op there (who_comes bound d) most_to_start (before i) (behind i)) (sym depth) here)
 
 pub lists_have_the_law : ListsHaveTheLaw
-lists_have_the_law core kept image bound places nestings firsts main suits are ranges lone levels code looks room gathers begins =
-    let alone = lists_do_alone core kept image bound places nestings main suits are ranges lone levels in
+lists_have_the_law core kept saved image bound places nestings firsts main suits are ranges lone levels code looks room gathers begins =
+    let alone = lists_do_alone core kept saved image bound places nestings main suits are ranges lone levels in
     record {
       few_before = alone.few_before;
       few_behind = alone.few_behind;
@@ -153,10 +154,10 @@ lists_have_the_law core kept image bound places nestings firsts main suits are r
       jumps = alone.jumps;
       halts = alone.halts;
       begins = begins;
-      steps = steps core image bound places nestings kept main suits code looks room ranges;
-      parts = parts core image bound places nestings kept main suits code looks room ranges;
-      ends = ends core image bound places nestings kept main suits code looks room ranges;
-      meets = meets core image bound places nestings kept main suits code looks room ranges;
-      few_to_begin = few_to_begin core image bound places nestings kept main suits code looks room ranges;
-      starts = starts core image bound places nestings kept main suits code looks room ranges gathers;
+      steps = steps core image bound places nestings kept saved main suits code looks room ranges;
+      parts = parts core image bound places nestings kept saved main suits code looks room ranges;
+      ends = ends core image bound places nestings kept saved main suits code looks room ranges;
+      meets = meets core image bound places nestings kept saved main suits code looks room ranges;
+      few_to_begin = few_to_begin core image bound places nestings kept saved main suits code looks room ranges;
+      starts = starts core image bound places nestings kept saved main suits code looks room ranges gathers;
     }

@@ -19,6 +19,7 @@ use Rattle.fk_meaning_store.specs.Store.{address_of}
 use Rattle.fk_isa.specs.declared.instruction.Instruction.{Instruction}
 use Rattle.fk_isa.specs.declared.instruction.Instruction.TheVariants.{Add}
 use Rattle.fk_asm.specs.Block.{MarkedLine}
+use Rattle.fk_gen.specs.declared.placed.Levels.{Levels}
 use Rattle.fk_gen.specs.declared.placed.Placed.{Placed}
 use Rattle.fk_gen.specs.Lines.{quiet, commits, first_commits, high_part, load_by, load_number, add_by, add_number}
 use Rattle.fk_gen.specs.Registers.{t0, t1}
@@ -190,28 +191,28 @@ block_all n p jumps leads = by (kind_of p.op)
 
 -- ---- in a list
 
-leads_by : (core : List CoreOp) (kept : List Set) (main : ℕ) (firsts : List ℕ) (i : ℕ) (op : CoreOp) (operation : Option Operation)
-    → IsGenerable core kept main firsts → slice_get core i ≡ Some op → is_jump op ≡ false → operation_of op.kind op.number ≡ operation
+leads_by : (core : List CoreOp) (kept : List Set) (saved : List Levels) (main : ℕ) (firsts : List ℕ) (i : ℕ) (op : CoreOp) (operation : Option Operation)
+    → IsGenerable core kept saved main firsts → slice_get core i ≡ Some op → is_jump op ≡ false → operation_of op.kind op.number ≡ operation
     → Leads (length core) (back_by operation core i) op operation
-leads_by core kept main firsts i op (Some (o.Branch onward)) is e quiet' read =
+leads_by core kept saved main firsts i op (Some (o.Branch onward)) is e quiet' read =
     is.blocks.targets i op (o.Branch onward) (record { stands = e; no_jump = quiet'; is_read = read }) refl
-leads_by core kept main firsts i op (Some (o.Enter arguments)) is e quiet' read =
+leads_by core kept saved main firsts i op (Some (o.Enter arguments)) is e quiet' read =
     let stands : OpAt core i op (o.Enter arguments) = record { stands = e; no_jump = quiet'; is_read = read } in
     ((is.suits.fits i op (o.Enter arguments) stands).goes_on.few, is.blocks.returns i op arguments stands)
-leads_by core kept main firsts i op (Some o.Begin) is e quiet' read = is.blocks.targets i op o.Begin (record { stands = e; no_jump = quiet'; is_read = read }) refl
-leads_by core kept main firsts i op (Some o.Seq) is e quiet' read = is.blocks.targets i op o.Seq (record { stands = e; no_jump = quiet'; is_read = read }) refl
-leads_by core kept main firsts i op (Some o.End) is e quiet' read = is.blocks.targets i op o.End (record { stands = e; no_jump = quiet'; is_read = read }) refl
-leads_by core kept main firsts i op operation is e quiet' read = tt
+leads_by core kept saved main firsts i op (Some o.Begin) is e quiet' read = is.blocks.targets i op o.Begin (record { stands = e; no_jump = quiet'; is_read = read }) refl
+leads_by core kept saved main firsts i op (Some o.Seq) is e quiet' read = is.blocks.targets i op o.Seq (record { stands = e; no_jump = quiet'; is_read = read }) refl
+leads_by core kept saved main firsts i op (Some o.End) is e quiet' read = is.blocks.targets i op o.End (record { stands = e; no_jump = quiet'; is_read = read }) refl
+leads_by core kept saved main firsts i op operation is e quiet' read = tt
 
-jumps_to : (core : List CoreOp) (kept : List Set) (main : ℕ) (firsts : List ℕ) (i : ℕ) (op : CoreOp) → IsGenerable core kept main firsts
+jumps_to : (core : List CoreOp) (kept : List Set) (saved : List Levels) (main : ℕ) (firsts : List ℕ) (i : ℕ) (op : CoreOp) → IsGenerable core kept saved main firsts
     → slice_get core i ≡ Some op → is_jump op ≡ true → op.target < length core
-jumps_to core kept main firsts i op is e jump = is.blocks.jumps i op e jump
+jumps_to core kept saved main firsts i op is e jump = is.blocks.jumps i op e jump
 
-pub op_goes : (core : List CoreOp) (kept : List Set) (main : ℕ) (firsts : List ℕ) (globals i : ℕ) (op : CoreOp) → IsGenerable core kept main firsts
-    → slice_get core i ≡ Some op → All (GoesTo (length core)) (block_of (placed core globals kept i op))
-op_goes core kept main firsts globals i op is e =
-    block_all (length core) (placed core globals kept i op) (jumps_to core kept main firsts i op is e)
-    (λ quiet'. leads_by core kept main firsts i op (operation_of op.kind op.number) is e quiet' refl)
+pub op_goes : (core : List CoreOp) (kept : List Set) (saved : List Levels) (main : ℕ) (firsts : List ℕ) (globals i : ℕ) (op : CoreOp) → IsGenerable core kept saved main firsts
+    → slice_get core i ≡ Some op → All (GoesTo (length core)) (block_of (placed core globals kept saved i op))
+op_goes core kept saved main firsts globals i op is e =
+    block_all (length core) (placed core globals kept saved i op) (jumps_to core kept saved main firsts i op is e)
+    (λ quiet'. leads_by core kept saved main firsts i op (operation_of op.kind op.number) is e quiet' refl)
 
 -- ---- how many words
 
@@ -370,13 +371,13 @@ words_of false p operation j read = by (kind_by (flow.is_some_flow operation) (a
 block_words : (p : Placed) → length (block_of p) ≤ most_words p.op
 block_words p = words_of (is_jump p.op) p (operation_of p.op.kind p.op.number) refl refl
 
-pub all_words : (core : List CoreOp) (globals : ℕ) (kept : List Set) (k : ℕ) (ops : List CoreOp) → length (flat_map block_of (placed_from core globals kept k ops)) ≤ sum_by most_words ops
-all_words core globals kept k [] = omega arith
-all_words core globals kept k (op ∷ ops) =
-    let rest = all_words core globals kept (suc k) ops in
-    let sum = length-append (block_of (placed core globals kept k op)) (flat_map block_of (placed_from core globals kept (suc k) ops)) in
+pub all_words : (core : List CoreOp) (globals : ℕ) (kept : List Set) (saved : List Levels) (k : ℕ) (ops : List CoreOp) → length (flat_map block_of (placed_from core globals kept saved k ops)) ≤ sum_by most_words ops
+all_words core globals kept saved k [] = omega arith
+all_words core globals kept saved k (op ∷ ops) =
+    let rest = all_words core globals kept saved (suc k) ops in
+    let sum = length-append (block_of (placed core globals kept saved k op)) (flat_map block_of (placed_from core globals kept saved (suc k) ops)) in
     let most = sum_by-cons most_words op ops in
-    let one = block_words (placed core globals kept k op) in
+    let one = block_words (placed core globals kept saved k op) in
     omega (arith, rest, sum, most, one)
 
 -- ---- the opening

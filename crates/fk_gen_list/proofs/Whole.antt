@@ -9,6 +9,7 @@ use Rattle.fk_isa.specs.Find.{row}
 use Rattle.fk_asm.specs.Assembly.{Assembly, instructions, IsBound, IsFirstTooFar}
 use Rattle.fk_asm.specs.Block.{MarkedLine, lines_of, entries_from}
 use Rattle.fk_core_liveness.specs.declared.set.Set.{Set}
+use Rattle.fk_gen.specs.declared.placed.Levels.{Levels}
 use Rattle.fk_gen.specs.declared.placed.Placed.{Placed}
 use Rattle.fk_gen_access.specs.Heap.{heap_lines}
 use Rattle.fk_gen_flow.specs.Opening.{opening_lines}
@@ -30,9 +31,9 @@ all_flat P block (op ∷ ops) all =
     All-append P (block op) (flat_map block ops) (All-head (λ o. All P (block o)) op ops all)
     (all_flat P block ops (All-tail (λ o. All P (block o)) op ops all))
 
-module _ (core : List CoreOp) (kept : List Set) (main : ℕ) (firsts : List ℕ) (globals : ℕ) (is : IsGenerable core kept main firsts) where
+module _ (core : List CoreOp) (kept : List Set) (saved : List Levels) (main : ℕ) (firsts : List ℕ) (globals : ℕ) (is : IsGenerable core kept saved main firsts) where
   abbrev pub ops : List Placed
-  ops = all_placed globals kept core
+  ops = all_placed globals kept saved core
 
   abbrev pub opening : List MarkedLine
   opening = opening_lines (length firsts) firsts main
@@ -41,14 +42,14 @@ module _ (core : List CoreOp) (kept : List Set) (main : ℕ) (firsts : List ℕ)
   whole = all_lines block_of opening globals ops
 
   pub length-ops : length ops ≡ length core
-  length-ops = length-placed core globals kept 0 core
+  length-ops = length-placed core globals kept saved 0 core
 
   pub blocks_go : All (λ op. All (GoesTo (length ops)) (block_of op)) ops
   blocks_go =
-      all_from (λ op. All (GoesTo (length ops)) (block_of op)) core globals kept 0 core
+      all_from (λ op. All (GoesTo (length ops)) (block_of op)) core globals kept saved 0 core
       (λ i j op at same.
-      subst (λ n. All (GoesTo n) (block_of (placed core globals kept j op))) (sym length-ops)
-      (op_goes core kept main firsts globals j op is (subst (λ k. slice_get core k ≡ Some op) (let e : i ≡ j = omega arith in e) at)))
+      subst (λ n. All (GoesTo n) (block_of (placed core globals kept saved j op))) (sym length-ops)
+      (op_goes core kept saved main firsts globals j op is (subst (λ k. slice_get core k ≡ Some op) (let e : i ≡ j = omega arith in e) at)))
 
   pub all_go : All (GoesTo (length ops)) whole
   all_go =
@@ -80,7 +81,7 @@ module _ (core : List CoreOp) (kept : List Set) (main : ℕ) (firsts : List ℕ)
     few_words =
         let all = length-whole in
         let firsts' = few_firsts in
-        let blocks = all_words core globals kept 0 core in
+        let blocks = all_words core globals kept saved 0 core in
         omega arith
 
     module _ (a : Assembly) (laid : IsLaid block_of opening globals ops a) where

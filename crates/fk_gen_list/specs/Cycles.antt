@@ -7,6 +7,7 @@ use Rattle.fk_meaning_operation.specs.declared.operation.Operation.TheVariants.{
 use Rattle.fk_core.specs.declared.op.CoreOp.{CoreOp}
 use Rattle.fk_core.specs.Numbers.{operation_of}
 use Rattle.fk_core_liveness.specs.declared.set.Set.{Set}
+use Rattle.fk_gen.specs.declared.placed.Levels.{Levels}
 use Rattle.fk_gen.specs.declared.placed.Placed.{Placed}
 use Rattle.fk_gen.specs.Keeps.{past_first}
 use Rattle.fk_gen_expr.specs.Expressions.{expression_block}
@@ -59,16 +60,16 @@ abbrev pub before_at : Option CoreOp → ℕ
 before_at None = 0
 before_at (Some op) = option_map_or (before_of op) (operation_of op.kind op.number) 0
 
-abbrev pub behind_at : List CoreOp → (globals : ℕ) → List Set → (index : ℕ) → Option CoreOp
+abbrev pub behind_at : List CoreOp → (globals : ℕ) → List Set → List Levels → (index : ℕ) → Option CoreOp
     → (onward : Bool) → ℕ
-behind_at core globals kept index None onward = 0
-behind_at core globals kept index (Some op) onward =
-    option_map_or (λ operation. behind_of (placed core globals kept index op) operation onward)
+behind_at core globals kept saved index None onward = 0
+behind_at core globals kept saved index (Some op) onward =
+    option_map_or (λ operation. behind_of (placed core globals kept saved index op) operation onward)
     (operation_of op.kind op.number) 0
 
 -- The cycles in an image with this many words of globals, where calls keep these words.
-abbrev pub cycles_of : (core : List CoreOp) (globals : ℕ) (kept : List Set) → Cycles
-cycles_of core globals kept = record {
+abbrev pub cycles_of : (core : List CoreOp) (globals : ℕ) (kept : List Set) (saved : List Levels) → Cycles
+cycles_of core globals kept saved = record {
   before = λ i. before_at (slice_get core i);
-  behind = λ i onward. behind_at core globals kept i (slice_get core i) onward;
+  behind = λ i onward. behind_at core globals kept saved i (slice_get core i) onward;
 }

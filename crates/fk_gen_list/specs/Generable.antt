@@ -14,6 +14,7 @@ use Rattle.fk_sim_block.specs.Ready.{is_alone}
 use Rattle.fk_sim_block.specs.Suits.{Suits}
 use Rattle.fk_sim_block.specs.Block.{BlockLaw}
 use Rattle.fk_core_liveness.specs.declared.set.Set.{Set}
+use Rattle.fk_gen.specs.declared.placed.Levels.{Levels}
 use Rattle.fk_core_liveness.specs.Frames.{kept_in}
 use Rattle.fk_gen.specs.InPlace.{HasBlock}
 use Rattle.fk_gen_access.specs.Heap.{HasHeap}
@@ -56,7 +57,7 @@ pub record HasBlocks (core : List CoreOp) : Type 0 where
 -- A list of operations of processors in one group or in none. It suits some frames with as many
 -- private variables of file scope as there are first values, in which calls keep no words except
 -- these.
-pub record IsGenerable (core : List CoreOp) (kept : List Set) (main : ℕ)
+pub record IsGenerable (core : List CoreOp) (kept : List Set) (saved : List Levels) (main : ℕ)
     (firsts : List ℕ) : Type 0 where
   pub blocks : HasBlocks core
   pub operations : (i : ℕ) (op : CoreOp) → slice_get core i ≡ Some op → is_jump op ≡ false
@@ -118,21 +119,21 @@ DoesTheList core kept main firsts globals code =
 
 -- The image has the opening, the block of each index, which clears where it has to, and the code
 -- that calls, beginnings of `start` and blocks of `shmalloc` share. Calls return into their blocks.
-pub record HasWholeCode (core : List CoreOp) (kept : List Set) (image : Image) (bound : ℕ → ℕ)
+pub record HasWholeCode (core : List CoreOp) (kept : List Set) (saved : List Levels) (image : Image) (bound : ℕ → ℕ)
     (places : Places) (firsts : List ℕ) (main : ℕ) : Type 0 where
   pub opening : HasOpening image bound places firsts main
   pub blocks : (i : ℕ) (op : CoreOp) → slice_get core i ≡ Some op
       → HasBlock image bound places i
-      (block_of (placed core (length image.globals.items) kept i op))
+      (block_of (placed core (length image.globals.items) kept saved i op))
   pub returns : (i : ℕ) → places.returns i ≡ return_at core places.block i (slice_get core i)
   pub shared : HasShared image bound
   pub start : HasStart image bound
   pub heap : HasHeap image bound
 
 -- Each image with this code has all of it, with each label bound to a word.
-abbrev pub GivesWholeCode : (core : List CoreOp) (kept : List Set) (main : ℕ) (firsts : List ℕ)
+abbrev pub GivesWholeCode : (core : List CoreOp) (kept : List Set) (saved : List Levels) (main : ℕ) (firsts : List ℕ)
     (globals : ℕ) → Code → Type 0
-GivesWholeCode core kept main firsts globals code =
+GivesWholeCode core kept saved main firsts globals code =
     (image : Image) (frames : Frames) → HasCode code globals image → frames.of_file ≡ length firsts
     → (block : (index : ℕ) → ℕ) × ((bound : (label : ℕ) → ℕ)
-    × HasWholeCode core kept image bound (places_in core block frames) firsts main)
+    × HasWholeCode core kept saved image bound (places_in core block frames) firsts main)

@@ -15,6 +15,7 @@ use Rattle.fk_sim_block.specs.Ready.{is_alone}
 use Rattle.fk_sim_block.specs.Suits.{Suits}
 use Rattle.fk_sim_block.specs.Block.{IsRunning, BlockHalts, beginner, most_before, most_behind}
 use Rattle.fk_core_liveness.specs.declared.set.Set.{Set}
+use Rattle.fk_gen.specs.declared.placed.Levels.{Levels}
 use Rattle.fk_gen.specs.InPlace.{HasBlock}
 use Rattle.fk_gen_access.specs.Heap.{HasHeap}
 use Rattle.fk_gen_flow.specs.Calls.{HasShared}
@@ -39,12 +40,12 @@ is_lone operation = is_alone operation
 -- The blocks of these operations are at their indices. Those of calls clear where words are kept
 -- that are no arguments. The image also has the jumps, those to which calls return among them, the
 -- code that calls share, and the code that blocks of `shmalloc` share.
-pub record HasLoneCode (core : List CoreOp) (kept : List Set) (image : Image) (bound : ℕ → ℕ)
+pub record HasLoneCode (core : List CoreOp) (kept : List Set) (saved : List Levels) (image : Image) (bound : ℕ → ℕ)
     (places : Places) : Type 0 where
   pub blocks : (i : ℕ) (op : CoreOp) (operation : Operation) → OpAt core i op operation
       → is_lone operation ≡ true
       → HasBlock image bound places i
-      (block_in (lone_kind operation) (placed core (length image.globals.items) kept i op))
+      (block_in (lone_kind operation) (placed core (length image.globals.items) kept saved i op))
   pub jumps : HasJumps core image bound places
   pub calls : CallsReturn core image bound places
   pub shared : HasShared image bound
@@ -80,12 +81,12 @@ pub record DoesAlone (core : List CoreOp) (image : Image) (places : Places) (nes
 -- calls keep no other words.
 abbrev pub ListsDoAlone : Type 0
 ListsDoAlone =
-    (core : List CoreOp) (kept : List Set) (image : Image) (bound : ℕ → ℕ) (places : Places)
+    (core : List CoreOp) (kept : List Set) (saved : List Levels) (image : Image) (bound : ℕ → ℕ) (places : Places)
     (nestings : Nestings) (main : ℕ)
     → Suits core places.frames main → AreKept places.frames kept → AreInRange core image
-    → HasLoneCode core kept image bound places
+    → HasLoneCode core kept saved image bound places
     → HaveLevels core places nestings
-    → DoesAlone core image places nestings (cycles_of core (length image.globals.items) kept)
+    → DoesAlone core image places nestings (cycles_of core (length image.globals.items) kept saved)
 
 -- ---- with steps of groups
 
@@ -136,16 +137,16 @@ HartsBeginInNode core image places nestings firsts main =
 -- The whole law holds with these, and with an opening that leads to `main`.
 abbrev pub ListsHaveTheLaw : Type 0
 ListsHaveTheLaw =
-    (core : List CoreOp) (kept : List Set) (image : Image) (bound : ℕ → ℕ) (places : Places)
+    (core : List CoreOp) (kept : List Set) (saved : List Levels) (image : Image) (bound : ℕ → ℕ) (places : Places)
     (nestings : Nestings) (firsts : List ℕ) (main : ℕ)
     → Suits core places.frames main → AreKept places.frames kept → AreInRange core image
-    → HasLoneCode core kept image bound places
+    → HasLoneCode core kept saved image bound places
     → HaveLevels core places nestings → HasGroupCode core image bound places → StepsHaveValues core
     → HaveStepLevels core places nestings
     → nestings.start ≡ gathering_of core bound
     → HartsBeginInNode core image places nestings firsts main
     → GroupLaw core image places nestings
-    (cycles_of core (length image.globals.items) kept) firsts main
+    (cycles_of core (length image.globals.items) kept saved) firsts main
 
 -- ---- without levels
 

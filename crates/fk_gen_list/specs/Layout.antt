@@ -10,6 +10,7 @@ use Rattle.fk_core.specs.Numbers.{operation_of}
 use Rattle.fk_asm.specs.Assembly.{Assembly, empty}
 use Rattle.fk_asm.specs.Block.{MarkedLine, with_block}
 use Rattle.fk_core_liveness.specs.declared.set.Set.{Set}
+use Rattle.fk_gen.specs.declared.placed.Levels.{Levels}
 use Rattle.fk_gen.specs.declared.placed.Placed.{Placed}
 use Rattle.fk_gen.specs.Lines.{copy_label, clear_label, label_of}
 use Rattle.fk_gen_access.specs.Heap.{heap_label, heap_lines}
@@ -29,8 +30,8 @@ back_by operation core index = 0
 
 -- The operation at an index of a list. The words that are kept as a call begins are those at the
 -- next index.
-abbrev pub placed : List CoreOp → (globals : ℕ) → List Set → (index : ℕ) → CoreOp → Placed
-placed core globals kept index op =
+abbrev pub placed : List CoreOp → (globals : ℕ) → List Set → List Levels → (index : ℕ) → CoreOp → Placed
+placed core globals kept saved index op =
     record {
       op = op;
       globals = globals;
@@ -38,15 +39,15 @@ placed core globals kept index op =
       back = back_by (operation_of op.kind op.number) core index;
     }
 
-abbrev pub placed_from : List CoreOp → (globals : ℕ) → List Set → (index : ℕ) → List CoreOp
+abbrev pub placed_from : List CoreOp → (globals : ℕ) → List Set → List Levels → (index : ℕ) → List CoreOp
     → List Placed
-placed_from core globals kept index [] = []
-placed_from core globals kept index (op ∷ ops) =
-    placed core globals kept index op ∷ placed_from core globals kept (suc index) ops
+placed_from core globals kept saved index [] = []
+placed_from core globals kept saved index (op ∷ ops) =
+    placed core globals kept saved index op ∷ placed_from core globals kept saved (suc index) ops
 
 -- All operations of a list.
-abbrev pub all_placed : (globals : ℕ) → List Set → List CoreOp → List Placed
-all_placed globals kept ops = placed_from ops globals kept 0 ops
+abbrev pub all_placed : (globals : ℕ) → List Set → List Levels → List CoreOp → List Placed
+all_placed globals kept saved ops = placed_from ops globals kept saved 0 ops
 
 -- The word where the block of an index begins, given the word where the first one begins. The index
 -- after the list gives the word where the last block ends.
