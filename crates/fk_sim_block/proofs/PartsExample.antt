@@ -105,7 +105,16 @@ nestings = record {
 }
 
 ends : IsInPart nestings inside
-ends = record { around = group 1; further = root 1 ∷ []; outer = refl; number = refl; rank = refl; saved = omega arith }
+ends = record {
+  around = group 1;
+  beyond = root 1;
+  further = [];
+  outer = refl;
+  number = refl;
+  rank = refl;
+  is_space = record { header = omega arith; ordered = omega arith; within = omega arith; shared = omega arith };
+  saved = omega arith;
+}
 
 -- the words of its frame that tell the level around it
 abbrev saved : Memory

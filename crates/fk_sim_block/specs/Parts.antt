@@ -73,14 +73,16 @@ pub record AreToDivide (by : SplitKind) (space : Space) (count : ℕ) (ps : List
   pub is_space : IsSpace space
   pub all : AllAreToDivide by space count ps
 
--- A processor is in a part of an implicit split: it has the `@` and `$` of the level around it. The
--- frame of its call has that level.
+-- A processor is in a part of an implicit split: it has the `@` and `$` of the level around it. That
+-- is the level of a group with a space, and the frame of the call has it.
 pub record IsInPart (nestings : Nestings) (p : Owner) : Type 0 where
   pub around : Level
+  pub beyond : Level
   pub further : List Level
-  pub outer : p.runner.has.outer ≡ around ∷ further
+  pub outer : p.runner.has.outer ≡ around ∷ beyond ∷ further
   pub number : around.number ≡ p.runner.has.level.number
   pub rank : around.rank ≡ p.runner.has.level.rank
+  pub is_space : IsSpace around.space
   pub saved : 0 < nestings.levels p.runner.left.at
 
 abbrev pub AreInPart : Nestings → List Owner → Type 0
@@ -105,7 +107,7 @@ module _ (core : List CoreOp) (image : Image) (places : Places) (nestings : Nest
       → (bodies : Owner → Option ℕ) → (lowest : ℕ) → List Member → List Owner → Type 0
   AllMove operation setting t behind bodies lowest ms ps =
       AllComeByWay core image places nestings i op operation setting t behind bodies
-      (highest_value ps) lowest (size_behind operation ps) ms ps
+      (highest_value ps) lowest (λ p. size_behind operation ps p) ms ps
 
   -- A group whose space has room for the parts divides. All members commit in one cycle. Then each
   -- comes by its way to its part, or to where it waits in the group. Nobody is at the arrival words
@@ -124,15 +126,15 @@ module _ (core : List CoreOp) (image : Image) (places : Places) (nestings : Nest
 
   -- Where there is no room for the parts, the lowest member faults, whose commit is in one cycle
   -- with those of all others.
-  abbrev pub FaultsTogether : SplitKind → Type 0
-  FaultsTogether by =
-      (setting : Setting) (t : MachineSetting) (mine : Words) (first : ℕ) (space : Space)
-      (count : ℕ) (ms : List Member) (ps : List Owner) (own : Memory)
-      → OwnsHeader mine first
-      → AllEnter core image places nestings i op (Split by) setting t None first ms ps
-      → AreToDivide by space count ps → has_parts space count ≡ false
-      → (before : ℕ) × (before ≤ most_before)
-      × Together (core_source core setting) image mine t 1 before ms ps own (λ ms' ds own'. ⊥)
+  pub record FaultsTogether (by : SplitKind) : Type 0 where
+    pub before : ℕ
+    pub few : before ≤ most_before
+    pub faults : (setting : Setting) (t : MachineSetting) (mine : Words) (first : ℕ) (space : Space)
+        (count : ℕ) (ms : List Member) (ps : List Owner) (own : Memory)
+        → OwnsHeader mine first
+        → AllEnter core image places nestings i op (Split by) setting t None first ms ps
+        → AreToDivide by space count ps → has_parts space count ≡ false
+        → Together (core_source core setting) image mine t 1 before ms ps own (λ ms' ds own'. ⊥)
 
   -- The members of a part who stay in a loop are a group of as many as they are, and the others go
   -- back to the group around it.

@@ -1,9 +1,12 @@
 -- Who stands at the beginning of a block is at a stage.
-use Rattle.std.proofs.Common.{◌≡◌, ℕ, suc, ◌+◌, ◌≤◌, List, [], ◌∷◌, length, map, Bool, true, Some, None, sym, ap, subst, ◌∙◌, refl, arith, inl, inr, ⊎_elim}
+use Rattle.std.proofs.Common.{◌≡◌, ℕ, suc, ◌+◌, ◌≤◌, List, [], ◌∷◌, length, map, Bool, true, false, Option, Some, None, sym, ap, subst, ◌∙◌, refl, arith, inl, inr, ⊎_elim}
 use Rattle.fk_num.specs.Word.{Memory}
+use Rattle.fk_space.specs.Space.{Space}
+use Rattle.fk_meaning_operation.specs.declared.operation.SplitKind.{SplitKind}
 use Rattle.fk_meaning_operation.specs.declared.operation.Operation.{Operation}
-use Rattle.fk_meaning_operation.specs.declared.operation.Operation.TheVariants.{Begin, Agree, Frame, Block, Farm, Seq, End, Halt}
+use Rattle.fk_meaning_operation.specs.declared.operation.Operation.TheVariants.{Begin, Agree, Frame, Block, Farm, Seq, Split, Shrink, End, Halt}
 use Rattle.fk_meaning.specs.Processor.{Setting}
+use Rattle.fk_meaning.specs.Group.{has_parts}
 use Rattle.fk_core.specs.declared.op.CoreOp.{CoreOp}
 use Rattle.fk_core.specs.Next.{next, position, follows, returned}
 use Rattle.fk_image.specs.declared.Image.{Image}
@@ -21,17 +24,18 @@ use Rattle.fk_sim_block.specs.Owner.{Commons, Owner, Doing, part, core_source}
 use Rattle.fk_sim_block.specs.Stands.{Places}
 use Rattle.fk_sim_block.specs.Next.{OpAt, step_at}
 use Rattle.fk_sim_block.specs.Ready.{MayDo, is_alone}
-use Rattle.fk_sim_block.specs.Block.{most_behind, IsRunning, member_of}
+use Rattle.fk_sim_block.specs.Block.{most_before, most_behind, IsRunning, member_of}
 use Rattle.fk_sim_block.proofs.Standing.{next_here, operations_are_next}
-use Rattle.fk_sim_block.specs.Node.{Polling, Nestings, OwnsHeader, IsAtRest, closing_word, agreed_word, root_words}
-use Rattle.fk_sim_block.specs.Lockstep.{is_due, stepped, highest_value, AllComeAlone, AllEnter, HaveStepped, HaveParted, AreInStart}
+use Rattle.fk_sim_block.specs.Node.{Polling, Nestings, OwnsHeader, OwnsSpace, IsAtRest, first_word, closing_word, agreed_word, root_words}
+use Rattle.fk_sim_block.specs.Lockstep.{is_due, stepped, highest_value, IsMember, AllComeAlone, AllComeByWay, AllEnter, HaveStepped, HaveParted, AreInStart, AreOfSize, one_runs}
+use Rattle.fk_sim_block.specs.Parts.{is_implicit, size_behind, AreToDivide, AreInPart, AllRest, moved, AllMove}
 use Rattle.fk_sim_block.specs.Joint.{word_of, Polls, MeetsAt}
 use Rattle.fk_sim_block.specs.Start.{MeetsUntil, AllHaveMet, HaveStarted}
 use Rattle.fk_sim_block.specs.Law.{Cycles, GroupLaw, HasDoneInNode, way_of, runs_behind, is_shared_step, stays_in_step, sets_apart, IsAskedOf}
 use Rattle.fk_sim_block.specs.Laws.{AllGo}
 use Rattle.fk_sim_block.proofs.Together.{members_do_together}
-use Rattle.fk_sim_match.specs.Behind.{IsBehind, AllHaveGone, IsGroupBehind, HaveActed, runs_of, blocks_of}
-use Rattle.fk_sim_match.specs.Standing.{all_act, MembersStandAtStages, MembersHaltAtStages, MeetersSetOut, StartersSetOut, GroupsActTogether, GroupsStepTogether, GroupsEndTogether, GroupsStartTogether}
+use Rattle.fk_sim_match.specs.Behind.{IsBehind, AllHaveGone, IsGroupBehind, HaveMoved, HaveActed, runs_of, blocks_of, moves_apart, IsAskedToMove, bodies_around, bodies_behind, PartsRest}
+use Rattle.fk_sim_match.specs.Standing.{all_act, MembersStandAtStages, MembersHaltAtStages, MeetersSetOut, StartersSetOut, GroupsActTogether, GroupsStepTogether, GroupsEndTogether, GroupsDivideTogether, GroupsShrinkTogether, GroupsStartTogether}
 
 -- ---- by itself
 
@@ -263,7 +267,86 @@ module _ (core : List CoreOp) (image : Image) (places : Places) (nestings : Nest
         ))
         (law.steps i op operation 0 0 stands stays setting t mine (first g) ms ps own owns all asked)
 
-    -- or each goes on by itself
+    -- a member stands in its own node
+    own_node : (bodies : Option ℕ) (begin : ℕ) (m : Member) (q : Owner) → IsMember places nestings setting bodies begin m q
+        → IsMember places nestings setting bodies (first_word q.runner.has.level q.runner.has.outer) m q
+    own_node bodies begin m q member = record { number = member.number; at = member.at; node = member.node; words = refl }
+
+    other_bodies : (bodies bodies' : Option ℕ) (begin : ℕ) (m : Member) (q : Owner) → bodies ≡ bodies' → IsMember places nestings setting bodies begin m q
+        → IsMember places nestings setting bodies' begin m q
+    other_bodies bodies bodies' begin m q e member = subst (λ b. IsMember places nestings setting b begin m q) e member
+
+    -- all take as long
+    free_moves : (u : MachineSetting) (a begin value lowest size : ℕ) (all : List Owner) (ms : List Member) (ps : List Owner) → AreOfSize size ps
+        → AllComeAlone places nestings setting image u a (λ p. Some size) begin ms (map (stepped core i op Farm value lowest size) ps)
+        → AllComeByWay core image places nestings i op Farm setting u (λ onward. a) (λ p. bodies_behind setting Farm lowest p) value lowest (λ p. size_behind Farm all p) ms ps
+    free_moves u a begin value lowest size all [] [] sized come = tt
+    free_moves u a begin value lowest size all (m ∷ ms) (p ∷ ps) sized come = (
+      record {
+        hart = come.0.hart;
+        runs = come.0.private;
+        member =
+            let q = stepped core i op Farm value lowest 0 p in
+            let here : Member = record m { hart = come.0.hart } in
+            other_bodies (Some size) (Some p.runner.has.level.size) (first_word q.runner.has.level q.runner.has.outer) here q (ap (λ n. Some n) (sym sized.0))
+            (own_node (Some size) begin here q come.0.member);
+      },
+      free_moves u a begin value lowest size all ms ps sized.1 come.1,
+    )
+    free_moves u a begin value lowest size all ms ps sized come = absurd (assumption (come, sized))
+
+    sent_moves : (u : MachineSetting) (a begin value lowest size : ℕ) (all : List Owner) (ms : List Member) (ps : List Owner)
+        → AllComeAlone places nestings setting image u a (one_runs lowest) begin ms (map (stepped core i op Seq value lowest size) ps)
+        → AllComeByWay core image places nestings i op Seq setting u (λ onward. a) (λ p. bodies_behind setting Seq lowest p) value lowest (λ p. size_behind Seq all p) ms ps
+    sent_moves u a begin value lowest size all [] [] come = tt
+    sent_moves u a begin value lowest size all (m ∷ ms) (p ∷ ps) come = (
+      record {
+        hart = come.0.hart;
+        runs = come.0.private;
+        member = own_node (one_runs lowest p) begin (record m { hart = come.0.hart }) (stepped core i op Seq value lowest 0 p) come.0.member;
+      },
+      sent_moves u a begin value lowest size all ms ps come.1,
+    )
+    sent_moves u a begin value lowest size all ms ps come = absurd (assumption come)
+
+    parted : (operation : Operation) (u : MachineSetting) (a lowest size : ℕ) (few : a ≤ most_behind) (ms : List Member) (ps : List Owner) (ds : List Doing) (own : Memory)
+        → OpAt core i op operation → sets_apart operation ≡ true → IsAskedOf operation lowest size ps → ds ≡ map (is_due core i op operation) ps → IsAtRest (first g) own
+        → AllComeAlone places nestings setting image u a (runs_behind operation lowest size) (first g) ms (map (stepped core i op operation (highest_value ps) lowest size) ps)
+        → HaveMoved core image places nestings setting (first g) u ds ms own
+    parted Farm u a lowest size few ms ps ds own stands parts asked due rest come = record {
+      i = i;
+      op = op;
+      operation = Farm;
+      lowest = lowest;
+      ps = ps;
+      behind = λ onward. a;
+      few = λ onward. few;
+      stands = stands;
+      moves = refl;
+      asked = tt;
+      due = due;
+      rest = rest;
+      parts = tt;
+      move = free_moves u a (first g) (highest_value ps) lowest size ps ms ps asked.1 come;
+    }
+    parted Seq u a lowest size few ms ps ds own stands parts asked due rest come = record {
+      i = i;
+      op = op;
+      operation = Seq;
+      lowest = lowest;
+      ps = ps;
+      behind = λ onward. a;
+      few = λ onward. few;
+      stands = stands;
+      moves = refl;
+      asked = asked.1;
+      due = due;
+      rest = rest;
+      parts = tt;
+      move = sent_moves u a (first g) (highest_value ps) lowest size ps ms ps come;
+    }
+    parted operation u a lowest size few ms ps ds own stands parts asked due rest come = absurd (cc)
+
     part_together : (operation : Operation) (lowest size : ℕ) (ms : List Member) (ps : List Owner) (own : Memory) → OpAt core i op operation → sets_apart operation ≡ true
         → OwnsHeader (plan.words g) (first g) → AllEnter core image places nestings i op operation setting t None (first g) ms ps
         → IsAskedOf operation lowest size ps → IsAtRest (first g) own
@@ -279,25 +362,10 @@ module _ (core : List CoreOp) (image : Image) (places : Places) (nestings : Nest
         × HaveParted core image places nestings i op operation setting u a (runs_behind operation lowest size) (first g) lowest size ps own ms' own')
         (Behind u g)
         (λ ms' ds own' x.
-        let parted = x.1 in (
+        let apart = x.1 in (
           a,
           law.few_behind i true,
-          inr
-              (inl
-              (record {
-                i = i;
-                op = op;
-                operation = operation;
-                lowest = lowest;
-                size = size;
-                ps = ps;
-                stands = stands;
-                parts = parts;
-                asked = asked;
-                due = x.0;
-                rest = still_at_rest g own own' parted.others rest;
-                come = parted.come;
-              })),
+          inr (inl (parted operation u a lowest size (law.few_behind i true) ms' ps ds own' stands parts asked x.0 (still_at_rest g own own' apart.others rest) apart.come)),
         ))
         (law.parts i op operation lowest size stands parts setting t mine (first g) ms ps own owns all asked)
 
@@ -312,10 +380,69 @@ module _ (core : List CoreOp) (image : Image) (places : Places) (nestings : Nest
     step_together Seq lowest size ms ps own stands shared owns all asked rest = part_together Seq lowest size ms ps own stands refl owns all asked rest
     step_together operation lowest size ms ps own stands shared owns all asked rest = absurd (cc)
 
+    -- ---- parts that begin, shrink or end
+
+    root_moves : (u : MachineSetting) (a value : ℕ) (all : List Owner) (ms : List Member) (ps : List Owner) → AreInStart nestings ps
+        → AllComeAlone places nestings setting image u a (λ p. Some setting.processors) root_words ms (map (stepped core i op End value 0 0) ps)
+        → AllComeByWay core image places nestings i op End setting u (λ onward. a) (λ p. bodies_behind setting End 0 p) value 0 (λ p. size_behind End all p) ms ps
+    root_moves u a value all [] [] start come = tt
+    root_moves u a value all (m ∷ ms) (p ∷ ps) start come = (
+      record {
+        hart = come.0.hart;
+        runs = come.0.private;
+        member =
+            let q = stepped core i op End value 0 0 p in
+            let here : Member = record m { hart = come.0.hart } in
+            other_bodies (Some setting.processors) (bodies_around setting p.runner.has.outer) (first_word q.runner.has.level q.runner.has.outer) here q (sym (ap (bodies_around setting) start.0.outer))
+            (own_node (Some setting.processors) root_words here q come.0.member);
+      },
+      root_moves u a value all ms ps start.1 come.1,
+    )
+    root_moves u a value all ms ps start come = absurd (assumption (come, start))
+
+    group_moves : (u : MachineSetting) (behind : Bool → ℕ) (value : ℕ) (all : List Owner) (ms : List Member) (ps : List Owner) → AreInPart nestings ps
+        → AllComeByWay core image places nestings i op End setting u behind (λ p. None) value 0 (λ p. size_behind End all p) ms ps
+        → AllComeByWay core image places nestings i op End setting u behind (λ p. bodies_behind setting End 0 p) value 0 (λ p. size_behind End all p) ms ps
+    group_moves u behind value all [] [] part come = tt
+    group_moves u behind value all (m ∷ ms) (p ∷ ps) part come = (
+      record {
+        hart = come.0.hart;
+        runs = come.0.runs;
+        member =
+            let q = stepped core i op End value 0 0 p in
+            other_bodies None (bodies_around setting p.runner.has.outer) (first_word q.runner.has.level q.runner.has.outer) (record m { hart = come.0.hart }) q (sym (ap (bodies_around setting) part.0.outer))
+            come.0.member;
+      },
+      group_moves u behind value all ms ps part.1 come.1,
+    )
+    group_moves u behind value all ms ps part come = absurd (assumption (come, part))
+
+    has_moved : (operation : Operation) (u : MachineSetting) (behind : Bool → ℕ) (few : (onward : Bool) → behind onward ≤ most_behind) (ms : List Member) (ps : List Owner) (ds : List Doing) (own : Memory)
+        → OpAt core i op operation → moves_apart operation ≡ true → IsAskedToMove nestings operation 0 ps → ds ≡ map (is_due core i op operation) ps → IsAtRest (first g) own
+        → PartsRest operation own (map (moved core i op operation 0 ps) ps)
+        → AllMove core image places nestings i op operation setting u behind (λ p. bodies_behind setting operation 0 p) 0 ms ps
+        → HaveMoved core image places nestings setting (first g) u ds ms own
+    has_moved operation u behind few ms ps ds own stands moves asked due rest parts move = record {
+      i = i;
+      op = op;
+      operation = operation;
+      lowest = 0;
+      ps = ps;
+      behind = behind;
+      few = few;
+      stands = stands;
+      moves = moves;
+      asked = asked;
+      due = due;
+      rest = rest;
+      parts = parts;
+      move = move;
+    }
+
     pub end_together : (ms : List Member) (ps : List Owner) (own : Memory) → OpAt core i op End → OwnsHeader (plan.words g) (first g) → AllEnter core image places nestings i op End setting t None (first g) ms ps
-        → AreInStart nestings ps → IsAtRest (first g) own
+        → IsAskedToMove nestings End 0 ps → IsAtRest (first g) own
         → Together (core_source core setting) image (plan.words g) t 1 0 ms ps own (Behind (later t) g)
-    end_together ms ps own stands owns all start rest =
+    end_together ms ps own stands owns all (inl start) rest =
         let a = cycles.behind i true in
         let mine = plan.words g in
         let u = later t in
@@ -324,8 +451,82 @@ module _ (core : List CoreOp) (image : Image) (places : Places) (nestings : Nest
         AllComeAlone places nestings setting image u a (λ p. Some setting.processors) root_words ms' (map (stepped core i op End (highest_value ps) 0 0) ps) in
         together_map (core_source core setting) image mine t 1 0 ms ps own (λ ms' ds own'. (ds ≡ map (is_due core i op End) ps) × (InRoot ms' × (own' ≡ own)))
         (Behind u g)
-        (λ ms' ds own' x. (a, law.few_behind i true, inr (inr (inl (record { i = i; op = op; ps = ps; stands = stands; due = x.0; rest = subst (λ o. IsAtRest (first g) o) (sym x.1.1) rest; come = x.1.0 })))))
+        (λ ms' ds own' x. (
+          a,
+          law.few_behind i true,
+          inr
+              (inl
+              (has_moved End u (λ onward. a) (λ onward. law.few_behind i true) ms' ps ds own' stands refl (inl start) x.0 (subst (λ o. IsAtRest (first g) o) (sym x.1.1) rest) tt
+              (root_moves u a (highest_value ps) ps ms' ps start x.1.0))),
+        ))
         (law.ends i op 0 0 stands setting t mine (first g) ms ps own owns all start)
+    end_together ms ps own stands owns all (inr part) rest =
+        let mine = plan.words g in
+        let u = later t in
+        together_map (core_source core setting) image mine t 1 0 ms ps own
+        (λ ms' ds own'.
+        (ds ≡ map (is_due core i op End) ps) × AllMove core image places nestings i op End setting u (cycles.behind i) (λ p. None) 0 ms' ps × (own' ≡ own))
+        (Behind u g)
+        (λ ms' ds own' x. (
+          0,
+          omega arith,
+          inr
+              (inl
+              (has_moved End u (cycles.behind i) (law.few_behind i) ms' ps ds own' stands refl (inr part) x.0 (subst (λ o. IsAtRest (first g) o) (sym x.2) rest) tt
+              (group_moves u (cycles.behind i) (highest_value ps) ps ms' ps part x.1))),
+        ))
+        (law.ends_part i op stands setting t mine (first g) ms ps own owns all part)
+
+    pub shrink_together : (ms : List Member) (ps : List Owner) (own : Memory) → OpAt core i op Shrink → OwnsHeader (plan.words g) (first g)
+        → AllEnter core image places nestings i op Shrink setting t None (first g) ms ps → AreInPart nestings ps → length ps ≤ 1024 → IsAtRest (first g) own
+        → Together (core_source core setting) image (plan.words g) t 1 (cycles.before i) ms ps own (Behind (later (in_cycles (cycles.before i) t)) g)
+    shrink_together ms ps own stands owns all part few rest =
+        let b = cycles.before i in
+        let mine = plan.words g in
+        let u = later (in_cycles b t) in
+        together_map (core_source core setting) image mine t 1 b ms ps own
+        (λ ms' ds own'.
+        (ds ≡ map (is_due core i op Shrink) ps) × AllMove core image places nestings i op Shrink setting u (cycles.behind i) (λ p. None) 0 ms' ps × IsAtRest (first g) own')
+        (Behind u g)
+        (λ ms' ds own' x. (0, omega arith, inr (inl (has_moved Shrink u (cycles.behind i) (law.few_behind i) ms' ps ds own' stands refl part x.0 x.2 tt x.1))))
+        (law.shrinks i op stands setting t mine (first g) ms ps own owns all part few rest)
+
+    -- with room for the parts
+    divide_in : (by : SplitKind) (space : Space) (count : ℕ) (ms : List Member) (ps : List Owner) (own : Memory) → OpAt core i op (Split by) → is_implicit by ≡ true
+        → OwnsHeader (plan.words g) (first g) → OwnsSpace (plan.words g) space → AllEnter core image places nestings i op (Split by) setting t None (first g) ms ps
+        → AreToDivide by space count ps → has_parts space count ≡ true → IsAtRest (first g) own
+        → Together (core_source core setting) image (plan.words g) t 1 (cycles.before i) ms ps own (Behind (later (in_cycles (cycles.before i) t)) g)
+    divide_in by space count ms ps own stands implicit owns owns_space all divides room rest =
+        let b = cycles.before i in
+        let mine = plan.words g in
+        let u = later (in_cycles b t) in
+        together_map (core_source core setting) image mine t 1 b ms ps own
+        (λ ms' ds own'.
+        (ds ≡ map (is_due core i op (Split by)) ps) × AllMove core image places nestings i op (Split by) setting u (cycles.behind i) (λ p. None) 0 ms' ps
+        × IsAtRest (first g) own' × AllRest own' (map (moved core i op (Split by) 0 ps) ps))
+        (Behind u g)
+        (λ ms' ds own' x. (0, omega arith, inr (inl (has_moved (Split by) u (cycles.behind i) (law.few_behind i) ms' ps ds own' stands refl tt x.0 x.2 x.3 x.1))))
+        (law.divides i op by stands implicit setting t mine (first g) space count ms ps own owns owns_space all divides room rest)
+
+    -- the number of cycles to the commit of a split
+    abbrev pub to_split : (by : SplitKind) → OpAt core i op (Split by) → is_implicit by ≡ true → (room : Bool) → ℕ
+    to_split by stands implicit true = cycles.before i
+    to_split by stands implicit false = (law.lacks i op by stands implicit).before
+
+    pub few_to_split : (by : SplitKind) (stands : OpAt core i op (Split by)) (implicit : is_implicit by ≡ true) (room : Bool) → to_split by stands implicit room ≤ most_before
+    few_to_split by stands implicit true = law.few_before i
+    few_to_split by stands implicit false = (law.lacks i op by stands implicit).few
+
+    pub divide_together : (by : SplitKind) (space : Space) (count : ℕ) (ms : List Member) (ps : List Owner) (own : Memory) (stands : OpAt core i op (Split by)) (implicit : is_implicit by ≡ true)
+        → OwnsHeader (plan.words g) (first g) → OwnsSpace (plan.words g) space → AllEnter core image places nestings i op (Split by) setting t None (first g) ms ps
+        → AreToDivide by space count ps → (room : Bool) → has_parts space count ≡ room → IsAtRest (first g) own
+        → Together (core_source core setting) image (plan.words g) t 1 (to_split by stands implicit room) ms ps own (Behind (later (in_cycles (to_split by stands implicit room) t)) g)
+    divide_together by space count ms ps own stands implicit owns owns_space all divides true room rest =
+        divide_in by space count ms ps own stands implicit owns owns_space all divides room rest
+    divide_together by space count ms ps own stands implicit owns owns_space all divides false room rest =
+        let lack = law.lacks i op by stands implicit in
+        together_map (core_source core setting) image (plan.words g) t 1 lack.before ms ps own (λ ms' ds own'. ⊥) (Behind (later (in_cycles lack.before t)) g) (λ ms' ds own' never. absurd never)
+        (lack.faults setting t (plan.words g) (first g) space count ms ps own owns all divides room)
 
 -- all have met in the root
 module _ (core : List CoreOp) (image : Image) (places : Places) (nestings : Nestings) (setting : Setting) (plan : Plan) (first : ℕ → ℕ) where
@@ -355,7 +556,7 @@ module _ (core : List CoreOp) (image : Image) (places : Places) (nestings : Nest
       (λ ms' ds own' x. (
         0,
         omega arith,
-        inr (inr (inr (record {
+        inr (inr (record {
           i = i;
           op = op;
           ps = ps;
@@ -365,7 +566,7 @@ module _ (core : List CoreOp) (image : Image) (places : Places) (nestings : Nest
           due = x.0;
           rest = root_at_rest own own' (λ j ne. x.1.others j ne) rest;
           parts = x.1.parts;
-        }))),
+        })),
       ))
       (start.starts setting t (plan.words 0) 0 ms ps own owns running met))
 
@@ -387,3 +588,18 @@ groups_end_together core image places nestings cycles firsts main setting plan f
 pub groups_start_together : GroupsStartTogether
 groups_start_together core image places nestings cycles firsts main setting plan first t i op ms ps own law stands owns running met rest =
     start_together core image places nestings setting plan first cycles firsts main t i op law ms ps own stands owns running met rest
+
+pub groups_divide_together : GroupsDivideTogether
+groups_divide_together core image places nestings cycles firsts main setting plan first t g i op by space count ms ps own law stands implicit owns owns_space all divides rest =
+    let room = has_parts space count in
+    let d = to_split core image places nestings setting plan first cycles firsts main t g i op law by stands implicit room in (
+      d,
+      few_to_split core image places nestings setting plan first cycles firsts main t g i op law by stands implicit room,
+      in_lockstep core image places nestings setting plan first t g d ms ps own (as_many core image places nestings setting plan first i op (Split by) t g ms ps all)
+          (divide_together core image places nestings setting plan first cycles firsts main t g i op law by space count ms ps own stands implicit owns owns_space all divides room refl rest),
+    )
+
+pub groups_shrink_together : GroupsShrinkTogether
+groups_shrink_together core image places nestings cycles firsts main setting plan first t g i op ms ps own law stands owns all part few rest =
+    in_lockstep core image places nestings setting plan first t g (cycles.before i) ms ps own (as_many core image places nestings setting plan first i op Shrink t g ms ps all)
+    (shrink_together core image places nestings setting plan first cycles firsts main t g i op law ms ps own stands owns all part few rest)

@@ -4,7 +4,10 @@ use Rattle.std.specs.Prelude.{Some, None, if◌then◌else◌, ◌⊎◌}
 use Rattle.fk_num.specs.Word.{Memory}
 use Rattle.fk_meaning_operation.specs.declared.operation.Operation.{Operation}
 use Rattle.fk_meaning_operation.specs.declared.operation.Operation.TheVariants.{Halt, Begin, End}
-use Rattle.fk_meaning.specs.Processor.{Setting}
+use Rattle.fk_meaning_operation.specs.declared.operation.Operation.TheVariants.{Farm, Seq, Split}
+use Rattle.fk_meaning_operation.specs.declared.operation.Operation.TheVariants.{Shrink}
+use Rattle.fk_meaning.specs.Processor.{Level, Setting}
+use Rattle.fk_meaning.specs.Group.{is_taken}
 use Rattle.fk_meaning.specs.Round.{Step}
 use Rattle.fk_core.specs.declared.op.CoreOp.{CoreOp}
 use Rattle.fk_core.specs.Next.{Position, position, next}
@@ -21,18 +24,51 @@ use Rattle.fk_sim_block.specs.Next.{OpAt, step_at}
 use Rattle.fk_sim_block.specs.Block.{most_behind, Enters}
 use Rattle.fk_sim_block.specs.Node.{Nestings, IsAtRest, first_word, root_words, barrier_word}
 use Rattle.fk_sim_block.specs.Lockstep.{IsMember, is_due, stepped, highest_value, AreMembers}
-use Rattle.fk_sim_block.specs.Lockstep.{AllComeAlone}
+use Rattle.fk_sim_block.specs.Lockstep.{AllComeByWay, AreInStart, IsLowest, one_runs}
+use Rattle.fk_sim_block.specs.Parts.{AreInPart, AllRest, moved, AllMove}
 use Rattle.fk_sim_block.specs.Joint.{is_meeting, word_of, lead, Polls, MeetsAt, StandsBehind}
 use Rattle.fk_sim_block.specs.Start as starts
-use Rattle.fk_sim_block.specs.Start.{IsInRoot, MeetsUntil, AllComeToParts}
-use Rattle.fk_sim_block.specs.Law.{HasDoneInNode, stays_in_step, sets_apart, IsAskedOf}
-use Rattle.fk_sim_block.specs.Law.{runs_behind}
+use Rattle.fk_sim_block.specs.Start.{IsInRoot, MeetsUntil}
+use Rattle.fk_sim_block.specs.Law.{HasDoneInNode, stays_in_step, sets_apart}
 
 -- How many members run the body of a node, as one that does sees it: those who meet at the node's
 -- first word.
 abbrev pub runs_of : Plan → (first number : ℕ) → Option ℕ
 runs_of plan first number = if plan.member (first + barrier_word) number
     then Some (plan.size (first + barrier_word)) else None
+
+-- ---- steps after which each member goes on by itself
+
+abbrev pub moves_apart : Operation → Bool
+moves_apart (Split by) = true
+moves_apart Shrink = true
+moves_apart End = true
+moves_apart operation = sets_apart operation
+
+-- What is asked of its members.
+abbrev pub IsAskedToMove : Nestings → Operation → (lowest : ℕ) → List Owner → Type 0
+IsAskedToMove nestings Seq lowest ps = IsLowest lowest ps
+IsAskedToMove nestings Shrink lowest ps = AreInPart nestings ps
+IsAskedToMove nestings End lowest ps = AreInStart nestings ps ⊎ AreInPart nestings ps
+IsAskedToMove nestings operation lowest ps = Unit {0}
+
+-- How many run the body of the node to which the members of a group go back. All run that of the
+-- root, which is around the group of `start` alone. Nobody runs a body in a group that waits.
+abbrev pub bodies_around : Setting → (outer : List Level) → Option ℕ
+bodies_around setting (root ∷ []) = Some setting.processors
+bodies_around setting outer = None
+
+-- How many run a body together with a member that has gone on by itself.
+abbrev pub bodies_behind : Setting → Operation → (lowest : ℕ) → Owner → Option ℕ
+bodies_behind setting Farm lowest p = Some p.runner.has.level.size
+bodies_behind setting Seq lowest p = one_runs lowest p
+bodies_behind setting End lowest p = bodies_around setting p.runner.has.outer
+bodies_behind setting operation lowest p = None
+
+-- Nobody has arrived at a word of a part that begins, or of the group around it.
+abbrev pub PartsRest : Operation → Memory → List Owner → Type 0
+PartsRest (Split by) own ps = AllRest own ps
+PartsRest operation own ps = Unit {0}
 
 module _ (core : List CoreOp) (image : Image) (places : Places) (nestings : Nestings)
     (setting : Setting) where
@@ -133,36 +169,25 @@ module _ (core : List CoreOp) (image : Image) (places : Places) (nestings : Nest
   abbrev pub IsGroupBehind : (first : ℕ) → List Doing → List Member → Memory → Type 0
   IsGroupBehind first ds ms own = IsAtRest first own × (AllHaveGone ms ds ⊎ HaveStayed first ds ms)
 
-  -- The members do a step after which each comes by itself, in `behind` private instructions, to
-  -- where it goes on in their node.
-  pub record HaveParted (first : ℕ) (t : MachineSetting) (behind : ℕ) (ds : List Doing)
-      (ms : List Member) (own : Memory) : Type 0 where
+  -- The members do a step after which each goes on by itself. As many private instructions as its
+  -- branch takes lead it to where its processor goes on, in the node that it has then.
+  pub record HaveMoved (first : ℕ) (t : MachineSetting) (ds : List Doing) (ms : List Member)
+      (own : Memory) : Type 0 where
     pub i : ℕ
     pub op : CoreOp
     pub operation : Operation
     pub lowest : ℕ
-    pub size : ℕ
     pub ps : List Owner
+    pub behind : (onward : Bool) → ℕ
+    pub few : (onward : Bool) → behind onward ≤ most_behind
     pub stands : OpAt core i op operation
-    pub parts : sets_apart operation ≡ true
-    pub asked : IsAskedOf operation lowest size ps
+    pub moves : moves_apart operation ≡ true
+    pub asked : IsAskedToMove nestings operation lowest ps
     pub due : ds ≡ map (is_due core i op operation) ps
     pub rest : IsAtRest first own
-    pub come : AllComeAlone places nestings setting image t behind
-        (runs_behind operation lowest size) first ms
-        (map (stepped core i op operation (highest_value ps) lowest size) ps)
-
-  -- The group of `start` ends, and each member comes to the root.
-  pub record HaveEnded (first : ℕ) (t : MachineSetting) (behind : ℕ) (ds : List Doing)
-      (ms : List Member) (own : Memory) : Type 0 where
-    pub i : ℕ
-    pub op : CoreOp
-    pub ps : List Owner
-    pub stands : OpAt core i op End
-    pub due : ds ≡ map (is_due core i op End) ps
-    pub rest : IsAtRest first own
-    pub come : AllComeAlone places nestings setting image t behind
-        (λ p. Some setting.processors) root_words ms (map (stepped core i op End 0 0 0) ps)
+    pub parts : PartsRest operation own (map (moved core i op operation lowest ps) ps)
+    pub move : AllMove core image places nestings i op operation setting t behind
+        (λ p. bodies_behind setting operation lowest p) lowest ms ps
 
   -- The group of `start` begins: all are in the root, at whose words nobody has arrived, and each
   -- comes to its part.
@@ -176,8 +201,9 @@ module _ (core : List CoreOp) (image : Image) (places : Places) (nestings : Nest
     pub stands : OpAt core i op Begin
     pub due : ds ≡ map (is_due core i op Begin) ps
     pub rest : IsAtRest root_words own
-    pub parts : AllComeToParts core image places nestings i op setting t behind
-        (highest_value ps) 0 ms ps
+    pub parts : AllComeByWay core image places nestings i op Begin setting t behind
+        (λ p. starts.runs_behind_start setting (is_taken (highest_value ps) p.runner.has))
+        (highest_value ps) 0 (λ p. starts.size_of_start setting (highest_value ps)) ms ps
 
   -- The common commit of a group's members is past. A run of their node leads them on in lockstep,
   -- or each goes on by itself.
@@ -185,8 +211,7 @@ module _ (core : List CoreOp) (image : Image) (places : Places) (nestings : Nest
       → List Member → Memory → Type 0
   HaveActed mine first t behind ds ms own =
       NodeRun image mine t behind ms own (λ ms' own'. IsGroupBehind first ds ms' own')
-      ⊎ (HaveParted first t behind ds ms own
-      ⊎ (HaveEnded first t behind ds ms own ⊎ HaveBegun t ds ms own))
+      ⊎ (HaveMoved first t ds ms own ⊎ HaveBegun t ds ms own)
 
   -- What the law of blocks says of the members of a plan's nodes after a cycle in which nobody
   -- unites with others.

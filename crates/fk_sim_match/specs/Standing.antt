@@ -1,8 +1,11 @@
 -- A hart at the beginning of a block is at a stage.
-use Rattle.std.specs.Prelude.{◌≡◌, ℕ, ◌+◌, ◌≤◌, List, map, Bool, true, Some, None}
+use Rattle.std.specs.Prelude.{◌≡◌, ℕ, ◌+◌, ◌≤◌, List, length, map, Bool, true, Some, None}
 use Rattle.fk_num.specs.Word.{Memory}
+use Rattle.fk_space.specs.Space.{Space}
+use Rattle.fk_meaning_operation.specs.declared.operation.SplitKind.{SplitKind}
 use Rattle.fk_meaning_operation.specs.declared.operation.Operation.{Operation}
 use Rattle.fk_meaning_operation.specs.declared.operation.Operation.TheVariants.{Begin, End, Halt}
+use Rattle.fk_meaning_operation.specs.declared.operation.Operation.TheVariants.{Split, Shrink}
 use Rattle.fk_meaning.specs.Processor.{Setting}
 use Rattle.fk_core.specs.declared.op.CoreOp.{CoreOp}
 use Rattle.fk_image.specs.declared.Image.{Image}
@@ -17,13 +20,15 @@ use Rattle.fk_sim_block.specs.Stands.{Places}
 use Rattle.fk_sim_block.specs.Next.{OpAt}
 use Rattle.fk_sim_block.specs.Ready.{is_alone}
 use Rattle.fk_sim_block.specs.Block.{most_before, IsRunning, Enters}
-use Rattle.fk_sim_block.specs.Node.{Nestings, OwnsHeader, IsAtRest, root_words, closing_word}
-use Rattle.fk_sim_block.specs.Lockstep.{IsMember, AllEnter, AreInStart}
+use Rattle.fk_sim_block.specs.Node.{Nestings, OwnsHeader, OwnsSpace, IsAtRest, root_words}
+use Rattle.fk_sim_block.specs.Node.{closing_word}
+use Rattle.fk_sim_block.specs.Lockstep.{IsMember, AllEnter}
+use Rattle.fk_sim_block.specs.Parts.{is_implicit, AreToDivide, AreInPart}
 use Rattle.fk_sim_block.specs.Joint.{most_to_meet, is_meeting, word_of, AreSoMany}
 use Rattle.fk_sim_block.specs.Start.{most_to_start, IsInRoot, AllHaveMet}
 use Rattle.fk_sim_block.specs.Law.{Cycles, GroupLaw, is_shared_step, IsAskedOf}
 use Rattle.fk_sim_block.specs.Laws.{AllGo}
-use Rattle.fk_sim_match.specs.Behind.{runs_of, blocks_of}
+use Rattle.fk_sim_match.specs.Behind.{runs_of, IsAskedToMove, blocks_of}
 
 -- All members are at one distance.
 abbrev pub all_act : (d : ℕ) → List Member → List Stage
@@ -119,7 +124,7 @@ GroupsStepTogether =
     (blocks_of core image places nestings setting plan first) t g
     (all_act (cycles.before i) ms) ms ps own
 
--- Members at the end of the group of `start` are in lockstep.
+-- Members at the end of the group of `start`, or of a part, are in lockstep.
 abbrev pub GroupsEndTogether : Type 0
 GroupsEndTogether =
     (core : List CoreOp) (image : Image) (places : Places) (nestings : Nestings) (cycles : Cycles)
@@ -128,9 +133,37 @@ GroupsEndTogether =
     → GroupLaw core image places nestings cycles firsts main → OpAt core i op End
     → OwnsHeader (plan.words g) (first g)
     → AllEnter core image places nestings i op End setting t None (first g) ms ps
-    → AreInStart nestings ps → IsAtRest (first g) own
+    → IsAskedToMove nestings End 0 ps → IsAtRest (first g) own
     → InLockstep (core_source core setting) image plan
     (blocks_of core image places nestings setting plan first) t g (all_act 0 ms) ms ps own
+
+-- Members at a split are in lockstep, whether there is room for its parts or not.
+abbrev pub GroupsDivideTogether : Type 0
+GroupsDivideTogether =
+    (core : List CoreOp) (image : Image) (places : Places) (nestings : Nestings) (cycles : Cycles)
+    (firsts : List ℕ) (main : ℕ) (setting : Setting) (plan : Plan) (first : ℕ → ℕ)
+    (t : MachineSetting) (g i : ℕ) (op : CoreOp) (by : SplitKind) (space : Space) (count : ℕ)
+    (ms : List Member) (ps : List Owner) (own : Memory)
+    → GroupLaw core image places nestings cycles firsts main → OpAt core i op (Split by)
+    → is_implicit by ≡ true → OwnsHeader (plan.words g) (first g) → OwnsSpace (plan.words g) space
+    → AllEnter core image places nestings i op (Split by) setting t None (first g) ms ps
+    → AreToDivide by space count ps → IsAtRest (first g) own
+    → (d : ℕ) × (d ≤ most_before) × InLockstep (core_source core setting) image plan
+    (blocks_of core image places nestings setting plan first) t g (all_act d ms) ms ps own
+
+-- Members at a turn of a loop in which they may leave it are in lockstep.
+abbrev pub GroupsShrinkTogether : Type 0
+GroupsShrinkTogether =
+    (core : List CoreOp) (image : Image) (places : Places) (nestings : Nestings) (cycles : Cycles)
+    (firsts : List ℕ) (main : ℕ) (setting : Setting) (plan : Plan) (first : ℕ → ℕ)
+    (t : MachineSetting) (g i : ℕ) (op : CoreOp) (ms : List Member) (ps : List Owner) (own : Memory)
+    → GroupLaw core image places nestings cycles firsts main → OpAt core i op Shrink
+    → OwnsHeader (plan.words g) (first g)
+    → AllEnter core image places nestings i op Shrink setting t None (first g) ms ps
+    → AreInPart nestings ps → length ps ≤ 1024 → IsAtRest (first g) own
+    → InLockstep (core_source core setting) image plan
+    (blocks_of core image places nestings setting plan first) t g
+    (all_act (cycles.before i) ms) ms ps own
 
 -- All who have met in the root at the beginning of `start` are in lockstep.
 abbrev pub GroupsStartTogether : Type 0

@@ -12,6 +12,7 @@ ghost use Rattle.fk_sim_match.specs.Uniting.{CyclesLeaveApart};
 ghost use Rattle.fk_sim_match.specs.Standing.{MembersStandAtStages, MembersHaltAtStages};
 ghost use Rattle.fk_sim_match.specs.Standing.{MeetersSetOut, StartersSetOut, GroupsActTogether};
 ghost use Rattle.fk_sim_match.specs.Standing.{GroupsStepTogether, GroupsEndTogether};
+ghost use Rattle.fk_sim_match.specs.Standing.{GroupsDivideTogether, GroupsShrinkTogether};
 ghost use Rattle.fk_sim_match.specs.Standing.{GroupsStartTogether};
 ghost use Rattle.fk_sim_match.specs.Laws.{OneGroupHasSpace, NodesOwnApart, WordsTellMeeters};
 ghost use Rattle.fk_sim_match.specs.Laws.{MeetersTurn, CyclesAreRounds, UnownedWordsStay};
@@ -150,9 +151,21 @@ pub fn groups_step_together()
     ensures { GroupsStepTogether }
 {}
 
-/// A group is in lockstep at the end of `start`, which leaves nobody at the words of its node.
+/// A group is in lockstep at its end, be it that of `start` or a part, which leaves nobody at the
+/// words of its node.
 pub fn groups_end_together()
     ensures { GroupsEndTogether }
+{}
+
+/// A group is in lockstep at a split. It commits, or it faults, where there is no room for the
+/// parts.
+pub fn groups_divide_together()
+    ensures { GroupsDivideTogether }
+{}
+
+/// The members of a part are in lockstep at a turn of a loop in which they may leave it.
+pub fn groups_shrink_together()
+    ensures { GroupsShrinkTogether }
 {}
 
 /// All who have met in the root at the beginning of `start` are in lockstep up to its commit.

@@ -1,8 +1,9 @@
 -- A hart that has committed comes to the stage of its next operation, if private instructions lead
 -- it to where its processor goes on.
-use Rattle.std.specs.Prelude.{◌≡◌, ℕ, ◌≤◌, ◌<◌, List, [], ◌∷◌, true, false, None, is_some}
+use Rattle.std.specs.Prelude.{◌≡◌, ℕ, ◌≤◌, ◌<◌, List, [], ◌∷◌, true, false, Some, None, is_some}
 use Rattle.fk_num.specs.Word.{Memory}
 use Rattle.fk_space.specs.Space.{Space}
+use Rattle.fk_tree.specs.declared.node.Kind.TheVariants.{Lockstep}
 use Rattle.fk_tree.specs.Tree as trees
 use Rattle.fk_tree.specs.Tree.{Tree}
 use Rattle.fk_meaning.specs.Processor.{Setting}
@@ -26,7 +27,8 @@ use Rattle.fk_sim_block.specs.Law.{Cycles, GroupLaw}
 use Rattle.fk_sim_match.specs.Nodes.{first_of, HaveSpaces, is_lockstep, plan_of}
 use Rattle.fk_sim_match.specs.Behind.{runs_of, blocks_of}
 use Rattle.fk_sim_match.specs.Rounds.{IsDueAt}
-use Rattle.fk_sim_rounds.specs.Next.{JumpsLead, landed, all_landed, IsHome, HasNext, HaveNext}
+use Rattle.fk_sim_rounds.specs.Next.{JumpsLead, landed, all_landed, HasRange, IsHome, HasNext}
+use Rattle.fk_sim_rounds.specs.Next.{HaveNext}
 
 -- The most cycles from one commit to the next: those after the first, a jump, and those before the
 -- second. A pace of 256 rounds leaves room for no more.
@@ -52,6 +54,16 @@ IsSoon s = ⊥
 abbrev pub AllBelow : (processors : ℕ) → List Owner → Type 0
 AllBelow n [] = Unit {0}
 AllBelow n (p ∷ ps) = (number_of p < n) × AllBelow n ps
+
+-- All processors have spaces of these words.
+abbrev pub AllHave : (whole : Space) → List Owner → Type 0
+AllHave whole [] = Unit {0}
+AllHave whole (p ∷ ps) = HasRange whole p.runner.has.level.space × AllHave whole ps
+
+-- A node is a group in lockstep, and these of its members have its space.
+pub record IsGroup (tree : Tree) (spaces : ℕ → Space) (g : ℕ) (ps : List Owner) : Type 0 where
+  pub kind : trees.kind tree g ≡ Some Lockstep
+  pub space : AllHave (spaces g) ps
 
 -- The node is in the tree, whose nodes own words apart.
 pub record IsNode (tree : Tree) (spaces : ℕ → Space) (g : ℕ) : Type 0 where
@@ -109,6 +121,7 @@ GroupsComeToCommits =
     (spaces : ℕ → Space) (nodes : List ℕ) (t : MachineSetting) (b g : ℕ) (ms : List Member)
     (ps : List Owner) (own : Memory)
     → GroupLaw core image places nestings cycles firsts main → JumpsLead core → IsNode tree spaces g
+    → IsGroup tree spaces g ps
     → IsRunning image setting t → AllBelow setting.processors ps → b ≤ most_behind
     → NodeRun image ((plan_of tree spaces nodes).words g) t b ms own
     (λ ms' own'. IsAtRest (first_of spaces g) own'

@@ -28,7 +28,7 @@ use Rattle.fk_sim_rounds.specs.After.{tree_after, owners_after, ArePlaces, Group
 use Rattle.fk_sim_rounds.specs.Rounds.{IsBefore, IsTree, IsKnownRound, PlanGoesOn}
 use Rattle.fk_sim_rounds.specs.Unite.{AllUnite}
 use Rattle.fk_sim_rounds.specs.Beside.{AreInOrder, IsBeside}
-use Rattle.fk_sim_rounds.specs.Homes.{AllHome, AllNext}
+use Rattle.fk_sim_rounds.specs.Homes.{AllHome, AllNext, PartsAreTold}
 use Rattle.fk_sim_rounds.specs.Results.{Makes, IsFault}
 use Rattle.fk_sim_rounds.specs.Union.{AllLandAt, IsUnited}
 
@@ -73,6 +73,7 @@ module _ (core : List CoreOp) (image : Image) (places : Places) (nestings : Nest
       pub again : (nodes' : List ℕ) → IsKnownRound s.tree did
           → IsTree setting next_state.tree spaces → ArePlaces next_state.tree 0 nodes'
           → length nodes' ≡ length nodes
+          → PartsAreTold next_state.tree spaces 0 did (owners_after s.tree next_state.tree did)
           → AllNext core nestings setting next_state.tree 0 afters did
           (owners_after s.tree next_state.tree did) → GroupsGoOn core nestings next_state.tree
           nodes' afters (owners_after s.tree next_state.tree did)

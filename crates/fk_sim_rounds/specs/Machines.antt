@@ -18,11 +18,11 @@ use Rattle.fk_sim_block.specs.Node.{Nestings, IsAtRest}
 use Rattle.fk_sim_block.specs.Law.{Cycles, GroupLaw}
 use Rattle.fk_sim_match.specs.Nodes.{first_of, plan_of}
 use Rattle.fk_sim_match.specs.Uniting.{NobodyUnites}
-use Rattle.fk_sim_rounds.specs.Next.{JumpsLead, all_landed}
+use Rattle.fk_sim_rounds.specs.Next.{JumpsLead, all_landed, HasRange}
 use Rattle.fk_sim_rounds.specs.After.{owners_after, ArePlaces, GroupsGoOn, AllSoon}
 use Rattle.fk_sim_rounds.specs.Rounds.{IsTree, IsKnownRound, PlanGoesOn}
 use Rattle.fk_sim_rounds.specs.Unite.{AllUnite}
-use Rattle.fk_sim_rounds.specs.Homes.{AllNext}
+use Rattle.fk_sim_rounds.specs.Homes.{AllNext, PartsAreTold}
 use Rattle.fk_sim_rounds.specs.Results.{Makes}
 use Rattle.fk_sim_rounds.specs.Union.{AllLandAt, IsUnited}
 use Rattle.fk_sim_rounds.specs.Follow.{IsFollowed}
@@ -61,6 +61,7 @@ module _ (core : List CoreOp) (image : Image) (places : Places) (nestings : Nest
       pub again : (nodes' : List ℕ) → IsKnownRound s.tree did
           → IsTree setting next_state.tree spaces → ArePlaces next_state.tree 0 nodes'
           → length nodes' ≡ length nodes
+          → PartsAreTold next_state.tree spaces 0 did (owners_after s.tree next_state.tree did)
           → AllNext core nestings setting next_state.tree 0 afters did
           (owners_after s.tree next_state.tree did) → GroupsGoOn core nestings next_state.tree
           nodes' afters (owners_after s.tree next_state.tree did)
@@ -105,7 +106,7 @@ module _ (core : List CoreOp) (image : Image) (places : Places) (nestings : Nest
           ⊎ (AllHaveCommitted afters × ((nodes' : List ℕ) → IsTree setting next_state.tree spaces
           → ArePlaces next_state.tree 0 nodes' → length nodes' ≡ length nodes
           → IsAtRest (first_of spaces s.tree.given) (cycle m).shared.control
-          → (spaces s.tree.given).low ≡ (group_space setting).low
+          → HasRange (spaces s.tree.given) (group_space setting)
           → AllNext core nestings setting next_state.tree 0 afters did
           (owners_after s.tree next_state.tree did) → GroupsGoOn core nestings next_state.tree
           nodes' afters (owners_after s.tree next_state.tree did)

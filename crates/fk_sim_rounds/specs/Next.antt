@@ -1,6 +1,6 @@
 -- What is known of processors that are about to do their next operations, in their nodes.
-use Rattle.std.specs.Prelude.{◌≡◌, ℕ, List, [], ◌∷◌, length, slice_get, Bool, true, false, Some}
-use Rattle.std.specs.Prelude.{map, ◌⊎◌}
+use Rattle.std.specs.Prelude.{◌≡◌, ◌≢◌, ℕ, ◌≤◌, List, [], ◌∷◌, length, slice_get, Bool, true}
+use Rattle.std.specs.Prelude.{false, Some, map, ◌⊎◌}
 use Rattle.fk_space.specs.Space.{Space}
 use Rattle.fk_tree.specs.declared.node.Kind.TheVariants.{Asynchronous}
 use Rattle.fk_tree.specs.Tree as trees
@@ -8,6 +8,7 @@ use Rattle.fk_tree.specs.Tree.{Tree, is_member}
 use Rattle.fk_meaning_operation.specs.Kinds.{joint_of}
 use Rattle.fk_meaning_operation.specs.declared.operation.Operation.{Operation}
 use Rattle.fk_meaning_operation.specs.declared.operation.Operation.TheVariants.{Begin, End, Halt}
+use Rattle.fk_meaning_operation.specs.declared.operation.Operation.TheVariants.{Split, Shrink}
 use Rattle.fk_meaning.specs.Processor.{Setting}
 use Rattle.fk_core.specs.declared.op.CoreOp.{CoreOp}
 use Rattle.fk_core.specs.Next.{is_jump, landing}
@@ -17,12 +18,13 @@ use Rattle.fk_sim_block.specs.Next.{OpAt}
 use Rattle.fk_sim_block.specs.Ready.{is_alone, IsReady}
 use Rattle.fk_sim_block.specs.Block.{gone_to}
 use Rattle.fk_sim_block.specs.Node.{Nestings, first_word}
-use Rattle.fk_sim_block.specs.Lockstep.{AreInStart}
+use Rattle.fk_sim_block.specs.Parts.{is_implicit, AreToDivide, AreInPart}
 use Rattle.fk_sim_block.specs.Joint.{is_meeting, word_of}
 use Rattle.fk_sim_block.specs.Start.{IsInRoot}
 use Rattle.fk_sim_block.specs.Law.{is_shared_step, IsAskedOf}
 use Rattle.fk_sim_block.specs.Laws.{AllGo}
 use Rattle.fk_sim_match.specs.Nodes.{first_of, meeters_at, is_lockstep}
+use Rattle.fk_sim_match.specs.Behind.{IsAskedToMove}
 use Rattle.fk_sim_match.specs.Rounds.{joint_at_word}
 
 -- A jump leads to an operation.
@@ -40,12 +42,18 @@ all_landed core ps = map (landed core) ps
 
 -- ---- in its node
 
+-- A space has the words of another one, whatever is taken of them.
+abbrev pub HasRange : (whole s : Space) → Type 0
+HasRange whole s = (s.low ≡ whole.low) × (s.high ≡ whole.high)
+
 -- What a processor has of its group is what its node has.
 pub record IsHome (tree : Tree) (spaces : ℕ → Space) (number : ℕ) (p : Owner) : Type 0 where
   pub number_is : number_of p ≡ number
   pub words : first_word p.runner.has.level p.runner.has.outer
       ≡ first_of spaces (tree.places number)
   pub size : p.runner.has.level.size ≡ length (trees.members tree (tree.places number))
+  pub range : tree.places number ≢ 0
+      → HasRange (spaces (tree.places number)) p.runner.has.level.space
 
 -- A processor by itself may meet others at an arrival word of its node.
 pub record MayMeet (tree : Tree) (g number : ℕ) (operation : Operation) : Type 0 where
@@ -93,7 +101,8 @@ AllAbout i op operation (p ∷ ps) = (p.runner.left.at ≡ i) × IsReady op oper
     × AllAbout i op operation ps
 
 -- What a group in lockstep may do: a local operation or a request by which all take the same
--- branch, a step of the tree in which they keep their node, or the end of the group of `start`.
+-- branch, a step of the tree in which they keep their node, a split, a turn of a loop that some may
+-- leave, or the end of the group.
 pub record ActsAlike (operation : Operation) (ps : List Owner) : Type 0 where
   pub alone : is_alone operation ≡ true
   pub onward : Bool
@@ -105,9 +114,16 @@ pub record StepsAlike (operation : Operation) (ps : List Owner) : Type 0 where
   pub size : ℕ
   pub asked : IsAskedOf operation lowest size ps
 
+abbrev pub MayMove : Nestings → Operation → List Owner → Type 0
+MayMove nestings (Split by) ps =
+    (is_implicit by ≡ true) × ((space : Space) × (count : ℕ) × AreToDivide by space count ps)
+MayMove nestings Shrink ps = (length ps ≤ 1024) × AreInPart nestings ps
+MayMove nestings End ps = IsAskedToMove nestings End 0 ps
+MayMove nestings operation ps = ⊥
+
 abbrev pub MayInGroup : Nestings → Operation → List Owner → Type 0
 MayInGroup nestings operation ps = ActsAlike operation ps
-    ⊎ (StepsAlike operation ps ⊎ ((operation ≡ End) × AreInStart nestings ps))
+    ⊎ (StepsAlike operation ps ⊎ MayMove nestings operation ps)
 
 -- The members of a group, all of which have come to one index, are about to do one operation.
 pub record HaveNext (core : List CoreOp) (nestings : Nestings) (ps : List Owner) : Type 0 where

@@ -28,10 +28,10 @@ use Rattle.fk_sim_rounds.specs.Rounds.{EndsGroup, IsKnownRound}
 abbrev pub HasNoGroup : Tree → Type 0
 HasNoGroup tree = (g : ℕ) → g ≢ 0 → tree.nodes g ≡ None
 
--- A group stays after a known round, unless the round ends it.
+-- After a known round there are groups still, unless the round ends one.
 abbrev pub KnownRoundsKeepGroups : Type 0
 KnownRoundsKeepGroups =
-    (tree : Tree) (ds : List Doing) → IsKnownRound tree ds
+    (p : ℕ) (tree : Tree) (ds : List Doing) → IsSound p tree → length ds ≡ p → IsKnownRound tree ds
     → EndsGroup tree ds ⊎ (HasNoGroup (tree_after tree ds) → HasNoGroup tree)
 
 -- Nobody is left at the arrival words of a group that ends.

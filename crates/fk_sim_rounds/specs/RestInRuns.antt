@@ -1,7 +1,8 @@
 -- The control words of the group to come: while there is no group, nobody is at them.
-use Rattle.std.specs.Prelude.{◌≡◌, ◌≢◌, ℕ, ◌+◌, ◌^◌, ◌<◌, ◌≤◌, List, length, true, ◌⊎◌}
+use Rattle.std.specs.Prelude.{◌≡◌, ◌≢◌, ℕ, ◌+◌, ◌^◌, ◌<◌, ◌≤◌, List, length, true, is_some, ◌⊎◌}
 use Rattle.fk_num.specs.Word.{Memory}
 use Rattle.fk_space.specs.Space.{Space}
+use Rattle.fk_tree.specs.Tree as trees
 use Rattle.fk_tree.specs.Tree.{Tree}
 use Rattle.fk_meaning.specs.Processor.{Setting}
 use Rattle.fk_meaning.specs.Round.{State, result, is_possible}
@@ -22,10 +23,11 @@ use Rattle.fk_sim_rounds.specs.Rounds.{EndsGroup}
 use Rattle.fk_sim_rounds.specs.Rest.{HasNoGroup}
 use Rattle.fk_sim_rounds.specs.Machines.{GoesWith, GoesToStart}
 
--- The headers of all groups, of which there is one at a time, begin at one word, below those of the
--- root.
-pub record HaveOneHeader (spaces : ℕ → Space) (first : ℕ) : Type 0 where
-  pub same : (g : ℕ) → g ≢ 0 → first_of spaces g ≡ first
+-- The header of a group in the root, of which there is one at a time, begins at one word, below the
+-- words of the root.
+pub record HaveOneHeader (tree : Tree) (spaces : ℕ → Space) (first : ℕ) : Type 0 where
+  pub same : (g : ℕ) → g ≢ 0 → is_some (tree.nodes g) ≡ true → trees.parent tree g ≡ 0
+      → first_of spaces g ≡ first
   pub within : first + 8 ≤ root_words
 
 -- Where there is no group, nobody is at the words of the one to come.
@@ -49,7 +51,7 @@ CyclesStayReady =
     → length m.harts < 2 ^ 31 → is_running m.stand ≡ true
     → (with : GoesWith core image places nestings setting spaces s nodes printed stages m)
     → is_possible (next core) setting (counts_for stages) s ≡ true
-    → HaveOneHeader spaces first
+    → HaveOneHeader s.tree spaces first
     → ((did : List Doing) (shared : Commons) → AllPass (core_source core setting)
     (counts_for stages) with.followed.ps with.followed.shared did shared
     → EndsGroup s.tree did ⊎ (HasNoGroup (tree_after s.tree did) → HasNoGroup s.tree))
@@ -68,5 +70,5 @@ StartsStayReady =
     → JumpsLead core → length m.harts < 2 ^ 31 → is_running m.stand ≡ true
     → GoesToStart core image places nestings setting spaces s nodes printed stages m
     → is_possible (next core) setting (counts_for stages) s ≡ true
-    → HaveOneHeader spaces first → HasNoGroup s.tree → IsReadyForGroup s.tree first m.shared.control
+    → HaveOneHeader s.tree spaces first → HasNoGroup s.tree → IsReadyForGroup s.tree first m.shared.control
     → IsAtRest first (cycle m).shared.control

@@ -1,5 +1,5 @@
 -- After each known round the plan binds all harts again.
-use Rattle.std.specs.Prelude.{◌≡◌, ℕ, ◌^◌, ◌<◌, List, length, Bool, true, Option, Some}
+use Rattle.std.specs.Prelude.{◌≡◌, ◌≢◌, ℕ, ◌^◌, ◌<◌, List, length, Bool, true, Option, Some}
 use Rattle.fk_num.specs.Word.{Memory}
 use Rattle.fk_space.specs.Space.{Space}
 use Rattle.fk_tree.specs.declared.node.Kind.TheVariants.{Lockstep, Waiting, Asynchronous}
@@ -9,6 +9,7 @@ use Rattle.fk_tree.specs.Sound.{IsSound}
 use Rattle.fk_meaning_operation.specs.declared.operation.Operation.{Operation}
 use Rattle.fk_meaning_operation.specs.declared.operation.Operation.TheVariants.{Farm, Seq, End}
 use Rattle.fk_meaning_operation.specs.declared.operation.Operation.TheVariants.{Meet, Resume}
+use Rattle.fk_meaning_operation.specs.declared.operation.Operation.TheVariants.{Split, Shrink}
 use Rattle.fk_meaning.specs.Processor.{Setting}
 use Rattle.fk_core.specs.declared.op.CoreOp.{CoreOp}
 use Rattle.fk_image.specs.declared.Image.{Image}
@@ -57,8 +58,9 @@ abbrev pub AllStandIn : Tree → (g : ℕ) → Type 0
 AllStandIn tree g = (h : ℕ) → is_member h (trees.members tree g) ≡ true → tree.places h ≡ g
 
 -- What all who stand at a node may do together in a known round: those who have waited for their
--- parts go on, those of a body come to its end, and a group comes to a body or ends. The beginning
--- of the group of `start` (`RoundsStart`), splits and shrinks aren't among these steps.
+-- parts go on, those of a body come to its end, and a group comes to a body, divides or ends. Some
+-- may leave a part that isn't in the root. The beginning of the group of `start` (`RoundsStart`)
+-- isn't among these steps.
 abbrev pub StepIsKnown : Tree → (g : ℕ) → Operation → Type 0
 StepIsKnown tree g Resume =
     ((first : ℕ) × (parts : ℕ) × (trees.kind tree g ≡ Some (Waiting first parts)))
@@ -68,6 +70,9 @@ StepIsKnown tree g (Meet true) =
 StepIsKnown tree g Farm = trees.kind tree g ≡ Some Lockstep
 StepIsKnown tree g Seq = trees.kind tree g ≡ Some Lockstep
 StepIsKnown tree g End = trees.kind tree g ≡ Some Lockstep
+StepIsKnown tree g (Split by) = trees.kind tree g ≡ Some Lockstep
+StepIsKnown tree g Shrink =
+    (trees.kind tree g ≡ Some Lockstep) × (trees.parent tree g ≢ 0)
 StepIsKnown tree g operation = ⊥
 
 -- A known round: at each node nobody changes the tree, or all who stand there do one known step.

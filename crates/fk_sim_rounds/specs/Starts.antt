@@ -18,7 +18,7 @@ use Rattle.fk_sim_block.specs.Stands.{Places}
 use Rattle.fk_sim_block.specs.Node.{Nestings, IsAtRest}
 use Rattle.fk_sim_block.specs.Law.{Cycles, GroupLaw}
 use Rattle.fk_sim_match.specs.Nodes.{first_of}
-use Rattle.fk_sim_rounds.specs.Next.{JumpsLead}
+use Rattle.fk_sim_rounds.specs.Next.{JumpsLead, HasRange}
 use Rattle.fk_sim_rounds.specs.After.{tree_after, owners_after, ArePlaces, GroupsGoOn, AllSoon}
 use Rattle.fk_sim_rounds.specs.Rounds.{IsTree}
 use Rattle.fk_sim_rounds.specs.Homes.{AllNext}
@@ -50,7 +50,7 @@ module _ (core : List CoreOp) (image : Image) (places : Places) (nestings : Nest
       (nodes' : List ℕ) → IsTree setting next_state.tree spaces → ArePlaces next_state.tree 0 nodes'
       → length nodes' ≡ length nodes
       → IsAtRest (first_of spaces s.tree.given) done.shared.control
-      → (spaces s.tree.given).low ≡ (group_space setting).low
+      → HasRange (spaces s.tree.given) (group_space setting)
       → AllNext core nestings setting next_state.tree 0 afters did
       (owners_after s.tree next_state.tree did) → GroupsGoOn core nestings next_state.tree nodes'
       afters (owners_after s.tree next_state.tree did)
