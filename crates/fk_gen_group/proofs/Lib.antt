@@ -32,6 +32,16 @@ pub mod Farms
 pub mod Seqs
 -- the end of the group of `start`
 pub mod Ends
+-- the levels that frames save
+pub mod Slots
+-- the end of a part
+pub mod PartEnds
+-- what members give to words
+pub mod Shares
+-- how they count
+pub mod Counting
+-- who stays in a loop
+pub mod Shrinks
 -- the size of the group of `start`
 pub mod Sizes
 -- the beginning of `start`

@@ -228,11 +228,11 @@ HasWords (Some (Frame nesting words)) = words < 2 ^ 21
 HasWords operation = Unit {0}
 
 -- The frame has room for the levels, and for one more where a split saves it. Only a part shrinks.
-abbrev pub LevelsFit : Option Operation → Levels → Type 0
-LevelsFit (Some (Split by)) levels = levels.behind + 4 * (levels.count + 1) ≤ 57
-LevelsFit (Some Shrink) levels =
+abbrev pub HasLevelWords : Option Operation → Levels → Type 0
+HasLevelWords (Some (Split by)) levels = levels.behind + 4 * (levels.count + 1) ≤ 57
+HasLevelWords (Some Shrink) levels =
     (levels.behind + 4 * levels.count ≤ 57) × (0 < levels.count)
-LevelsFit operation levels = levels.behind + 4 * levels.count ≤ 57
+HasLevelWords operation levels = levels.behind + 4 * levels.count ≤ 57
 
 -- An operation of a group whose values and levels have room in a frame, and whose target has a
 -- label.
@@ -241,4 +241,4 @@ pub record HasGroupStep (placed : Placed) : Type 0 where
   pub depth : placed.op.depth ≤ 56
   pub target : placed.op.target < 2 ^ 31
   pub words : HasWords (operation_of placed.op.kind placed.op.number)
-  pub levels : LevelsFit (operation_of placed.op.kind placed.op.number) placed.levels
+  pub levels : HasLevelWords (operation_of placed.op.kind placed.op.number) placed.levels
