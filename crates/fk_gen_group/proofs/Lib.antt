@@ -42,6 +42,10 @@ pub mod Shares
 pub mod Counting
 -- who stays in a loop
 pub mod Shrinks
+-- the lines of a split up to shared code
+pub mod Fronts
+-- a split without room
+pub mod Lacks
 -- the size of the group of `start`
 pub mod Sizes
 -- the beginning of `start`
