@@ -21,16 +21,17 @@ use Rattle.fk_gen_access.specs.Heap.{HasHeap}
 use Rattle.fk_gen_flow.specs.Calls.{HasShared}
 use Rattle.fk_gen_flow.specs.Laws.{return_in}
 use Rattle.fk_gen_flow.specs.Opening.{HasOpening}
-use Rattle.fk_gen_group.specs.Blocks.{HasStart, is_group_step}
+use Rattle.fk_gen_group.specs.Blocks.{HasStart, HasLevelWords, is_group_step}
+use Rattle.fk_gen_group.specs.Splits.{HasParts}
 use Rattle.fk_gen_list.specs.Kinds.{block_of}
-use Rattle.fk_gen_list.specs.Layout.{placed}
+use Rattle.fk_gen_list.specs.Layout.{placed, levels_in}
 
 -- Frames keep no words except those of the sets.
 abbrev pub AreKept : Frames → List Set → Type 0
 AreKept frames kept = (index word : ℕ) → frames.keeps index word ≡ true
     → kept_in (slice_get kept index) word ≡ true
 
--- An operation with a block of its own: one that a processor does alone, a halt, or a step of one
+-- An operation with a block of its own: one that a processor does alone, a halt, or a step of a
 -- group.
 abbrev pub HasOwnBlock : Operation → Type 0
 HasOwnBlock operation = (is_alone operation ≡ true)
@@ -54,9 +55,9 @@ pub record HasBlocks (core : List CoreOp) : Type 0 where
   pub returns : (i : ℕ) (op : CoreOp) (arguments : ℕ) → OpAt core i op (Enter arguments)
       → behind_jump core (suc i) < length core
 
--- A list of operations of processors in one group or in none. It suits some frames with as many
--- private variables of file scope as there are first values, in which calls keep no words except
--- these.
+-- A list without a `fork`. It suits some frames with as many private variables of file scope as
+-- there are first values, in which calls keep no words except these, and which have room for these
+-- levels.
 pub record IsGenerable (core : List CoreOp) (kept : List Set) (saved : List Levels) (main : ℕ)
     (firsts : List ℕ) : Type 0 where
   pub blocks : HasBlocks core
@@ -67,6 +68,8 @@ pub record IsGenerable (core : List CoreOp) (kept : List Set) (saved : List Leve
   pub suits : Suits core frames main
   pub keeps : AreKept frames kept
   pub of_file : frames.of_file ≡ length firsts
+  pub levels : (i : ℕ) (op : CoreOp) (operation : Operation) → OpAt core i op operation
+      → HasLevelWords (Some operation) (levels_in saved i)
   -- The numbers are words, as in every slice.
   pub words : All (λ op. (op.site < 2 ^ 32) × (op.number < 2 ^ 32)) core
   pub first_words : All (λ v. v < 2 ^ 32) firsts
@@ -119,8 +122,9 @@ DoesTheList core kept main firsts globals code =
 
 -- The image has the opening, the block of each index, which clears where it has to, and the code
 -- that calls, beginnings of `start` and blocks of `shmalloc` share. Calls return into their blocks.
-pub record HasWholeCode (core : List CoreOp) (kept : List Set) (saved : List Levels) (image : Image) (bound : ℕ → ℕ)
-    (places : Places) (firsts : List ℕ) (main : ℕ) : Type 0 where
+pub record HasWholeCode (core : List CoreOp) (kept : List Set) (saved : List Levels)
+    (image : Image) (bound : ℕ → ℕ) (places : Places) (firsts : List ℕ)
+    (main : ℕ) : Type 0 where
   pub opening : HasOpening image bound places firsts main
   pub blocks : (i : ℕ) (op : CoreOp) → slice_get core i ≡ Some op
       → HasBlock image bound places i
@@ -129,6 +133,7 @@ pub record HasWholeCode (core : List CoreOp) (kept : List Set) (saved : List Lev
   pub shared : HasShared image bound
   pub start : HasStart image bound
   pub heap : HasHeap image bound
+  pub parts : HasParts image bound
 
 -- Each image with this code has all of it, with each label bound to a word.
 abbrev pub GivesWholeCode : (core : List CoreOp) (kept : List Set) (saved : List Levels) (main : ℕ) (firsts : List ℕ)
