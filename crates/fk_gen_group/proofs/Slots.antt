@@ -133,10 +133,10 @@ module _ (core : List CoreOp) (image : Image) (bound : ℕ → ℕ) (places : Pl
         )
 
     -- the level that the frame has of the group around the part
-    level : HasLevel m.hart.local (saved_at places nestings (length callers) i + 4 * nestings.levels op.target) part.around part.further
-        × HasOuter places nestings setting.processors (number_of p) m.hart.local (op.target ∷ callers) part.further
+    level : HasLevel m.hart.local (saved_at places nestings (length callers) i + 4 * nestings.levels op.target) part.around (part.beyond ∷ part.further)
+        × HasOuter places nestings setting.processors (number_of p) m.hart.local (op.target ∷ callers) (part.beyond ∷ part.further)
     level =
-        last_level_of places nestings setting.processors (number_of p) m.hart.local i op.target callers part.around part.further opens
+        last_level_of places nestings setting.processors (number_of p) m.hart.local i op.target callers part.around (part.beyond ∷ part.further) opens
         (subst (λ o. HasOuter places nestings setting.processors (number_of p) m.hart.local (i ∷ callers) o) part.outer
         (subst (λ a. HasOuter places nestings setting.processors (number_of p) m.hart.local (a ∷ callers) p.runner.has.outer) en.index member.node.outer.0))
 
@@ -152,7 +152,7 @@ module _ (core : List CoreOp) (image : Image) (bound : ℕ → ℕ) (places : Pl
 
     -- it stands for its processor in that group
     pub out_member : (told : Told) (vs : List ℕ) → HasLabels bound places → HasValues m.hart.local (frame_end n) vs
-        → IsMember places nestings setting None (first_word part.around part.further) (record m { hart = out_hart told h }) (left_to (part.around ∷ part.further) vs p)
+        → IsMember places nestings setting None (first_word part.around (part.beyond ∷ part.further)) (record m { hart = out_hart told h }) (left_to (part.around ∷ (part.beyond ∷ part.further)) vs p)
     out_member told vs labels held =
         let stands = en.at.stands in
         let calls = en.ready.in_range.waiting in
@@ -195,8 +195,8 @@ module _ (core : List CoreOp) (image : Image) (bound : ℕ → ℕ) (places : Pl
           node = record {
             node = node;
             body = tt;
-            space = knows part.around part.further (out_hart told h) frames blocks;
-            outer = (subst (λ l. HasOuter places nestings setting.processors (number_of p) l (op.target ∷ callers) part.further) (sym local) level.1, member.node.outer.1);
+            space = knows part.around (part.beyond ∷ part.further) (out_hart told h) frames blocks;
+            outer = (subst (λ l. HasOuter places nestings setting.processors (number_of p) l (op.target ∷ callers) (part.beyond ∷ part.further)) (sym local) level.1, member.node.outer.1);
           };
           words = refl;
         }

@@ -25,7 +25,7 @@ use Rattle.fk_gen_list.specs.Generable.{IsGenerable, DoesTheList, GivesWholeCode
 use Rattle.fk_gen_list.specs.Kinds.{HasBlockOf, block_of}
 use Rattle.fk_gen_list.specs.Layout.{placed, all_placed, front, place, all_lines, IsLaid}
 use Rattle.fk_gen_list.proofs.InImage.{IsAssembled, bound_in}
-use Rattle.fk_gen_list.proofs.Laid.{places, has_labels, has_opening, has_shared, has_start, has_heap, has_block}
+use Rattle.fk_gen_list.proofs.Laid.{places, has_labels, has_opening, has_shared, has_start, has_heap, has_one_part, has_two_parts, has_block}
 use Rattle.fk_gen_list.proofs.AllPlaced.{placed_get, all_from}
 use Rattle.fk_gen_list.proofs.Whole.{assembled}
 use Rattle.fk_gen_list.proofs.Suited.{back_within, has_block_of, has_operands, jump_has}
@@ -61,15 +61,16 @@ module _ (core : List CoreOp) (kept : List Set) (saved : List Levels) (main : �
       let here = placed core globals kept saved i op in
       let begins = is.begins in
       let back = back_within core is.blocks i op (operation_of op.kind op.number) at no_jump refl (omega arith) in
-      has_block_of core is.frames i globals op operation here.clears here.back stands fits is.suits.few (number_few i op at)
+      has_block_of core is.frames i globals op operation here.clears here.back here.levels stands fits is.suits.few (number_few i op at)
       (has_operands core is.frames i here.back op operation stands fits is.blocks short (omega (arith, back))) (omega arith)
       (λ step. let there : op.target < length core = is.blocks.targets i op operation stands (step_has_target operation step) in omega arith)
+      (is.levels i op operation stands)
       (is.blocks.operations i op operation stands)
 
   has_by : length core < 2 ^ 31 → (i : ℕ) (op : CoreOp) → slice_get core i ≡ Some op → (jump : Bool) → is_jump op ≡ jump → HasBlockOf (placed core globals kept saved i op)
   has_by short i op at true jump =
       let within = is.blocks.jumps i op at jump in
-      jump_has op globals (placed core globals kept saved i op).clears (placed core globals kept saved i op).back jump (omega arith)
+      jump_has op globals (placed core globals kept saved i op).clears (placed core globals kept saved i op).back (placed core globals kept saved i op).levels jump (omega arith)
   has_by short i op at false jump = operation_has short i op at jump (operation_of op.kind op.number) refl (is.operations i op at jump)
 
   pub all_have : length core < 2 ^ 31 → All HasBlockOf (all_placed globals kept saved core)
@@ -118,6 +119,10 @@ module _ (core : List CoreOp) (kept : List Set) (saved : List Levels) (main : �
               heap = record {
                 few = let e = has.globals_of in omega arith;
                 lines = subst (λ n. LinesAt image bound (bound heap_label) (heap_lines n)) (sym has.globals_of) (has_heap block_of opening globals ops a laid image built);
+              };
+              parts = record {
+                one = has_one_part block_of opening globals ops a laid image built;
+                two = has_two_parts block_of opening globals ops a laid image built;
               };
             },
           ),

@@ -16,9 +16,9 @@ use Rattle.fk_gen_access.specs.Blocks.{is_access}
 use Rattle.fk_gen_flow.specs.Flow.{jump_block}
 use Rattle.fk_gen_flow.specs.Blocks.{is_flow, is_some_flow}
 use Rattle.fk_gen_flow.proofs.Law.{block_of_jump}
-use Rattle.fk_gen_group.specs.Blocks.{block_of as block_of_step, is_group_step}
+use Rattle.fk_gen_group.specs.Blocks.{block_by, is_group_step}
 use Rattle.fk_gen_list.specs.Kinds.{kind_of, kind_by, block_in, block_of}
-use Rattle.fk_gen_list.specs.Layout.{placed}
+use Rattle.fk_gen_list.specs.Layout.{placed, levels_in}
 use Rattle.fk_gen_list.proofs.Suited.{alone_is_no_step, step_kind, kind_here}
 use Rattle.fk_gen_list.proofs.Returns.{calls_return}
 use Rattle.fk_gen_list.specs.Laws.{is_lone}
@@ -44,9 +44,9 @@ module _ (core : List CoreOp) (kept : List Set) (saved : List Levels) (image : I
       (kind_here core i op operation stands ∙ ap (kind_by (is_flow operation) (is_access (Some operation))) (lone_is_no_step operation is)) (blocks i op stands.stands)
 
   step : (i : ℕ) (op : CoreOp) (operation : Operation) → OpAt core i op operation → is_group_step (Some operation) ≡ true
-      → HasBlock image bound places i (block_of_step (Some operation) op.depth op.target op.site)
+      → HasBlock image bound places i (block_by (Some operation) (levels_in saved i) op.depth op.target op.site)
   step i op operation stands is =
-      subst (λ o. HasBlock image bound places i (block_of_step o op.depth op.target op.site)) stands.is_read
+      subst (λ o. HasBlock image bound places i (block_by o (levels_in saved i) op.depth op.target op.site)) stands.is_read
       (subst (λ k. HasBlock image bound places i (block_in k (placed core globals kept saved i op))) (kind_here core i op operation stands ∙ step_kind operation is) (blocks i op stands.stands))
 
   jump : (i : ℕ) (op : CoreOp) → slice_get core i ≡ Some op → is_jump op ≡ true → HasBlock image bound places i (jump_block op.target)
@@ -64,5 +64,5 @@ generated_code_is_whole core kept saved image bound places firsts main whole = r
     shared = whole.shared;
     heap = whole.heap;
   };
-  steps = record { blocks = step core kept saved image bound places whole.blocks; start = whole.start };
+  steps = record { blocks = step core kept saved image bound places whole.blocks; start = whole.start; parts = whole.parts };
 }

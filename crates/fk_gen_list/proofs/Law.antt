@@ -3,7 +3,7 @@ use Rattle.std.proofs.Common.{◌≡◌, ℕ, List, [], length, Option, Bool, tr
 use Rattle.std.specs.Prelude.{slice_get}
 use Rattle.std.specs.Option.{option_map_or}
 use Rattle.fk_meaning_operation.specs.declared.operation.Operation.{Operation}
-use Rattle.fk_meaning_operation.specs.declared.operation.Operation.TheVariants.{Leave, Enter, Halt, Begin, Agree, Seq, End, Frame, Block}
+use Rattle.fk_meaning_operation.specs.declared.operation.Operation.TheVariants.{Leave, Enter, Halt, Begin, Agree, Seq, End, Frame, Block, Split, Shrink}
 use Rattle.fk_core.specs.declared.op.CoreOp.{CoreOp}
 use Rattle.fk_core.specs.Numbers.{operation_of}
 use Rattle.fk_image.specs.declared.Image.{Image}
@@ -87,6 +87,8 @@ module _ (core : List CoreOp) (image : Image) (places : Places) (bound : ℕ →
   by_kind i op End alone keeps = never alone
   by_kind i op (Frame nesting words) alone keeps = never alone
   by_kind i op Block alone keeps = never alone
+  by_kind i op (Split by) alone keeps = never alone
+  by_kind i op Shrink alone keeps = never alone
   by_kind i op operation alone keeps = keeps
 
   -- and those at its index

@@ -9,7 +9,7 @@ use Rattle.fk_core_liveness.specs.declared.set.Set.{Set}
 use Rattle.fk_gen.specs.declared.placed.Levels.{Levels}
 use Rattle.fk_gen_flow.specs.Opening.{AreFirsts, HasOpening}
 use Rattle.fk_gen_list.specs.Generable.{AreKept, HasCode, HasWholeCode, places_in}
-use Rattle.fk_sim_block.specs.Node.{Gathering, Nestings}
+use Rattle.fk_sim_block.specs.Node.{Gathering, Nestings, HasLevelRoom}
 use Rattle.fk_sim_block.specs.Law.{GroupLaw}
 use Rattle.fk_gen_group.specs.Start.{gathering_of}
 use Rattle.fk_gen_list.specs.Cycles.{cycles_of}
@@ -39,6 +39,7 @@ pub record HaveAllLevels (core : List CoreOp) (places : Places) (nestings : Nest
   pub alone : HaveLevels core places nestings
   pub steps : HaveStepLevels core places nestings
   pub none : nestings.levels main ≡ 0
+  pub room : HasLevelRoom places.frames nestings main 0
 
 -- An image with all the code of a list has the law of blocks, if the list suits frames in which
 -- calls keep no other words, and that have room for its levels.
