@@ -1,6 +1,6 @@
 -- What members give to words: 0 to each, or a count to some.
 use Rattle.std.proofs.Common.{◌≡◌, ℕ, suc, ◌+◌, ◌^◌, ◌<◌, ◌≤◌, List, [], ◌∷◌, length, Bool, true, false, sym, ap, ◌∙◌, arith, refl, ◌⊎◌, inl, inr, eq-eqb}
-use Rattle.std.specs.Prelude.{◌==◌, filter}
+use Rattle.std.specs.Prelude.{◌==◌, cond, filter}
 use Rattle.std.proofs.lemmas.Bool.{ne_eqb}
 use Rattle.fk_num.specs.Word.{word_sum}
 use Rattle.fk_sim_nodes.specs.Node.{Member, add}
@@ -88,44 +88,48 @@ abbrev pub GivesOne : (word count : Owner → ℕ) → (w : ℕ) → (test : Boo
 GivesOne word count w true p = ((w == word p) ≡ true) × (count p ≡ 1)
 GivesOne word count w false p = ((w == word p) ≡ false) ⊎ (count p ≡ 0)
 
+sum_one : (word count : Owner → ℕ) (w v : ℕ) (p : Owner) (xs : List ℕ) (n most : ℕ) → n ≤ most → GivesOne word count w true p → v + suc most < 2 ^ 32
+    → ((u : ℕ) → u + most < 2 ^ 32 → sum_from u xs ≡ u + n) → sum_from v (add (w == word p) (count p) xs) ≡ v + suc n
+sum_one word count w v p xs n most le gives lt f =
+    let more = f (v + 1) (omega arith) in
+    let few : word_sum v 1 ≡ v + 1 = omega arith in
+    ap (λ b. sum_from v (add b (count p) xs)) gives.0 ∙ ap (λ c. sum_from (word_sum v c) xs) gives.1 ∙ ap (λ u. sum_from u xs) few ∙ more ∙ omega arith
+
+add_nought : (b : Bool) (v : ℕ) (xs : List ℕ) → v < 2 ^ 32 → sum_from v (add b 0 xs) ≡ sum_from v xs
+add_nought true v xs lt = let same : word_sum v 0 ≡ v = omega arith in ap (λ u. sum_from u xs) same
+add_nought false v xs lt = refl
+
+sum_none : (word count : Owner → ℕ) (w v : ℕ) (p : Owner) (xs : List ℕ) (n most : ℕ) → GivesOne word count w false p → v + most < 2 ^ 32
+    → ((u : ℕ) → u + most < 2 ^ 32 → sum_from u xs ≡ u + n) → sum_from v (add (w == word p) (count p) xs) ≡ v + n
+sum_none word count w v p xs n most (inl other) lt f = ap (λ b. sum_from v (add b (count p) xs)) other ∙ f v lt
+sum_none word count w v p xs n most (inr none) lt f = ap (λ c. sum_from v (add (w == word p) c xs)) none ∙ add_nought (w == word p) v xs (omega arith) ∙ f v lt
+
+-- no more pass a test than there are
+pass_by : (t : Bool) (n m : ℕ) → n ≤ m → cond t (suc n) n ≤ suc m
+pass_by true n m le = omega arith
+pass_by false n m le = omega arith
+
+length_cond : (t : Bool) (p : Owner) (xs : List Owner) → length (cond t (p ∷ xs) xs) ≡ cond t (suc (length xs)) (length xs)
+length_cond true p xs = refl
+length_cond false p xs = refl
+
+pub few_pass : (test : Owner → Bool) (ps : List Owner) → length (filter test ps) ≤ length ps
+few_pass test [] = omega arith
+few_pass test (p ∷ ps) =
+    let rest = few_pass test ps in
+    let one = pass_by (test p) (length (filter test ps)) (length ps) rest in
+    let same = length_cond (test p) p (filter test ps) in
+    omega (arith, one, same)
+
+sum_by_test : (word count : Owner → ℕ) (w v : ℕ) (p : Owner) (xs : List ℕ) (n most : ℕ) (t : Bool) → n ≤ most → GivesOne word count w t p → v + suc most < 2 ^ 32
+    → ((u : ℕ) → u + most < 2 ^ 32 → sum_from u xs ≡ u + n) → sum_from v (add (w == word p) (count p) xs) ≡ v + cond t (suc n) n
+sum_by_test word count w v p xs n most true le gives lt f = sum_one word count w v p xs n most le gives lt f
+sum_by_test word count w v p xs n most false le gives lt f = sum_none word count w v p xs n most gives (omega arith) f
+
 pub sum_is : (word count : Owner → ℕ) (test : Owner → Bool) (w v : ℕ) (ps : List Owner) → EachOwner (λ p. GivesOne word count w (test p) p) ps → v + length ps < 2 ^ 32
     → sum_from v (shares word count w ps) ≡ v + length (filter test ps)
 sum_is word count test w v [] all lt = omega arith
-sum_is word count test w v (p ∷ ps) all lt = one (test p) refl all.0
-  where
-    rest : List ℕ
-    rest = shares word count w ps
-
-    one : (t : Bool) → test p ≡ t → GivesOne word count w t p → sum_from v (add (w == word p) (count p) rest) ≡ v + length (filter test (p ∷ ps))
-    one true e gives =
-        let more = sum_is word count test w (v + 1) ps all.1 (omega arith) in
-        let few : word_sum v 1 ≡ v + 1 = omega arith in
-        let kept : length (filter test (p ∷ ps)) ≡ suc (length (filter test ps)) = rw e refl in
-        ap (λ b. sum_from v (add b (count p) rest)) gives.0 ∙ ap (λ c. sum_from (word_sum v c) rest) gives.1 ∙ ap (λ u. sum_from u rest) few ∙ more ∙ omega arith
-    one false e (inl other) =
-        let more = sum_is word count test w v ps all.1 (omega arith) in
-        let kept : length (filter test (p ∷ ps)) ≡ length (filter test ps) = rw e refl in
-        ap (λ b. sum_from v (add b (count p) rest)) other ∙ more ∙ omega arith
-    one false e (inr none) =
-        let more = sum_is word count test w v ps all.1 (omega arith) in
-        let kept : length (filter test (p ∷ ps)) ≡ length (filter test ps) = rw e refl in
-        ap (λ c. sum_from v (add (w == word p) c rest)) none ∙ nought (w == word p) ∙ more ∙ omega arith
-      where
-        nought : (b : Bool) → sum_from v (add b 0 rest) ≡ sum_from v rest
-        nought true = let same : word_sum v 0 ≡ v = omega arith in ap (λ u. sum_from u rest) same
-        nought false = refl
-
--- no more pass a test than there are
-pub few_pass : (test : Owner → Bool) (ps : List Owner) → length (filter test ps) ≤ length ps
-few_pass test [] = omega arith
-few_pass test (p ∷ ps) = by (test p) refl
-  where
-    by : (t : Bool) → test p ≡ t → length (filter test (p ∷ ps)) ≤ length (p ∷ ps)
-    by true e =
-        let rest = few_pass test ps in
-        let kept : length (filter test (p ∷ ps)) ≡ suc (length (filter test ps)) = rw e refl in
-        omega arith
-    by false e =
-        let rest = few_pass test ps in
-        let kept : length (filter test (p ∷ ps)) ≡ length (filter test ps) = rw e refl in
-        omega arith
+sum_is word count test w v (p ∷ ps) all lt =
+    let few = few_pass test ps in
+    sum_by_test word count w v p (shares word count w ps) (length (filter test ps)) (length ps) (test p) few all.0 lt (λ u less. sum_is word count test w u ps all.1 less)
+    ∙ ap (λ k. v + k) (sym (length_cond (test p) p (filter test ps)))
