@@ -1,5 +1,6 @@
 -- What a split, a turn of a loop and the end of a part make of the five processors of a group, by hand: `if ($ % 2)` in a space of 100 words, from word 2 on.
 use Rattle.std.proofs.Common.{◌≡◌, ℕ, List, [], ◌∷◌, true, false, arith, refl}
+use Rattle.std.specs.Prelude.{◌==◌, if◌then◌else◌}
 use Rattle.fk_num.specs.Word.{Memory}
 use Rattle.fk_space.specs.Space.{whole}
 use Rattle.fk_meaning_operation.specs.declared.operation.SplitKind.TheVariants.{IfAlone, IfElse}
@@ -10,7 +11,7 @@ use Rattle.fk_core.specs.declared.op.CoreOp.{CoreOp}
 use Rattle.fk_core.specs.Next.{position}
 use Rattle.fk_sim_block.specs.Owner.{Owner}
 use Rattle.fk_sim_block.specs.Node.{Nestings, HasSaved, control_address}
-use Rattle.fk_sim_block.specs.Parts.{AreToDivide, IsInPart, AllRest, size_behind, moved}
+use Rattle.fk_sim_block.specs.Parts.{IsToDivide, AreToDivide, IsInPart, AllRest, size_behind, moved}
 
 abbrev splits : CoreOp
 splits = record { kind = 27; site = 0; number = 0; target = 7; depth = 1 }
@@ -43,21 +44,16 @@ all = who 0 0 ∷ who 1 1 ∷ who 2 0 ∷ who 3 1 ∷ who 4 0 ∷ []
 
 -- ---- the split
 
+is_to_divide : (n value : ℕ) → IsToDivide IfAlone (whole 2 100) 1 (who n value)
+is_to_divide n value = record { group = record { around = root n; further = []; outer = refl }; space_is = refl; count_is = refl }
+
 divides : AreToDivide IfAlone (whole 2 100) 1 all
-divides =
-    record {
-      some = omega arith;
-      few = omega arith;
-      is_space = record { header = omega arith; ordered = omega arith; within = omega arith; shared = omega arith };
-      all = (
-        record { group = record { around = root 0; further = []; outer = refl }; space_is = refl; count_is = refl },
-        record { group = record { around = root 1; further = []; outer = refl }; space_is = refl; count_is = refl },
-        record { group = record { around = root 2; further = []; outer = refl }; space_is = refl; count_is = refl },
-        record { group = record { around = root 3; further = []; outer = refl }; space_is = refl; count_is = refl },
-        record { group = record { around = root 4; further = []; outer = refl }; space_is = refl; count_is = refl },
-        tt,
-      );
-    }
+divides = record {
+  some = omega arith;
+  few = omega arith;
+  is_space = record { header = omega arith; ordered = omega arith; within = omega arith; shared = omega arith };
+  all = (is_to_divide 0 0, (is_to_divide 1 1, (is_to_divide 2 0, (is_to_divide 3 1, (is_to_divide 4 0, tt)))));
+}
 
 there_is_room : has_parts (whole 2 100) 1 ≡ true
 there_is_room = refl
@@ -86,7 +82,7 @@ goes_on : waiting.runner.left ≡ position 7 []
 goes_on = refl
 
 rests : AllRest (λ i. 0) (inside ∷ waiting ∷ [])
-rests = (record { barrier = refl; closing = refl }, record { barrier = refl; closing = refl }, tt)
+rests = (record { barrier = refl; closing = refl }, (record { barrier = refl; closing = refl }, tt))
 
 -- of two parts each has 42 words
 abbrev second : Owner
@@ -118,11 +114,8 @@ ends = record {
 
 -- the words of its frame that tell the level around it
 abbrev saved : Memory
-saved 7 = 5
-saved 8 = control_address 2
-saved 9 = control_address 102
-saved 10 = control_address 10
-saved i = 0
+saved i =
+    if i == 7 then 5 else (if i == 8 then control_address 2 else (if i == 9 then control_address 102 else (if i == 10 then control_address 10 else 0)))
 
 has_saved : HasSaved saved 7 1 inside.runner.has.outer
 has_saved = (record { size = refl; node = refl; blocks = refl; frames = refl }, tt)

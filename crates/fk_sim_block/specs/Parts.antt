@@ -73,8 +73,8 @@ pub record AreToDivide (by : SplitKind) (space : Space) (count : ℕ) (ps : List
   pub is_space : IsSpace space
   pub all : AllAreToDivide by space count ps
 
--- A processor is in a part of an implicit split: it has the `@` and `$` of the level around it. That
--- is the level of a group with a space, and the frame of the call has it.
+-- A processor is in a part of an implicit split: it has the `@` and `$` of the level around it.
+-- That is the level of a group with a space, and the frame of the call has it.
 pub record IsInPart (nestings : Nestings) (p : Owner) : Type 0 where
   pub around : Level
   pub beyond : Level
@@ -95,13 +95,14 @@ AllRest own [] = Unit {0}
 AllRest own (p ∷ ps) = IsAtRest (first_word p.runner.has.level p.runner.has.outer) own
     × AllRest own ps
 
+-- What a step makes of some processors, who do it together.
+abbrev pub moved : List CoreOp → (i : ℕ) → CoreOp → Operation → (lowest : ℕ) → List Owner → Owner
+    → Owner
+moved core i op operation lowest ps p =
+    stepped core i op operation (highest_value ps) lowest (size_behind operation ps p) p
+
 module _ (core : List CoreOp) (image : Image) (places : Places) (nestings : Nestings) (i : ℕ)
     (op : CoreOp) where
-  -- What a step makes of some processors, who do it together.
-  abbrev pub moved : Operation → (lowest : ℕ) → List Owner → Owner → Owner
-  moved operation lowest ps p =
-      stepped core i op operation (highest_value ps) lowest (size_behind operation ps p) p
-
   -- Each member comes by itself to where its processor goes on, in its node.
   abbrev pub AllMove : Operation → Setting → MachineSetting → (behind : (onward : Bool) → ℕ)
       → (bodies : Owner → Option ℕ) → (lowest : ℕ) → List Member → List Owner → Type 0
@@ -122,7 +123,7 @@ module _ (core : List CoreOp) (image : Image) (places : Places) (nestings : Nest
       → Together (core_source core setting) image mine t 1 before ms ps own
       (λ ms' ds own'. (ds ≡ map (is_due core i op (Split by)) ps)
       × AllMove (Split by) setting (later (in_cycles before t)) behind (λ p. None) 0 ms' ps
-      × IsAtRest first own' × AllRest own' (map (moved (Split by) 0 ps) ps))
+      × IsAtRest first own' × AllRest own' (map (moved core i op (Split by) 0 ps) ps))
 
   -- Where there is no room for the parts, the lowest member faults, whose commit is in one cycle
   -- with those of all others.

@@ -1,11 +1,11 @@
 -- A group in lockstep that has done a step of the tree, behind which each of its members goes on by itself.
-use Rattle.std.proofs.Common.{◌≡◌, ℕ, suc, ◌≤◌, List, [], ◌∷◌, length, Option, Some, Bool, true, false, sym, ap, subst, ◌∙◌, refl, ◌⊎◌, inl, inr, ⊎_elim, eq-eqb}
+use Rattle.std.proofs.Common.{◌≡◌, ℕ, suc, List, [], ◌∷◌, length, Option, Some, Bool, true, false, sym, ap, subst, ◌∙◌, refl, ◌⊎◌, inl, inr, ⊎_elim, eq-eqb}
 use Rattle.std.specs.Prelude.{◌==◌, map}
 use Rattle.std.proofs.lemmas.Bool.{false≢true}
 use Rattle.fk_num.specs.Word.{Memory}
 use Rattle.fk_tree.specs.Tree.{Tree}
 use Rattle.fk_meaning_operation.specs.declared.operation.Operation.{Operation}
-use Rattle.fk_meaning_operation.specs.declared.operation.Operation.TheVariants.{Begin, Agree, Frame, Block, End}
+use Rattle.fk_meaning_operation.specs.declared.operation.Operation.TheVariants.{Begin, Agree, Frame, Block}
 use Rattle.fk_meaning.specs.Processor.{Setting}
 use Rattle.fk_core.specs.declared.op.CoreOp.{CoreOp}
 use Rattle.fk_image.specs.declared.Image.{Image}
@@ -17,11 +17,10 @@ use Rattle.fk_sim_match.specs.Cycle.{AllHaveCommitted, GroupIsLeft}
 use Rattle.fk_lockstep.specs.Untouched.{changes_tree}
 use Rattle.fk_sim_block.specs.Owner.{Owner, Doing, idle, core_source}
 use Rattle.fk_sim_block.specs.Stands.{Places}
-use Rattle.fk_sim_block.specs.Block.{most_behind}
 use Rattle.fk_sim_block.specs.Node.{Nestings}
 use Rattle.fk_sim_block.specs.Lockstep.{is_due}
 use Rattle.fk_sim_block.specs.Law.{stays_in_step}
-use Rattle.fk_sim_match.specs.Behind.{HaveParted, HaveEnded, HaveBegun, AllHaveGone, IsGroupBehind, blocks_of}
+use Rattle.fk_sim_match.specs.Behind.{HaveMoved, HaveBegun, AllHaveGone, IsGroupBehind, blocks_of}
 use Rattle.fk_sim_rounds.specs.After.{DoesStep, ArePlaces}
 use Rattle.fk_sim_rounds.proofs.Lists.{run_end}
 use Rattle.fk_sim_rounds.proofs.Harts.{AllAre}
@@ -99,14 +98,11 @@ module _ (core : List CoreOp) (image : Image) (places : Places) (nestings : Nest
   abbrev blocks : Blocks Owner Doing
   blocks = blocks_of core image places nestings setting plan first
 
-  -- each goes on in the node, the group has ended, or one has begun
+  -- each goes on by itself, or the group of `start` has begun
   pub record Acted : Type 0 where
     pub committed : AllHaveCommitted afters
-    pub cycles_behind : ℕ
-    pub few : cycles_behind ≤ most_behind
-    pub how : ((x : HaveParted core image places nestings setting (first g) t cycles_behind ds ms own) × (x.operation ≡ operation))
-        ⊎ ((HaveEnded core image places nestings setting (first g) t cycles_behind ds ms own × (End ≡ operation))
-        ⊎ (HaveBegun core image places nestings setting t ds ms own × (Begin ≡ operation)))
+    pub how : ((x : HaveMoved core image places nestings setting (first g) t ds ms own) × (x.operation ≡ operation))
+        ⊎ (HaveBegun core image places nestings setting t ds ms own × (Begin ≡ operation))
 
   does_it : (i : ℕ) (op : CoreOp) (done : Operation) (xs : List Owner) → ds ≡ map (is_due core i op done) xs → done ≡ operation
   does_it i op done xs e = first_does core i op operation done xs (subst (AllDo operation) e all_step) (λ none. some (ap (λ l. length l) e ∙ none))
@@ -130,12 +126,7 @@ module _ (core : List CoreOp) (image : Image) (places : Places) (nestings : Nest
       (λ other.
       record {
         committed = x.0;
-        cycles_behind = x.1.0;
-        few = x.1.1;
-        how = ⊎_elim (λ apart. inl (apart, does_it apart.i apart.op apart.operation apart.ps apart.due))
-            (λ another.
-            inr
-            (⊎_elim (λ ended. inl (ended, does_it ended.i ended.op End ended.ps ended.due)) (λ begun. inr (begun, does_it begun.i begun.op Begin begun.ps begun.due)) another))
-            other;
+        how = ⊎_elim (λ moved. inl (moved, does_it moved.i moved.op moved.operation moved.ps moved.due))
+            (λ begun. inr (begun, does_it begun.i begun.op Begin begun.ps begun.due)) other;
       })
       x.1.2

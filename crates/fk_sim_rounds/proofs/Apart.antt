@@ -12,7 +12,7 @@ use Rattle.fk_tree.specs.Sound.{is_below_all, is_ascending}
 use Rattle.fk_tree.proofs.Lists.{below_all-member}
 use Rattle.fk_tree.proofs.Shapes.{members-turned, kind-turned, some-given}
 use Rattle.fk_meaning_operation.specs.declared.operation.Operation.{Operation}
-use Rattle.fk_meaning_operation.specs.declared.operation.Operation.TheVariants.{Begin, Farm, Seq, End}
+use Rattle.fk_meaning_operation.specs.declared.operation.Operation.TheVariants.{Begin, Farm, Seq}
 use Rattle.fk_meaning.specs.Processor.{Setting}
 use Rattle.fk_meaning.specs.Round.{Step, lowest}
 use Rattle.fk_core.specs.declared.op.CoreOp.{CoreOp}
@@ -31,12 +31,13 @@ use Rattle.fk_sim_block.specs.Owner.{Owner, Doing, number_of, core_source}
 use Rattle.fk_sim_block.specs.Stands as law
 use Rattle.fk_sim_block.specs.Stands.{Places}
 use Rattle.fk_sim_block.specs.Block.{most_behind, IsRunning}
-use Rattle.fk_sim_block.specs.Node.{Nestings, StandsInNode}
-use Rattle.fk_sim_block.specs.Lockstep.{is_due, stepped, highest_value, ComesAlone, AllComeAlone, AreOfSize, IsLowest, one_runs}
-use Rattle.fk_sim_block.specs.Law.{Cycles, GroupLaw, runs_behind, IsAskedOf}
+use Rattle.fk_sim_block.specs.Node.{Nestings, StandsInNode, first_word}
+use Rattle.fk_sim_block.specs.Lockstep.{is_due, stepped, highest_value, IsMember, AllComeByWay, IsLowest, one_runs}
+use Rattle.fk_sim_block.specs.Parts.{size_behind, AllMove}
+use Rattle.fk_sim_block.specs.Law.{Cycles, GroupLaw}
 use Rattle.fk_sim_match.specs.Nodes.{first_of, is_arrival, is_lockstep, body_at, meeters_at, plan_of}
-use Rattle.fk_sim_match.specs.Behind.{runs_of, HaveParted, blocks_of}
-use Rattle.fk_sim_match.proofs.Nodes.{tells, open_at}
+use Rattle.fk_sim_match.specs.Behind.{runs_of, HaveMoved, blocks_of, IsAskedToMove, bodies_behind}
+use Rattle.fk_sim_match.proofs.Nodes.{tells}
 use Rattle.fk_sim_match.proofs.Rounds.{not_none}
 use Rattle.fk_sim_rounds.specs.Next.{JumpsLead, all_landed}
 use Rattle.fk_lockstep_nodes.specs.Steps.{StepsBy}
@@ -50,7 +51,7 @@ use Rattle.fk_sim_rounds.proofs.Changed.{running, At, near, AtNode}
 use Rattle.fk_sim_rounds.proofs.Moved.{kind_there, lowest_there, is_busy, many_moved, TreeMoves}
 use Rattle.fk_sim_rounds.proofs.Close.{AllDo, all_do}
 use Rattle.fk_sim_rounds.proofs.Acted.{Both, acted}
-use Rattle.fk_sim_rounds.proofs.Counts.{count_is, phases_count, all_new, all_fine}
+use Rattle.fk_sim_rounds.proofs.Opens.{opens as node_opens}
 
 -- ---- the lowest of a node
 
@@ -194,13 +195,8 @@ module _ (core : List CoreOp) (image : Image) (places : Places) (nestings : Nest
   -- what its commit has left
   record Parted : Type 0 where
     committed : AllHaveCommitted (of_node g nodes left.afters)
-    cycles_behind : ℕ
-    few : cycles_behind ≤ most_behind
-    parted : HaveParted core image places nestings setting (first_of spaces g) (later t) cycles_behind doings the_members (own' g)
+    parted : HaveMoved core image places nestings setting (first_of spaces g) (later t) doings the_members (own' g)
     same : parted.operation ≡ operation
-
-  no_end : End ≡ operation → ⊥
-  no_end e = let f : None ≡ Some alone = ap runs_alone e ∙ is in absurd (cc)
 
   no_begin : Begin ≡ operation → ⊥
   no_begin e = let f : None ≡ Some alone = ap runs_alone e ∙ is in absurd (cc)
@@ -218,23 +214,22 @@ module _ (core : List CoreOp) (image : Image) (places : Places) (nestings : Nest
   all_parted =
       let x = acted core image places nestings setting plan (first_of spaces) (later t) g (of_node g nodes left.afters) the_members (of_node g nodes ps) doings (own' g) operation all_step some_doings
       (changes_by operation is) as_group in
-      ⊎_elim (λ apart. record { committed = x.committed; cycles_behind = x.cycles_behind; few = x.few; parted = apart.0; same = apart.1 }) (λ other. absurd (⊎_elim (λ ended. no_end ended.1) (λ begun. no_begin begun.1) other)) x.how
+      ⊎_elim (λ moved. record { committed = x.committed; parted = moved.0; same = moved.1 }) (λ begun. absurd (no_begin begun.1)) x.how
 
   -- ---- each by itself
 
   abbrev Apart : Member → Doing → Type 0
   Apart m d = GoesApart image places nestings setting (later t) plan' (first_of spaces g) settle m d
 
-  goes_apart : (b : ℕ) (runs : Option ℕ) (m : Member) (d : Doing) (p : Owner) → b ≤ most_behind → ComesAlone places nestings setting image (later t) b runs (first_of spaces g) m p
-      → settle d ≡ p → runs ≡ runs_of plan' (first_of spaces g) m.number → Apart m d
-  goes_apart b runs m d p few come settles same_runs = record {
+  goes_apart : (b : ℕ) (runs : Option ℕ) (begin : ℕ) (m : Member) (hart : Hart) (d : Doing) (p : Owner) → b ≤ most_behind → RunsPrivately image (later t) m.number b m.hart hart
+      → IsMember places nestings setting runs begin (record m { hart = hart }) p → settle d ≡ p → runs ≡ runs_of plan' (first_of spaces g) m.number → Apart m d
+  goes_apart b runs begin m hart d p few private member settles same_runs = record {
     cycles_behind = b;
     few = few;
-    hart = come.hart;
-    private = come.private;
-    at = subst (λ q. law.StandsAt places q come.hart) (sym settles) come.member.at;
-    node = subst (λ r. StandsInNode places nestings setting r (settle d) come.hart) same_runs
-        (subst (λ q. StandsInNode places nestings setting runs q come.hart) (sym settles) come.member.node);
+    hart = hart;
+    private = private;
+    at = subst (λ q. law.StandsAt places q hart) (sym settles) member.at;
+    node = subst (λ r. StandsInNode places nestings setting r (settle d) hart) same_runs (subst (λ q. StandsInNode places nestings setting runs q hart) (sym settles) member.node);
   }
 
   body_is : meeters_at new g 0 ≡ trees.runs (Asynchronous alone) (trees.members new g)
@@ -253,20 +248,22 @@ module _ (core : List CoreOp) (image : Image) (places : Places) (nestings : Nest
       ap (λ l. is_member number l) same_members ∙ subst (λ k. is_member number (trees.members old k) ≡ true) at (before.sound.placed number lt).member
 
   -- a `farm`
-  all_free : (i : ℕ) (op : CoreOp) (value least size b : ℕ) (ms : List Member) (xs : List Owner) → alone ≡ false → b ≤ most_behind → Home ms (map (is_due core i op Farm) xs) → AreOfSize size xs
-      → AllComeAlone places nestings setting image (later t) b (λ p. Some size) (first_of spaces g) ms (map (stepped core i op Farm value least size) xs)
+  all_free : (i : ℕ) (op : CoreOp) (behind_way : Bool → ℕ) (value least : ℕ) (size : Owner → ℕ) (ms : List Member) (xs : List Owner) → alone ≡ false
+      → ((onward : Bool) → behind_way onward ≤ most_behind) → Home ms (map (is_due core i op Farm) xs)
+      → AllComeByWay core image places nestings i op Farm setting (later t) behind_way (λ p. bodies_behind setting Farm least p) value least size ms xs
       → Both Apart ms (map (is_due core i op Farm) xs)
-  all_free i op value least size b [] [] every few home sized come = tt
-  all_free i op value least size b (m ∷ ms) (p ∷ xs) every few home sized come =
+  all_free i op behind_way value least size [] [] every few home come = tt
+  all_free i op behind_way value least size (m ∷ ms) (p ∷ xs) every few home come =
       let here = home.0 in
       let member = is_there m.number here.2 here.0 in
-      let size_is : size ≡ length (trees.members new g) = sym sized.0 ∙ here.3.size ∙ ap (λ k. length (trees.members new k)) here.1 in
-      let body = runs_by m.number (trees.members new g) (ap (λ a. trees.runs (Asynchronous a) (trees.members new g)) every) in (
-        goes_apart b (Some size) m (is_due core i op Farm p) (stepped core i op Farm value least size p) few come.0 refl
+      let size_is : p.runner.has.level.size ≡ length (trees.members new g) = here.3.size ∙ ap (λ k. length (trees.members new k)) here.1 in
+      let body = runs_by m.number (trees.members new g) (ap (λ a. trees.runs (Asynchronous a) (trees.members new g)) every) in
+      let q = stepped core i op Farm value least (size p) p in (
+        goes_apart (behind_way true) (Some p.runner.has.level.size) (first_word q.runner.has.level q.runner.has.outer) m come.0.hart (is_due core i op Farm p) q (few true) come.0.runs come.0.member refl
             (ap (λ n. Some n) size_is ∙ sym (body ∙ ap (λ x. if x then Some (length (trees.members new g)) else None) member)),
-        all_free i op value least size b ms xs every few home.1 sized.1 come.1,
+        all_free i op behind_way value least size ms xs every few home.1 come.1,
       )
-  all_free i op value least size b ms xs every few home sized come = absurd (assumption come)
+  all_free i op behind_way value least size ms xs every few home come = absurd (assumption come)
 
   -- a `seq`
   abbrev low : ℕ
@@ -294,50 +291,45 @@ module _ (core : List CoreOp) (image : Image) (places : Places) (nestings : Nest
   lowest_is i op least ms [] some first home one = absurd (some refl)
   lowest_is i op least [] (p ∷ xs) some first home one = absurd (assumption home)
 
-  all_sent : (i : ℕ) (op : CoreOp) (value least size b : ℕ) (ms : List Member) (xs : List Owner) → alone ≡ true → b ≤ most_behind → Home ms (map (is_due core i op Seq) xs) → least ≡ low
-      → AllComeAlone places nestings setting image (later t) b (one_runs least) (first_of spaces g) ms (map (stepped core i op Seq value least size) xs)
+  all_sent : (i : ℕ) (op : CoreOp) (behind_way : Bool → ℕ) (value least : ℕ) (size : Owner → ℕ) (ms : List Member) (xs : List Owner) → alone ≡ true
+      → ((onward : Bool) → behind_way onward ≤ most_behind) → Home ms (map (is_due core i op Seq) xs) → least ≡ low
+      → AllComeByWay core image places nestings i op Seq setting (later t) behind_way (λ p. bodies_behind setting Seq least p) value least size ms xs
       → Both Apart ms (map (is_due core i op Seq) xs)
-  all_sent i op value least size b [] [] one few home e come = tt
-  all_sent i op value least size b (m ∷ ms) (p ∷ xs) one few home e come =
+  all_sent i op behind_way value least size [] [] one few home e come = tt
+  all_sent i op behind_way value least size (m ∷ ms) (p ∷ xs) one few home e come =
       let here = home.0 in
       let number : number_of p ≡ m.number = here.3.number_is in
       let by = runs_by m.number (low ∷ [])
       (ap (λ a. trees.runs (Asynchronous a) (trees.members new g)) one ∙ ap (λ l. trees.runs (Asynchronous true) l) same_members ∙ body_one (trees.members old g) some_members) in
-      let settles : settle (is_due core i op Seq p) ≡ stepped core i op Seq value least size p
-      = ap (λ l. stepped core i op Seq value l size p)
+      let q = stepped core i op Seq value least (size p) p in
+      let settles : settle (is_due core i op Seq p) ≡ q
+      = ap (λ l. stepped core i op Seq value l (size p) p)
       (ap (λ h. low_at (old.places h)) number ∙ ap low_at here.0 ∙ sym e) in
-      let same : one_runs least (stepped core i op Seq value least size p) ≡ runs_of plan' (first_of spaces g) m.number
+      let same : one_runs least p ≡ runs_of plan' (first_of spaces g) m.number
       = ap (λ k. if k == least then Some 1 else None) number ∙ ap (λ l. if m.number == l then Some 1 else None) e
       ∙ sym (by ∙ ap (λ x. if x then Some 1 else None) (or_none (m.number == low))) in (
-        goes_apart b (one_runs least (stepped core i op Seq value least size p)) m (is_due core i op Seq p) (stepped core i op Seq value least size p) few come.0 settles same,
-        all_sent i op value least size b ms xs one few home.1 e come.1,
+        goes_apart (behind_way (number_of p == least)) (one_runs least p) (first_word q.runner.has.level q.runner.has.outer) m come.0.hart (is_due core i op Seq p) q (few (number_of p == least)) come.0.runs
+            come.0.member settles same,
+        all_sent i op behind_way value least size ms xs one few home.1 e come.1,
       )
-  all_sent i op value least size b ms xs one few home e come = absurd (assumption come)
+  all_sent i op behind_way value least size ms xs one few home e come = absurd (assumption come)
 
   all_apart : (done : Operation) → runs_alone done ≡ Some alone → (x : Parted) → x.parted.operation ≡ done → Both Apart the_members doings
   all_apart Farm e x same =
       let y = x.parted in
       let due : doings ≡ map (is_due core y.i y.op Farm) y.ps = y.due ∙ ap (λ o. map (is_due core y.i y.op o) y.ps) same in
-      let asked : AreOfSize y.size y.ps = (subst (λ o. IsAskedOf o y.lowest y.size y.ps) same y.asked).1 in
-      let come = subst
-      (λ o.
-      AllComeAlone places nestings setting image (later t) x.cycles_behind (runs_behind o y.lowest y.size) (first_of spaces g) the_members (map (stepped core y.i y.op o (highest_value y.ps) y.lowest y.size) y.ps))
-      same y.come in
+      let come = subst (λ o. AllMove core image places nestings y.i y.op o setting (later t) y.behind (λ p. bodies_behind setting o y.lowest p) y.lowest the_members y.ps) same y.move in
       subst (Both Apart the_members) (sym due)
-      (all_free y.i y.op (highest_value y.ps) y.lowest y.size x.cycles_behind the_members y.ps (cc) x.few (subst (Home the_members) due home) asked come)
+      (all_free y.i y.op y.behind (highest_value y.ps) y.lowest (λ p. size_behind Farm y.ps p) the_members y.ps (cc) y.few (subst (Home the_members) due home) come)
   all_apart Seq e x same =
       let y = x.parted in
       let due : doings ≡ map (is_due core y.i y.op Seq) y.ps = y.due ∙ ap (λ o. map (is_due core y.i y.op o) y.ps) same in
-      let asked : IsLowest y.lowest y.ps = (subst (λ o. IsAskedOf o y.lowest y.size y.ps) same y.asked).1 in
-      let come = subst
-      (λ o.
-      AllComeAlone places nestings setting image (later t) x.cycles_behind (runs_behind o y.lowest y.size) (first_of spaces g) the_members (map (stepped core y.i y.op o (highest_value y.ps) y.lowest y.size) y.ps))
-      same y.come in
+      let asked : IsLowest y.lowest y.ps = subst (λ o. IsAskedToMove nestings o y.lowest y.ps) same y.asked in
+      let come = subst (λ o. AllMove core image places nestings y.i y.op o setting (later t) y.behind (λ p. bodies_behind setting o y.lowest p) y.lowest the_members y.ps) same y.move in
       let home' = subst (Home the_members) due home in
       let some : length y.ps ≡ 0 → ⊥ = λ none. some_doings (ap (λ l. length l) due ∙ length-map y.ps (is_due core y.i y.op Seq) ∙ none) in
       subst (Both Apart the_members) (sym due)
-      (all_sent y.i y.op (highest_value y.ps) y.lowest y.size x.cycles_behind the_members y.ps (cc) x.few home'
-      (lowest_is y.i y.op y.lowest the_members y.ps some (first_low 0) home' asked) come)
+      (all_sent y.i y.op y.behind (highest_value y.ps) y.lowest (λ p. size_behind Seq y.ps p) the_members y.ps (cc) y.few home' (lowest_is y.i y.op y.lowest the_members y.ps some (first_low 0) home' asked) come)
   all_apart done e x same = absurd (cc)
 
   -- ---- its words
@@ -403,30 +395,10 @@ module _ (core : List CoreOp) (image : Image) (places : Places) (nestings : Nest
   -- all harts have stages
   module _ (stages' : List Stage)
       (change : AllChange (core_source core setting) image plan blocks plan' blocks' (later t) (numbered 0 hs) nodes nodes' left.afters stages' ps (all_landed core (owners_after old new ds))) where
-    abbrev Opens : ℕ → Type 0
-    Opens w = MeetingOpens (core_source core setting) image plan blocks plan' blocks' g w left.afters stages' control
-
     gone : AllHaveCommitted (of_node g nodes' left.afters)
     gone = subst AllHaveCommitted (sym (same_of g nodes nodes' left.afters alike)) all_parted.committed
 
-    opens_at : (offset : ℕ) → offset < 8 → is_arrival offset ≡ true → Opens (first_of spaces g + offset)
-    opens_at offset lt arrival =
-        let w = first_of spaces g + offset in
-        let tell = tells new spaces behind.spaced nodes' g offset there' given' lt in
-        let many = before.many in
-        let many' = move.many in
-        record {
-          empty = word_is_zero offset lt arrival;
-          size =
-              phases_count plan' g w 0 nodes' stages' (meeters_at new g offset) tell.member
-              (all_fine (core_source core setting) image plan blocks plan' blocks' (later t) g 0 hs nodes nodes' left.afters stages' ps (all_landed core (owners_after old new ds)) free gone change)
-              ∙ count_is 0 nodes' (meeters_at new g offset) (meeters_up offset)
-              (λ h member. let below = behind.sound.within g h (meeters_among offset h member) in (omega arith, omega (arith, below, many, many')))
-              ∙ sym tell.size;
-          new = all_new g nodes' hs left.afters (many_moved nodes nodes' hs left.afters move.many left.as_many) gone;
-        }
-
     pub opens : (w : ℕ) → IsOpen plan' g w → MeetingOpens (core_source core setting) image plan blocks plan' blocks' g w left.afters stages' control
     opens w is_open =
-        let x = open_at new spaces behind.spaced nodes' g w given' is_open in
-        subst Opens x.word (opens_at x.offset x.few x.arrival)
+        node_opens core image places nestings setting old new spaces nodes nodes' (later t) hs left.afters ps (all_landed core (owners_after old new ds)) control behind (move.many ∙ before.many)
+        (many_moved nodes nodes' hs left.afters move.many left.as_many) g there' free gone word_is_zero meeters_up meeters_among stages' change w is_open

@@ -44,7 +44,7 @@ use Rattle.fk_sim_rounds.specs.After.{actings, owner_after, owners_after, is_hal
 use Rattle.fk_sim_rounds.specs.Rounds.{IsBefore, IsTree}
 use Rattle.fk_sim_rounds.proofs.Lists.{of_map, committed_parts}
 use Rattle.fk_sim_rounds.proofs.Comes.{groups_come_to_commits}
-use Rattle.fk_sim_rounds.proofs.Keep.{AllAtHome, settled_below, met_settles}
+use Rattle.fk_sim_rounds.proofs.Keep.{AllAtHome, settled_below, settled_have, met_settles}
 use Rattle.fk_sim_rounds.proofs.Harts.{LockLeft, steps_into_group}
 use Rattle.fk_sim_rounds.proofs.Groups.{at_home}
 use Rattle.fk_sim_rounds.proofs.Changed.{Nothing, running, At, near, AtNode}
@@ -224,7 +224,14 @@ module _ (core : List CoreOp) (image : Image) (places : Places) (nestings : Nest
       let node : IsNode new spaces g
       = record { spaced = behind.spaced; there = there'; given = some-given setting.processors new behind.sound g (not_none (new.nodes g) there') } in
       let come = groups_come_to_commits core image places nestings cycles firsts main setting new spaces nodes' (later t) 0 g (of_node g nodes (numbered 0 hs))
-      (map settle (of_node g nodes ds)) control the_law leads node run
+      (map settle (of_node g nodes ds)) control the_law leads node
+      (record {
+        kind = kind';
+        space =
+            settled_have core image places nestings cycles firsts main setting old new spaces nodes nodes' the_law leads behind.spaced behind.sound (later t) run (actings ds) g
+            (of_node g nodes (numbered 0 hs)) (of_node g nodes ds) kind' home;
+      })
+      run
       (settled_below core image places nestings cycles firsts main setting old new spaces nodes nodes' the_law leads behind.spaced behind.sound (later t) run (actings ds) g
       (of_node g nodes (numbered 0 hs)) (of_node g nodes ds) home)
       (omega arith)

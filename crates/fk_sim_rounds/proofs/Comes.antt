@@ -1,16 +1,20 @@
 -- Who has committed comes to its next stage.
-use Rattle.std.proofs.Common.{◌≡◌, ℕ, zero, suc, ◌+◌, ◌≤◌, ◌<◌, List, [], ◌∷◌, length, true, false, Some, None, sym, ap, subst, ◌∙◌, refl, arith, inl, inr, ⊎_elim}
+use Rattle.std.proofs.Common.{◌≡◌, ◌≢◌, ℕ, zero, suc, ◌+◌, ◌-◌, ◌≤◌, ◌<◌, List, [], ◌∷◌, length, true, false, Some, None, sym, ap, subst, ◌∙◌, refl, arith, inl, inr, ⊎_elim}
 use Rattle.std.specs.Prelude.{is_some, slice_get, Option, if◌then◌else◌}
-use Rattle.std.proofs.lemmas.Bool.{cond-true}
+use Rattle.std.proofs.lemmas.Bool.{cond-true, and_from}
 use Rattle.fk_num.specs.Word.{Memory}
 use Rattle.fk_space.specs.Space.{Space}
+use Rattle.fk_tree.specs.declared.node.Kind.TheVariants.{Lockstep}
 use Rattle.fk_tree.specs.Tree as trees
-use Rattle.fk_tree.specs.Tree.{Tree, is_member}
+use Rattle.fk_tree.specs.Tree.{Tree, is_from, is_member}
+use Rattle.fk_tree.proofs.Shapes.{from_within}
+use Rattle.fk_meaning_operation.specs.declared.operation.SplitKind.{SplitKind}
 use Rattle.fk_meaning_operation.specs.Kinds.{joint_of}
 use Rattle.fk_meaning_operation.specs.declared.operation.Operation.{Operation}
-use Rattle.fk_meaning_operation.specs.declared.operation.Operation.TheVariants.{Begin, End, Halt, Meet, Resume}
+use Rattle.fk_meaning_operation.specs.declared.operation.Operation.TheVariants.{Begin, End, Halt, Meet, Resume, Split, Shrink}
 use Rattle.fk_meaning_operation.specs.declared.kinds.Joint.TheVariants.{Alone, Starting}
 use Rattle.fk_meaning.specs.Processor.{Setting}
+use Rattle.fk_meaning.specs.Group.{has_parts}
 use Rattle.fk_core.specs.declared.op.CoreOp.{CoreOp}
 use Rattle.fk_core.specs.Next.{is_jump, landing, next}
 use Rattle.fk_image.specs.declared.Image.{Image}
@@ -31,17 +35,18 @@ use Rattle.fk_sim_block.specs.Next.{OpAt, step_at}
 use Rattle.fk_sim_block.specs.Ready.{is_alone, IsReady}
 use Rattle.fk_sim_block.specs.Block.{most_before, most_behind, IsRunning, Enters, gone_to}
 use Rattle.fk_sim_block.proofs.Standing.{next_here}
-use Rattle.fk_sim_block.specs.Node.{Nestings, Polling, StandsInNode, OwnsHeader, IsAtRest, root_words, barrier_word, closing_word}
-use Rattle.fk_sim_block.specs.Lockstep.{IsMember, AreMembers, AllEnter, AreInStart}
+use Rattle.fk_sim_block.specs.Node.{Nestings, Polling, StandsInNode, OwnsHeader, OwnsSpace, IsAtRest, first_word, root_words, barrier_word, closing_word}
+use Rattle.fk_sim_block.specs.Lockstep.{IsMember, AreMembers, AllEnter}
+use Rattle.fk_sim_block.specs.Parts.{AreToDivide}
 use Rattle.fk_sim_block.specs.Joint.{is_meeting, word_of, AreSoMany, Polls, IsArriving, IsInPhaseBy, StandsBehind}
 use Rattle.fk_sim_block.specs.Law.{Cycles, GroupLaw}
-use Rattle.fk_sim_match.specs.Nodes.{first_of, HaveSpaces, body_at, meeters_at, is_arrival, is_lockstep, plan_of}
+use Rattle.fk_sim_match.specs.Nodes.{first_of, own_words, HaveSpaces, body_at, meeters_at, is_arrival, is_lockstep, plan_of}
 use Rattle.fk_sim_match.specs.Behind.{runs_of, blocks_of}
 use Rattle.fk_sim_match.proofs.Nodes.{tells, own_apart}
-use Rattle.fk_sim_match.proofs.Standing.{members_stand_at_stages, members_halt_at_stages, meeters_set_out, starters_set_out, act_together, step_together, end_together}
+use Rattle.fk_sim_match.proofs.Standing.{members_stand_at_stages, members_halt_at_stages, meeters_set_out, starters_set_out, act_together, step_together, end_together, shrink_together, divide_together, to_split, few_to_split}
 use Rattle.fk_sim_match.specs.Rounds.{closing_joint, joint_at_word, ending_of}
-use Rattle.fk_sim_rounds.specs.Next.{JumpsLead, landed, all_landed, IsHome, MayMeet, MayStart, HasNext, AllAt, AllAbout, ActsAlike, StepsAlike, HaveNext}
-use Rattle.fk_sim_rounds.specs.Comes.{AllBelow, IsNode, ComesTo, ComeTo, MembersComeToStages, GroupsComeToCommits}
+use Rattle.fk_sim_rounds.specs.Next.{JumpsLead, landed, all_landed, HasRange, IsHome, MayMeet, MayStart, HasNext, AllAt, AllAbout, ActsAlike, StepsAlike, MayMove, HaveNext}
+use Rattle.fk_sim_rounds.specs.Comes.{AllHave, IsGroup, AllBelow, IsNode, ComesTo, ComeTo, MembersComeToStages, GroupsComeToCommits}
 use Rattle.fk_sim_rounds.proofs.Cycles.{finished_in, in_cycles_join, runs_join, runs_later}
 use Rattle.fk_sim_rounds.proofs.Way.{IsWay, way}
 
@@ -82,6 +87,39 @@ owns_header tree spaces nodes g node = record {
   own = λ word lt. (tells tree spaces node.spaced nodes g word node.there node.given lt).own;
   apart = (own_apart tree spaces node.spaced).from_common g;
 }
+
+-- a group in lockstep owns all words of its space
+pub owns_space : (tree : Tree) (spaces : ℕ → Space) (nodes : List ℕ) (g : ℕ) (space : Space) → g ≢ 0 → is_some (tree.nodes g) ≡ true → trees.kind tree g ≡ Some Lockstep → HasRange (spaces g) space
+    → OwnsSpace ((plan_of tree spaces nodes).words g) space
+owns_space tree spaces nodes zero space ne there kind range = absurd (ne refl)
+owns_space tree spaces nodes (suc g) space ne there kind range = record {
+  own = λ word from below.
+      let low = range.0 in
+      let high = range.1 in
+      let s = spaces (suc g) in
+      and_from (is_some (tree.nodes (suc g))) (is_from s.low (own_words spaces (suc g) (trees.kind tree (suc g))) word) there
+      (ap (λ k. is_from s.low (own_words spaces (suc g) k) word) kind ∙ from_within s.low (s.high - s.low) word (omega (arith, from, low)) (omega (arith, from, below, low, high)));
+}
+
+-- who divides a space is not in the root
+no_root : (places : Places) (nestings : Nestings) (setting : Setting) (spaces : ℕ → Space) (g : ℕ) (by : SplitKind) (space : Space) (count : ℕ) (ms : List Member) (ps : List Owner)
+    → AreMembers places nestings setting (λ p. None) (first_of spaces g) ms ps → AreToDivide by space count ps → g ≢ 0
+no_root places nestings setting spaces g by space count ms [] members divides e = let some = divides.some in omega (arith, some)
+no_root places nestings setting spaces g by space count [] (p ∷ ps) members divides e = members
+no_root places nestings setting spaces g by space count (m ∷ ms) (p ∷ ps) members divides e =
+    let first = divides.all.0 in
+    let low : p.runner.has.level.space.low ≡ root_words = ap (first_word p.runner.has.level) (sym first.group.outer) ∙ members.0.words ∙ ap (first_of spaces) e in
+    let same : p.runner.has.level.space.low ≡ space.low = ap (λ s. s.low) first.space_is in
+    let header = divides.is_space.header in
+    let ordered = divides.is_space.ordered in
+    let within = divides.is_space.within in
+    let shared = divides.is_space.shared in
+    omega (arith, low, same, header, ordered, within, shared)
+
+-- its space has the words of the node's
+divided_range : (spaces : ℕ → Space) (g : ℕ) (by : SplitKind) (space : Space) (count : ℕ) (ps : List Owner) → AllHave (spaces g) ps → AreToDivide by space count ps → HasRange (spaces g) space
+divided_range spaces g by space count [] have divides = absurd (let some = divides.some in omega (arith, some))
+divided_range spaces g by space count (p ∷ ps) have divides = subst (HasRange (spaces g)) divides.all.0.space_is have.0
 
 so_many : (tree : Tree) (spaces : ℕ → Space) (nodes : List ℕ) (g number : ℕ) (p : Owner) (operation : Operation) → is_meeting operation ≡ true
     → (plan_of tree spaces nodes).member (first_of spaces g + word_of operation) number ≡ true
@@ -372,7 +410,7 @@ module _ (core : List CoreOp) (image : Image) (places : Places) (nestings : Nest
       = record { number = sym home.number_is; at = at; node = stands; words = home.words } in
       let a = arrives t runs (first_of spaces (tree.places m.number)) b m hart p running few private member (way core leads p.runner.left.at) in
       let q = landed core p in
-      let home' : IsHome tree spaces m.number q = record { number_is = home.number_is; words = home.words; size = home.size } in
+      let home' : IsHome tree spaces m.number q = record { number_is = home.number_is; words = home.words; size = home.size; range = home.range } in
       ⊎_elim (λ alone. comes_alone t m q node running lt home' has.op has.operation has.stands has.ready a alone)
       (λ other. ⊎_elim (λ e. comes_to_halt t m q node running lt home' has.op has.operation has.stands has.ready a e)
       (λ several. ⊎_elim (λ may. comes_to_meet t m q node running lt home' has.op has.operation has.stands has.ready a may)
@@ -453,6 +491,10 @@ module _ (core : List CoreOp) (image : Image) (places : Places) (nestings : Nest
         private_run image (plan.words g) (in_cycles b t) 1 ms' j.harts own' (Arrived (first_of spaces g) ps) j.private (x.0, j.members)) run);
   }
 
+  landed_have : (whole : Space) (ps : List Owner) → AllHave whole ps → AllHave whole (all_landed core ps)
+  landed_have whole [] have = tt
+  landed_have whole (p ∷ ps) have = (have.0, landed_have whole ps have.1)
+
   all_enter : (u : MachineSetting) (first i : ℕ) (op : CoreOp) (operation : Operation) (ms : List Member) (ps : List Owner) → IsRunning image setting u → AllBelow setting.processors ps
       → AllAbout i op operation (all_landed core ps) → AreMembers places nestings setting (λ p. None) first ms (all_landed core ps)
       → AllEnter core image places nestings i op operation setting u None first ms (all_landed core ps)
@@ -510,19 +552,38 @@ module _ (core : List CoreOp) (image : Image) (places : Places) (nestings : Nest
         (λ ms' own' x. step_together core image places nestings setting plan (first_of spaces) cycles firsts main there g index has.op the_law has.operation may.lowest may.size ms' (all_landed core ps) own'
         has.stands may.shared (owns_header tree spaces nodes g node) (enter has.operation refl ms' x.1) may.asked x.0)
 
-    come_ending : has.operation ≡ End → AreInStart nestings (all_landed core ps) → ComeTo core image places nestings setting tree spaces nodes t g ms (all_landed core ps) own
-    come_ending e start =
+    come_moving : IsGroup tree spaces g ps → (operation : Operation) → has.operation ≡ operation → MayMove nestings operation (all_landed core ps)
+        → ComeTo core image places nestings setting tree spaces nodes t g ms (all_landed core ps) own
+    come_moving group (Split by) e may =
+        let stands = subst (λ o. OpAt core index has.op o) e has.stands in
+        let space = may.1.0 in
+        let count = may.1.1 in
+        let room = has_parts space count in
+        let range = divided_range spaces g by space count (all_landed core ps) (landed_have (spaces g) ps group.space) may.1.2 in
+        come (to_split core image places nestings setting plan (first_of spaces) cycles firsts main there g index has.op the_law by stands may.0 room)
+        (few_to_split core image places nestings setting plan (first_of spaces) cycles firsts main there g index has.op the_law by stands may.0 room)
+        (λ ms' own' x.
+        divide_together core image places nestings setting plan (first_of spaces) cycles firsts main there g index has.op the_law by space count ms' (all_landed core ps) own' stands may.0
+        (owns_header tree spaces nodes g node)
+        (owns_space tree spaces nodes g space (no_root places nestings setting spaces g by space count ms' (all_landed core ps) x.1 may.1.2) node.there group.kind range)
+        (enter (Split by) e ms' x.1) may.1.2 room refl x.0)
+    come_moving group Shrink e may =
+        come (cycles.before index) (the_law.few_before index)
+        (λ ms' own' x. shrink_together core image places nestings setting plan (first_of spaces) cycles firsts main there g index has.op the_law ms' (all_landed core ps) own'
+        (subst (λ o. OpAt core index has.op o) e has.stands) (owns_header tree spaces nodes g node) (enter Shrink e ms' x.1) may.1 may.0 x.0)
+    come_moving group End e may =
         come 0 (omega arith)
         (λ ms' own' x. end_together core image places nestings setting plan (first_of spaces) cycles firsts main there g index has.op the_law ms' (all_landed core ps) own'
-        (subst (λ o. OpAt core index has.op o) e has.stands) (owns_header tree spaces nodes g node) (enter End e ms' x.1) start x.0)
+        (subst (λ o. OpAt core index has.op o) e has.stands) (owns_header tree spaces nodes g node) (enter End e ms' x.1) may x.0)
+    come_moving group operation e may = absurd may
 
 pub members_come_to_stages : MembersComeToStages
 members_come_to_stages core image places nestings cycles firsts main setting tree spaces nodes t b m hart p the_law leads node free running lt few private at stands home has =
     comes core image places nestings cycles firsts main setting tree spaces nodes the_law leads t b m hart p node free running lt few private at stands home has
 
 pub groups_come_to_commits : GroupsComeToCommits
-groups_come_to_commits core image places nestings cycles firsts main setting tree spaces nodes t b g ms ps own the_law leads node running below few run has =
+groups_come_to_commits core image places nestings cycles firsts main setting tree spaces nodes t b g ms ps own the_law leads node group running below few run has =
     let a = group_arrives core image places nestings cycles firsts main setting tree spaces nodes the_law leads t g b has.at ms ps own running few has.all_at run (way core leads has.at) in
     ⊎_elim (λ may. come_acting core image places nestings cycles firsts main setting tree spaces nodes the_law leads t g ms ps own node running below has a may)
     (λ other. ⊎_elim (λ may. come_stepping core image places nestings cycles firsts main setting tree spaces nodes the_law leads t g ms ps own node running below has a may)
-    (λ may. come_ending core image places nestings cycles firsts main setting tree spaces nodes the_law leads t g ms ps own node running below has a may.0 may.1) other) has.may
+    (λ may. come_moving core image places nestings cycles firsts main setting tree spaces nodes the_law leads t g ms ps own node running below has a group has.operation refl may) other) has.may

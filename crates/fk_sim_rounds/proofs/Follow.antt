@@ -48,7 +48,7 @@ use Rattle.fk_sim_rounds.specs.Beside.{landed_runner, landed_state, AreInOrder, 
 use Rattle.fk_sim_rounds.specs.Union.{AreNearBegin, AllLandAt}
 use Rattle.fk_sim_rounds.specs.Follow.{IsFollowed, FollowsRound, FollowsFault, FollowsUnion, CyclesFollowRounds}
 use Rattle.fk_sim_rounds.proofs.Landed.{landing_twice, allowed_land}
-use Rattle.fk_sim_rounds.specs.Homes.{AllHome, AllNext}
+use Rattle.fk_sim_rounds.specs.Homes.{AllHome, AllNext, PartsAreTold}
 use Rattle.fk_sim_rounds.proofs.Results.{is_after, is_fault}
 use Rattle.fk_sim_rounds.proofs.Homes.{homes_stay, homes_go_on}
 
@@ -193,10 +193,10 @@ follows_apart core image places nestings cycles firsts main setting spaces s nod
           let e : next_state.tree ≡ new = after.tree in
           let harts = (many_length nodes done.harts whole.did whole.as_many).1 in
           let as_many = f.before.many in
-          let homes : IsKnownRound s.tree whole.did → AllHome new spaces 0 (owners_after s.tree new whole.did)
-          = λ known.
+          let homes : IsKnownRound s.tree whole.did → PartsAreTold new spaces 0 whole.did (owners_after s.tree new whole.did) → AllHome new spaces 0 (owners_after s.tree new whole.did)
+          = λ known told.
           homes_stay core setting s.tree spaces stages f.ps whole.did f.shared whole.store f.before.sound (omega (arith, harts, as_many)) f.homes
-          (subst (λ c. AllPass source c f.ps f.shared whole.did whole.store) cycle.0 whole.parts) known in
+          (subst (λ c. AllPass source c f.ps f.shared whole.did whole.store) cycle.0 whole.parts) known told in
           inl
           (record {
             going = whole.going;
@@ -217,9 +217,10 @@ follows_apart core image places nestings cycles firsts main setting spaces s nod
               passes = subst (λ c. AllPass source c f.ps f.shared whole.did whole.store) cycle.0 whole.parts;
               stay = r.left.stay;
             };
-            again = λ nodes' known tree' there many' on goes.
+            again = λ nodes' known tree' there many' told on goes.
+                let at_home = homes known (subst (λ x. PartsAreTold x spaces 0 whole.did (owners_after s.tree x whole.did)) e told) in
                 let b = r.again nodes' known (subst (λ x. IsTree setting x spaces) e tree') (subst (λ x. ArePlaces x 0 nodes') e there) many'
-                (homes_go_on core nestings setting new spaces r.left.afters whole.did (owners_after s.tree new whole.did) (homes known)
+                (homes_go_on core nestings setting new spaces r.left.afters whole.did (owners_after s.tree new whole.did) at_home
                 (subst (λ x. AllNext core nestings setting x 0 r.left.afters whole.did (owners_after s.tree x whole.did)) e on))
                 (subst (λ x. GroupsGoOn core nestings x nodes' r.left.afters (owners_after s.tree x whole.did)) e goes) in
                 let ps' = all_landed core (owners_after s.tree new whole.did) in
@@ -243,7 +244,7 @@ follows_apart core image places nestings cycles firsts main setting spaces s nod
                     before = before;
                     order = in_order_back core 0 next_state.runners (subst (AreInOrder 0) after.beside.runners (many_runners core 0 new spaces b.stages' (runners_of ps') b.due));
                     beside = after.beside;
-                    homes = subst (λ x. AllHome x spaces 0 ps') (sym e) (landed_homes core new spaces 0 (owners_after s.tree new whole.did) (homes known));
+                    homes = subst (λ x. AllHome x spaces 0 ps') (sym e) (landed_homes core new spaces 0 (owners_after s.tree new whole.did) at_home);
                     shows = record { words = whole.shows.words; output = append-nil (printed ++ done.shared.output) ∙ whole.shows.output; common = whole.shows.common };
                     bound =
                         subst

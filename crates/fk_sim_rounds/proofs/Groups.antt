@@ -183,7 +183,7 @@ module _ (core : List CoreOp) (image : Image) (places : Places) (nestings : Nest
           (λ x.
           let are = of_map settle g nodes ds in
           let come = group_comes core image places nestings cycles firsts main setting old tree spaces nodes nodes' the_law leads spaced sound t running (actings ds) g (of_node g nodes (numbered 0 hs))
-          (of_node g nodes ds) home keep (members_there g stands) (agrees g kind) (own' g) node words
+          (of_node g nodes ds) home keep (members_there g stands) (agrees g kind) (own' g) node (same.kind ∙ kind) words
           (subst (HaveNext core nestings) (sym (now (map settle ds)) ∙ are) (next (subst AllHaveCommitted (now afters) x.0))) x.1 in
           let qs = all_landed core (map settle ds) in
           record {

@@ -4,7 +4,7 @@ use Rattle.std.specs.Prelude.{◌==◌, map}
 use Rattle.std.proofs.lemmas.Bool.{cases_Bool, eqb-true, false≢true}
 use Rattle.fk_space.specs.Space.{Space}
 use Rattle.fk_tree.specs.Tree as trees
-use Rattle.fk_tree.specs.Tree.{Tree, kind_of, members_of}
+use Rattle.fk_tree.specs.Tree.{Tree}
 use Rattle.fk_tree.specs.Sound.{IsSound}
 use Rattle.fk_meaning.specs.Processor.{Setting}
 use Rattle.fk_meaning.specs.Round.{Runner, Acting}
@@ -286,6 +286,26 @@ module _ (core : List CoreOp) (image : Image) (places : Places) (nestings : Nest
         due = come.due;
         soon = λ none. come.soon;
         alike = λ lock none. absurd (false≢true (sym free ∙ lock));
+      })
+
+  -- or is in a group still, or in another one
+  pub steps_to_group : (m : Member) (p : Owner) (d : Doing) → (d ≡ idle p → ⊥) → (a : Option Stage) → plan'.in_lockstep (tree.places m.number) ≡ true → OneLeft a p d
+      → (a ≡ None → halts d.acting.due ≡ false → HasNext core nestings setting tree m.number (becomes d)) → HartGoes m a p d
+  steps_to_group m p d busy a lock (inl x) has = absurd (busy x.2)
+  steps_to_group m p d busy a lock (inr x) has =
+      let next = has x.0 x.1 in
+      let q = becomes d in
+      subst (λ c. HartGoes m c p d) (sym x.0)
+      (record {
+        stage = Acts (distances (tree.places m.number));
+        changes = (tt, λ free. absurd (false≢true (sym free ∙ lock)));
+        due = record {
+          step = step_at core q.runner.left.at next.op next.operation q.runner.left.callers;
+          next_is = next_here core q.runner.left.at next.op next.operation q.runner.left.callers next.stands;
+          joint = λ free. absurd (false≢true (sym free ∙ lock));
+        };
+        soon = λ none. near (tree.places m.number);
+        alike = λ lock' none. refl;
       })
 
   -- ---- all of them

@@ -20,7 +20,9 @@ use Rattle.fk_lockstep_nodes.specs.Steps.{KeepsOrDoes, only}
 use Rattle.fk_sim_rounds.specs.After.{actings, tree_after, owner_after, owners_after, StepsAt}
 use Rattle.fk_sim_rounds.proofs.Steps.{step_is_brought}
 use Rattle.fk_sim_rounds.proofs.Begun as begun
-use Rattle.fk_sim_rounds.specs.Homes.{IsLevelOf, AllHome, AllFrom, HomesBegin}
+use Rattle.fk_sim_rounds.specs.Next.{HasRange}
+use Rattle.fk_sim_rounds.specs.Comes.{AllHave}
+use Rattle.fk_sim_rounds.specs.Homes.{IsLevelOf, AllHome, HomesBegin}
 
 length_due : (core : List CoreOp) (i : ℕ) (op : CoreOp) (ps : List Owner) → length (map (is_due core i op Begin) ps) ≡ length ps
 length_due core i op [] = refl
@@ -54,7 +56,7 @@ module _ (core : List CoreOp) (setting : Setting) (tree : Tree) (spaces : ℕ �
         ap parent_of e ∙ parent-node_of ms 0 Lockstep (λ none. some (e ∙ none))
 
     module _ (number : ℕ) (p : Owner) (lt : number < setting.processors) (number_is : number_of p ≡ number) (is : IsLevelOf tree spaces (tree.places number) p.runner.has.level p.runner.has.outer)
-        (low : p.runner.has.level.space.low ≡ (spaces tree.given).low) where
+        (range : HasRange (spaces tree.given) p.runner.has.level.space) where
       abbrev size : ℕ
       size = length (trees.members new (new.places number))
 
@@ -82,7 +84,7 @@ module _ (core : List CoreOp) (setting : Setting) (tree : Tree) (spaces : ℕ �
             number_is,
             (
               λ none. absurd (omega (arith, none, here, positive)),
-              low ∙ ap (λ k. (spaces k).low) (sym here),
+              subst (λ k. HasRange (spaces k) p.runner.has.level.space) (sym here) range,
               refl,
               subst (λ k. IsLevelOf new spaces k p.runner.has.level p.runner.has.outer) (sym (ap (λ k. trees.parent new k) here ∙ parent_group some))
                   (root_level (tree.places number) p.runner.has.level p.runner.has.outer (in_root number lt) is),
@@ -99,15 +101,15 @@ module _ (core : List CoreOp) (setting : Setting) (tree : Tree) (spaces : ℕ �
           × IsLevelOf new spaces (new.places number) (owner_after acting tree new (is_due core i op Begin p)).runner.has.level (owner_after acting tree new (is_due core i op Begin p)).runner.has.outer
       one = subst (λ h. (h.number ≡ number) × IsLevelOf new spaces (new.places number) h.level h.outer) (sym has_is) (by (nat_lt number count) refl)
 
-    all : (number : ℕ) (ps : List Owner) → number + length ps ≡ setting.processors → AllHome tree spaces number ps → AllFrom (spaces tree.given).low ps
+    all : (number : ℕ) (ps : List Owner) → number + length ps ≡ setting.processors → AllHome tree spaces number ps → AllHave (spaces tree.given) ps
         → AllHome new spaces number (map (owner_after acting tree new) (map (is_due core i op Begin) ps))
-    all number [] many home low = tt
-    all number (p ∷ ps) many home low =
-        let x = one number p (omega (arith, many)) home.0 home.1 low.0 in
-        (x.0, x.1, all (suc number) ps (omega (arith, many)) home.2 low.1)
+    all number [] many home ranges = tt
+    all number (p ∷ ps) many home ranges =
+        let x = one number p (omega (arith, many)) home.0 home.1 ranges.0 in
+        (x.0, x.1, all (suc number) ps (omega (arith, many)) home.2 ranges.1)
 
 pub homes_begin : HomesBegin
-homes_begin core setting tree spaces alone i op ps did sound kind in_root many home low is sound' =
+homes_begin core setting tree spaces alone i op ps did sound kind in_root many home ranges is sound' =
     let size : 0 + length ps ≡ setting.processors = omega (arith, many) in
     let steps : StepsAt tree 0 0 Begin did = subst (λ ds. StepsAt tree 0 0 Begin ds) (sym is) (steps_begin core setting tree spaces i op sound in_root 0 ps size home) in
     let long : length did ≡ setting.processors = ap (λ l. length l) is ∙ length_due core i op ps ∙ many in
@@ -118,4 +120,4 @@ homes_begin core setting tree spaces alone i op ps did sound kind in_root many h
     subst (λ new. IsSound setting.processors new → AllHome new spaces 0 (owners_after tree new did)) (sym same)
     (λ sound''.
     subst (λ ds. AllHome (trees.begin count tree) spaces 0 (map (owner_after (actings did) tree (trees.begin count tree)) ds)) (sym is)
-    (all core setting tree spaces i op sound in_root (actings did) value count refl refl sound'' 0 ps size home low)) sound'
+    (all core setting tree spaces i op sound in_root (actings did) value count refl refl sound'' 0 ps size home ranges)) sound'

@@ -3,12 +3,13 @@ use Rattle.std.proofs.Common.{◌≡◌, ◌≢◌, ℕ, suc, ◌≤◌, ◌<◌
 use Rattle.std.specs.Prelude.{map, is_some}
 use Rattle.fk_num.specs.Word.{Memory}
 use Rattle.fk_space.specs.Space.{Space}
+use Rattle.fk_tree.specs.declared.node.Kind.TheVariants.{Lockstep}
 use Rattle.fk_tree.specs.Tree as trees
-use Rattle.fk_tree.specs.Tree.{Tree, kind_of, members_of}
+use Rattle.fk_tree.specs.Tree.{Tree}
 use Rattle.fk_tree.specs.Sound.{IsSound}
 use Rattle.fk_tree.proofs.Shapes.{has_some, some-given}
 use Rattle.fk_meaning_operation.specs.declared.operation.Operation.{Operation}
-use Rattle.fk_meaning_operation.specs.declared.operation.Operation.TheVariants.{Begin, Agree, Frame, Block, Meet, Resume, Halt, End, Farm, Seq}
+use Rattle.fk_meaning_operation.specs.declared.operation.Operation.TheVariants.{Begin, Agree, Frame, Block, Meet, Resume, Halt, End, Farm, Seq, Split, Shrink}
 use Rattle.fk_meaning.specs.Processor.{Setting, values, last}
 use Rattle.fk_meaning.specs.Round.{Acting, lowest, agreed, settled_by}
 use Rattle.fk_meaning.specs.Group.{goes_onward}
@@ -30,11 +31,11 @@ use Rattle.fk_sim_block.specs.Block.{most_behind, IsRunning, gone_to}
 use Rattle.fk_sim_block.specs.Node.{Nestings, StandsInNode, IsAtRest}
 use Rattle.fk_sim_block.specs.Lockstep.{is_due, stepped, highest_value, AreMembers}
 use Rattle.fk_sim_block.specs.Joint.{is_meeting}
-use Rattle.fk_sim_block.specs.Law.{Cycles, GroupLaw, stays_in_step, sets_apart}
+use Rattle.fk_sim_block.specs.Law.{Cycles, GroupLaw, stays_in_step}
 use Rattle.fk_sim_match.specs.Nodes.{first_of, HaveSpaces, is_lockstep, plan_of}
-use Rattle.fk_sim_match.specs.Behind.{runs_of, HasEnded, HasGone, HasMet, AllHaveGone, HaveStayed, HaveParted, HaveEnded, HaveBegun, IsGroupBehind, blocks_of}
-use Rattle.fk_sim_rounds.specs.Next.{JumpsLead, landed, all_landed, IsHome, HasNext, HaveNext}
-use Rattle.fk_sim_rounds.specs.Comes.{AllBelow, IsNode, ComesTo, ComeTo}
+use Rattle.fk_sim_match.specs.Behind.{runs_of, HasEnded, HasGone, HasMet, AllHaveGone, HaveStayed, HaveMoved, HaveBegun, IsGroupBehind, blocks_of, moves_apart}
+use Rattle.fk_sim_rounds.specs.Next.{JumpsLead, landed, all_landed, HasRange, IsHome, HasNext, HaveNext}
+use Rattle.fk_sim_rounds.specs.Comes.{AllHave, AllBelow, IsNode, ComesTo, ComeTo}
 use Rattle.fk_sim_rounds.specs.After.{owner_after, AllKeep, is_halt, halts}
 use Rattle.fk_sim_rounds.proofs.Way.{landing_end, ended_next}
 use Rattle.fk_sim_rounds.proofs.Lists.{map_map, SameNumbers, run_numbers, run_end}
@@ -58,10 +59,13 @@ stays_there (Frame number words) stays = refl
 stays_there Block stays = refl
 stays_there operation stays = absurd (cc)
 
-parts_change : (operation : Operation) → sets_apart operation ≡ true → changes_tree operation ≡ false → ⊥
-parts_change Farm parts keeps = absurd (cc)
-parts_change Seq parts keeps = absurd (cc)
-parts_change operation parts keeps = absurd (cc)
+moves_change : (operation : Operation) → moves_apart operation ≡ true → changes_tree operation ≡ false → ⊥
+moves_change Farm moves keeps = absurd (cc)
+moves_change Seq moves keeps = absurd (cc)
+moves_change End moves keeps = absurd (cc)
+moves_change Shrink moves keeps = absurd (cc)
+moves_change (Split by) moves keeps = absurd (cc)
+moves_change operation moves keeps = absurd (cc)
 
 -- nobody halts
 abbrev pub AllOn : List Doing → Type 0
@@ -179,6 +183,15 @@ module _ (core : List CoreOp) (image : Image) (places : Places) (nestings : Nest
   settled_below g (m ∷ ms) (d ∷ ds) home = (subst (λ k. k < setting.processors) (sym home.0.3.number_is) home.0.2, settled_below g ms ds home.1)
   settled_below g ms ds home = absurd (assumption home)
 
+  -- they have the space of their group
+  pub settled_have : (g : ℕ) (ms : List Member) (ds : List Doing) → trees.kind tree g ≡ Some Lockstep → AllAtHome g ms ds → AllHave (spaces g) (map settle ds)
+  settled_have g [] [] kind home = tt
+  settled_have g (m ∷ ms) (d ∷ ds) kind home =
+      let at = home.0.1 in
+      let in_group : tree.places m.number ≢ 0 = λ e. sound.free (ap (trees.kind tree) (sym e ∙ at) ∙ kind) in
+      (subst (λ k. HasRange (spaces k) (settle d).runner.has.level.space) at (home.0.3.range in_group), settled_have g ms ds kind home.1)
+  settled_have g ms ds kind home = absurd (assumption home)
+
   gone_members : (g : ℕ) (ms ms' : List Member) (ds : List Doing) → AllAtHome g ms ds → SameNumbers ms' ms → AllHaveGone core image places nestings setting ms' ds
       → AreMembers places nestings setting (λ p. None) (first_of spaces g) ms' (map settle ds)
   gone_members g [] [] [] home same gone = tt
@@ -257,27 +270,24 @@ module _ (core : List CoreOp) (image : Image) (places : Places) (nestings : Nest
         (x.0, ⊎_elim (λ gone. gone_members g ms ms' ds home same gone) (λ stayed. stayed_members ms' stayed) x.1)
 
     -- no step sets them apart
-    nobody_parts : (b : ℕ) (own : Memory)
-        → (HaveParted core image places nestings setting (first_of spaces g) t b ds ms own
-        ⊎ (HaveEnded core image places nestings setting (first_of spaces g) t b ds ms own ⊎ HaveBegun core image places nestings setting t ds ms own)) → ⊥
-    nobody_parts b own (inl x) =
-        parts_change x.operation x.parts (first_due x.i x.op x.operation g ms x.ps (subst (AllAtHome g ms) x.due home) (subst AllKeep x.due keep) some)
-    nobody_parts b own (inr (inr x)) =
+    nobody_parts : (own : Memory) → (HaveMoved core image places nestings setting (first_of spaces g) t ds ms own ⊎ HaveBegun core image places nestings setting t ds ms own) → ⊥
+    nobody_parts own (inl x) =
+        moves_change x.operation x.moves (first_due x.i x.op x.operation g ms x.ps (subst (AllAtHome g ms) x.due home) (subst AllKeep x.due keep) some)
+    nobody_parts own (inr x) =
         absurd (let kept = first_due x.i x.op Begin g ms x.ps (subst (AllAtHome g ms) x.due home) (subst AllKeep x.due keep) some in cc)
-    nobody_parts b own (inr (inl x)) =
-        absurd (let kept = first_due x.i x.op End g ms x.ps (subst (AllAtHome g ms) x.due home) (subst AllKeep x.due keep) some in cc)
 
     -- those of which nobody halts
     none_halts : (ms' : List Member) (own' : Memory) → IsGroupBehind core image places nestings setting (first_of spaces g) ds ms' own' → AllOn ds
     none_halts ms' own' x =
         ⊎_elim (λ gone. gone_on ms' ds gone) (λ stayed. subst AllOn (sym stayed.due) (due_on stayed.i stayed.op stayed.operation stayed.ps (stays_on stayed.operation stayed.stays))) x.1
 
-    pub group_comes : (own : Memory) → IsNode tree spaces g → plan.words g ≡ plan'.words g → HaveNext core nestings (map settle ds) → blocks.AfterAll t g ms ds own
+    pub group_comes : (own : Memory) → IsNode tree spaces g → trees.kind tree g ≡ Some Lockstep → plan.words g ≡ plan'.words g → HaveNext core nestings (map settle ds) → blocks.AfterAll t g ms ds own
         → ComeTo core image places nestings setting tree spaces nodes' t g ms (all_landed core (map settle ds)) own
-    group_comes own node same has x =
+    group_comes own node kind same has x =
         let run : NodeRun image (plan.words g) t x.0 ms own (λ ms' own'. IsGroupBehind core image places nestings setting (first_of spaces g) ds ms' own')
-        = ⊎_elim (λ run. run) (λ other. absurd (nobody_parts x.0 own other)) x.2 in
-        groups_come_to_commits core image places nestings cycles firsts main setting tree spaces nodes' t x.0 g ms (map settle ds) own the_law leads node running
+        = ⊎_elim (λ run. run) (λ other. absurd (nobody_parts own other)) x.2 in
+        groups_come_to_commits core image places nestings cycles firsts main setting tree spaces nodes' t x.0 g ms (map settle ds) own the_law leads node
+        (record { kind = kind; space = settled_have g ms ds kind home }) running
         (settled_below g ms ds home) x.1
         (subst (λ w. NodeRun image w t x.0 ms own Here) same
         (run_map image (plan.words g) t x.0 ms own
@@ -292,4 +302,4 @@ module _ (core : List CoreOp) (image : Image) (places : Places) (nestings : Nest
         (λ run.
         let end = run_end image (plan.words g) t x.0 ms own (λ ms' own'. IsGroupBehind core image places nestings setting (first_of spaces g) ds ms' own') run in
         none_halts end.0 end.1 end.2)
-        (λ other. absurd (nobody_parts x.0 own other)) x.2
+        (λ other. absurd (nobody_parts own other)) x.2

@@ -55,10 +55,14 @@ pub mod Close
 pub mod Counts
 -- behind a step, each by itself
 pub mod Acted
+-- words by which members may meet from then on
+pub mod Opens
 -- at the beginning of a body
 pub mod Apart
--- at the end of the group of `start`
-pub mod Ends
+-- who comes to a group that begins, or goes on with fewer
+pub mod Gathers
+-- where groups divide, shrink and end
+pub mod Moves
 -- where the group of `start` begins
 pub mod Begun
 pub mod Starts

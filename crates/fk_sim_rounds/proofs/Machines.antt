@@ -89,8 +89,8 @@ machines_follow_rounds core image places nestings cycles firsts main setting spa
       did = r.did;
       afters = r.afters;
       makes = r.makes;
-      again = λ nodes' known tree there many' on goes.
-          let x = r.again nodes' known tree there many' on goes in
+      again = λ nodes' known tree there many' told on goes.
+          let x = r.again nodes' known tree there many' told on goes in
           let here = (many_length nodes' (turns_of m).harts x.3.ps x.3.before.as_many).0 in
           let before = (many_length nodes m.harts f.ps f.before.as_many).0 in
           let many : length (turns_of m).harts ≡ length m.harts = sym here ∙ many' ∙ before in (

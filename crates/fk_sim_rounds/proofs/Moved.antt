@@ -9,9 +9,10 @@ use Rattle.fk_sim_nodes.specs.Node.{AreAsMany}
 use Rattle.fk_sim_match.specs.Change.{HasSame}
 use Rattle.fk_sim_match.specs.Nodes.{is_lockstep}
 use Rattle.fk_meaning_operation.specs.declared.operation.Operation.{Operation}
-use Rattle.fk_meaning.specs.Round.{lowest}
+use Rattle.fk_meaning.specs.Round.{Acting, lowest, who}
+use Rattle.fk_core.specs.Next.{Position}
 use Rattle.fk_sim_block.specs.Owner.{Owner, Doing, idle}
-use Rattle.fk_sim_rounds.specs.After.{DoesStep, ArePlaces}
+use Rattle.fk_sim_rounds.specs.After.{actings, DoesStep, ArePlaces}
 
 pub kind_there : (x : Option Node) (k : Kind) → kind_of x ≡ Some k → is_some x ≡ true
 kind_there None k e = absurd (cc)
@@ -34,6 +35,20 @@ pub record TreeMoves (old tree : Tree) (processors : ℕ) (does : ℕ → Option
   pub there : ArePlaces tree 0 nodes'
   pub many : length nodes' ≡ length nodes
   pub alike : (k : ℕ) → changed k ≡ false → is_lockstep (trees.kind old k) ≡ true → HasSame k nodes nodes'
+
+-- ---- what each of those who act has
+
+abbrev pub AreWho : List (Acting Position) → (number : ℕ) → List Doing → Type 0
+AreWho acting number [] = Unit {0}
+AreWho acting number (d ∷ ds) = (who acting number ≡ d.acting.runner.has) × AreWho acting (suc number) ds
+
+are_who_later : (a : Acting Position) (acting : List (Acting Position)) (number : ℕ) (ds : List Doing) → AreWho acting number ds → AreWho (a ∷ acting) (suc number) ds
+are_who_later a acting number [] are = tt
+are_who_later a acting number (d ∷ ds) are = (are.0, are_who_later a acting (suc number) ds are.1)
+
+pub are_who : (ds : List Doing) → AreWho (actings ds) 0 ds
+are_who [] = tt
+are_who (d ∷ ds) = (refl, are_who_later d.acting (actings ds) 0 ds (are_who ds))
 
 -- ---- lists by hart
 

@@ -2,6 +2,7 @@
 use Rattle.std.proofs.Common.{◌≡◌, ℕ, zero, suc, ◌+◌, ◌≤◌, ◌<◌, List, [], ◌∷◌, length, Some, Bool, true, false, sym, ap, subst, ◌∙◌, refl, arith, inl, inr, ⊎_elim, eq-eqb}
 use Rattle.std.specs.Prelude.{◌==◌, slice_get, not}
 use Rattle.std.proofs.lemmas.Bool.{eqb-true, ne_eqb, false≢true}
+use Rattle.fk_space.specs.Space.{Space}
 use Rattle.fk_tree.specs.declared.node.Kind.TheVariants.{Lockstep}
 use Rattle.fk_tree.specs.Tree as trees
 use Rattle.fk_tree.specs.Sound.{IsSound}
@@ -10,25 +11,30 @@ use Rattle.fk_meaning_operation.specs.Kinds.{class_of}
 use Rattle.fk_meaning_operation.specs.declared.kinds.Class.{Class}
 use Rattle.fk_meaning_operation.specs.declared.kinds.Class.TheVariants.{Local, Request, Tree}
 use Rattle.fk_meaning_operation.specs.declared.operation.Multiprefix.{Multiprefix}
+use Rattle.fk_meaning_operation.specs.declared.operation.SplitKind.{SplitKind}
+use Rattle.fk_meaning_operation.specs.declared.operation.SplitKind.TheVariants.{IfElse, Fork}
 use Rattle.fk_meaning_operation.specs.declared.operation.Operation.{Operation}
 use Rattle.fk_meaning_operation.specs.declared.operation.Operation.TheVariants as o
 use Rattle.fk_meaning.specs.Processor.{Processor, values, last}
+use Rattle.fk_meaning.specs.Group.{parts}
 use Rattle.fk_meaning.specs.Round.{State}
 use Rattle.fk_core.specs.declared.op.CoreOp.{CoreOp}
 use Rattle.fk_core.specs.Next.{Position, landing, step_by, step_of, next}
 use Rattle.fk_core.specs.Numbers.{operation_of}
 use Rattle.fk_sim_nodes.specs.Node.{add, of_node}
 use Rattle.fk_lockstep.specs.OneProgram.{HaveOneProgram, AreTogether}
+use Rattle.fk_lockstep.specs.OneSpace.{MembersHaveOneSpace}
 use Rattle.fk_sim_block.specs.Owner.{Owner, number_of}
 use Rattle.fk_sim_block.specs.Next.{OpAt, step_at}
 use Rattle.fk_sim_block.specs.Ready.{is_alone, IsReady}
 use Rattle.fk_sim_block.specs.Node.{Nestings}
 use Rattle.fk_sim_block.specs.Lockstep.{IsInStart, AreInStart, AreOfSize, IsInGroup, AreInGroup, NoneIs, IsLowest}
+use Rattle.fk_sim_block.specs.Parts.{is_implicit, parts_of, IsToDivide, AllAreToDivide, IsInPart, AreInPart}
 use Rattle.fk_sim_block.specs.Law.{is_shared_step, IsAskedOf, way_by, way_of}
 use Rattle.fk_sim_block.specs.Laws.{AllGo}
-use Rattle.fk_sim_rounds.specs.Next.{landed, all_landed, AllAt, AllAbout, MayInGroup, HaveNext}
+use Rattle.fk_sim_rounds.specs.Next.{landed, all_landed, AllAt, AllAbout, MayMove, MayInGroup, HaveNext}
 use Rattle.fk_sim_rounds.specs.After.{ArePlaces, runners_of}
-use Rattle.fk_sim_rounds.specs.Program.{IsInStep, AllInStep, GroupsHaveNext}
+use Rattle.fk_sim_rounds.specs.Program.{MayMoveInStep, IsInStep, AllInStep, GroupsHaveNext}
 use Rattle.fk_sim_rounds.proofs.Agreed.{place_member, some_elem}
 use Rattle.fk_sim_rounds.proofs.Groups.{Stands, somebody, there_are}
 
@@ -147,6 +153,21 @@ all_started : (core : List CoreOp) (nestings : Nestings) (ps : List Owner) → E
 all_started core nestings [] each = tt
 all_started core nestings (p ∷ ps) each = (each.0, all_started core nestings ps each.1)
 
+all_parted : (core : List CoreOp) (nestings : Nestings) (ps : List Owner) → Each (λ p. IsInPart nestings (landed core p)) ps → AreInPart nestings (all_landed core ps)
+all_parted core nestings [] each = tt
+all_parted core nestings (p ∷ ps) each = (each.0, all_parted core nestings ps each.1)
+
+all_divide : (core : List CoreOp) (by : SplitKind) (space : Space) (count : ℕ) (ps : List Owner) → Each (λ p. IsToDivide by space count (landed core p)) ps
+    → AllAreToDivide by space count (all_landed core ps)
+all_divide core by space count [] each = tt
+all_divide core by space count (p ∷ ps) each = (each.0, all_divide core by space count ps each.1)
+
+-- an implicit split has as many parts for all
+same_parts : (by : SplitKind) (vs ws : List ℕ) → is_implicit by ≡ true → parts by vs ≡ parts by ws
+same_parts IfElse vs ws implicit = refl
+same_parts Fork vs ws implicit = absurd (false≢true implicit)
+same_parts by vs ws implicit = refl
+
 length_add : (b : Bool) (p : Owner) (ps : List Owner) → length (add b p ps) ≤ suc (length ps)
 length_add true p ps = omega arith
 length_add false p ps = omega arith
@@ -171,7 +192,7 @@ one_operation : (op op' : CoreOp) (x y : Operation) → op' ≡ op → operation
 one_operation op op' x y e a b = let same = sym b ∙ ap (λ k. operation_of k.kind k.number) e ∙ a in cc
 
 module _ (core : List CoreOp) (nestings : Nestings) (processors : ℕ) (s : State Position) (nodes : List ℕ) (ps : List Owner) (g : ℕ) (few : processors ≤ 1024) (sound : IsSound processors s.tree)
-    (places : ArePlaces s.tree 0 nodes) (many : length nodes ≡ processors) (runners : s.runners ≡ runners_of ps) (one : HaveOneProgram (next core) s) (kind : trees.kind s.tree g ≡ Some Lockstep)
+    (places : ArePlaces s.tree 0 nodes) (many : length nodes ≡ processors) (runners : s.runners ≡ runners_of ps) (one : HaveOneProgram (next core) s) (spaces : MembersHaveOneSpace s) (kind : trees.kind s.tree g ≡ Some Lockstep)
     (all : AllInStep core nestings g 0 nodes ps) where
   stands : Stands nodes g
   stands = somebody processors s.tree sound nodes places many g kind
@@ -217,17 +238,47 @@ module _ (core : List CoreOp) (nestings : Nestings) (processors : ℕ) (s : Stat
       let operation = one_operation step0.op x.op step0.operation x.operation op step0.stands.is_read x.stands.is_read in
       (same, subst (λ y. IsReady step0.op y (landed core p).runner) operation (subst (λ y. IsReady y x.operation (landed core p).runner) op x.ready))
 
+  one_space : (i : ℕ) (p : Owner) → slice_get nodes i ≡ Some g → slice_get ps i ≡ Some p → p.runner.has.level.space ≡ p0.runner.has.level.space
+  one_space i p at is =
+      (spaces g i first p.runner p0.runner kind (place_member processors s.tree sound nodes places many g i at) (place_member processors s.tree sound nodes places many g first stands.at)
+      (ap (λ l. slice_get l i) runners ∙ runner_at ps i p is) (ap (λ l. slice_get l first) runners ∙ runner_at ps first p0 the_first.at)).0.space
+
   numbers : (i : ℕ) (p : Owner) → slice_get nodes i ≡ Some g → slice_get ps i ≡ Some p → number_of p ≡ 0 + i
   numbers i p at is = let x = in_step i p at is in let e = x.number_is in e ∙ (let k : i ≡ 0 + i = omega arith in k)
 
-  started : (i : ℕ) (p : Owner) → slice_get nodes i ≡ Some g → slice_get ps i ≡ Some p → step0.operation ≡ o.End → IsInStart nestings (landed core p)
-  started i p at is e =
+  -- what each may do by which it comes to another node
+  moves_by : (done : Operation) → is_alone done ≡ false → is_shared_step done ≡ false → step0.operation ≡ done → (i : ℕ) (p : Owner) → slice_get nodes i ≡ Some g → slice_get ps i ≡ Some p
+      → MayMoveInStep nestings done (landed core p)
+  moves_by done not_alone not_shared e i p at is =
       let x = in_step i p at is in
       let same = ap (landing core) (same_at i p at is) in
       let op = one_op core (landing core p0.runner.left.at) (landing core p.runner.left.at) step0.op x.op step0.operation x.operation (sym same) step0.stands x.stands in
       let operation = one_operation step0.op x.op step0.operation x.operation op step0.stands.is_read x.stands.is_read ∙ e in
-      ⊎_elim (λ alone. absurd (let f = sym (ap is_alone operation) ∙ alone in cc))
-      (λ other. ⊎_elim (λ shared. absurd (let f = sym (ap is_shared_step operation) ∙ shared in cc)) (λ ends. ends.1) other) x.may
+      ⊎_elim (λ alone. absurd (false≢true (sym not_alone ∙ sym (ap is_alone operation) ∙ alone)))
+      (λ other.
+      ⊎_elim (λ shared. absurd (false≢true (sym not_shared ∙ sym (ap is_shared_step operation) ∙ shared))) (λ moves. subst (λ y. MayMoveInStep nestings y (landed core p)) operation moves) other)
+      x.may
+
+  -- all are in the group of `start` where one of them is
+  started : step0.operation ≡ o.End → IsInStart nestings (landed core p0) → (i : ℕ) (p : Owner) → slice_get nodes i ≡ Some g → slice_get ps i ≡ Some p → IsInStart nestings (landed core p)
+  started e start i p at is =
+      ⊎_elim (λ yes. yes)
+      (λ in_part.
+      let none = start.none.0 in
+      let saved = in_part.saved in
+      let same = ap (λ j. nestings.levels (landing core j)) (same_at i p at is) in
+      absurd (omega (arith, none, saved, same)))
+      (moves_by o.End refl refl e i p at is)
+
+  parted : step0.operation ≡ o.End → IsInPart nestings (landed core p0) → (i : ℕ) (p : Owner) → slice_get nodes i ≡ Some g → slice_get ps i ≡ Some p → IsInPart nestings (landed core p)
+  parted e in_part i p at is =
+      ⊎_elim
+      (λ start.
+      let none = start.none.0 in
+      let saved = in_part.saved in
+      let same = ap (λ j. nestings.levels (landing core j)) (same_at i p at is) in
+      absurd (omega (arith, none, saved, same)))
+      (λ yes. yes) (moves_by o.End refl refl e i p at is)
 
   next_at : next core p0.runner.left ≡ Some (step_at core (landing core p0.runner.left.at) step0.op step0.operation p0.runner.left.callers)
   next_at =
@@ -265,6 +316,49 @@ module _ (core : List CoreOp) (nestings : Nestings) (processors : ℕ) (s : Stat
   asked o.Block shared = (0, 0, grouped)
   asked operation shared = absurd (cc)
 
+  few_members : length (all_landed core (of_node g nodes ps)) ≤ 1024
+  few_members = let long = length_of g nodes ps in let same = landed_length core group in omega (arith, long, same, many, few)
+
+  some_members : 1 ≤ length (all_landed core (of_node g nodes ps))
+  some_members = at_least (length (all_landed core (of_node g nodes ps))) (λ none. some (sym (landed_length core group) ∙ none))
+    where
+      at_least : (n : ℕ) → (n ≡ 0 → ⊥) → 1 ≤ n
+      at_least zero ne = absurd (ne refl)
+      at_least (suc n) ne = omega arith
+
+  -- they have one space, which they divide into as many parts
+  divides : (by : SplitKind) → is_implicit by ≡ true → (i : ℕ) (p : Owner) → slice_get nodes i ≡ Some g → slice_get ps i ≡ Some p
+      → IsToDivide by p0.runner.has.level.space (parts_of by p0) (landed core p)
+  divides by implicit i p at is = record { group = (in_step i p at is).group; space_is = one_space i p at is; count_is = same_parts by (values p.runner.has) (values p0.runner.has) implicit }
+
+  may_move : (done : Operation) → is_alone done ≡ false → is_shared_step done ≡ false → step0.operation ≡ done → MayMoveInStep nestings done (landed core p0) → MayMove nestings done (all_landed core (of_node g nodes ps))
+  may_move (o.Split by) not_alone not_shared e first_may = (
+    first_may.0,
+    (
+      p0.runner.has.level.space,
+      parts_of by p0,
+      record {
+        some = some_members;
+        few = few_members;
+        is_space = first_may.1;
+        all = all_divide core by p0.runner.has.level.space (parts_of by p0) group
+            (each_of (λ p. IsToDivide by p0.runner.has.level.space (parts_of by p0) (landed core p)) g nodes ps (divides by first_may.0));
+      },
+    ),
+  )
+  may_move o.Shrink not_alone not_shared e first_may =
+      (few_members, all_parted core nestings group (each_of (λ p. IsInPart nestings (landed core p)) g nodes ps (moves_by o.Shrink refl refl e)))
+  may_move o.End not_alone not_shared e first_may =
+      ⊎_elim (λ start. inl (all_started core nestings group (each_of (λ p. IsInStart nestings (landed core p)) g nodes ps (started e start))))
+      (λ in_part. inr (all_parted core nestings group (each_of (λ p. IsInPart nestings (landed core p)) g nodes ps (parted e in_part)))) first_may
+  may_move done not_alone not_shared e first_may = absurd first_may
+
+  move_or : (done : Operation) → step0.operation ≡ done → MayMoveInStep nestings done (landed core p0) → MayMove nestings done (all_landed core (of_node g nodes ps))
+  move_or (o.Split by) e first_may = may_move (o.Split by) refl refl e first_may
+  move_or o.Shrink e first_may = may_move o.Shrink refl refl e first_may
+  move_or o.End e first_may = may_move o.End refl refl e first_may
+  move_or done e first_may = absurd first_may
+
   may : MayInGroup nestings step0.operation (all_landed core (of_node g nodes ps))
   may =
       ⊎_elim
@@ -276,7 +370,7 @@ module _ (core : List CoreOp) (nestings : Nestings) (processors : ℕ) (s : Stat
       (λ other.
       ⊎_elim
       (λ shared. let x = asked step0.operation shared in inr (inl (record { shared = shared; lowest = x.0; size = x.1; asked = x.2 })))
-      (λ ends. inr (inr (ends.0, all_started core nestings group (each_of (λ p. IsInStart nestings (landed core p)) g nodes ps (λ i p at is. started i p at is ends.0)))))
+      (λ moves. inr (inr (move_or step0.operation refl moves)))
       other)
       step0.may
 
@@ -294,4 +388,5 @@ module _ (core : List CoreOp) (nestings : Nestings) (processors : ℕ) (s : Stat
   }
 
 pub groups_have_next : GroupsHaveNext
-groups_have_next core nestings processors s nodes ps g few sound places many runners one kind all = have_next core nestings processors s nodes ps g few sound places many runners one kind all
+groups_have_next core nestings processors s nodes ps g few sound places many runners one spaces kind all =
+    have_next core nestings processors s nodes ps g few sound places many runners one spaces kind all

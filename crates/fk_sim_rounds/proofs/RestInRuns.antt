@@ -4,6 +4,7 @@ use Rattle.std.specs.Prelude.{is_none, is_some}
 use Rattle.std.proofs.lemmas.Bool.{and_parts, false≢true}
 use Rattle.fk_num.specs.Word.{Memory}
 use Rattle.fk_space.specs.Space.{Space}
+use Rattle.fk_tree.specs.declared.node.Kind.TheVariants.{Lockstep}
 use Rattle.fk_tree.specs.Tree as trees
 use Rattle.fk_tree.specs.Tree.{Node, Tree, is_from}
 use Rattle.fk_tree.proofs.Shapes.{from_below}
@@ -36,7 +37,9 @@ use Rattle.fk_sim_rounds.proofs.Trees.{all_keep}
 use Rattle.fk_sim_rounds.proofs.Unite.{cycles_unite}
 use Rattle.fk_sim_rounds.proofs.Nearer.{cycles_come_to_start}
 use Rattle.fk_sim_rounds.proofs.Cycle.{cycles_bind_again}
-use Rattle.fk_sim_rounds.proofs.Rest.{ended_groups_rest}
+use Rattle.fk_sim_rounds.proofs.Rest.{around_stays, ended_groups_rest}
+use Rattle.fk_sim_rounds.proofs.Groups.{many_length}
+use Rattle.fk_sim_rounds.proofs.Moved.{kind_there}
 use Rattle.fk_sim_rounds.specs.Beside.{AreInOrder, IsBeside}
 use Rattle.fk_sim_rounds.specs.Follow.{IsFollowed}
 use Rattle.fk_sim_rounds.specs.Union.{IsUnited}
@@ -54,7 +57,7 @@ none_is_there None e = refl
 none_is_there (Some node) e = absurd (cc)
 
 -- without a group no node owns the words of its header
-not_owned : (tree : Tree) (spaces : ℕ → Space) (first i : ℕ) → HaveOneHeader spaces first → HasNoGroup tree → i < first + 8 → (g : ℕ) → owns tree spaces g i ≡ false
+not_owned : (tree : Tree) (spaces : ℕ → Space) (first i : ℕ) → HaveOneHeader tree spaces first → HasNoGroup tree → i < first + 8 → (g : ℕ) → owns tree spaces g i ≡ false
 not_owned tree spaces first i header none lt zero =
     let within = header.within in
     ap (λ b. is_some (tree.nodes 0) && b) (from_below root_words 8 i (omega (arith, within, lt))) ∙ nobody (is_some (tree.nodes 0))
@@ -66,8 +69,8 @@ not_owned tree spaces first i header none lt (suc g) =
     ap (λ b. b && is_from (first_of spaces (suc g)) (own_words spaces (suc g) (trees.kind tree (suc g))) i) (none_is_there (tree.nodes (suc g)) (none (suc g) (λ e. omega (arith, e))))
 
 -- none of them counts the words asked for
-not_asked : (spaces : ℕ → Space) (first i : ℕ) → HaveOneHeader spaces first → i < first + 8 → i ≢ asked_word
-not_asked spaces first i header lt e = let within = header.within in omega arith
+not_asked : (tree : Tree) (spaces : ℕ → Space) (first i : ℕ) → HaveOneHeader tree spaces first → i < first + 8 → i ≢ asked_word
+not_asked tree spaces first i header lt e = let within = header.within in omega arith
 
 -- so nobody comes to them
 still_at_rest : (first : ℕ) (before after : Memory) → ((i : ℕ) → i < first + 8 → after i ≡ before i) → IsAtRest first before → IsAtRest first after
@@ -95,7 +98,7 @@ module _ (core : List CoreOp) (image : Image) (setting : Setting) (spaces : ℕ 
 -- ---- one cycle
 
 module _ (core : List CoreOp) (image : Image) (places : Places) (nestings : Nestings) (setting : Setting) (spaces : ℕ → Space) (s : State Position) (nodes : List ℕ) (t : MachineSetting) (printed : List ℕ)
-    (stages : List Stage) (hs : List Hart) (sh : Shared) (first : ℕ) (leads : JumpsLead core) (header : HaveOneHeader spaces first)
+    (stages : List Stage) (hs : List Hart) (sh : Shared) (first : ℕ) (leads : JumpsLead core) (header : HaveOneHeader s.tree spaces first)
     (possible : is_possible (next core) setting (counts_for stages) s ≡ true) where
   abbrev control_after : Memory
   control_after = (turns t 0 hs sh).shared.control
@@ -113,7 +116,7 @@ module _ (core : List CoreOp) (image : Image) (places : Places) (nestings : Nest
       (λ c. absurd (no_cut core image setting spaces stages s f.ps f.shared leads f.order f.beside possible (plan_of s.tree spaces nodes).words printed hs t sh cycle.0 c)) cycle.1 in
       still_at_rest first sh.control control_after
       (λ i lt. unowned_words_stay core image places nestings setting (united (plan_of s.tree spaces nodes)) (first_of spaces) t printed stages hs f.ps (λ g. sh.control) sh f.shared i
-      (own_apart s.tree spaces f.before.spaced) f.shows (λ g j own. refl) f.bound going (not_owned s.tree spaces first i header none lt) (not_asked spaces first i header lt))
+      (own_apart s.tree spaces f.before.spaced) f.shows (λ g j own. refl) f.bound going (not_owned s.tree spaces first i header none lt) (not_asked s.tree spaces first i header lt))
       (ready none)
 
   module _ (f : IsFollowed core image places nestings setting spaces s nodes t printed stages hs sh) where
@@ -122,7 +125,7 @@ module _ (core : List CoreOp) (image : Image) (places : Places) (nestings : Nest
     none_comes going ready none =
         still_at_rest first sh.control control_after
         (λ i lt. unowned_words_stay core image places nestings setting (plan_of s.tree spaces nodes) (first_of spaces) t printed stages hs f.ps (λ g. sh.control) sh f.shared i
-        (own_apart s.tree spaces f.before.spaced) f.shows (λ g j own. refl) f.bound going (not_owned s.tree spaces first i header none lt) (not_asked spaces first i header lt))
+        (own_apart s.tree spaces f.before.spaced) f.shows (λ g j own. refl) f.bound going (not_owned s.tree spaces first i header none lt) (not_asked s.tree spaces first i header lt))
         (ready none)
 
     module _ (cycles : Cycles) (firsts : List ℕ) (main : ℕ) (the_law : GroupLaw core image places nestings cycles firsts main) (few : length hs < 2 ^ 31) (ready : IsReadyForGroup s.tree first sh.control) where
@@ -152,7 +155,12 @@ module _ (core : List CoreOp) (image : Image) (places : Places) (nestings : Nest
           let after = is_after core setting s f.ps f.shared leads f.order f.beside stages whole.did whole.store parts in
           ⊎_elim
           (λ ends.
-          subst (λ k. IsAtRest k control_after) (header.same ends.group (λ e. f.before.sound.free (ap (trees.kind s.tree) (sym e) ∙ ends.round.known ends.group o.End ends.ends)))
+          let kind = ends.round.known ends.group o.End ends.ends in
+          let harts = (many_length nodes (turns t 0 hs sh).harts whole.did whole.as_many).1 in
+          let as_many = f.before.many in
+          let root = around_stays setting.processors s.tree whole.did f.before.sound (omega (arith, harts, as_many)) ends.round ends.group o.End ends.ends refl (subst HasNoGroup after.tree none) in
+          subst (λ k. IsAtRest k control_after)
+          (header.same ends.group (λ e. f.before.sound.free (ap (trees.kind s.tree) (sym e) ∙ kind)) (kind_there (s.tree.nodes ends.group) Lockstep kind) root)
           (ended_groups_rest core image places nestings setting s.tree spaces nodes t stages (turns t 0 hs sh).harts f.ps whole.did (λ g. sh.control) whole.own control_after ends.round.does ends.group f.before.spaced f.before.sound
           f.before.stand f.before.many r.left whole.has (ends.round.known ends.group o.End ends.ends) ends.round.steps ends.ends))
           (λ before. none_comes whole.going ready (before (subst HasNoGroup after.tree none)))

@@ -13,7 +13,7 @@ use Rattle.fk_tree.proofs.Lists.{length-below}
 use Rattle.fk_tree.proofs.Begins.{length-root}
 use Rattle.fk_tree.proofs.Shapes.{members-node_of, kind-node_of, has_some, some-given}
 use Rattle.fk_meaning_operation.specs.declared.operation.Operation.{Operation}
-use Rattle.fk_meaning_operation.specs.declared.operation.Operation.TheVariants.{Begin, End}
+use Rattle.fk_meaning_operation.specs.declared.operation.Operation.TheVariants.{Begin}
 use Rattle.fk_meaning.specs.Processor.{Processor, Setting, values, last}
 use Rattle.fk_meaning.specs.Group.{not_negative, is_taken, does, goes_onward}
 use Rattle.fk_meaning.specs.Round.{Step, lowest, agreed}
@@ -38,17 +38,17 @@ use Rattle.fk_sim_block.specs.Next.{step_at}
 use Rattle.fk_sim_block.specs.Block.{IsRunning}
 use Rattle.fk_sim_block.proofs.Standing.{next_here}
 use Rattle.fk_sim_block.specs.Node.{Nestings, StandsInNode, IsAtRest}
-use Rattle.fk_sim_block.specs.Lockstep.{is_due, stepped, highest_value, AreMembers}
-use Rattle.fk_sim_block.specs.Start.{size_of_start, runs_behind_start, ComesToPart, AllComeToParts}
-use Rattle.fk_sim_block.specs.Law.{Cycles, GroupLaw, sets_apart}
+use Rattle.fk_sim_block.specs.Lockstep.{is_due, stepped, highest_value, AreMembers, ComesByWay, AllComeByWay}
+use Rattle.fk_sim_block.specs.Start.{size_of_start, runs_behind_start}
+use Rattle.fk_sim_block.specs.Law.{Cycles, GroupLaw}
 use Rattle.fk_sim_match.specs.Nodes.{first_of, is_arrival, is_lockstep, body_at, meeters_at, plan_of, united}
-use Rattle.fk_sim_match.specs.Behind.{runs_of, HaveBegun, blocks_of}
+use Rattle.fk_sim_match.specs.Behind.{runs_of, HaveBegun, blocks_of, moves_apart}
 use Rattle.fk_sim_match.specs.Rounds.{IsDueAt, AllDue}
 use Rattle.fk_sim_match.proofs.Nodes.{tells, open_at}
 use Rattle.fk_sim_match.proofs.Rounds.{not_none, leaf_place, lockstep_kind}
 use Rattle.fk_lockstep_nodes.specs.Steps.{only}
-use Rattle.fk_sim_rounds.specs.Next.{JumpsLead, landed, all_landed, IsHome, HasNext, HaveNext}
-use Rattle.fk_sim_rounds.specs.Comes.{most_between, IsSoon, AllBelow, IsNode, ComesTo}
+use Rattle.fk_sim_rounds.specs.Next.{JumpsLead, landed, all_landed, HasRange, IsHome, HasNext, HaveNext}
+use Rattle.fk_sim_rounds.specs.Comes.{most_between, IsSoon, AllHave, AllBelow, IsNode, ComesTo}
 use Rattle.fk_sim_rounds.specs.After.{actings, runners_of, tree_after, owner_after, owners_after, halts, is_halt, DoesStep, StepsAt, ArePlaces, AllGoOn, GroupsGoOn, AllSoon}
 use Rattle.fk_sim_rounds.specs.Rounds.{IsTree, AreBoundAgain}
 use Rattle.fk_sim_rounds.specs.Start.{IsBeforeStart, RoundsStart}
@@ -125,11 +125,8 @@ no_groups p old sound root k ne kind (m ∷ ms) are =
     let member : is_member m (trees.members old k) ≡ true = subst (λ l. is_member m l ≡ true) (sym are) (ap (λ b. b || is_member m ms) (eq-eqb m m refl)) in
     ne (sym (leaf_place p old sound k m kind member) ∙ root m (sound.within k m member))
 
-not_begin : (operation : Operation) → sets_apart operation ≡ true → operation ≡ Begin → ⊥
-not_begin operation parts e = let x = subst (λ o. sets_apart o ≡ true) e parts in false≢true x
-
-end_or_begin : End ≡ Begin → ⊥
-end_or_begin e = absurd (cc)
+not_begin : (operation : Operation) → moves_apart operation ≡ true → operation ≡ Begin → ⊥
+not_begin operation moves e = let x = subst (λ o. moves_apart o ≡ true) e moves in false≢true x
 
 module _ (core : List CoreOp) (image : Image) (places : Places) (nestings : Nestings) (cycles : Cycles) (firsts : List ℕ) (main : ℕ) (setting : Setting) (old : Tree) (spaces : ℕ → Space) (nodes nodes' : List ℕ)
     (t : MachineSetting) (stages : List Stage) (hs : List Hart) (ps : List Owner) (ds : List Doing) (own own' : ℕ → Memory) (control : Memory)
@@ -279,13 +276,10 @@ module _ (core : List CoreOp) (image : Image) (places : Places) (nestings : Nest
 
   begun : HaveBegun core image places nestings setting (later t) ds (numbered 0 hs) (own' 0)
   begun =
-      ⊎_elim (λ apart. absurd (not_begin apart.0.operation apart.0.parts apart.1))
-      (λ other.
-      ⊎_elim (λ ended. absurd (end_or_begin ended.1))
+      ⊎_elim (λ moved. absurd (not_begin moved.0.operation moved.0.moves moved.1))
       (λ x.
       subst (λ l. HaveBegun core image places nestings setting (later t) l (numbered 0 hs) (own' 0)) all_doings
       (subst (λ l. HaveBegun core image places nestings setting (later t) (of_node 0 nodes ds) l (own' 0)) all_harts x.0))
-      other)
       has_acted.how
 
   committed : AllHaveCommitted left.afters
@@ -363,8 +357,18 @@ module _ (core : List CoreOp) (image : Image) (places : Places) (nestings : Nest
     node : StandsInNode places nestings setting (runs_behind_start setting (nat_lt m.number count)) (settle d) hart
     does_begin : DoesStep Begin d.acting.due
 
+  abbrev ByWay : Member → Owner → Type 0
+  ByWay m p =
+      ComesByWay core image places nestings fact.i fact.op Begin setting (later t) fact.behind (λ q. runs_behind_start setting (is_taken value q.runner.has)) value 0
+      (λ q. size_of_start setting value) m p
+
+  abbrev AllByWay : ℕ → List Member → List Owner → Type 0
+  AllByWay v ms qs =
+      AllComeByWay core image places nestings fact.i fact.op Begin setting (later t) fact.behind (λ q. runs_behind_start setting (is_taken v q.runner.has)) v 0
+      (λ q. size_of_start setting v) ms qs
+
   comes_one : (m : Member) (p : Owner) → number_of p ≡ m.number → m.number < setting.processors
-      → ComesToPart core image places nestings fact.i fact.op setting (later t) fact.behind value 0 m p → Comes m (is_due core fact.i fact.op Begin p)
+      → ByWay m p → Comes m (is_due core fact.i fact.op Begin p)
   comes_one m p e lt come =
       let way : is_taken value p.runner.has ≡ nat_lt m.number count = ap (λ n. nat_lt n (not_negative value)) e ∙ taken_by_number m.number lt in
       let same = sym (settles p m.number e lt) in
@@ -378,7 +382,7 @@ module _ (core : List CoreOp) (image : Image) (places : Places) (nestings : Nest
       }
 
   all_come : (number : ℕ) (gs : List Hart) (qs : List Owner) (xs : List Doing) → number + length gs ≡ setting.processors → xs ≡ map (is_due core fact.i fact.op Begin) qs → StepsAt old 0 number Begin xs
-      → AllComeToParts core image places nestings fact.i fact.op setting (later t) fact.behind value 0 (numbered number gs) qs → Both Comes (numbered number gs) (map (is_due core fact.i fact.op Begin) qs)
+      → AllByWay value (numbered number gs) qs → Both Comes (numbered number gs) (map (is_due core fact.i fact.op Begin) qs)
   all_come number [] [] xs many e steps' come = tt
   all_come number (h ∷ gs) (q ∷ qs) (x ∷ xs) many e steps' come =
       let first : x ≡ is_due core fact.i fact.op Begin q = cc in
@@ -394,7 +398,7 @@ module _ (core : List CoreOp) (image : Image) (places : Places) (nestings : Nest
       let long = lengths.0 in
       subst (Both Comes (numbered 0 hs)) (sym fact.due)
       (all_come 0 hs fact.ps ds (omega (arith, many, long)) fact.due steps
-      (subst (λ v. AllComeToParts core image places nestings fact.i fact.op setting (later t) fact.behind v 0 (numbered 0 hs) fact.ps) highest_is fact.parts))
+      (subst (λ v. AllByWay v (numbered 0 hs) fact.ps) highest_is fact.parts))
 
   no_halt : (due : Option (Step Position)) → DoesStep Begin due → halts due ≡ false
   no_halt None does' = absurd does'
@@ -407,6 +411,7 @@ module _ (core : List CoreOp) (image : Image) (places : Places) (nestings : Nest
     runs : AllRunPrivately image (later t) (fact.behind true) ms harts
     members : AreMembers places nestings setting (λ p. None) (first_of spaces old.given) (with_harts ms harts) (map settle xs)
     below_all : AllBelow setting.processors (map settle xs)
+    ranges : AllHave (spaces old.given) (map settle xs)
 
   one_more : (b : Bool) (m : Member) (ms : List Member) (d : Doing) (xs : List Doing) (ns' : List ℕ) → (b ≡ true → ((trees.begin count old).places m.number ≡ old.given) × (m.number < setting.processors))
       → IsHome (trees.begin count old) spaces m.number (settle d) → Comes m d → GroupRuns ns' ms xs → GroupRuns ns' (add b m ms) (add b d xs)
@@ -427,17 +432,21 @@ module _ (core : List CoreOp) (image : Image) (places : Places) (nestings : Nest
           more.members,
         );
         below_all = (subst (λ k. k < setting.processors) (sym home.number_is) here.1, more.below_all);
+        ranges = (
+          subst (λ k. HasRange (spaces k) (settle d).runner.has.level.space) here.0 (home.range (λ e. let at = here.0 in let pos = positive in omega (arith, e, at, pos))),
+          more.ranges,
+        );
       }
 
   group_runs : (number : ℕ) (gs : List Hart) (ns' : List ℕ) (afters : List (Option Stage)) (xs : List Doing) → number + length gs ≡ setting.processors → ArePlaces (trees.begin count old) number ns' → AreAsMany ns' gs afters → AreAsMany ns' gs xs
       → AllGoOn core nestings setting (trees.begin count old) spaces number afters xs (map settle xs) → Both Comes (numbered number gs) xs
       → GroupRuns ns' (of_node old.given ns' (numbered number gs)) (of_node old.given ns' xs)
-  group_runs number [] [] [] [] many here as_a as_d on' come = record { harts = []; runs = tt; members = tt; below_all = tt }
+  group_runs number [] [] [] [] many here as_a as_d on' come = record { harts = []; runs = tt; members = tt; below_all = tt; ranges = tt }
   group_runs number (h ∷ gs) (n' ∷ ns') (a ∷ afters) (d ∷ xs) many here as_a as_d on' come =
       let more = group_runs (suc number) gs ns' afters xs (omega (arith, many)) here.1 as_a as_d on'.2 come.1 in
       one_more (n' == old.given) (record { number = number; hart = h }) (of_node old.given ns' (numbered (suc number) gs)) d (of_node old.given ns' xs) (n' ∷ ns')
       (λ e. (sym here.0 ∙ eqb-true n' old.given e, omega (arith, many))) on'.0 come.0
-      (record { harts = more.harts; runs = more.runs; members = more.members; below_all = more.below_all })
+      (record { harts = more.harts; runs = more.runs; members = more.members; below_all = more.below_all; ranges = more.ranges })
   group_runs number gs ns' afters xs many here as_a as_d on' come = absurd (assumption (as_a, as_d))
 
   abbrev all_become : List Doing → List Owner
@@ -467,7 +476,7 @@ module _ (core : List CoreOp) (image : Image) (places : Places) (nestings : Nest
       let are = of_map settle old.given nodes' ds in
       let ms = of_node old.given nodes' (numbered 0 hs) in
       let come = groups_come_to_commits core image places nestings cycles firsts main setting new spaces nodes' (later t) (fact.behind true) old.given ms (map settle (of_node old.given nodes' ds)) control
-      the_law leads node running runs.below_all (fact.few true)
+      the_law leads node (record { kind = lockstep_kind (trees.kind new old.given) lock; space = runs.ranges }) running runs.below_all (fact.few true)
       (private_run image (plan'.words old.given) (later t) (fact.behind true) ms runs.harts control
       (λ ms' own''. IsAtRest (first_of spaces old.given) own'' × AreMembers places nestings setting (λ p. None) (first_of spaces old.given) ms' (map settle (of_node old.given nodes' ds)))
       runs.runs (rest, runs.members))

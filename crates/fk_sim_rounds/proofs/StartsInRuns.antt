@@ -29,7 +29,7 @@ use Rattle.fk_sim_match.specs.Nodes as plans
 use Rattle.fk_sim_match.specs.Nodes.{plan_of, united}
 use Rattle.fk_sim_match.specs.Behind.{blocks_of}
 use Rattle.fk_sim_match.specs.Rounds.{AllDue}
-use Rattle.fk_sim_rounds.specs.Next.{JumpsLead, all_landed, AllAbout}
+use Rattle.fk_sim_rounds.specs.Next.{JumpsLead, all_landed, HasRange, AllAbout}
 use Rattle.fk_sim_rounds.specs.After.{actings, runners_of, tree_after, owner_after, owners_after, StepsAt, AllKeep, ArePlaces, GroupsGoOn}
 use Rattle.fk_sim_rounds.specs.Rounds.{IsTree, IsBefore}
 use Rattle.fk_sim_rounds.specs.Start.{IsBeforeStart}
@@ -40,7 +40,8 @@ use Rattle.fk_sim_rounds.proofs.Trees.{all_keep}
 use Rattle.fk_sim_rounds.proofs.Starts.{of_all, many_numbered, rounds_start}
 use Rattle.fk_sim_rounds.proofs.Nearer.{cycles_come_to_start}
 use Rattle.fk_sim_rounds.specs.Beside.{landed_runner, AreInOrder, IsBeside}
-use Rattle.fk_sim_rounds.specs.Homes.{AllHome, AllNext, AllFrom}
+use Rattle.fk_sim_rounds.specs.Comes.{AllHave}
+use Rattle.fk_sim_rounds.specs.Homes.{AllHome, AllNext}
 use Rattle.fk_sim_rounds.specs.Union.{IsNearBegin, AreNearBegin, IsUnited}
 use Rattle.fk_sim_rounds.specs.Starts.{CyclesFollowStarts}
 use Rattle.fk_sim_rounds.proofs.Landed.{allowed_land}
@@ -93,9 +94,10 @@ all_stay_near [] (s' ∷ stages') remain near = absurd remain
 all_stay_near (s ∷ stages) [] remain near = absurd remain
 
 -- the space of the root
-from_roots : (nestings : Nestings) (setting : Setting) (low : ℕ) (ps : List Owner) → low ≡ (group_space setting).low → AreInRoot nestings setting ps → AllFrom low ps
-from_roots nestings setting low [] e roots = tt
-from_roots nestings setting low (p ∷ ps) e roots = (ap (λ x. x.low) roots.0.space ∙ sym e, from_roots nestings setting low ps e roots.1)
+from_roots : (nestings : Nestings) (setting : Setting) (whole : Space) (ps : List Owner) → HasRange whole (group_space setting) → AreInRoot nestings setting ps → AllHave whole ps
+from_roots nestings setting whole [] e roots = tt
+from_roots nestings setting whole (p ∷ ps) e roots =
+    ((ap (λ x. x.low) roots.0.space ∙ e.0, ap (λ x. x.high) roots.0.space ∙ e.1), from_roots nestings setting whole ps e roots.1)
 
 module _ (core : List CoreOp) (image : Image) (places : Places) (nestings : Nestings) (setting : Setting) (spaces : ℕ → Space) (s : State Position) (nodes : List ℕ) (t : MachineSetting) (printed : List ℕ)
     (stages : List Stage) (hs : List Hart) (sh : Shared) (leads : JumpsLead core) (f : IsUnited core image places nestings setting spaces s nodes t printed stages hs sh) where
@@ -227,7 +229,7 @@ cycles_follow_starts core image places nestings cycles firsts main setting space
                 (λ gone.
                 inr (
                   gone,
-                  λ nodes' tree' there many' rest low on goes.
+                  λ nodes' tree' there many' rest range on goes.
                       let d = distance core image places nestings setting spaces s nodes t printed stages hs sh leads f in
                       let all = all_act core image places nestings setting spaces s nodes t printed stages hs sh leads f in
                       let plan' = united (plan_of s.tree spaces nodes) in
@@ -255,7 +257,7 @@ cycles_follow_starts core image places nestings cycles firsts main setting space
                       } in
                       let homes' : AllHome new spaces 0 (owners_after s.tree new whole.did)
                       = homes_begin core setting s.tree spaces f.before.alone f.i f.op f.ps whole.did f.before.sound f.before.kind f.before.in_root size f.homes
-                      (from_roots nestings setting (spaces s.tree.given).low f.ps low f.roots) did_is (subst (λ x. IsSound setting.processors x) e tree'.sound) in
+                      (from_roots nestings setting (spaces s.tree.given) f.ps range f.roots) did_is (subst (λ x. IsSound setting.processors x) e tree'.sound) in
                       let b = rounds_start core image places nestings cycles firsts main setting s.tree spaces nodes nodes' t stages hs done.harts f.ps whole.did (λ g. sh.control) whole.own done.shared.control the_law
                       leads here few f.bound r.left whole.has steps rest (subst (λ x. IsTree setting x spaces) e tree') (subst (λ x. ArePlaces x 0 nodes') e there) many'
                       (homes_go_on core nestings setting new spaces r.left.afters whole.did (owners_after s.tree new whole.did) homes'

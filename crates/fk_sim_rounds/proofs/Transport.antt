@@ -30,6 +30,7 @@ use Rattle.fk_sim_match.specs.Nodes.{first_of, own_words, owns, LiesIn, HaveSpac
 use Rattle.fk_sim_match.specs.Behind.{blocks_of}
 use Rattle.fk_sim_match.proofs.Rounds.{not_none}
 use Rattle.fk_sim_rounds.specs.After.{runners_of, ArePlaces}
+use Rattle.fk_sim_rounds.specs.Next.{HasRange}
 use Rattle.fk_sim_rounds.specs.Homes.{IsLevelOf, AllHome}
 use Rattle.fk_sim_rounds.specs.Transport.{HaveSameSpaces, OtherSpacesDontMatter}
 use Rattle.fk_sim_rounds.proofs.Trees.{some_there}
@@ -152,7 +153,7 @@ module _ (tree : Tree) (spaces spaces' : ℕ → Space) (same : HaveSameSpaces t
     level_same n l (k ∷ outer) is level =
         let waits : awaits (trees.kind tree (trees.parent tree n)) n ≡ true = sound.awaited n level.0 (not_none (tree.nodes n) is) in
         let there = some_there (tree.nodes (trees.parent tree n)) (awaits-some tree (trees.parent tree n) n waits) in
-        (level.0, level.1 ∙ ap (λ s. s.low) (same n is), level.2, level_same (trees.parent tree n) k outer there level.3)
+        (level.0, subst (λ s. HasRange s l.space) (same n is) level.1, level.2, level_same (trees.parent tree n) k outer there level.3)
 
     homes_same : (number : ℕ) (ps : List Owner) → number + length ps ≡ p → AllHome tree spaces number ps → AllHome tree spaces' number ps
     homes_same number [] many home = tt

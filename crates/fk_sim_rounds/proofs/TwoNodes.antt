@@ -1,7 +1,8 @@
--- A known round in which two nodes step: one group ends while another one comes to a body.
+-- Known rounds in which two nodes step: one group ends while another one comes to a body, or divides.
 use Rattle.std.proofs.Common.{◌≡◌, ℕ, zero, suc, [], ◌∷◌, Option, Some, None, refl}
 use Rattle.fk_tree.specs.declared.node.Kind.TheVariants.{Lockstep, Waiting}
 use Rattle.fk_tree.specs.Tree.{Tree, Node}
+use Rattle.fk_meaning_operation.specs.declared.operation.SplitKind.TheVariants.{IfElse}
 use Rattle.fk_meaning_operation.specs.declared.operation.Operation.{Operation}
 use Rattle.fk_meaning_operation.specs.declared.operation.Operation.TheVariants as o
 use Rattle.fk_sim_block.specs.Owner.{Doing}
@@ -34,3 +35,20 @@ known (suc (suc (suc g))) operation is = absurd (cc)
 pub two_step : (d e : Doing) → d.acting.runner.has.number ≡ 0 → e.acting.runner.has.number ≡ 1 → DoesStep o.End d.acting.due → DoesStep o.Farm e.acting.due
     → IsKnownRound two_groups (d ∷ e ∷ [])
 two_step d e first second ends comes = record { does = both; steps = (first, ends, (second, comes, tt)); known = known }
+
+abbrev ends_and_divides : ℕ → Option Operation
+ends_and_divides (suc zero) = Some o.End
+ends_and_divides (suc (suc zero)) = Some (o.Split IfElse)
+ends_and_divides k = None
+
+known_too : (g : ℕ) (operation : Operation) → ends_and_divides g ≡ Some operation → StepIsKnown two_groups g operation
+known_too zero operation is = absurd (cc)
+known_too (suc zero) o.End is = refl
+known_too (suc zero) operation is = absurd (cc)
+known_too (suc (suc zero)) (o.Split IfElse) is = (refl, refl)
+known_too (suc (suc zero)) operation is = absurd (cc)
+known_too (suc (suc (suc g))) operation is = absurd (cc)
+
+pub one_divides : (d e : Doing) → d.acting.runner.has.number ≡ 0 → e.acting.runner.has.number ≡ 1 → DoesStep o.End d.acting.due → DoesStep (o.Split IfElse) e.acting.due
+    → IsKnownRound two_groups (d ∷ e ∷ [])
+one_divides d e first second ends divides = record { does = ends_and_divides; steps = (first, ends, (second, divides, tt)); known = known_too }

@@ -70,5 +70,6 @@ StartsStayReady =
     → JumpsLead core → length m.harts < 2 ^ 31 → is_running m.stand ≡ true
     → GoesToStart core image places nestings setting spaces s nodes printed stages m
     → is_possible (next core) setting (counts_for stages) s ≡ true
-    → HaveOneHeader s.tree spaces first → HasNoGroup s.tree → IsReadyForGroup s.tree first m.shared.control
+    → HaveOneHeader s.tree spaces first → HasNoGroup s.tree
+    → IsReadyForGroup s.tree first m.shared.control
     → IsAtRest first (cycle m).shared.control

@@ -24,6 +24,7 @@ use Rattle.fk_sim_block.specs.Owner.{Owner, Doing, core_source}
 use Rattle.fk_sim_block.specs.Stands.{Places}
 use Rattle.fk_sim_block.specs.Block.{IsRunning}
 use Rattle.fk_sim_block.specs.Node.{Nestings}
+use Rattle.fk_sim_block.specs.Parts.{is_implicit}
 use Rattle.fk_sim_block.specs.Law.{Cycles, GroupLaw}
 use Rattle.fk_sim_match.specs.Nodes.{first_of, HaveSpaces, plan_of}
 use Rattle.fk_sim_match.specs.Behind.{blocks_of}
@@ -60,7 +61,7 @@ AllStandIn tree g = (h : ℕ) → is_member h (trees.members tree g) ≡ true �
 -- What all who stand at a node may do together in a known round: those who have waited for their
 -- parts go on, those of a body come to its end, and a group comes to a body, divides or ends. Some
 -- may leave a part that isn't in the root. The beginning of the group of `start` (`RoundsStart`)
--- isn't among these steps.
+-- and `fork` aren't among these steps.
 abbrev pub StepIsKnown : Tree → (g : ℕ) → Operation → Type 0
 StepIsKnown tree g Resume =
     ((first : ℕ) × (parts : ℕ) × (trees.kind tree g ≡ Some (Waiting first parts)))
@@ -70,7 +71,7 @@ StepIsKnown tree g (Meet true) =
 StepIsKnown tree g Farm = trees.kind tree g ≡ Some Lockstep
 StepIsKnown tree g Seq = trees.kind tree g ≡ Some Lockstep
 StepIsKnown tree g End = trees.kind tree g ≡ Some Lockstep
-StepIsKnown tree g (Split by) = trees.kind tree g ≡ Some Lockstep
+StepIsKnown tree g (Split by) = (trees.kind tree g ≡ Some Lockstep) × (is_implicit by ≡ true)
 StepIsKnown tree g Shrink =
     (trees.kind tree g ≡ Some Lockstep) × (trees.parent tree g ≢ 0)
 StepIsKnown tree g operation = ⊥

@@ -81,7 +81,7 @@ pub fn rounds_bind_again()
     ensures { RoundsBindAgain }
 {}
 
-/// A group stays after a known round, unless it ends in that round.
+/// After a known round there are groups still, unless the round ends one.
 pub fn known_rounds_keep_groups()
     ensures { KnownRoundsKeepGroups }
 {}
