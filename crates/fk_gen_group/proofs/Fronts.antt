@@ -1,11 +1,11 @@
 -- The lines of a split up to the code that splits share.
-use Rattle.std.proofs.Common.{◌≡◌, ◌≢◌, ℕ, suc, ◌+◌, ◌*◌, ◌<◌, ◌≤◌, List, [], ◌∷◌, ◌++◌, length, Bool, true, false, Some, None, sym, ap, subst, ◌∙◌, arith, refl, ◌⊎◌, inl, inr}
+use Rattle.std.proofs.Common.{◌≡◌, ◌≢◌, ℕ, zero, suc, ◌+◌, ◌*◌, ◌<◌, ◌≤◌, List, [], ◌∷◌, ◌++◌, length, Bool, true, false, Some, None, sym, ap, subst, ◌∙◌, arith, refl, ◌⊎◌, inl, inr}
 use Rattle.std.specs.Prelude.{◌==◌, nat_lt, is_some, if◌then◌else◌}
 use Rattle.std.specs.Int.{from_bool}
 use Rattle.std.proofs.lemmas.Bool.{ne_eqb, lt-ltb, le-ltb, cases_lt}
 use Rattle.fk_num.specs.Word.{Memory, put, word_sum}
 use Rattle.fk_num.specs.Op.{applied}
-use Rattle.fk_num.specs.declared.operator.Op.TheVariants as op
+use Rattle.fk_num.specs.declared.operator.Op.TheVariants as num
 use Rattle.fk_space.specs.Space.{Space, free, share, equal_part}
 use Rattle.fk_meaning_operation.specs.declared.operation.SplitKind.{SplitKind}
 use Rattle.fk_meaning_operation.specs.declared.operation.SplitKind.TheVariants.{IfAlone, IfElse, AndThen, OrElse, Loop}
@@ -28,17 +28,19 @@ use Rattle.fk_gen.specs.Lines.{goes_to, at_value, at_private, label_of}
 use Rattle.fk_gen.specs.InPlace.{LinesAt}
 use Rattle.fk_gen.proofs.Walk.{Quiets, Plain, LocalAt, CanWalk, quiet_lines, walk, told_of, walked, lines_split, runs_join}
 use Rattle.fk_gen.proofs.Jumps.{jumps, jal_private}
-use Rattle.fk_gen.proofs.Does.{quiet_length}
+use Rattle.fk_gen.proofs.Does.{quiet_length, holds_in_cycles}
 use Rattle.fk_gen_group.specs.Splits.{no_room, part_lines, parts_label}
 use Rattle.fk_gen_group.specs.Laws.{IsInPlace}
 use Rattle.fk_gen_group.proofs.Last.{value_word, is_value, is_last}
 
 -- ---- room for parts
 
-too_few : (s : Space) (k : ℕ) → (free s < 4 * k) ⊎ (equal_part s k < 16) → is_some (share s k) ≡ false
-too_few s k (inl lt) = ap (λ b. is_some (if b then None else (if nat_lt (equal_part s k) 16 then None else Some (equal_part s k)))) (lt-ltb (free s) (4 * k) lt)
-too_few s k (inr lt) = elim (cases_lt (free s) (4 * k)) [
-  | inl less ↦ too_few s k (inl less)
+no_words : (s : Space) (k : ℕ) → free s < 4 * k → is_some (share s k) ≡ false
+no_words s k lt = ap (λ b. is_some (if b then None else (if nat_lt (equal_part s k) 16 then None else Some (equal_part s k)))) (lt-ltb (free s) (4 * k) lt)
+
+small_parts : (s : Space) (k : ℕ) → equal_part s k < 16 → is_some (share s k) ≡ false
+small_parts s k lt = elim (cases_lt (free s) (4 * k)) [
+  | inl less ↦ no_words s k less
   | inr le ↦
       ap (λ b. is_some (if b then None else (if nat_lt (equal_part s k) 16 then None else Some (equal_part s k)))) (le-ltb (free s) (4 * k) le)
       ∙ ap (λ b. is_some (if b then None else Some (equal_part s k))) (lt-ltb (equal_part s k) 16 lt)
@@ -56,8 +58,8 @@ both_ways b e f = absurd (cc)
 pub room_of_one : (s : Space) → has_parts s 1 ≡ true → 20 ≤ free s
 room_of_one s e = elim (cases_lt (free s) 20) [
   | inl lt ↦ absurd (both_ways (has_parts s 1) e (elim (cases_lt (free s) (4 * 1)) [
-    | inl less ↦ too_few s 1 (inl less)
-    | inr le ↦ too_few s 1 (inr (omega arith))
+    | inl less ↦ no_words s 1 less
+    | inr le ↦ small_parts s 1 (omega arith)
   ]))
   | inr le ↦ le
 ]
@@ -71,8 +73,8 @@ full_of_one s e = elim (cases_lt (free s) 20) [
 pub room_of_two : (s : Space) → has_parts s 2 ≡ true → 40 ≤ free s
 room_of_two s e = elim (cases_lt (free s) 40) [
   | inl lt ↦ absurd (both_ways (has_parts s 2) e (elim (cases_lt (free s) (4 * 2)) [
-    | inl less ↦ too_few s 2 (inl less)
-    | inr le ↦ too_few s 2 (inr (omega arith))
+    | inl less ↦ no_words s 2 less
+    | inr le ↦ small_parts s 2 (omega arith)
   ]))
   | inr le ↦ le
 ]
@@ -90,25 +92,25 @@ abbrev pub flag_by : SplitKind → List ℕ → ℕ
 flag_by IfElse vs = from_bool (last vs == 0)
 flag_by by vs = from_bool (is_some (part by vs))
 
-not_nought : (v : ℕ) → from_bool (nat_lt 0 v) ≡ from_bool (is_some (if v == 0 then None else Some 0))
-not_nought 0 = refl
+not_nought : (v : ℕ) → from_bool (nat_lt 0 v) ≡ from_bool (is_some {T = ℕ} (if v == 0 then None else Some 0))
+not_nought zero = refl
 not_nought (suc v) =
-    ap from_bool (lt-ltb 0 (suc v) (omega arith)) ∙ sym (ap (λ b. from_bool (is_some (if b then None else Some 0))) (ne_eqb (suc v) 0 (λ e. omega arith)))
+    ap from_bool (lt-ltb 0 (suc v) (omega arith)) ∙ sym (ap (λ b. from_bool (is_some {T = ℕ} (if b then None else Some 0))) (ne_eqb (suc v) 0 (λ e. omega arith)))
 
-nought_or : (v : ℕ) → from_bool (nat_lt v 1) ≡ from_bool (is_some (if v == 0 then Some 0 else None))
-nought_or 0 = refl
+nought_or : (v : ℕ) → from_bool (nat_lt v 1) ≡ from_bool (is_some {T = ℕ} (if v == 0 then Some 0 else None))
+nought_or zero = refl
 nought_or (suc v) =
-    ap from_bool (le-ltb (suc v) 1 (omega arith)) ∙ sym (ap (λ b. from_bool (is_some (if b then Some 0 else None))) (ne_eqb (suc v) 0 (λ e. omega arith)))
+    ap from_bool (le-ltb (suc v) 1 (omega arith)) ∙ sym (ap (λ b. from_bool (is_some {T = ℕ} (if b then Some 0 else None))) (ne_eqb (suc v) 0 (λ e. omega arith)))
 
 nought_is : (v : ℕ) → from_bool (nat_lt v 1) ≡ from_bool (v == 0)
-nought_is 0 = refl
+nought_is zero = refl
 nought_is (suc v) = ap from_bool (le-ltb (suc v) 1 (omega arith)) ∙ sym (ap from_bool (ne_eqb (suc v) 0 (λ e. omega arith)))
 
 -- ---- the lines
 
 -- who waits at an `||` has 1 in place of its value
 abbrev pub memory_by : SplitKind → (depth : ℕ) → Hart → Memory
-memory_by OrElse depth h = put h.local (value_word depth h) (applied op.LtU (h.registers 0) (h.local (value_word depth h)))
+memory_by OrElse depth h = put h.local (value_word depth h) (applied num.LtU (h.registers 0) (h.local (value_word depth h)))
 memory_by by depth h = h.local
 
 module _ (core : List CoreOp) (image : Image) (bound : ℕ → ℕ) (places : Places) (nestings : Nestings) (i : ℕ) (op : CoreOp) (by : SplitKind)
@@ -165,7 +167,7 @@ module _ (core : List CoreOp) (image : Image) (bound : ℕ → ℕ) (places : Pl
         runs = subst (λ c. RunsPrivately image t m.number c m.hart (jumps h 1 target)) count
             (runs_join image t m.number (length quiets) 1 m.hart h (jumps h 1 target) v.runs (
               jumps h 1 target,
-              jal_private image bound (in_cycles (length quiets) t) m.number (k + length quiets) 1 (parts_label by) h en.running.code behind.0
+              jal_private image bound (in_cycles (length quiets) t) m.number (k + length quiets) 1 (parts_label by) h (holds_in_cycles image (length quiets) t en.running.code) behind.0
                   (place.block.labels.within (parts_label by)) at v.live,
               refl,
             ));

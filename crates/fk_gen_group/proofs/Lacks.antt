@@ -3,7 +3,7 @@ use Rattle.std.proofs.Common.{◌≡◌, ℕ, suc, ◌+◌, ◌-◌, ◌*◌, �
 use Rattle.std.proofs.lemmas.Bool.{lt-leb}
 use Rattle.fk_num.specs.Word.{Memory, word, word_sum}
 use Rattle.fk_num.specs.Op.{applied}
-use Rattle.fk_num.specs.declared.operator.Op.TheVariants as op
+use Rattle.fk_num.specs.declared.operator.Op.TheVariants as num
 use Rattle.fk_space.specs.Space.{Space, IsSpace, free}
 use Rattle.fk_meaning_operation.specs.declared.operation.SplitKind.{SplitKind}
 use Rattle.fk_meaning_operation.specs.declared.operation.SplitKind.TheVariants.{IfAlone, IfElse, AndThen, OrElse, Loop}
@@ -21,14 +21,15 @@ use Rattle.fk_machine.proofs.Performs.{writes, sw-fault}
 use Rattle.fk_machine.proofs.Places.{place_of-fault}
 use Rattle.fk_sim_nodes.specs.Node.{Member, Words}
 use Rattle.fk_sim_nodes.specs.Alone.{RunsPrivately, NodeRun, later, in_cycles}
+use Rattle.fk_sim_nodes.specs.Together.{Together}
 use Rattle.fk_sim_nodes.specs.OneHart.{OneDoes, EachDoes, AllReach}
 use Rattle.fk_sim_nodes.proofs.InPlace.{step_at}
 use Rattle.fk_sim_nodes.proofs.Members.{together_map}
 use Rattle.fk_sim_nodes.proofs.OneHart.{each_does}
 use Rattle.fk_sim_block.specs.Owner.{Owner, Doing, core_source}
 use Rattle.fk_sim_block.specs.Stands.{Places}
-use Rattle.fk_sim_block.specs.Block.{Enters}
-use Rattle.fk_sim_block.specs.Node.{Nestings, KnowsSpace, control_address}
+use Rattle.fk_sim_block.specs.Block.{Enters, most_before}
+use Rattle.fk_sim_block.specs.Node.{Nestings, OwnsHeader, KnowsSpace, control_address}
 use Rattle.fk_sim_block.specs.Lockstep.{IsMember, AllEnter}
 use Rattle.fk_sim_block.specs.Parts.{IsToDivide, AllAreToDivide, is_implicit}
 use Rattle.fk_gen.specs.Lines.{high_part, low_part}
@@ -179,7 +180,7 @@ module _ (core : List CoreOp) (image : Image) (bound : ℕ → ℕ) (places : Pl
       let near' = front.back.1.0.within in
       let zero_is : h1.registers 0 ≡ 0 = front.others 0 (λ e. omega arith) (λ e. omega arith) (λ e. omega arith) (λ e. omega arith) ∙ en.at.stands.nought in
       let e1 : h1.pc ≡ 4 * k = front.at ∙ ap (λ l. 4 * bound l) label in
-      let left = applied op.Sub (h1.registers 13) (h1.registers 12) in
+      let left = applied num.Sub (h1.registers 13) (h1.registers 12) in
       let left_is = difference (h1.registers 13) (h1.registers 12) (omega arith) in
       let h2 = writes h1 5 left in
       let e2 : h2.pc ≡ 4 * suc k = omega arith in
@@ -251,18 +252,27 @@ few_before OrElse = omega arith
 few_before Loop = omega arith
 few_before by = omega arith
 
-pub groups_lack_room : GroupsLackRoom
-groups_lack_room core image bound places nestings i op by is split small setting t mine first space count ms [] own owns all divide full = absurd (omega (arith, divide.some))
-groups_lack_room core image bound places nestings i op by is split small setting t mine first space count ms (p ∷ ps) own owns all divide full =
-    let source = core_source core setting in
-    let before = split_faults_in by in
-    let t' = later (in_cycles before t) in
-    let None' : ℕ → Owner → Hart → Doing → Type 0 = λ number p h d. ⊥ in
-    let Then : List Member → List Doing → Memory → Type 0 = λ ms' ds own'. NodeRun image mine t' 0 ms' own' (λ ms'' own''. (own'' ≡ own) × AllReach None' (p ∷ ps) ms'' ds) in (
-      before,
-      few_before by,
+module _ (core : List CoreOp) (image : Image) (bound : ℕ → ℕ) (places : Places) (nestings : Nestings) (i : ℕ) (op : CoreOp) (by : SplitKind) (is : is_implicit by ≡ true)
+    (split : IsSplitInPlace core image bound places nestings i op by) (small : op.site < 2 ^ 32) (setting : Setting) (t : MachineSetting) (mine : Words) (first : ℕ) (space : Space) (count : ℕ)
+    (owns : OwnsHeader mine first) (is_space : IsSpace space) (full : has_parts space count ≡ false) where
+  all_lack : (ms : List Member) (ps : List Owner) (own : Memory) → 1 ≤ length ps → AllEnter core image places nestings i op (Split by) setting t None first ms ps → AllAreToDivide by space count ps
+      → Together (core_source core setting) image mine t 1 (split_faults_in by) ms ps own (λ ms' ds own'. ⊥)
+  all_lack ms [] own some all divide = absurd (omega arith)
+  all_lack ms (p ∷ ps) own some all divide =
+      let source = core_source core setting in
+      let before = split_faults_in by in
+      let t' = later (in_cycles before t) in
+      let None' : ℕ → Owner → Hart → Doing → Type 0 = λ number p h d. ⊥ in
+      let Then : List Member → List Doing → Memory → Type 0 = λ ms' ds own'. NodeRun image mine t' 0 ms' own' (λ ms'' own''. (own'' ≡ own) × AllReach None' (p ∷ ps) ms'' ds) in
       together_map source image mine t 1 before ms (p ∷ ps) own Then (λ ms' ds own'. ⊥)
-          (λ ms' ds own' x. reached_by_none p ps ms' ds x.1)
-          (each_does source image mine t 1 before 0 None' ms (p ∷ ps) own owns.apart
-          (each_lacks core image bound places nestings i op setting space count split.parts small divide.is_space full t first by split.place is ms (p ∷ ps) all divide.all)),
-    )
+      (λ ms' ds own' x. reached_by_none p ps ms' ds x.1)
+      (each_does source image mine t 1 before 0 None' ms (p ∷ ps) own owns.apart
+      (each_lacks core image bound places nestings i op setting space count split.parts small is_space full t first by split.place is ms (p ∷ ps) all divide))
+
+pub groups_lack_room : GroupsLackRoom
+groups_lack_room core image bound places nestings i op by is split small = record {
+  before = split_faults_in by;
+  few = few_before by;
+  faults = λ setting t mine first space count ms ps own owns all divide full.
+      all_lack core image bound places nestings i op by is split small setting t mine first space count owns divide.is_space full ms ps own divide.some all divide.all;
+}

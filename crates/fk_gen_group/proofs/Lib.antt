@@ -46,6 +46,8 @@ pub mod Shrinks
 pub mod Fronts
 -- a split without room
 pub mod Lacks
+-- where members count themselves at a split, and how they enter parts
+pub mod Parting
 -- the size of the group of `start`
 pub mod Sizes
 -- the beginning of `start`

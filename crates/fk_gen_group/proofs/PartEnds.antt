@@ -16,20 +16,20 @@ use Rattle.fk_sim_nodes.specs.Alone.{Holds, GoesAlone, RunsPrivately, later}
 use Rattle.fk_sim_nodes.specs.Together.{Together}
 use Rattle.fk_sim_nodes.specs.OnePlace.{on_each}
 use Rattle.fk_sim_nodes.proofs.Runs.{cycle_map}
-use Rattle.fk_sim_nodes.proofs.Members.{cycle_commits}
+use Rattle.fk_sim_nodes.proofs.Members.{cycle_commits, together_map}
 use Rattle.fk_sim_nodes.proofs.OnePlace.{private_of_all}
 use Rattle.fk_sim_block.specs.Owner.{Owner, core_source}
 use Rattle.fk_sim_block.specs.Stands.{Places}
 use Rattle.fk_sim_block.specs.Block.{Enters}
 use Rattle.fk_sim_block.specs.Node.{Nestings, OwnsHeader, first_word}
 use Rattle.fk_sim_block.specs.Lockstep.{IsMember, AllEnter, AllComeByWay, LevelOpens, highest_value, is_due}
-use Rattle.fk_sim_block.specs.Parts.{IsInPart, AreInPart, size_behind}
+use Rattle.fk_sim_block.specs.Parts.{IsInPart, AreInPart, AllMove, size_behind}
 use Rattle.fk_gen.specs.declared.placed.Levels.{Levels}
 use Rattle.fk_gen.specs.Lines.{at_private}
 use Rattle.fk_gen.specs.InPlace.{HasBlock}
 use Rattle.fk_gen.proofs.Walk.{LocalAt, told_of, can_run_goes}
 use Rattle.fk_gen.proofs.Standing.{SameRegisters}
-use Rattle.fk_gen_group.specs.Splits.{end_part_block}
+use Rattle.fk_gen_group.specs.Splits.{end_part_block, end_part_takes}
 use Rattle.fk_gen_group.specs.Blocks.{end_block, end_by}
 use Rattle.fk_gen_group.specs.Laws.{IsInPlace, PartsEnd, levels_at}
 use Rattle.fk_gen_group.proofs.Members.{Both, all_stand, at_block, each_standing, all_alone, all_due}
@@ -135,11 +135,16 @@ module _ (core : List CoreOp) (image : Image) (bound : ℕ → ℕ) (places : Pl
       (all_alone Came t0 (Lw 20 8 (at_private word)) f ms ps loads all)))
 
 pub parts_end : PartsEnd
-parts_end core image bound places nestings i op place leads setting t mine first [] [] own owns all part = record { counted = tt; chain = (refl, (tt, refl)) }
+parts_end core image bound places nestings i op place leads setting t mine first [] [] own owns all part = record { counted = tt; chain = (refl, tt, refl) }
 parts_end core image bound places nestings i op place leads setting t mine first (m ∷ ms) (p ∷ ps) own owns all part =
     let some : 0 < nestings.levels i = subst (λ a. 0 < nestings.levels a) all.0.index part.0.saved in
     let block = part_block image bound places (levels_at nestings i) i op.target some place.block in
     let came = came_all core image bound places nestings i op place block (leads some) setting t mine first owns (m ∷ ms) (p ∷ ps) all part in
-    together core image bound places nestings i op place block (leads some) setting t mine first owns (highest_value (p ∷ ps)) (size_behind End (p ∷ ps)) (m ∷ ms) (p ∷ ps) own
-    all.0.running.code came
+    let gone : List Member → Type 0 = λ ms'. AllMove core image places nestings i op End setting (later t) (λ onward. end_part_takes) (λ q. None) 0 ms' (p ∷ ps) in
+    together_map (core_source core setting) image mine t 1 0 (m ∷ ms) (p ∷ ps) own
+    (λ ms' ds own'. (ds ≡ map (is_due core i op End) (p ∷ ps)) × (gone ms' × (own' ≡ own)))
+    (λ ms' ds own'. (ds ≡ map (is_due core i op End) (p ∷ ps)) × gone ms' × (own' ≡ own))
+    (λ ms' ds own' x. (x.0, x.1.0, x.1.1))
+    (together core image bound places nestings i op place block (leads some) setting t mine first owns (highest_value (p ∷ ps)) (size_behind End (p ∷ ps)) (m ∷ ms) (p ∷ ps) own
+    all.0.running.code came)
 parts_end core image bound places nestings i op place leads setting t mine first ms ps own owns all part = absurd (assumption all)

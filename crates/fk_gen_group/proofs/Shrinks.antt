@@ -1,11 +1,11 @@
 -- Some members of a part stay in a loop, and the others leave the part.
-use Rattle.std.proofs.Common.{◌≡◌, ◌≢◌, ℕ, suc, ◌+◌, ◌-◌, ◌*◌, ◌<◌, ◌≤◌, List, [], ◌∷◌, length, map, Bool, true, false, None, sym, ap, subst, ◌∙◌, arith, refl, inl, inr, eq-eqb}
+use Rattle.std.proofs.Common.{◌≡◌, ◌≢◌, ℕ, zero, suc, ◌+◌, ◌-◌, ◌*◌, ◌^◌, ◌<◌, ◌≤◌, List, [], ◌∷◌, length, map, Bool, true, false, None, sym, ap, subst, ◌∙◌, arith, refl, inl, inr, eq-eqb}
 use Rattle.std.specs.Prelude.{◌==◌, nat_lt, not, if◌then◌else◌}
 use Rattle.std.specs.Int.{from_bool}
 use Rattle.std.proofs.lemmas.Bool.{ne_eqb, lt-ltb}
 use Rattle.fk_num.specs.Word.{Memory, word_sum}
 use Rattle.fk_num.specs.Op.{applied}
-use Rattle.fk_num.specs.declared.operator.Op.TheVariants as op
+use Rattle.fk_num.specs.declared.operator.Op.TheVariants as num
 use Rattle.fk_meaning_operation.specs.declared.operation.Operation.TheVariants.{Shrink}
 use Rattle.fk_meaning.specs.Processor.{Level, Setting, values, last, before, drop_last, leave_level, with_values, to_outer}
 use Rattle.fk_meaning.specs.Group.{has_room, stays, with_size}
@@ -21,14 +21,14 @@ use Rattle.fk_sim_nodes.specs.Alone.{Holds, GoesAlone, RunsPrivately, NodeCycle,
 use Rattle.fk_sim_nodes.specs.Together.{Commits, Together}
 use Rattle.fk_sim_nodes.specs.OnePlace.{AllAreAt, last_or, sum_from}
 use Rattle.fk_sim_nodes.proofs.Runs.{cycle_map}
-use Rattle.fk_sim_nodes.proofs.Members.{cycle_commits}
+use Rattle.fk_sim_nodes.proofs.Members.{cycle_commits, together_map}
 use Rattle.fk_sim_block.specs.Owner.{Owner, Doing, core_source}
 use Rattle.fk_sim_block.specs.Stands.{Places, HasValues, frame_end}
 use Rattle.fk_sim_block.specs.Suits.{Flows, nothing}
 use Rattle.fk_sim_block.specs.Block.{Enters}
 use Rattle.fk_sim_block.specs.Node.{Nestings, OwnsHeader, IsAtRest, KnowsSpace, first_word, control_address}
 use Rattle.fk_sim_block.specs.Lockstep.{IsMember, AllEnter, AllComeByWay, ComesByWay, LevelsStay, LevelOpens, highest_value, is_due}
-use Rattle.fk_sim_block.specs.Parts.{IsInPart, AreInPart, size_behind, size_of_stay}
+use Rattle.fk_sim_block.specs.Parts.{IsInPart, AreInPart, AllMove, size_behind, size_of_stay}
 use Rattle.fk_sim_block.proofs.Spaces.{space_kept}
 use Rattle.fk_gen.specs.Lines.{at_value, at_private}
 use Rattle.fk_gen.proofs.Values.{values_before}
@@ -46,7 +46,7 @@ use Rattle.fk_gen_group.proofs.Slots.{slot_of, first_slot, out_word, sized, out_
 
 -- 1 of a value that is not 0
 flag_of : (v : ℕ) → from_bool (nat_lt 0 v) ≡ from_bool (not (v == 0))
-flag_of 0 = refl
+flag_of zero = refl
 flag_of (suc v) = ap from_bool (lt-ltb 0 (suc v) (omega arith)) ∙ sym (ap (λ b. from_bool (not b)) (ne_eqb (suc v) 0 (λ e. omega arith)))
 
 -- a hart that has all of another's registers but t0 and t3
@@ -85,7 +85,7 @@ module _ (core : List CoreOp) (image : Image) (bound : ℕ → ℕ) (places : Pl
   load_hart h = writes h 28 (h.local (value_word op.depth h))
 
   abbrev flag_hart : Hart → Hart
-  flag_hart h = writes (load_hart h) 28 (applied op.LtU (h.registers 0) (h.local (value_word op.depth h)))
+  flag_hart h = writes (load_hart h) 28 (applied num.LtU (h.registers 0) (h.local (value_word op.depth h)))
 
   record Loaded (m : Member) (p : Owner) : Type 0 where
     pub hart : Hart
@@ -106,13 +106,13 @@ module _ (core : List CoreOp) (image : Image) (bound : ℕ → ℕ) (places : Pl
   loaded m p came = record { hart = m.hart; came = came; is = refl }
 
   abbrev flagged : Member → Hart
-  flagged m = writes m.hart 28 (applied op.LtU (m.hart.registers 0) (m.hart.registers 28))
+  flagged m = writes m.hart 28 (applied num.LtU (m.hart.registers 0) (m.hart.registers 28))
 
   ready : (m : Member) (p : Owner) → Loaded m p → Ready (record m { hart = flagged m }) p
   ready m p l = record {
     hart = l.hart;
     came = l.came;
-    is = ap (λ (h : Hart). writes h 28 (applied op.LtU (h.registers 0) (h.registers 28))) l.is;
+    is = ap (λ (h : Hart). writes h 28 (applied num.LtU (h.registers 0) (h.registers 28))) l.is;
   }
 
   -- ---- those who stay are counted
@@ -123,7 +123,7 @@ module _ (core : List CoreOp) (image : Image) (bound : ℕ → ℕ) (places : Pl
   abbrev count : Owner → ℕ
   count p = from_bool (stays p.runner.has)
 
-  other : 10 ≢ 5
+  other : ◌≢◌ {A = ℕ} 10 5
   other e = omega arith
 
   to_count : (m : Member) (p : Owner) → Ready m p → IsToCount mine 10 28 word count m p
@@ -475,7 +475,7 @@ module _ (core : List CoreOp) (image : Image) (bound : ℕ → ℕ) (places : Pl
       (λ ms' own' x. subst (AtAdd ps ms') (sym x.2) (add_step p others ms' own holds rest few x.0 (given_all ms' ps x.1)))
       (alone_cycle image mine t1 (suc k) (Sltu 28 0 28) flagged Loaded Ready ms ps own holds place.block.lines.1.0 (λ m. (refl, refl)) (λ m q l s. (s.reserved, refl)) ready stand all)
 
-  pub together : (p : Owner) (others : List Owner) (ms : List Member) (own : Memory) → Holds image t0 → IsAtRest first own → length (p ∷ others) ≤ 1024 → Both Came ms (p ∷ others)
+  together : (p : Owner) (others : List Owner) (ms : List Member) (own : Memory) → Holds image t0 → IsAtRest first own → length (p ∷ others) ≤ 1024 → Both Came ms (p ∷ others)
       → Together (core_source core setting) image mine t0 1 4 ms (p ∷ others) own (Goal (p ∷ others))
   together p others ms own holds rest few all =
       let ps = p ∷ others in
@@ -486,8 +486,13 @@ module _ (core : List CoreOp) (image : Image) (bound : ℕ → ℕ) (places : Pl
       (all_stand k Came ms ps (λ m q came. at_block core image places nestings i op Shrink setting t0 first m q came.enters) all) all)
 
 pub parts_shrink : PartsShrink
-parts_shrink core image bound places nestings i op place opens setting t mine first [] [] own owns all part few rest = record { counted = tt; chain = (refl, (tt, rest)) }
+parts_shrink core image bound places nestings i op place opens setting t mine first [] [] own owns all part few rest = record { counted = tt; chain = (refl, tt, rest) }
 parts_shrink core image bound places nestings i op place opens setting t mine first (m ∷ ms) (p ∷ ps) own owns all part few rest =
     let came = came_all core image bound places nestings i op place opens setting t mine first owns (m ∷ ms) (p ∷ ps) all part in
-    together core image bound places nestings i op place opens setting t mine first owns p ps (m ∷ ms) own all.0.running.code rest few came
+    let gone : List Member → Type 0 = λ ms'. AllMove core image places nestings i op Shrink setting (later (in_cycles 4 t)) shrink_goes_on (λ q. None) 0 ms' (p ∷ ps) in
+    together_map (core_source core setting) image mine t 1 4 (m ∷ ms) (p ∷ ps) own
+    (λ ms' ds own'. (ds ≡ map (is_due core i op Shrink) (p ∷ ps)) × (gone ms' × IsAtRest first own'))
+    (λ ms' ds own'. (ds ≡ map (is_due core i op Shrink) (p ∷ ps)) × gone ms' × IsAtRest first own')
+    (λ ms' ds own' x. (x.0, x.1.0, x.1.1))
+    (together core image bound places nestings i op place opens setting t mine first owns p ps (m ∷ ms) own all.0.running.code rest few came)
 parts_shrink core image bound places nestings i op place opens setting t mine first ms ps own owns all part few rest = absurd (assumption all)
