@@ -48,6 +48,10 @@ pub mod Fronts
 pub mod Lacks
 -- where members count themselves at a split, and how they enter parts
 pub mod Parting
+-- all members count in lockstep
+pub mod Counted
+-- what the control words of parts have behind a split
+pub mod PartSizes
 -- the size of the group of `start`
 pub mod Sizes
 -- the beginning of `start`
