@@ -52,6 +52,8 @@ pub mod Parting
 pub mod Counted
 -- what the control words of parts have behind a split
 pub mod PartSizes
+-- members come to count at a split into one part
+pub mod OnePart
 -- the size of the group of `start`
 pub mod Sizes
 -- the beginning of `start`

@@ -88,7 +88,7 @@ module _ (core : List CoreOp) (image : Image) (bound : ℕ → ℕ) (places : Pl
   one_lines = (Addi 6 6 (2 ^ 32 - 64), Plain) ∷ (Sub 6 6 10, Plain) ∷ (Mul 6 6 28, Plain) ∷ (Add 6 6 10, Plain) ∷ []
 
   -- what the lines come to, by whether it enters
-  one_word : ℕ → ℕ
+  pub one_word : ℕ → ℕ
   one_word flag = word_sum (applied num.Mul (applied num.Sub (word_sum (word_sum (h1.registers 12) 80) (2 ^ 32 - 64)) (h1.registers 10)) flag) (h1.registers 10)
 
   distance_is : applied num.Sub (word_sum (word_sum (h1.registers 12) 80) (2 ^ 32 - 64)) (h1.registers 10) ≡ 4 * (space.frames + 4 - first)
@@ -102,7 +102,7 @@ module _ (core : List CoreOp) (image : Image) (bound : ℕ → ℕ) (places : Pl
       let top = is_space.shared in
       difference (word_sum (word_sum (h1.registers 12) 80) (2 ^ 32 - 64)) (h1.registers 10) (omega arith) ∙ omega arith
 
-  enters_word : one_word 1 ≡ control_address (space.frames + 4)
+  pub enters_word : one_word 1 ≡ control_address (space.frames + 4)
   enters_word =
       let node = node_is in
       let low = low_is in
@@ -112,7 +112,7 @@ module _ (core : List CoreOp) (image : Image) (bound : ℕ → ℕ) (places : Pl
       let top = is_space.shared in
       ap (λ d. word_sum (applied num.Mul d 1) (h1.registers 10)) distance_is ∙ omega arith
 
-  waits_word : one_word 0 ≡ control_address first
+  pub waits_word : one_word 0 ≡ control_address first
   waits_word =
       let node = node_is in
       let low = low_is in
@@ -178,7 +178,7 @@ module _ (core : List CoreOp) (image : Image) (bound : ℕ → ℕ) (places : Pl
   share_word : ℕ
   share_word = word_sum (applied num.Shl (applied num.ShrU left 3) 2) (2 ^ 32 - 16)
 
-  two_word : ℕ → ℕ
+  pub two_word : ℕ → ℕ
   two_word flag = word_sum (word_sum (applied num.Mul flag share_word) (h1.registers 12)) 32
 
   left_is : left ≡ 4 * free space
@@ -196,7 +196,7 @@ module _ (core : List CoreOp) (image : Image) (bound : ℕ → ℕ) (places : Pl
       let top = is_space.shared in
       ap (λ x. word_sum (applied num.Shl (applied num.ShrU x 3) 2) (2 ^ 32 - 16)) left_is ∙ omega arith
 
-  first_word_is : 40 ≤ free space → two_word 0 ≡ control_address (space.frames + 8)
+  pub first_word_is : 40 ≤ free space → two_word 0 ≡ control_address (space.frames + 8)
   first_word_is many =
       let frames = known.0 in
       let ordered = is_space.ordered in
@@ -204,7 +204,7 @@ module _ (core : List CoreOp) (image : Image) (bound : ℕ → ℕ) (places : Pl
       let top = is_space.shared in
       ap (λ x. word_sum (word_sum (applied num.Mul 0 x) (h1.registers 12)) 32) (share_is many) ∙ omega arith
 
-  second_word_is : 40 ≤ free space → two_word 1 ≡ control_address (space.frames + 8 + equal_part space 2)
+  pub second_word_is : 40 ≤ free space → two_word 1 ≡ control_address (space.frames + 8 + equal_part space 2)
   second_word_is many =
       let frames = known.0 in
       let ordered = is_space.ordered in
