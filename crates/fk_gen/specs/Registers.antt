@@ -17,3 +17,6 @@ t2 = 7
 
 abbrev pub t3 : ℕ
 t3 = 28
+
+abbrev pub t4 : ℕ
+t4 = 29

@@ -10,4 +10,4 @@ pub mod registers;
 
 pub use block_line::{BlockLine, emit_lines, emit_number, emit_sum};
 pub use operands::{operand, result};
-pub use placed::Placed;
+pub use placed::{Levels, Placed};

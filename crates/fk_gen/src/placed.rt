@@ -2,6 +2,15 @@
 
 use fk_core::CoreOp;
 
+/// How the running call stands in the groups of its function, before an operation.
+#[derive(Clone, Copy)]
+pub struct Levels {
+    /// How many levels of groups its frame has.
+    pub count: u32,
+    /// The word after the frame's header at which the first of them begins.
+    pub behind: u32,
+}
+
 /// An operation or jump of a flat list, in an image.
 #[derive(Clone, Copy)]
 pub struct Placed {
@@ -12,4 +21,5 @@ pub struct Placed {
     pub clears: bool,
     /// The index where the caller goes on after the call that it begins, or 0 if it begins none.
     pub back: u32,
+    pub levels: Levels,
 }

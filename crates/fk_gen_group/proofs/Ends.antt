@@ -1,5 +1,6 @@
 -- The end of the group of `start`.
-use Rattle.std.proofs.Common.{◌≡◌, ℕ, suc, ◌+◌, ◌*◌, List, [], ◌∷◌, length, map, true, Some, None, sym, ap, subst, ◌∙◌, arith, refl}
+use Rattle.std.proofs.Common.{◌≡◌, ℕ, suc, ◌+◌, ◌*◌, List, [], ◌∷◌, length, map, true, Some, None, sym, ap, subst, ◌∙◌, arith, refl, eq-eqb}
+use Rattle.std.specs.Prelude.{if◌then◌else◌}
 use Rattle.fk_num.specs.Word.{Memory, word_sum}
 use Rattle.fk_meaning_operation.specs.declared.operation.Operation.TheVariants.{End}
 use Rattle.fk_meaning.specs.Processor.{Level, Setting, to_outer}
@@ -20,14 +21,18 @@ use Rattle.fk_sim_nodes.proofs.OnePlace.{private_of_all}
 use Rattle.fk_sim_block.specs.Owner.{Owner, number_of, core_source}
 use Rattle.fk_sim_block.specs.Stands.{Places, zero_register, number_register, rank_register, size_register}
 use Rattle.fk_sim_block.specs.Block.{Enters}
+use Rattle.fk_gen.specs.declared.placed.Levels.{Levels}
 use Rattle.fk_gen.specs.Lines.{label_of, goes_to}
+use Rattle.fk_gen.specs.InPlace.{HasBlock}
 use Rattle.fk_isa.specs.declared.instruction.Instruction.TheVariants as isa
 use Rattle.fk_gen.proofs.Walk.{Quiets, Plain, TellsNumber, TellsHarts, quiet_lines, walk, told_of, walked, lines_split, runs_join}
 use Rattle.fk_gen.proofs.Jumps.{jumps, goes_to_pc, jal_private}
 use Rattle.fk_sim_block.specs.Node.{Nestings, OwnsHeader, IsRoot, HasOuter, HasSaved, past_levels, saved_at, root_words, node_register, body_register}
 use Rattle.fk_sim_block.specs.Lockstep.{IsMember, AllComeAlone, AllEnter, LevelsStay, IsInStart, AreInStart, NoneSaved, is_due}
 use Rattle.fk_gen.specs.Registers.{t0}
-use Rattle.fk_gen_group.specs.Laws.{IsInPlace, GroupsEnd}
+use Rattle.fk_gen_group.specs.Splits.{end_part_block}
+use Rattle.fk_gen_group.specs.Blocks.{end_block, end_by}
+use Rattle.fk_gen_group.specs.Laws.{IsInPlace, GroupsEnd, levels_at}
 use Rattle.fk_gen_group.proofs.Members.{Both, all_stand, at_block, each_standing, all_alone, all_due}
 use Rattle.fk_gen_group.proofs.Behind.{goes_behind}
 
@@ -48,7 +53,7 @@ module _ (places : Places) (nestings : Nestings) (processors number : ℕ) where
   )
 
 module _ (core : List CoreOp) (image : Image) (bound : ℕ → ℕ) (places : Places) (nestings : Nestings) (i : ℕ) (op : CoreOp) (place : IsInPlace core image bound places nestings i op End)
-    (leads : LevelsStay nestings i op.target) (setting : Setting) (cycle0 : MachineSetting) (mine : Words) (first : ℕ) (owns : OwnsHeader mine first) (highest lowest size : ℕ) where
+    (block : HasBlock image bound places i (end_block op.target)) (leads : LevelsStay nestings i op.target) (setting : Setting) (cycle0 : MachineSetting) (mine : Words) (first : ℕ) (owns : OwnsHeader mine first) (highest lowest size : ℕ) where
   record Came (m : Member) (p : Owner) : Type 0 where
     pub enters : Enters core image places setting cycle0 i op End p m.hart
     pub member : IsMember places nestings setting None first m p
@@ -66,7 +71,7 @@ module _ (core : List CoreOp) (image : Image) (bound : ℕ → ℕ) (places : Pl
 
   ended : (m : Member) (p : Owner) → m.hart.pc ≡ 4 * places.block i → Came m p → Ended (record m { hart = committed m }) p
   ended m p pc came =
-      let within = place.block.lines.0.within in
+      let within = block.lines.0.within in
       record { hart = m.hart; came = came; is = refl; at = omega arith }
 
   abbrev rest : Quiets
@@ -78,12 +83,12 @@ module _ (core : List CoreOp) (image : Image) (bound : ℕ → ℕ) (places : Pl
   runs : (t : MachineSetting) (m : Member) (p : Owner) → Holds image t → Ended m p → RunsPrivately image t m.number 6 m.hart (behind t m)
   runs t m p holds e =
       let k = suc (places.block i) in
-      let lines = lines_split image bound k (quiet_lines rest) (goes_to (isa.Jal zero_register 0) (label_of op.target) ∷ []) place.block.lines.1 in
+      let lines = lines_split image bound k (quiet_lines rest) (goes_to (isa.Jal zero_register 0) (label_of op.target) ∷ []) block.lines.1 in
       let live = ap (λ h. h.ended) e.is ∙ e.came.enters.at.live in
       let w = walked image bound t m.number holds rest k m.hart lines.0 e.at live (tt, (refl, (refl, (tt, (tt, tt))))) in
       runs_join image t m.number 5 1 m.hart (walk (told_of t m.number) rest m.hart) (behind t m) w.runs (
         behind t m,
-        jal_private image bound _ m.number (k + 5) 0 (label_of op.target) (walk (told_of t m.number) rest m.hart) holds lines.1.0 (place.block.labels.within (label_of op.target)) w.pc w.live,
+        jal_private image bound _ m.number (k + 5) 0 (label_of op.target) (walk (told_of t m.number) rest m.hart) holds lines.1.0 (block.labels.within (label_of op.target)) w.pc w.live,
         refl,
       )
 
@@ -121,7 +126,7 @@ module _ (core : List CoreOp) (image : Image) (bound : ℕ → ℕ) (places : Pl
         number = member.number;
         at = record {
           live = en.at.live;
-          at = ap (λ k. 4 * k) (place.block.labels.blocks op.target);
+          at = ap (λ k. 4 * k) (block.labels.blocks op.target);
           stands = record {
             nought = s.nought;
             frame = s.frame;
@@ -183,12 +188,20 @@ module _ (core : List CoreOp) (image : Image) (bound : ℕ → ℕ) (places : Pl
       (cycle_map image mine cycle0 1 ms own (λ ms' own'. (ms' ≡ on_each committed ms) × (own' ≡ own)) (λ ms' own'. Gone ms' ps × (own' ≡ own))
       (λ ms' own' x.
       (all_gone ms' ps holds (subst (λ l. Both Ended l ps) (sym x.0) (each_standing (places.block i) Came Ended committed ms ps ended stand all)), x.1))
-      (private_of_all image mine cycle0 (places.block i) 1 (Addi number_register zero_register 0) committed ms own holds place.block.lines.0 stand
+      (private_of_all image mine cycle0 (places.block i) 1 (Addi number_register zero_register 0) committed ms own holds block.lines.0 stand
       (all_alone Came cycle0 (Addi number_register zero_register 0) committed ms ps (λ m p came s. (s.reserved, addi cycle0 m.number 18 0 0 m.hart s)) all)))
+
+-- the block of the end of a group that has no level in the frame
+start_block : (image : Image) (bound : ℕ → ℕ) (places : Places) (levels : Levels) (i target : ℕ) → levels.count ≡ 0 → HasBlock image bound places i (end_by levels target)
+    → HasBlock image bound places i (end_block target)
+start_block image bound places levels i target none block =
+    subst (λ b. HasBlock image bound places i (if b then end_block target else end_part_block levels target)) (eq-eqb levels.count 0 none) block
 
 pub groups_end : GroupsEnd
 groups_end core image bound places nestings i op lowest size place leads setting t mine first [] [] own owns all start = record { counted = tt; chain = (refl, (tt, refl)) }
 groups_end core image bound places nestings i op lowest size place leads setting t mine first (m ∷ ms) (p ∷ ps) own owns all start =
-    let came = came_all core image bound places nestings i op place leads setting t mine first owns 0 lowest size (m ∷ ms) (p ∷ ps) all start in
-    together core image bound places nestings i op place leads setting t mine first owns 0 lowest size (m ∷ ms) (p ∷ ps) own all.0.running.code came
+    let none : nestings.levels i ≡ 0 = ap nestings.levels (sym all.0.index) ∙ start.0.none.0 in
+    let block = start_block image bound places (levels_at nestings i) i op.target none place.block in
+    let came = came_all core image bound places nestings i op place block (leads none) setting t mine first owns 0 lowest size (m ∷ ms) (p ∷ ps) all start in
+    together core image bound places nestings i op place block (leads none) setting t mine first owns 0 lowest size (m ∷ ms) (p ∷ ps) own all.0.running.code came
 groups_end core image bound places nestings i op lowest size place leads setting t mine first ms ps own owns all start = absurd (assumption all)

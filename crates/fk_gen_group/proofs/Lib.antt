@@ -32,6 +32,28 @@ pub mod Farms
 pub mod Seqs
 -- the end of the group of `start`
 pub mod Ends
+-- the levels that frames save
+pub mod Slots
+-- the end of a part
+pub mod PartEnds
+-- what members give to words
+pub mod Shares
+-- how they count
+pub mod Counting
+-- who stays in a loop
+pub mod Shrinks
+-- the lines of a split up to shared code
+pub mod Fronts
+-- a split without room
+pub mod Lacks
+-- where members count themselves at a split, and how they enter parts
+pub mod Parting
+-- all members count in lockstep
+pub mod Counted
+-- what the control words of parts have behind a split
+pub mod PartSizes
+-- members come to count at a split into one part
+pub mod OnePart
 -- the size of the group of `start`
 pub mod Sizes
 -- the beginning of `start`

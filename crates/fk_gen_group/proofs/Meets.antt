@@ -23,7 +23,7 @@ use Rattle.fk_gen.proofs.Walk.{private}
 use Rattle.fk_sim_block.specs.Node.{Nestings, StandsInNode, OwnsHeader, control_address, barrier_word, closing_word, body_register, node_register}
 use Rattle.fk_gen_group.specs.Meeting.{IsMeeting, HasMeeting, IsReadyToMeet}
 use Rattle.fk_sim_block.proofs.Spaces.{space_kept}
-use Rattle.fk_sim_block.specs.Lockstep.{IsMember}
+use Rattle.fk_sim_block.specs.Lockstep.{IsMember, LevelsStay}
 use Rattle.fk_gen_group.specs.Blocks.{meeting_of, meet_block}
 use Rattle.fk_sim_block.specs.Joint.{is_meeting}
 use Rattle.fk_gen.specs.Registers.{t0, t1, t2}
@@ -42,12 +42,12 @@ meeting_is : (size : ℕ) → IsCount size → IsMeeting (meeting_of size)
 meeting_is size is = record { arrivals_t0 = λ e. omega arith; arrivals_t1 = λ e. omega arith; size_t0 = is.not_t0; size_t1 = is.not_t1 }
 
 module _ (core : List CoreOp) (image : Image) (bound : ℕ → ℕ) (places : Places) (nestings : Nestings) (i : ℕ) (op : CoreOp) (operation : Operation)
-    (place : IsInPlace core image bound places nestings i op operation) (flows : Flows core places.frames nothing i (suc i)) where
+    (place : IsInPlace core image bound places nestings i op operation) (flows : Flows core places.frames nothing i (suc i)) (stay : LevelsStay nestings i (suc i)) where
   behind : (setting : Setting) (t : MachineSetting) (runs : Option ℕ) (begin : ℕ) (m : Member) (p : Owner) (h : Hart) → Enters core image places setting t i op operation p m.hart
       → IsMember places nestings setting runs begin m p → KeepsMost m.hart h → h.pc ≡ 4 * places.block (suc i)
       → StandsAt places (gone_to (suc i) p) h × StandsInNode places nestings setting runs (gone_to (suc i) p) h
   behind setting t runs begin m p h en member same pc =
-      let next = goes_behind core image bound places nestings i op operation place (suc i) flows place.stay setting t runs begin m p h en member same.live same.local
+      let next = goes_behind core image bound places nestings i op operation place (suc i) flows stay setting t runs begin m p h en member same.live same.local
       (same_registers m.hart h same) (kept m.hart h 21 same (omega arith)) pc in (
         next.0,
         record {
@@ -131,14 +131,14 @@ pub blocks_come : (core : List CoreOp) (image : Image) (bound : ℕ → ℕ) (pl
     → IsInPlace core image bound places nestings i op operation → BlockComesToMeet core image bound places nestings i op operation
 blocks_come core image bound places nestings i op (Meet false) is place =
     λ setting t mine runs first n m p owns en member so_many.
-    meets core image bound places nestings i op (Meet false) place (place.fits.goes_on true) barrier_word body_register (omega arith) body_is place.block setting t mine runs first n m p owns en member
+    meets core image bound places nestings i op (Meet false) place (place.fits.goes_on true) place.stay barrier_word body_register (omega arith) body_is place.block setting t mine runs first n m p owns en member
     (subst (λ r. IfSome r (λ k. m.hart.registers body_register ≡ k)) so_many member.node.body)
 blocks_come core image bound places nestings i op (Meet true) is place =
     λ setting t mine runs first n m p owns en member so_many.
-    meets core image bound places nestings i op (Meet true) place (place.fits.goes_on true) closing_word size_register (omega arith) size_is place.block setting t mine runs first n m p owns en member
+    meets core image bound places nestings i op (Meet true) place (place.fits.goes_on true) place.stay closing_word size_register (omega arith) size_is place.block setting t mine runs first n m p owns en member
     (en.at.stands.size ∙ so_many)
 blocks_come core image bound places nestings i op Resume is place =
     λ setting t mine runs first n m p owns en member so_many.
-    meets core image bound places nestings i op Resume place (place.fits.goes_on true) closing_word size_register (omega arith) size_is place.block setting t mine runs first n m p owns en member
+    meets core image bound places nestings i op Resume place (place.fits.goes_on true) place.stay closing_word size_register (omega arith) size_is place.block setting t mine runs first n m p owns en member
     (en.at.stands.size ∙ so_many)
 blocks_come core image bound places nestings i op operation is place = absurd (cc)

@@ -1,10 +1,12 @@
 -- The blocks of the steps of groups.
-use Rattle.std.specs.Prelude.{◌≡◌, ℕ, ◌+◌, ◌*◌, ◌^◌, ◌<◌, ◌≤◌, List, [], ◌∷◌, ◌++◌, length, Bool, true}
-use Rattle.std.specs.Prelude.{false, Option, Some, map}
+use Rattle.std.specs.Prelude.{◌≡◌, ℕ, ◌+◌, ◌*◌, ◌^◌, ◌==◌, ◌<◌, ◌≤◌, List, [], ◌∷◌, ◌++◌, length}
+use Rattle.std.specs.Prelude.{Bool, true, false, Option, Some, map, if◌then◌else◌}
+use Rattle.fk_meaning_operation.specs.declared.operation.SplitKind.TheVariants.{Fork}
 use Rattle.fk_meaning_operation.specs.declared.operation.Operation.{Operation}
 use Rattle.fk_meaning_operation.specs.declared.operation.Operation.TheVariants.{Begin, Agree, Farm}
 use Rattle.fk_meaning_operation.specs.declared.operation.Operation.TheVariants.{Seq, End, Resume}
 use Rattle.fk_meaning_operation.specs.declared.operation.Operation.TheVariants.{Meet, Frame, Block}
+use Rattle.fk_meaning_operation.specs.declared.operation.Operation.TheVariants.{Split, Shrink}
 use Rattle.fk_core.specs.Numbers.{operation_of}
 use Rattle.fk_image.specs.declared.Image.{Image}
 use Rattle.fk_isa.specs.declared.instruction.Instruction.TheVariants.{Lui, Jal, Jalr, Beq, Bltu, Bgeu}
@@ -23,7 +25,9 @@ use Rattle.fk_gen.specs.InPlace.{LinesAt}
 use Rattle.fk_gen.specs.declared.placed.Placed.{Placed}
 use Rattle.fk_sim_block.specs.Node.{node_register, body_register, frames_register, blocks_register}
 use Rattle.fk_sim_block.specs.Node.{barrier_word, closing_word, agreed_word, control_address}
+use Rattle.fk_gen.specs.declared.placed.Levels.{Levels}
 use Rattle.fk_gen_group.specs.Meeting.{Meeting, meeting_lines}
+use Rattle.fk_gen_group.specs.Splits.{no_room, split_block, end_part_block, shrink_block}
 
 -- A meeting whose leaving is the operation, with the number of members in a register.
 abbrev pub meeting_of : (size : ℕ) → Meeting
@@ -76,14 +80,8 @@ end_block target =
 
 -- ---- frames and blocks
 
--- The two ways of a frame, which have equally many lines. Without room the site goes to the device
--- that faults. Else the header gets the address of the frame's first word, and the frames of the
--- group end where the frame does.
-abbrev pub no_room : (site : ℕ) → List MarkedLine
-no_room site =
-    quiet (Lui t1 (high_part site)) ∷ quiet (Addi t1 t1 (low_part site))
-    ∷ commits (Sw device_register t1 8) ∷ []
-
+-- The two ways of a frame have equally many lines. With room the header gets the address of the
+-- frame's first word, and the frames of the group end where the frame does.
 abbrev pub taking_lines : List MarkedLine
 taking_lines =
     quiet (Add t1 t1 frames_register) ∷ quiet (Sw end_register t1 at_group_frame)
@@ -184,18 +182,31 @@ pub record HasStart (image : Image) (bound : ℕ → ℕ) : Type 0 where
   pub few : length image.globals.items ≤ 2 ^ 19
   pub lines : LinesAt image bound (bound start_label) (start_lines (length image.globals.items))
 
-abbrev pub block_of : Option Operation → (depth target site : ℕ) → List MarkedLine
-block_of (Some Begin) depth target site = begin_block depth target
-block_of (Some Agree) depth target site = agree_block depth
-block_of (Some Farm) depth target site = farm_block
-block_of (Some Seq) depth target site = seq_block target
-block_of (Some End) depth target site = end_block target
-block_of (Some Resume) depth target site = closing_block
-block_of (Some (Meet false)) depth target site = barrier_block
-block_of (Some (Meet true)) depth target site = closing_block
-block_of (Some (Frame nesting words)) depth target site = frame_block words site
-block_of (Some Block) depth target site = shalloc_block depth
-block_of operation depth target site = []
+-- Where the frame has no levels, the group that ends is that of `start`.
+abbrev pub end_by : Levels → (target : ℕ) → List MarkedLine
+end_by levels target =
+    if levels.count == 0 then end_block target else end_part_block levels target
+
+abbrev pub block_by : Option Operation → Levels → (depth target site : ℕ) → List MarkedLine
+block_by (Some Begin) levels depth target site = begin_block depth target
+block_by (Some Agree) levels depth target site = agree_block depth
+block_by (Some Farm) levels depth target site = farm_block
+block_by (Some Seq) levels depth target site = seq_block target
+block_by (Some End) levels depth target site = end_by levels target
+block_by (Some Resume) levels depth target site = closing_block
+block_by (Some (Meet false)) levels depth target site = barrier_block
+block_by (Some (Meet true)) levels depth target site = closing_block
+block_by (Some (Frame nesting words)) levels depth target site = frame_block words site
+block_by (Some Block) levels depth target site = shalloc_block depth
+block_by (Some (Split by)) levels depth target site =
+    split_block by levels depth target site
+block_by (Some Shrink) levels depth target site = shrink_block levels depth target
+block_by operation levels depth target site = []
+
+abbrev pub block_of : Placed → List MarkedLine
+block_of placed =
+    block_by (operation_of placed.op.kind placed.op.number) placed.levels placed.op.depth
+    placed.op.target placed.op.site
 
 abbrev pub is_group_step : Option Operation → Bool
 is_group_step (Some Begin) = true
@@ -207,15 +218,27 @@ is_group_step (Some Resume) = true
 is_group_step (Some (Meet closing)) = true
 is_group_step (Some (Frame nesting words)) = true
 is_group_step (Some Block) = true
+is_group_step (Some (Split Fork)) = false
+is_group_step (Some (Split by)) = true
+is_group_step (Some Shrink) = true
 is_group_step operation = false
 
 abbrev pub HasWords : Option Operation → Type 0
 HasWords (Some (Frame nesting words)) = words < 2 ^ 21
 HasWords operation = Unit {0}
 
--- An operation of a group whose values have room in a frame, and whose target has a label.
+-- The frame has room for the levels, and for one more where a split saves it. Only a part shrinks.
+abbrev pub HasLevelWords : Option Operation → Levels → Type 0
+HasLevelWords (Some (Split by)) levels = levels.behind + 4 * (levels.count + 1) ≤ 57
+HasLevelWords (Some Shrink) levels =
+    (levels.behind + 4 * levels.count ≤ 57) × (0 < levels.count)
+HasLevelWords operation levels = levels.behind + 4 * levels.count ≤ 57
+
+-- An operation of a group whose values and levels have room in a frame, and whose target has a
+-- label.
 pub record HasGroupStep (placed : Placed) : Type 0 where
   pub kind : is_group_step (operation_of placed.op.kind placed.op.number) ≡ true
   pub depth : placed.op.depth ≤ 56
   pub target : placed.op.target < 2 ^ 31
   pub words : HasWords (operation_of placed.op.kind placed.op.number)
+  pub levels : HasLevelWords (operation_of placed.op.kind placed.op.number) placed.levels

@@ -1,35 +1,57 @@
 -- What the blocks of groups do in place.
-use Rattle.std.specs.Prelude.{◌≡◌, ℕ, ◌^◌, ◌<◌, ◌≤◌, suc, List, length, Some, None, true}
+use Rattle.std.specs.Prelude.{◌≡◌, ℕ, ◌-◌, ◌^◌, ◌<◌, ◌≤◌, suc, List, length, Some, None, true}
 use Rattle.std.specs.Prelude.{if◌then◌else◌}
+use Rattle.fk_meaning_operation.specs.declared.operation.SplitKind.{SplitKind}
+use Rattle.fk_meaning_operation.specs.declared.operation.SplitKind.TheVariants.{IfElse}
 use Rattle.fk_meaning_operation.specs.declared.operation.Operation.{Operation}
 use Rattle.fk_meaning_operation.specs.declared.operation.Operation.TheVariants.{Begin, Agree, Farm}
 use Rattle.fk_meaning_operation.specs.declared.operation.Operation.TheVariants.{Seq, End, Frame}
-use Rattle.fk_meaning_operation.specs.declared.operation.Operation.TheVariants.{Block}
+use Rattle.fk_meaning_operation.specs.declared.operation.Operation.TheVariants.{Block, Split}
+use Rattle.fk_meaning_operation.specs.declared.operation.Operation.TheVariants.{Shrink}
+use Rattle.fk_meaning.specs.Group.{taken_by}
 use Rattle.fk_core.specs.declared.op.CoreOp.{CoreOp}
 use Rattle.fk_image.specs.declared.Image.{Image}
 use Rattle.fk_sim_block.specs.Stands.{Places}
 use Rattle.fk_sim_block.specs.Next.{OpAt}
 use Rattle.fk_sim_block.specs.Suits.{Fits}
 use Rattle.fk_gen.specs.InPlace.{HasBlock}
+use Rattle.fk_gen.specs.declared.placed.Levels.{Levels}
 use Rattle.fk_sim_block.specs.Node.{Nestings, HasLevelRoom}
-use Rattle.fk_sim_block.specs.Lockstep.{LevelsStay, StepTogether, PartTogether, EndTogether}
+use Rattle.fk_sim_block.specs.Lockstep.{LevelsStay, LevelOpens, StepTogether, PartTogether}
+use Rattle.fk_sim_block.specs.Lockstep.{EndTogether}
 use Rattle.fk_sim_block.specs.Lockstep.{AreOfSize, IsLowest, AreInGroup, one_runs}
 use Rattle.fk_sim_block.specs.Lockstep.{values_of_step}
-use Rattle.fk_gen_group.specs.Blocks.{block_of, frame_takes, HasStart}
+use Rattle.fk_sim_block.specs.Parts.{is_implicit, DividesTogether, FaultsTogether, ShrinksTogether}
+use Rattle.fk_sim_block.specs.Parts.{EndsPart}
+use Rattle.fk_gen_group.specs.Blocks.{block_by, frame_takes, HasStart}
+use Rattle.fk_gen_group.specs.Splits.{HasParts, split_takes, split_goes_on, end_part_takes}
+use Rattle.fk_gen_group.specs.Splits.{shrink_takes, shrink_goes_on}
 use Rattle.fk_gen_group.specs.Start.{gathered_at, who_comes}
 use Rattle.fk_sim_block.specs.Joint.{is_meeting, BlockMeets}
 use Rattle.fk_sim_block.specs.Start.{BlockStarts}
+
+-- The levels in the frame of a call at an index.
+abbrev pub levels_at : Nestings → (index : ℕ) → Levels
+levels_at nestings i = record { count = nestings.levels i; behind = nestings.behind i }
+
+-- A step goes on at the next index with the same levels, a split with one more. The next index is
+-- not that of an end.
+abbrev pub GoesOnWith : Operation → Nestings → (i : ℕ) → Type 0
+GoesOnWith (Split by) nestings i = LevelOpens nestings i (suc i)
+GoesOnWith End nestings i = Unit {0}
+GoesOnWith operation nestings i = LevelsStay nestings i (suc i)
 
 -- The block of a step is at its index, in a list whose values and levels have room.
 pub record IsInPlace (core : List CoreOp) (image : Image) (bound : ℕ → ℕ) (places : Places)
     (nestings : Nestings) (i : ℕ) (op : CoreOp) (operation : Operation) : Type 0 where
   pub stands : OpAt core i op operation
-  pub block : HasBlock image bound places i (block_of (Some operation) op.depth op.target op.site)
+  pub block : HasBlock image bound places i
+      (block_by (Some operation) (levels_at nestings i) op.depth op.target op.site)
   pub fits : Fits core places.frames i op operation
   pub few : places.frames.of_file ≤ 56
   pub values : values_of_step operation ≤ op.depth
   pub levels : HasLevelRoom places.frames nestings i op.depth
-  pub stay : LevelsStay nestings i (suc i)
+  pub stay : GoesOnWith operation nestings i
 
 -- Members in lockstep commit two cycles after they come to the block: all agree on the last value
 -- of the highest member. One cycle more brings them to the next block.
@@ -68,12 +90,13 @@ GroupsSendOne =
     → PartTogether core image places nestings i op Seq
     (λ ps. (length ps ≤ 1024) × IsLowest lowest ps) 3 2 None (one_runs lowest) lowest size
 
--- The members of the group of `start` go back to the root.
+-- The members of the group of `start`, which has no level in the frame, go back to the root.
 abbrev pub GroupsEnd : Type 0
 GroupsEnd =
     (core : List CoreOp) (image : Image) (bound : ℕ → ℕ) (places : Places) (nestings : Nestings)
     (i : ℕ) (op : CoreOp) (lowest size : ℕ)
-    → IsInPlace core image bound places nestings i op End → LevelsStay nestings i op.target
+    → IsInPlace core image bound places nestings i op End
+    → (nestings.levels i ≡ 0 → LevelsStay nestings i op.target)
     → EndTogether core image places nestings i op 6 lowest size
 
 -- At the beginning of `start` all processors meet in the root, after at most 9 cycles. Two cycles
@@ -108,3 +131,54 @@ GroupsTakeBlocks =
     → IsInPlace core image bound places nestings i op Block
     → StepTogether core image places nestings i op Block AreInGroup 0 12 None (λ p. None)
     lowest size
+
+-- ---- parts
+
+-- On the other way of a split into one part members wait with the levels that they have. Of a split
+-- into two they enter the second part, where the frame has room for one level more.
+abbrev pub GoesAside : SplitKind → Places → Nestings → (i target values : ℕ) → Type 0
+GoesAside IfElse places nestings i target values =
+    LevelOpens nestings i target × HasLevelRoom places.frames nestings target values
+GoesAside by places nestings i target values = LevelsStay nestings i target
+
+-- The block of a split is at its index, the image has the code that splits share, and the frame has
+-- room for one level more.
+pub record IsSplitInPlace (core : List CoreOp) (image : Image) (bound : ℕ → ℕ) (places : Places)
+    (nestings : Nestings) (i : ℕ) (op : CoreOp) (by : SplitKind) : Type 0 where
+  pub place : IsInPlace core image bound places nestings i op (Split by)
+  pub parts : HasParts image bound
+  pub room : HasLevelRoom places.frames nestings (suc i) (op.depth - taken_by by)
+  pub aside : GoesAside by places nestings i op.target (op.depth - taken_by by)
+
+-- Members in lockstep whose space has room for the parts divide together.
+abbrev pub GroupsDivide : Type 0
+GroupsDivide =
+    (core : List CoreOp) (image : Image) (bound : ℕ → ℕ) (places : Places) (nestings : Nestings)
+    (i : ℕ) (op : CoreOp) (by : SplitKind)
+    → is_implicit by ≡ true → IsSplitInPlace core image bound places nestings i op by
+    → DividesTogether core image places nestings i op by (split_takes by) (split_goes_on by)
+
+-- Without that room the lowest faults at the site.
+abbrev pub GroupsLackRoom : Type 0
+GroupsLackRoom =
+    (core : List CoreOp) (image : Image) (bound : ℕ → ℕ) (places : Places) (nestings : Nestings)
+    (i : ℕ) (op : CoreOp) (by : SplitKind)
+    → is_implicit by ≡ true → IsSplitInPlace core image bound places nestings i op by
+    → op.site < 2 ^ 32 → FaultsTogether core image places nestings i op by
+
+-- The members of a part in lockstep who stay in a loop are counted, and the others leave the part.
+abbrev pub PartsShrink : Type 0
+PartsShrink =
+    (core : List CoreOp) (image : Image) (bound : ℕ → ℕ) (places : Places) (nestings : Nestings)
+    (i : ℕ) (op : CoreOp)
+    → IsInPlace core image bound places nestings i op Shrink → LevelOpens nestings op.target i
+    → ShrinksTogether core image places nestings i op shrink_takes shrink_goes_on
+
+-- The members of a part go back to the group around it.
+abbrev pub PartsEnd : Type 0
+PartsEnd =
+    (core : List CoreOp) (image : Image) (bound : ℕ → ℕ) (places : Places) (nestings : Nestings)
+    (i : ℕ) (op : CoreOp)
+    → IsInPlace core image bound places nestings i op End
+    → (0 < nestings.levels i → LevelOpens nestings op.target i)
+    → EndsPart core image places nestings i op (λ onward. end_part_takes)

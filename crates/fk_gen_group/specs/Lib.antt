@@ -1,6 +1,7 @@
 pub mod Meeting
 pub mod Together
 pub mod Chains
+pub mod Splits
 pub mod Blocks
 pub mod Meet
 pub mod Start

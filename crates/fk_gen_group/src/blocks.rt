@@ -1,17 +1,18 @@
 //! The blocks of steps of groups.
 
-ghost use Rattle.std.specs.Prelude.{◌≡◌, ◌+◌, ◌^◌, ◌<◌, ◌≤◌, All, OnOk, OnErr, length};
+ghost use Rattle.std.specs.Prelude.{◌≡◌, ◌+◌, ◌*◌, ◌^◌, ◌<◌, ◌≤◌, All, OnOk, OnErr, length};
 ghost use Rattle.fk_asm.specs.Assembly.{AreFollowed};
 ghost use Rattle.fk_asm.specs.Block.{GoesToMade, HasBegun, with_block};
 ghost use Rattle.fk_gen_group.specs.Blocks.{meet_block, begin_block, agree_block, farm_block};
 ghost use Rattle.fk_gen_group.specs.Blocks.{seq_block, end_block, frame_block, frame_lines};
-ghost use Rattle.fk_gen_group.specs.Blocks.{shalloc_block};
+ghost use Rattle.fk_gen_group.specs.Blocks.{shalloc_block, end_by};
 
+use crate::splits::{end_part, shrink, split};
 use crate::start::START_LABEL;
 use fk_asm::{Assembler, Blocks};
 use fk_gen::numbers::{AT_GROUP_FRAME, TO_DATA, high_part, low_part};
 use fk_gen::registers::{DEVICES as DEVICE, END, NUMBER, RA, RANK, SIZE, T0, T1, T2, T3, ZERO};
-use fk_gen::{BlockLine, Placed, emit_lines, emit_sum, operand, result};
+use fk_gen::{BlockLine, Levels, Placed, emit_lines, emit_sum, operand, result};
 use fk_gen_flow::registers::{BLOCKS, BODY, FRAMES, NODE};
 use fk_isa::Instruction;
 use fk_meaning_operation::Operation;
@@ -40,19 +41,16 @@ const AGREED: u32 = 8;
 const FAULT_DEVICE: u32 = 8;
 
 /// The blocks of barriers, of the ends of bodies and parts, of `farm`, `seq`, the beginning and the
-/// end of `start`, of agreement, and of frames and blocks of groups.
+/// end of `start`, of agreement, of frames and blocks of groups, of splits and of shrinks.
 #[derive(Clone, Copy, Drop)]
 pub struct GroupBlocks;
 
 impl Blocks<Placed> for GroupBlocks {
-    ghost use Rattle.fk_core.specs.Numbers.{operation_of};
     ghost use Rattle.fk_gen_group.specs.Blocks.{HasGroupStep, block_of};
 
     ghost has_block = { HasGroupStep };
 
-    ghost block = { λ placed.
-        block_of (operation_of placed.op.kind placed.op.number) placed.op.depth placed.op.target
-        placed.op.site };
+    ghost block = { block_of };
 
     fn emit_op(&self, op: &Placed, into: &mut Assembler) -> Result<(), AllocError> {
         match op.op.operation() {
@@ -60,12 +58,16 @@ impl Blocks<Placed> for GroupBlocks {
             Some(Operation::Agree) => agree(into, op.op.depth),
             Some(Operation::Farm) => farm(into),
             Some(Operation::Seq) => seq(into, op.op.target),
-            Some(Operation::End) => end(into, op.op.target),
+            Some(Operation::End) => end_group(into, op.levels, op.op.target),
             Some(Operation::Resume) => meet(into, CLOSING_WORD, SIZE),
             Some(Operation::Meet(true)) => meet(into, CLOSING_WORD, SIZE),
             Some(Operation::Meet(false)) => meet(into, BARRIER_WORD, BODY),
             Some(Operation::Frame { words, .. }) => frame(into, words, op.op.site),
             Some(Operation::Block) => shalloc(into, op.op.depth),
+            Some(Operation::Split(by)) => {
+                split(into, by, op.levels, op.op.depth, op.op.target, op.op.site)
+            }
+            Some(Operation::Shrink) => shrink(into, op.levels, op.op.depth, op.op.target),
             _ => Ok(()),
         }
     }
@@ -169,6 +171,23 @@ fn seq(into: &mut Assembler, target: u32) -> Result<(), AllocError>
             BlockLine::quiet(Instruction::Addi(BODY, ZERO, 1)),
         ],
     )
+}
+
+// The end of a part, or of the group of `start`, where the frame has no levels.
+fn end_group(into: &mut Assembler, levels: Levels, target: u32) -> Result<(), AllocError>
+    requires near { target < 2 ^ 31 }
+    requires levels { levels.behind + 4 * levels.count ≤ 57 }
+    requires labels { All (GoesToMade into.old.bound) (end_by levels target) }
+    requires room { length into.old.lines + length (end_by levels target) < 2 ^ 30 }
+    requires free { AreFollowed into.old }
+    ensures added { OnOk result (into.new ≡ with_block into.old (end_by levels target)) }
+    ensures begun { OnErr result (HasBegun (end_by levels target) into.old into.new) }
+{
+    if levels.count == 0 {
+        end(into, target)
+    } else {
+        end_part(into, levels, target)
+    }
 }
 
 // The end of the group of `start`.

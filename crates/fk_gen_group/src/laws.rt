@@ -7,7 +7,8 @@ ghost use Rattle.fk_gen_group.specs.Chains.{MeetersHaveChains};
 ghost use Rattle.fk_gen_group.specs.InNode.{LoneBlocksStayInNode, JumpsStayInNode};
 ghost use Rattle.fk_gen_group.specs.Laws.{BlocksMeet, GroupsAgree, GroupsEnd, GroupsSendOne};
 ghost use Rattle.fk_gen_group.specs.Laws.{GroupsSetFree, GroupsStart, GroupsTakeFrames};
-ghost use Rattle.fk_gen_group.specs.Laws.{GroupsTakeBlocks};
+ghost use Rattle.fk_gen_group.specs.Laws.{GroupsTakeBlocks, PartsEnd, PartsShrink, GroupsDivide};
+ghost use Rattle.fk_gen_group.specs.Laws.{GroupsLackRoom};
 
 /// A hart that comes to the lines of a meeting, in whatever cycle, arrives after 5 or 6 cycles, in
 /// an even one.
@@ -88,6 +89,31 @@ pub fn groups_take_frames()
 /// each has the address of the words in place of their size, or 0, and is at the next block.
 pub fn groups_take_blocks()
     ensures { GroupsTakeBlocks }
+{}
+
+/// Members in lockstep that come to the block of a split commit together, if their space has room
+/// for the parts. Then each comes by itself to its part, with as many others as enter it, or to
+/// where it waits.
+pub fn groups_divide()
+    ensures { GroupsDivide }
+{}
+
+/// Without room for the parts the lowest member faults at the site.
+pub fn groups_lack_room()
+    ensures { GroupsLackRoom }
+{}
+
+/// Members of a part that come to the block of a shrink commit together in the fifth cycle. Then
+/// each comes by itself to the next block, in a group of those who stay, or to where those wait who
+/// are around the part.
+pub fn parts_shrink()
+    ensures { PartsShrink }
+{}
+
+/// Members of a part that come to its end commit in that cycle. Four cycles later each is where
+/// those wait who are around the part, with their size, control words and space.
+pub fn parts_end()
+    ensures { PartsEnd }
 {}
 
 /// The block of an operation that a processor does alone keeps its hart in its node, in as many

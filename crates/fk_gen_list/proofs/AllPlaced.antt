@@ -10,6 +10,7 @@ use Rattle.fk_meaning_operation.specs.declared.operation.Operation.{Operation}
 use Rattle.fk_meaning_operation.specs.declared.operation.Operation.TheVariants.{Enter}
 use Rattle.fk_core.specs.declared.op.CoreOp.{CoreOp}
 use Rattle.fk_sim_block.specs.Stands.{Frames}
+use Rattle.fk_gen.specs.declared.placed.Levels.{Levels}
 use Rattle.fk_gen.specs.declared.placed.Placed.{Placed}
 use Rattle.fk_gen_flow.specs.Laws.{ClearsEnough}
 use Rattle.fk_core_liveness.specs.declared.set.Set.{Set}
@@ -21,37 +22,37 @@ use Rattle.fk_gen_list.specs.Layout.{clears_by, placed, placed_from}
 
 -- ---- one after another
 
-pub length-placed : (core : List CoreOp) (globals : ℕ) (kept : List Set) (k : ℕ) (ops : List CoreOp) → length (placed_from core globals kept k ops) ≡ length ops
-length-placed core globals kept k [] = refl
-length-placed core globals kept k (op ∷ ops) = ap suc (length-placed core globals kept (suc k) ops)
+pub length-placed : (core : List CoreOp) (globals : ℕ) (kept : List Set) (saved : List Levels) (k : ℕ) (ops : List CoreOp) → length (placed_from core globals kept saved k ops) ≡ length ops
+length-placed core globals kept saved k [] = refl
+length-placed core globals kept saved k (op ∷ ops) = ap suc (length-placed core globals kept saved (suc k) ops)
 
-pub placed_get : (core : List CoreOp) (globals : ℕ) (kept : List Set) (k i j : ℕ) (op : CoreOp) (ops : List CoreOp) → slice_get ops i ≡ Some op → j ≡ k + i
-    → slice_get (placed_from core globals kept k ops) i ≡ Some (placed core globals kept j op)
-placed_get core globals kept k i j op [] e same = absurd (cc)
-placed_get core globals kept k zero j op (o ∷ ops) e same =
+pub placed_get : (core : List CoreOp) (globals : ℕ) (kept : List Set) (saved : List Levels) (k i j : ℕ) (op : CoreOp) (ops : List CoreOp) → slice_get ops i ≡ Some op → j ≡ k + i
+    → slice_get (placed_from core globals kept saved k ops) i ≡ Some (placed core globals kept saved j op)
+placed_get core globals kept saved k i j op [] e same = absurd (cc)
+placed_get core globals kept saved k zero j op (o ∷ ops) e same =
     let one : o ≡ op = cc in
     let at : k ≡ j = omega arith in
-    ap (λ x. Some (placed core globals kept k x)) one ∙ ap (λ n. Some (placed core globals kept n op)) at
-placed_get core globals kept k (suc i) j op (o ∷ ops) e same = placed_get core globals kept (suc k) i j op ops e (omega arith)
+    ap (λ x. Some (placed core globals kept saved k x)) one ∙ ap (λ n. Some (placed core globals kept saved n op)) at
+placed_get core globals kept saved k (suc i) j op (o ∷ ops) e same = placed_get core globals kept saved (suc k) i j op ops e (omega arith)
 
 some_same : {A : Type 0} {x y : A} → Some x ≡ Some y → x ≡ y
 some_same e = cc
 
 -- what is so of each is so of all
-pub all_from : (P : Placed → Type 0) (core : List CoreOp) (globals : ℕ) (kept : List Set) (k : ℕ) (ops : List CoreOp)
-    → ((i j : ℕ) (op : CoreOp) → slice_get ops i ≡ Some op → j ≡ k + i → P (placed core globals kept j op)) → All P (placed_from core globals kept k ops)
-all_from P core globals kept k [] each = All-nil P
-all_from P core globals kept k (op ∷ ops) each =
-    All-cons P (placed core globals kept k op) (placed_from core globals kept (suc k) ops) (each 0 k op refl (omega arith))
-    (all_from P core globals kept (suc k) ops (λ i j o e same. each (suc i) j o e (omega arith)))
+pub all_from : (P : Placed → Type 0) (core : List CoreOp) (globals : ℕ) (kept : List Set) (saved : List Levels) (k : ℕ) (ops : List CoreOp)
+    → ((i j : ℕ) (op : CoreOp) → slice_get ops i ≡ Some op → j ≡ k + i → P (placed core globals kept saved j op)) → All P (placed_from core globals kept saved k ops)
+all_from P core globals kept saved k [] each = All-nil P
+all_from P core globals kept saved k (op ∷ ops) each =
+    All-cons P (placed core globals kept saved k op) (placed_from core globals kept saved (suc k) ops) (each 0 k op refl (omega arith))
+    (all_from P core globals kept saved (suc k) ops (λ i j o e same. each (suc i) j o e (omega arith)))
 
 -- the one at an index
-pub placed_here : (core : List CoreOp) (globals : ℕ) (kept : List Set) (ops : List CoreOp) (i : ℕ) (none : CoreOp) (p d : Placed) → i < length ops
-    → p ≡ placed core globals kept i (get_or ops i none) → get_or (placed_from core globals kept 0 ops) i d ≡ p
-placed_here core globals kept ops i none p d lt e =
-    let there = placed_get core globals kept 0 i i (get_or ops i none) ops (slice_get-get_or ops i none lt) (omega arith) in
-    let within = length-placed core globals kept 0 ops in
-    let own = slice_get-get_or (placed_from core globals kept 0 ops) i d (omega (arith, within, lt)) in
+pub placed_here : (core : List CoreOp) (globals : ℕ) (kept : List Set) (saved : List Levels) (ops : List CoreOp) (i : ℕ) (none : CoreOp) (p d : Placed) → i < length ops
+    → p ≡ placed core globals kept saved i (get_or ops i none) → get_or (placed_from core globals kept saved 0 ops) i d ≡ p
+placed_here core globals kept saved ops i none p d lt e =
+    let there = placed_get core globals kept saved 0 i i (get_or ops i none) ops (slice_get-get_or ops i none lt) (omega arith) in
+    let within = length-placed core globals kept saved 0 ops in
+    let own = slice_get-get_or (placed_from core globals kept saved 0 ops) i d (omega (arith, within, lt)) in
     some_same (sym own ∙ there) ∙ sym e
 
 -- labels that are made are made where there are as many

@@ -15,6 +15,7 @@ use Rattle.fk_sim_block.specs.Ready.{is_alone}
 use Rattle.fk_sim_block.specs.Suits.{Suits}
 use Rattle.fk_sim_block.specs.Block.{BlockDoes, BlockLaw}
 use Rattle.fk_core_liveness.specs.declared.set.Set.{Set}
+use Rattle.fk_gen.specs.declared.placed.Levels.{Levels}
 use Rattle.fk_gen.specs.declared.placed.Placed.{Placed}
 use Rattle.fk_gen.specs.InPlace.{HasBlock}
 use Rattle.fk_gen_expr.specs.Expressions as expressions
@@ -41,9 +42,9 @@ pub record AreInRange (core : List CoreOp) (globals : ℕ) : Type 0 where
   pub numbers : (i : ℕ) (op : CoreOp) → slice_get core i ≡ Some op → op.number < 2 ^ 32
   pub globals_few : globals ≤ 2 ^ 20
 
-module _ (core : List CoreOp) (image : Image) (places : Places) (bound : ℕ → ℕ) (kept : List Set) where
+module _ (core : List CoreOp) (image : Image) (places : Places) (bound : ℕ → ℕ) (kept : List Set) (saved : List Levels) where
   abbrev here : (i : ℕ) → CoreOp → Placed
-  here i op = placed core (length image.globals.items) kept i op
+  here i op = placed core (length image.globals.items) kept saved i op
 
   -- the block of each index is in its place, and so is the code that all calls share, and that of `shmalloc`
   pub record AreInPlace : Type 0 where
@@ -79,7 +80,7 @@ module _ (core : List CoreOp) (image : Image) (places : Places) (bound : ℕ →
       → BlockDoes core image places i op operation
   does_by main suits are ranges in_place i op operation stands alone true access f a has =
       flow_blocks_do core image places bound i op operation (here i op).clears (here i op).back stands alone f (ranges.sites i op stands.stands) has in_place.shared
-      (calls_return core image bound places kept in_place.blocks in_place.returns) suits.few
+      (calls_return core image bound places kept saved in_place.blocks in_place.returns) suits.few
       (suits.fits i op operation stands) (clears_enough places.frames kept i (operation_of op.kind op.number) operation are stands.is_read)
   does_by main suits are ranges in_place i op operation stands alone false true f a has =
       access_blocks_do core image bound places i op operation stands a (ranges.sites i op stands.stands)

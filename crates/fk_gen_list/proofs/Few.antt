@@ -1,10 +1,12 @@
 -- How many cycles the blocks of a list take at most.
 use Rattle.std.proofs.Common.{◌≡◌, ℕ, ◌+◌, ◌*◌, ◌^◌, ◌<◌, ◌≤◌, List, [], ◌∷◌, length, Bool, true, false, Option, Some, None, sym, subst, arith, refl}
-use Rattle.std.specs.Prelude.{◌==◌, slice_get}
+use Rattle.std.specs.Prelude.{◌==◌, slice_get, if◌then◌else◌}
 use Rattle.std.specs.Option.{option_map_or}
 use Rattle.std.proofs.lemmas.Bool.{eqb-true}
 use Rattle.fk_meaning_operation.specs.declared.operation.Operation.{Operation}
-use Rattle.fk_meaning_operation.specs.declared.operation.Operation.TheVariants.{Push, Get, Set, DropLast, CopyLast, Apply, Binary, Index, Branch, Leave, Check, Enter, Begin, Frame}
+use Rattle.fk_meaning_operation.specs.declared.operation.Operation.TheVariants.{Push, Get, Set, DropLast, CopyLast, Apply, Binary, Index, Branch, Leave, Check, Enter, Begin, Frame, Split, Shrink, End}
+use Rattle.fk_meaning_operation.specs.declared.operation.SplitKind.{SplitKind}
+use Rattle.fk_meaning_operation.specs.declared.operation.SplitKind.TheVariants.{IfAlone, IfElse, AndThen, OrElse, Loop, Fork}
 use Rattle.fk_core.specs.declared.op.CoreOp.{CoreOp}
 use Rattle.fk_core.specs.Next.{is_jump}
 use Rattle.fk_core.specs.Numbers.{operation_of}
@@ -14,6 +16,7 @@ use Rattle.fk_sim_block.specs.Ready.{is_alone}
 use Rattle.fk_sim_block.specs.Suits.{Fits, Suits}
 use Rattle.fk_sim_block.specs.Block.{most_before, most_behind}
 use Rattle.fk_core_liveness.specs.declared.set.Set as sets
+use Rattle.fk_gen.specs.declared.placed.Levels.{Levels}
 use Rattle.fk_gen.specs.declared.placed.Placed.{Placed}
 use Rattle.fk_gen.specs.Lines.{high_part, load_by, add_by}
 use Rattle.fk_gen.specs.Keeps.{past_first}
@@ -23,6 +26,7 @@ use Rattle.fk_gen_expr.proofs.Shape.{IsShortCode, block_short}
 use Rattle.fk_gen_access.specs.Blocks.{is_access}
 use Rattle.fk_gen_flow.specs.Blocks.{is_flow}
 use Rattle.fk_gen_flow.proofs.Enters.{few_take}
+use Rattle.fk_gen_group.specs.Splits.{split_goes_on}
 use Rattle.fk_gen_list.specs.Layout.{placed}
 use Rattle.fk_gen_list.proofs.Suited.{has_expression}
 use Rattle.fk_gen_list.specs.Cycles.{before_of, behind_of, before_at, behind_at}
@@ -41,6 +45,12 @@ few_before_of : (op : CoreOp) (operation : Operation) → before_of op operation
 few_before_of op (Check true) = short_number (high_part op.site == 0) op.site 3 (omega arith)
 few_before_of op (Check false) = short_number (high_part op.site == 0) op.site 5 (omega arith)
 few_before_of op (Frame nesting words) = short_sum (high_part (4 * words) == 0) (4 * words) 12
+few_before_of op (Split IfAlone) = omega arith
+few_before_of op (Split IfElse) = omega arith
+few_before_of op (Split AndThen) = omega arith
+few_before_of op (Split OrElse) = omega arith
+few_before_of op (Split Loop) = omega arith
+few_before_of op (Split Fork) = omega arith
 few_before_of op operation = omega arith
 
 few_before_by : (op : CoreOp) (o : Option Operation) → option_map_or (before_of op) o 0 ≤ most_before
@@ -59,6 +69,12 @@ past_short (l ∷ ls) short = let few = short.few in omega arith
 
 few_expression : (globals depth : ℕ) (operation : Operation) → IsExpression globals depth operation → past_first (expression_block globals depth operation) ≤ most_behind
 few_expression globals depth operation is = past_short (expression_block globals depth operation) (block_short globals depth operation is)
+
+few_parts : (by : SplitKind) (onward : Bool) → split_goes_on by onward ≤ most_behind
+few_parts IfElse true = omega arith
+few_parts IfElse false = omega arith
+few_parts by true = omega arith
+few_parts by false = omega arith
 
 module _ (core : List CoreOp) (frames : Frames) (i : ℕ) (here : Placed) (few : frames.of_file ≤ 56) (number : here.op.number < 2 ^ 32) (some : here.globals ≤ 2 ^ 20) where
   of_expression : (operation : Operation) → operation_of here.op.kind here.op.number ≡ Some operation → Fits core frames i here.op operation → is_alone operation ≡ true
@@ -86,6 +102,14 @@ module _ (core : List CoreOp) (frames : Frames) (i : ℕ) (here : Placed) (few :
   few_behind_of (Enter n) onward read fits = few_take here.clears n fits.goes_on.few
   few_behind_of Begin true read fits = omega arith
   few_behind_of Begin false read fits = omega arith
+  few_behind_of End onward read fits = few_end (here.levels.count == 0)
+    where
+      few_end : (start : Bool) → (if start then 6 else 4) ≤ most_behind
+      few_end true = omega arith
+      few_end false = omega arith
+  few_behind_of (Split by) onward read fits = few_parts by onward
+  few_behind_of Shrink true read fits = omega arith
+  few_behind_of Shrink false read fits = omega arith
   few_behind_of operation onward read fits = omega arith
 
 -- a jump is no operation
@@ -102,7 +126,7 @@ is_op_at core i op operation at read = record { stands = at; no_jump = by (is_ju
     by true e = absurd (no_operation op operation e read)
     by false e = refl
 
-module _ (core : List CoreOp) (frames : Frames) (main : ℕ) (suits : Suits core frames main) (globals : ℕ) (some : globals ≤ 2 ^ 20) (kept : List sets.Set)
+module _ (core : List CoreOp) (frames : Frames) (main : ℕ) (suits : Suits core frames main) (globals : ℕ) (some : globals ≤ 2 ^ 20) (kept : List sets.Set) (saved : List Levels)
     (words : (i : ℕ) (op : CoreOp) → slice_get core i ≡ Some op → op.number < 2 ^ 32) where
   by_operation : (i : ℕ) (op : CoreOp) (here : Placed) (onward : Bool) (o : Option Operation) → here.op ≡ op → here.globals ≡ globals → slice_get core i ≡ Some op → operation_of op.kind op.number ≡ o
       → option_map_or (λ operation. behind_of here operation onward) o 0 ≤ most_behind
@@ -112,6 +136,6 @@ module _ (core : List CoreOp) (frames : Frames) (main : ℕ) (suits : Suits core
       (subst (λ (x : CoreOp). operation_of x.kind x.number ≡ Some operation) (sym same) read)
       (subst (λ x. Fits core frames i x operation) (sym same) (suits.fits i op operation (is_op_at core i op operation at read)))
 
-  pub few_behind_at : (i : ℕ) (onward : Bool) (o : Option CoreOp) → slice_get core i ≡ o → behind_at core globals kept i o onward ≤ most_behind
+  pub few_behind_at : (i : ℕ) (onward : Bool) (o : Option CoreOp) → slice_get core i ≡ o → behind_at core globals kept saved i o onward ≤ most_behind
   few_behind_at i onward None at = omega arith
-  few_behind_at i onward (Some op) at = by_operation i op (placed core globals kept i op) onward (operation_of op.kind op.number) refl refl at refl
+  few_behind_at i onward (Some op) at = by_operation i op (placed core globals kept saved i op) onward (operation_of op.kind op.number) refl refl at refl

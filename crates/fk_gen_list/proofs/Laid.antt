@@ -15,16 +15,17 @@ use Rattle.fk_gen.specs.InPlace.{LinesAt, HasLabels, HasBlock}
 use Rattle.fk_gen_access.specs.Heap.{heap_label, heap_lines}
 use Rattle.fk_gen_flow.specs.Calls.{chain_lines, copy_lines, clear_lines, back_lines, most_privates, HasChain, HasShared}
 use Rattle.fk_gen_group.specs.Blocks.{start_label, start_lines}
-use Rattle.fk_gen_list.specs.Layout.{place, copy_offset, clear_offset, copying_lines, clearing_lines, calls_front, start_front, front, all_lines, AddsBlocks, AddsCopying, AddsClearing, AddsLabelled, AddsStart, AddsHeap, IsSpare, IsLaid}
+use Rattle.fk_gen_group.specs.Splits.{one_part_label, two_parts_label, one_part_lines, two_parts_lines}
+use Rattle.fk_gen_list.specs.Layout.{place, copy_offset, clear_offset, copying_lines, clearing_lines, calls_front, start_front, heap_front, part_front, front, all_lines, AddsBlocks, AddsCopying, AddsClearing, AddsLabelled, AddsStart, AddsHeap, AddsOnePart, AddsTwoParts, IsSpare, IsLaid}
 use Rattle.fk_gen_list.proofs.Blocks.{length-with_block}
 use Rattle.fk_gen_list.proofs.Chain.{IsChain, copying_chain, clearing_chain, length-chain, part_within, back_within}
 use Rattle.fk_gen_list.proofs.InImage.{Within, within_self, within_front, within_back, IsAssembled, bound_in, word_or, lines_at}
 use Rattle.fk_gen_list.proofs.Near.{IsFar, GoesFar}
 
--- The labels of so many operations. Behind those that copy arguments are that of the code that beginnings of `start` share and that of the code of `shmalloc`
+-- The labels of so many operations. Behind those that copy arguments are those of the code that beginnings of `start`, blocks of `shmalloc` and splits share
 abbrev pub IsLabel : (operations label : ℕ) → Type 0
 IsLabel n label =
-    (label ≤ heap_label)
+    (label ≤ two_parts_label)
     ⊎ (((clear_label 0 ≤ label) × (label ≤ clear_label most_privates)) ⊎ ((label_of 0 ≤ label) × (label < label_of n)))
 
 -- a line goes to none, or far, to one of them
@@ -84,6 +85,12 @@ length-start globals = refl
 
 pub length-heap : (globals : ℕ) → length (heap_lines globals) ≡ 32
 length-heap globals = refl
+
+pub length-one : length one_part_lines ≡ 22
+length-one = refl
+
+pub length-two : length two_parts_lines ≡ 27
+length-two = refl
 
 -- a chain stands in an image where it stands among its lines
 stands_chain : (label offset : ℕ → ℕ) (part : ℕ → List MarkedLine) (width : ℕ) → IsChain label offset part width
@@ -154,32 +161,54 @@ module _ (block : Placed → List MarkedLine) (opening : List MarkedLine) (globa
       let start = length-start globals in
       omega (arith, sum, first, start)
 
-  pub length-front : length (front opening globals) ≡ length opening + 237
-  length-front =
+  length-heaped : length (heap_front opening globals) ≡ length opening + 237
+  length-heaped =
       let sum = length-append (start_front opening globals) (heap_lines globals) in
       let first = length-started in
       let heap = length-heap globals in
       omega (arith, sum, first, heap)
+
+  length-parted : length (part_front opening globals) ≡ length opening + 259
+  length-parted =
+      let sum = length-append (heap_front opening globals) one_part_lines in
+      let first = length-heaped in
+      let one = length-one in
+      omega (arith, sum, first, one)
+
+  pub length-front : length (front opening globals) ≡ length opening + 286
+  length-front =
+      let sum = length-append (part_front opening globals) two_parts_lines in
+      let first = length-parted in
+      let two = length-two in
+      omega (arith, sum, first, two)
 
   length-all : length (all_lines block opening globals ops) ≡ length (front opening globals) + length (flat_map block ops)
   length-all = length-append (front opening globals) (flat_map block ops)
 
   -- ---- it is laid part by part
 
-  -- what is added behind the code of `start`, and behind the code that calls share, with the labels of the end
+  -- what is added behind the code of one part, of `shmalloc`, of `start`, and of calls, with the labels of the end
+  abbrev behind_part : (bound : List (Option ℕ)) → Assembly → Assembly
+  behind_part bound a = record (with_block (with_block a two_parts_lines) (flat_map block ops)) { bound = bound }
+
+  abbrev behind_heap : (bound : List (Option ℕ)) → Assembly → Assembly
+  behind_heap bound a = behind_part bound (with_block a one_part_lines)
+
   abbrev behind_start : (bound : List (Option ℕ)) → Assembly → Assembly
-  behind_start bound a = record (with_block (with_block a (heap_lines globals)) (flat_map block ops)) { bound = bound }
+  behind_start bound a = behind_heap bound (with_block a (heap_lines globals))
 
   abbrev behind_calls : (bound : List (Option ℕ)) → Assembly → Assembly
   behind_calls bound a = behind_start bound (with_block a (start_lines globals))
 
-  laid_made : (bound : List (Option ℕ)) (opened copied cleared started hiring laid : Assembly)
+  laid_made : (bound : List (Option ℕ)) (opened copied cleared started hiring parting halving laid : Assembly)
       → opened ≡ with_block (record empty { bound = bound }) opening → AddsCopying opened copied → AddsClearing copied cleared → AddsStart globals cleared started
-      → AddsHeap globals started hiring
-      → AddsBlocks block ops hiring laid → laid ≡ record (with_block empty (all_lines block opening globals ops)) { bound = laid.bound }
-  laid_made bound opened copied cleared started hiring laid o c d s r b =
+      → AddsHeap globals started hiring → AddsOnePart hiring parting → AddsTwoParts parting halving
+      → AddsBlocks block ops halving laid → laid ≡ record (with_block empty (all_lines block opening globals ops)) { bound = laid.bound }
+  laid_made bound opened copied cleared started hiring parting halving laid o c d s r q u b =
       b.made
-      ∙ ap (λ (a : Assembly). record (with_block a (flat_map block ops)) { bound = laid.bound }) r
+      ∙ ap (λ (a : Assembly). record (with_block a (flat_map block ops)) { bound = laid.bound }) u
+      ∙ ap (λ (a : Assembly). behind_part laid.bound a) q
+      ∙ ap (λ (a : Assembly). behind_heap laid.bound a) r
       ∙ ap (λ (a : Assembly). behind_start laid.bound a) s
       ∙ ap (λ (a : Assembly). behind_calls laid.bound a) d.made
       ∙ ap (λ (a : Assembly). behind_calls laid.bound (with_block a clearing_lines)) c.made
@@ -187,14 +216,16 @@ module _ (block : Placed → List MarkedLine) (opening : List MarkedLine) (globa
       ∙ ap (λ (a : Assembly). behind_calls laid.bound (with_block a clearing_lines)) (with_block-append empty opening copying_lines)
       ∙ ap (λ (a : Assembly). behind_calls laid.bound a) (with_block-append empty copied_front clearing_lines)
       ∙ ap (λ (a : Assembly). behind_start laid.bound a) (with_block-append empty (calls_front opening) (start_lines globals))
-      ∙ ap (λ (a : Assembly). record (with_block a (flat_map block ops)) { bound = laid.bound }) (with_block-append empty (start_front opening globals) (heap_lines globals))
+      ∙ ap (λ (a : Assembly). behind_heap laid.bound a) (with_block-append empty (start_front opening globals) (heap_lines globals))
+      ∙ ap (λ (a : Assembly). behind_part laid.bound a) (with_block-append empty (heap_front opening globals) one_part_lines)
+      ∙ ap (λ (a : Assembly). record (with_block a (flat_map block ops)) { bound = laid.bound }) (with_block-append empty (part_front opening globals) two_parts_lines)
       ∙ ap (λ (a : Assembly). record a { bound = laid.bound }) (with_block-append empty (front opening globals) (flat_map block ops))
 
-  pub laid_all : (opened copied cleared started hiring laid : Assembly)
+  pub laid_all : (opened copied cleared started hiring parting halving laid : Assembly)
       → opened ≡ with_block (record empty { bound = replicate (label_of (length ops)) None }) opening
       → AddsCopying opened copied → AddsClearing copied cleared → AddsStart globals cleared started → AddsHeap globals started hiring
-      → AddsBlocks block ops hiring laid → IsLaid block opening globals ops laid
-  laid_all opened copied cleared started hiring laid o c d s r b =
+      → AddsOnePart hiring parting → AddsTwoParts parting halving → AddsBlocks block ops halving laid → IsLaid block opening globals ops laid
+  laid_all opened copied cleared started hiring parting halving laid o c d s r q u b =
       let bound : opened.bound ≡ replicate (label_of (length ops)) None = ap (λ (a : Assembly). a.bound) o in
       let count : length cleared.bound ≡ label_of (length ops) = d.count ∙ c.count ∙ ap length bound ∙ length-replicate (label_of (length ops)) None in
       let first : length opened.lines ≡ length opening =
@@ -208,32 +239,49 @@ module _ (block : Placed → List MarkedLine) (opening : List MarkedLine) (globa
       let fourth : length started.lines ≡ length (start_front opening globals) =
       labelled_words start_label (start_lines globals) cleared started s
       ∙ ap (λ n. n + length (start_lines globals)) third ∙ sym (length-append (calls_front opening) (start_lines globals)) in
-      let fifth : length hiring.lines ≡ length (front opening globals) =
+      let fifth : length hiring.lines ≡ length (heap_front opening globals) =
       labelled_words heap_label (heap_lines globals) started hiring r
       ∙ ap (λ n. n + length (heap_lines globals)) fourth ∙ sym (length-append (start_front opening globals) (heap_lines globals)) in
+      let sixth : length parting.lines ≡ length (part_front opening globals) =
+      labelled_words one_part_label one_part_lines hiring parting q
+      ∙ ap (λ n. n + length one_part_lines) fifth ∙ sym (length-append (heap_front opening globals) one_part_lines) in
+      let seventh : length halving.lines ≡ length (front opening globals) =
+      labelled_words two_parts_label two_parts_lines parting halving u
+      ∙ ap (λ n. n + length two_parts_lines) sixth ∙ sym (length-append (part_front opening globals) two_parts_lines) in
       let count' : length started.bound ≡ label_of (length ops) = labelled_count start_label (start_lines globals) cleared started s ∙ count in
+      let count2 : length hiring.bound ≡ label_of (length ops) = labelled_count heap_label (heap_lines globals) started hiring r ∙ count' in
+      let count3 : length parting.bound ≡ label_of (length ops) = labelled_count one_part_label one_part_lines hiring parting q ∙ count2 in
+      let past : (label : ℕ) → (label ≡ two_parts_label → ⊥) → (label ≡ one_part_label → ⊥) → slice_index_or halving.bound label None ≡ slice_index_or hiring.bound label None =
+      λ label apart apart'.
+      labelled_other two_parts_label two_parts_lines parting halving u label apart ∙ labelled_other one_part_label one_part_lines hiring parting q label apart' in
       let other : (label : ℕ) → (label ≡ heap_label → ⊥) → (label ≡ start_label → ⊥) → slice_index_or hiring.bound label None ≡ slice_index_or cleared.bound label None =
       λ label apart apart'.
       labelled_other heap_label (heap_lines globals) started hiring r label apart ∙ labelled_other start_label (start_lines globals) cleared started s label apart' in
       record {
-        made = laid_made (replicate (label_of (length ops)) None) opened copied cleared started hiring laid o c d s r b;
-        count = b.count ∙ labelled_count heap_label (heap_lines globals) started hiring r ∙ count';
+        made = laid_made (replicate (label_of (length ops)) None) opened copied cleared started hiring parting halving laid o c d s r q u b;
+        count = b.count ∙ labelled_count two_parts_label two_parts_lines parting halving u ∙ count3;
         copies = λ n few.
-            b.others (copy_label n) (omega arith) ∙ other (copy_label n) (λ e. omega arith) (λ e. omega arith)
+            b.others (copy_label n) (omega arith) ∙ past (copy_label n) (λ e. omega arith) (λ e. omega arith) ∙ other (copy_label n) (λ e. omega arith) (λ e. omega arith)
             ∙ d.others (copy_label n) (λ m le e. absurd (omega arith)) ∙ c.entries n few ∙ ap (λ k. Some (k + copy_offset n)) first;
         clears = λ n few.
-            b.others (clear_label n) (omega arith) ∙ other (clear_label n) (λ e. omega arith) (λ e. omega arith)
+            b.others (clear_label n) (omega arith) ∙ past (clear_label n) (λ e. omega arith) (λ e. omega arith) ∙ other (clear_label n) (λ e. omega arith) (λ e. omega arith)
             ∙ d.entries n few ∙ ap (λ k. Some (k + clear_offset n)) second;
         starts =
-            b.others start_label (omega arith) ∙ labelled_other heap_label (heap_lines globals) started hiring r start_label (λ e. omega arith)
+            b.others start_label (omega arith) ∙ past start_label (λ e. omega arith) (λ e. omega arith) ∙ labelled_other heap_label (heap_lines globals) started hiring r start_label (λ e. omega arith)
             ∙ labelled_at start_label (start_lines globals) cleared started s (omega (arith, count)) ∙ ap Some third;
-        hires = b.others heap_label (omega arith) ∙ labelled_at heap_label (heap_lines globals) started hiring r (omega (arith, count')) ∙ ap Some fourth;
+        hires =
+            b.others heap_label (omega arith) ∙ past heap_label (λ e. omega arith) (λ e. omega arith)
+            ∙ labelled_at heap_label (heap_lines globals) started hiring r (omega (arith, count')) ∙ ap Some fourth;
+        divides =
+            b.others one_part_label (omega arith) ∙ labelled_other two_parts_label two_parts_lines parting halving u one_part_label (λ e. omega arith)
+            ∙ labelled_at one_part_label one_part_lines hiring parting q (omega (arith, count2)) ∙ ap Some fifth;
+        halves = b.others two_parts_label (omega arith) ∙ labelled_at two_parts_label two_parts_lines parting halving u (omega (arith, count3)) ∙ ap Some sixth;
         spare = λ label is.
             let low = is.low in
             let in' : label < label_of (length ops) = omega arith in
-            b.others label is.low ∙ other label is.no_heap is.no_start ∙ d.others label is.no_clear ∙ c.others label is.no_copy
+            b.others label is.low ∙ past label is.no_parts is.no_part ∙ other label is.no_heap is.no_start ∙ d.others label is.no_clear ∙ c.others label is.no_copy
             ∙ ap (λ l. slice_index_or l label None) bound ∙ get_or-replicate (label_of (length ops)) label None None in';
-        labels = λ i lt. b.labels i lt ∙ ap (λ k. Some (place block k ops i)) fifth;
+        labels = λ i lt. b.labels i lt ∙ ap (λ k. Some (place block k ops i)) seventh;
       }
 
   -- ---- labels
@@ -269,6 +317,20 @@ module _ (block : Placed → List MarkedLine) (opening : List MarkedLine) (globa
         let first = length-started in
         omega (arith, whole, begin, first)
 
+    part_end : length (heap_front opening globals) ≤ end
+    part_end =
+        let whole = length-all in
+        let begin = length-front in
+        let first = length-heaped in
+        omega (arith, whole, begin, first)
+
+    parts_end : length (part_front opening globals) ≤ end
+    parts_end =
+        let whole = length-all in
+        let begin = length-front in
+        let first = length-parted in
+        omega (arith, whole, begin, first)
+
     -- a label that is bound to a word of the code
     word_within : (label own word : ℕ) → own ≡ label → slice_index_or a.bound own None ≡ Some word → word ≤ end
         → IsSomeAnd (slice_index_or a.bound label None) (λ word. word ≤ end)
@@ -281,7 +343,13 @@ module _ (block : Placed → List MarkedLine) (opening : List MarkedLine) (globa
           subst (λ o. IsSomeAnd o (λ word. word ≤ end)) (sym (is.copies label copy)) (copy_end label copy)
       | inr from ↦ elim (cases_lt label heap_label) [
         | inl start ↦ word_within label start_label (length (calls_front opening)) (omega arith) is.starts start_end
-        | inr heap ↦ word_within label heap_label (length (start_front opening globals)) (omega arith) is.hires heap_end
+        | inr heap ↦ elim (cases_lt label one_part_label) [
+          | inl hire ↦ word_within label heap_label (length (start_front opening globals)) (omega arith) is.hires heap_end
+          | inr part ↦ elim (cases_lt label two_parts_label) [
+            | inl one ↦ word_within label one_part_label (length (heap_front opening globals)) (omega arith) is.divides part_end
+            | inr two ↦ word_within label two_parts_label (length (part_front opening globals)) (omega arith) is.halves parts_end
+          ]
+        ]
       ]
     ]
     label_within label (inr (inl clear)) =
@@ -341,15 +409,39 @@ module _ (block : Placed → List MarkedLine) (opening : List MarkedLine) (globa
     pub bound_heap : bound heap_label ≡ length (start_front opening globals)
     bound_heap = ap (word_or end) is.hires
 
+    pub bound_one : bound one_part_label ≡ length (heap_front opening globals)
+    bound_one = ap (word_or end) is.divides
+
+    pub bound_two : bound two_parts_label ≡ length (part_front opening globals)
+    bound_two = ap (word_or end) is.halves
+
     bound_spare : (label : ℕ) → IsSpare label → bound label ≤ end
     bound_spare label spare = let e : bound label ≡ end = ap (word_or end) (is.spare label spare) in omega (arith, e)
+
+    -- one behind that of `shmalloc`
+    bound_past : (label : ℕ) → heap_label < label → label < clear_label 0 → bound label ≤ end
+    bound_past label from less = elim (cases_lt two_parts_label label) [
+      | inl past ↦
+          bound_spare label
+          (record { low = omega arith; no_copy = λ n le e. omega arith; no_start = λ e. omega arith; no_heap = λ e. omega arith; no_part = λ e. omega arith; no_parts = λ e. omega arith; no_clear = λ n le e. omega arith })
+      | inr here ↦ elim (cases_lt one_part_label label) [
+        | inl two ↦
+            let same : label ≡ two_parts_label = omega arith in
+            let e : bound label ≡ length (part_front opening globals) = ap bound same ∙ bound_two in
+            let le = parts_end in
+            omega (arith, e, le)
+        | inr one ↦
+            let same : label ≡ one_part_label = omega arith in
+            let e : bound label ≡ length (heap_front opening globals) = ap bound same ∙ bound_one in
+            let le = part_end in
+            omega (arith, e, le)
+      ]
+    ]
 
     -- one behind those that copy arguments, before those that clear words
     bound_between : (label : ℕ) → most_privates < label → label < clear_label 0 → bound label ≤ end
     bound_between label from less = elim (cases_lt heap_label label) [
-      | inl past ↦
-          bound_spare label
-          (record { low = omega arith; no_copy = λ n le e. omega arith; no_start = λ e. omega arith; no_heap = λ e. omega arith; no_clear = λ n le e. omega arith })
+      | inl past ↦ bound_past label past less
       | inr here ↦ elim (cases_lt start_label label) [
         | inl heap ↦
             let same : label ≡ heap_label = omega arith in
@@ -374,7 +466,7 @@ module _ (block : Placed → List MarkedLine) (opening : List MarkedLine) (globa
       | inl more ↦ elim (cases_lt label (clear_label 0)) [
         | inl less ↦ bound_between label more less
         | inr from ↦ elim (cases_lt (clear_label most_privates) label) [
-          | inl past ↦ bound_spare label (record { low = low; no_copy = λ n le e. omega arith; no_start = λ e. omega arith; no_heap = λ e. omega arith; no_clear = λ n le e. omega arith })
+          | inl past ↦ bound_spare label (record { low = low; no_copy = λ n le e. omega arith; no_start = λ e. omega arith; no_heap = λ e. omega arith; no_part = λ e. omega arith; no_parts = λ e. omega arith; no_clear = λ n le e. omega arith })
           | inr clear ↦
               let n = label - clear_label 0 in
               let same : label ≡ clear_label n = omega arith in
@@ -421,8 +513,14 @@ module _ (block : Placed → List MarkedLine) (opening : List MarkedLine) (globa
       in_front : Within all 0 (front opening globals)
       in_front = within_front all (front opening globals) (flat_map block ops) 0 (within_self all)
 
+      in_parted : Within all 0 (part_front opening globals)
+      in_parted = within_front all (part_front opening globals) two_parts_lines 0 in_front
+
+      in_heaped : Within all 0 (heap_front opening globals)
+      in_heaped = within_front all (heap_front opening globals) one_part_lines 0 in_parted
+
       in_started : Within all 0 (start_front opening globals)
-      in_started = within_front all (start_front opening globals) (heap_lines globals) 0 in_front
+      in_started = within_front all (start_front opening globals) (heap_lines globals) 0 in_heaped
 
       in_calls : Within all 0 (calls_front opening)
       in_calls = within_front all (calls_front opening) (start_lines globals) 0 in_started
@@ -454,7 +552,17 @@ module _ (block : Placed → List MarkedLine) (opening : List MarkedLine) (globa
       pub has_heap : LinesAt image bound (bound heap_label) (heap_lines globals)
       has_heap =
           subst (λ k. LinesAt image bound k (heap_lines globals)) (sym bound_heap)
-          (lines_at image a.bound all code end (length (start_front opening globals)) (heap_lines globals) (behind (start_front opening globals) (heap_lines globals) in_front))
+          (lines_at image a.bound all code end (length (start_front opening globals)) (heap_lines globals) (behind (start_front opening globals) (heap_lines globals) in_heaped))
+
+      pub has_one_part : LinesAt image bound (bound one_part_label) one_part_lines
+      has_one_part =
+          subst (λ k. LinesAt image bound k one_part_lines) (sym bound_one)
+          (lines_at image a.bound all code end (length (heap_front opening globals)) one_part_lines (behind (heap_front opening globals) one_part_lines in_parted))
+
+      pub has_two_parts : LinesAt image bound (bound two_parts_label) two_parts_lines
+      has_two_parts =
+          subst (λ k. LinesAt image bound k two_parts_lines) (sym bound_two)
+          (lines_at image a.bound all code end (length (part_front opening globals)) two_parts_lines (behind (part_front opening globals) two_parts_lines in_front))
 
       pub has_block : (returns : (index : ℕ) → Option ReturnPoint) (frames : Frames) (i : ℕ) (op : Placed) → slice_get ops i ≡ Some op
           → HasBlock image bound (places returns frames) i (block op)

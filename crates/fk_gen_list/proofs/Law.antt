@@ -3,7 +3,7 @@ use Rattle.std.proofs.Common.{◌≡◌, ℕ, List, [], length, Option, Bool, tr
 use Rattle.std.specs.Prelude.{slice_get}
 use Rattle.std.specs.Option.{option_map_or}
 use Rattle.fk_meaning_operation.specs.declared.operation.Operation.{Operation}
-use Rattle.fk_meaning_operation.specs.declared.operation.Operation.TheVariants.{Leave, Enter, Halt, Begin, Agree, Seq, End, Frame, Block}
+use Rattle.fk_meaning_operation.specs.declared.operation.Operation.TheVariants.{Leave, Enter, Halt, Begin, Agree, Seq, End, Frame, Block, Split, Shrink}
 use Rattle.fk_core.specs.declared.op.CoreOp.{CoreOp}
 use Rattle.fk_core.specs.Numbers.{operation_of}
 use Rattle.fk_image.specs.declared.Image.{Image}
@@ -13,6 +13,7 @@ use Rattle.fk_sim_block.specs.Next.{OpAt}
 use Rattle.fk_sim_block.specs.Ready.{is_alone}
 use Rattle.fk_sim_block.specs.Suits.{Suits}
 use Rattle.fk_core_liveness.specs.declared.set.Set.{Set}
+use Rattle.fk_gen.specs.declared.placed.Levels.{Levels}
 use Rattle.fk_gen.specs.declared.placed.Placed.{Placed}
 use Rattle.fk_gen.specs.InPlace.{HasBlock}
 use Rattle.fk_gen.specs.Keeps.{BlockDoesBy}
@@ -48,13 +49,13 @@ keeps_of core image places before behind i op (Enter n) flow alone does = never 
 keeps_of core image places before behind i op (Leave gives framed) flow alone does = never (sym flow)
 keeps_of core image places before behind i op operation flow alone does = does
 
-module _ (core : List CoreOp) (image : Image) (places : Places) (bound : ℕ → ℕ) (kept : List Set) (main : ℕ) (suits : Suits core places.frames main) (are : AreKept places.frames kept)
-    (ranges : AreInRange core image) (code : HasLoneCode core kept image bound places) where
+module _ (core : List CoreOp) (image : Image) (places : Places) (bound : ℕ → ℕ) (kept : List Set) (saved : List Levels) (main : ℕ) (suits : Suits core places.frames main) (are : AreKept places.frames kept)
+    (ranges : AreInRange core image) (code : HasLoneCode core kept saved image bound places) where
   abbrev globals : ℕ
   globals = length image.globals.items
 
   abbrev here : (i : ℕ) → CoreOp → Placed
-  here i op = placed core globals kept i op
+  here i op = placed core globals kept saved i op
 
   abbrev block_or : Option Operation → CoreOp → List MarkedLine
   block_or o op = option_map_or (expressions.expression_block globals op.depth) o []
@@ -86,28 +87,30 @@ module _ (core : List CoreOp) (image : Image) (places : Places) (bound : ℕ →
   by_kind i op End alone keeps = never alone
   by_kind i op (Frame nesting words) alone keeps = never alone
   by_kind i op Block alone keeps = never alone
+  by_kind i op (Split by) alone keeps = never alone
+  by_kind i op Shrink alone keeps = never alone
   by_kind i op operation alone keeps = keeps
 
   -- and those at its index
   keeps : (i : ℕ) (op : CoreOp) (operation : Operation) → OpAt core i op operation → is_alone operation ≡ true
-      → BlockKeeps core image places (before_at (slice_get core i)) (behind_at core globals kept i (slice_get core i)) i op operation
+      → BlockKeeps core image places (before_at (slice_get core i)) (behind_at core globals kept saved i (slice_get core i)) i op operation
   keeps i op operation stands alone =
-      subst (λ o. BlockKeeps core image places (before_at o) (behind_at core globals kept i o) i op operation) (sym stands.stands)
+      subst (λ o. BlockKeeps core image places (before_at o) (behind_at core globals kept saved i o) i op operation) (sym stands.stands)
       (subst (λ o. BlockKeeps core image places (option_map_or (before_of op) o 0) (λ onward. option_map_or (λ x. behind_of (here i op) x onward) o 0) i op operation) (sym stands.is_read)
       (by_kind i op operation alone
       (keeps_by i op operation stands alone (is_flow operation) (accesses.is_access (Some operation)) refl refl
       (code.blocks i op operation stands (is_lone_of operation alone)))))
 
 pub lists_do_alone : ListsDoAlone
-lists_do_alone core kept image bound places nestings main suits are ranges code levels =
+lists_do_alone core kept saved image bound places nestings main suits are ranges code levels =
     let globals = length image.globals.items in
     record {
       few_before = λ i. few_before_at (slice_get core i);
-      few_behind = λ i onward. few_behind_at core places.frames main suits globals ranges.globals kept (λ j op at. (ranges.words j op at).1) i onward (slice_get core i) refl;
+      few_behind = λ i onward. few_behind_at core places.frames main suits globals ranges.globals kept saved (λ j op at. (ranges.words j op at).1) i onward (slice_get core i) refl;
       alone = λ i op operation stands alone.
-          lone_blocks_stay_in_node core image places nestings (cycles_of core globals kept) i op operation stands alone (levels.operations i op operation stands alone)
-          (keeps core image places bound kept main suits are ranges code i op operation stands alone);
+          lone_blocks_stay_in_node core image places nestings (cycles_of core globals kept saved) i op operation stands alone (levels.operations i op operation stands alone)
+          (keeps core image places bound kept saved main suits are ranges code i op operation stands alone);
       jumps = λ i op at jump.
           jumps_stay_in_node core image bound places nestings i op (code.jumps i op at jump) (suits.jumps i op at jump) suits.few (levels.jumps i op at jump);
-      halts = λ i op stands. halts_end core image places bound i op (placed core globals kept i op).clears (placed core globals kept i op).back stands (code.blocks i op Halt stands refl);
+      halts = λ i op stands. halts_end core image places bound i op (placed core globals kept saved i op).clears (placed core globals kept saved i op).back stands (code.blocks i op Halt stands refl);
     }

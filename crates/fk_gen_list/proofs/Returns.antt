@@ -10,6 +10,7 @@ use Rattle.fk_image.specs.declared.Image.{Image}
 use Rattle.fk_sim_block.specs.Stands.{Places, ReturnPoint}
 use Rattle.fk_sim_block.specs.Next.{OpAt}
 use Rattle.fk_core_liveness.specs.declared.set.Set.{Set}
+use Rattle.fk_gen.specs.declared.placed.Levels.{Levels}
 use Rattle.fk_gen.specs.declared.placed.Placed.{Placed}
 use Rattle.fk_gen.specs.InPlace.{HasBlock, LinesAt}
 use Rattle.fk_gen.proofs.Walk.{lines_split}
@@ -22,11 +23,11 @@ use Rattle.fk_gen_list.specs.Kinds.{block_in, block_of}
 use Rattle.fk_gen_list.specs.Layout.{back_by, placed}
 use Rattle.fk_gen_list.proofs.Suited.{kind_here}
 
-module _ (core : List CoreOp) (image : Image) (bound : ℕ → ℕ) (places : Places) (kept : List Set)
-    (blocks : (i : ℕ) (op : CoreOp) → slice_get core i ≡ Some op → HasBlock image bound places i (block_of (placed core (length image.globals.items) kept i op)))
+module _ (core : List CoreOp) (image : Image) (bound : ℕ → ℕ) (places : Places) (kept : List Set) (saved : List Levels)
+    (blocks : (i : ℕ) (op : CoreOp) → slice_get core i ≡ Some op → HasBlock image bound places i (block_of (placed core (length image.globals.items) kept saved i op)))
     (returns : (i : ℕ) → places.returns i ≡ return_at core places.block i (slice_get core i)) where
   abbrev here : (i : ℕ) → CoreOp → Placed
-  here i op = placed core (length image.globals.items) kept i op
+  here i op = placed core (length image.globals.items) kept saved i op
 
   -- the block of a call
   entered : (i : ℕ) (op : CoreOp) (n : ℕ) → OpAt core i op (Enter n) → HasBlock image bound places i (enter_block (here i op).clears n op.depth op.site (behind_jump core (suc i)))

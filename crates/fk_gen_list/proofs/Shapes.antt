@@ -12,6 +12,8 @@ use Rattle.fk_meaning_operation.specs.declared.operation.OwnValue.{OwnValue}
 use Rattle.fk_meaning_operation.specs.declared.operation.OwnValue.TheVariants as known
 use Rattle.fk_meaning_operation.specs.declared.operation.Operation.{Operation}
 use Rattle.fk_meaning_operation.specs.declared.operation.Operation.TheVariants as o
+use Rattle.fk_meaning_operation.specs.declared.operation.SplitKind.{SplitKind}
+use Rattle.fk_meaning_operation.specs.declared.operation.SplitKind.TheVariants as split
 use Rattle.fk_core.specs.declared.op.CoreOp.{CoreOp}
 use Rattle.fk_core.specs.Next.{is_jump}
 use Rattle.fk_core.specs.Numbers.{operation_of}
@@ -19,6 +21,7 @@ use Rattle.fk_meaning_store.specs.Store.{address_of}
 use Rattle.fk_isa.specs.declared.instruction.Instruction.{Instruction}
 use Rattle.fk_isa.specs.declared.instruction.Instruction.TheVariants.{Add}
 use Rattle.fk_asm.specs.Block.{MarkedLine}
+use Rattle.fk_gen.specs.declared.placed.Levels.{Levels}
 use Rattle.fk_gen.specs.declared.placed.Placed.{Placed}
 use Rattle.fk_gen.specs.Lines.{quiet, commits, first_commits, high_part, load_by, load_number, add_by, add_number}
 use Rattle.fk_gen.specs.Registers.{t0, t1}
@@ -33,8 +36,9 @@ use Rattle.fk_gen_flow.specs.Calls as calls
 use Rattle.fk_gen_flow.specs.Calls.{most_privates}
 use Rattle.fk_gen_flow.specs.Flow as f
 use Rattle.fk_gen_group.specs.Blocks as group
+use Rattle.fk_gen_group.specs.Splits as splits
 use Rattle.fk_gen_flow.specs.Opening.{register_lines, first_line, first_lines, opening_lines}
-use Rattle.fk_gen_list.specs.Generable.{IsGenerable, most_words, words_by}
+use Rattle.fk_gen_list.specs.Generable.{IsGenerable, HasOwnBlock, most_words, words_by}
 use Rattle.fk_gen_list.specs.declared.kind.Kind.{Kind}
 use Rattle.fk_gen_list.specs.declared.kind.Kind.TheVariants.{Flow, Access, Group, Expression}
 use Rattle.fk_gen_list.specs.Kinds.{kind_of, kind_by, block_in, block_of}
@@ -101,6 +105,8 @@ Leads n back op (Some (o.Enter arguments)) = (arguments ≤ most_privates) × (b
 Leads n back op (Some o.Begin) = op.target < n
 Leads n back op (Some o.Seq) = op.target < n
 Leads n back op (Some o.End) = op.target < n
+Leads n back op (Some (o.Split by)) = op.target < n
+Leads n back op (Some o.Shrink) = op.target < n
 Leads n back op operation = Unit {0}
 
 jump_goes : (n target : ℕ) → target < n → GoesTo n (f.jump_line target)
@@ -151,27 +157,45 @@ meet_all n word size =
     go_nowhere n (group.meet_block word size)
     (All-from_recursion IsUnlabeled (group.meet_block word size) (refl, (refl, (refl, (refl, (refl, (refl, (refl, (refl, (refl, (refl, (refl, tt))))))))))))
 
-group_all : (n back : ℕ) (op : CoreOp) (operation : Option Operation) → Leads n back op operation → All (GoesTo n) (group.block_of operation op.depth op.target op.site)
-group_all n back op (Some o.Begin) leads =
+-- the labels of the code that splits share
+parts_low : (by : SplitKind) → splits.parts_label by ≤ splits.two_parts_label
+parts_low split.IfElse = omega arith
+parts_low by = omega arith
+
+group_all : (n back : ℕ) (levels : Levels) (op : CoreOp) (operation : Option Operation) → Leads n back op operation → All (GoesTo n) (group.block_by operation levels op.depth op.target op.site)
+group_all n back levels op (Some o.Begin) leads =
     All-from_recursion (GoesTo n) (group.begin_block op.depth op.target) (tt, ((inl (omega arith), (1, refl)), (jump_goes n op.target leads, tt)))
-group_all n back op (Some o.Agree) leads = All-from_recursion (GoesTo n) (group.agree_block op.depth) (tt, (tt, (tt, (tt, tt))))
-group_all n back op (Some o.Farm) leads = All-from_recursion (GoesTo n) group.farm_block (tt, tt)
-group_all n back op (Some o.Seq) leads =
+group_all n back levels op (Some o.Agree) leads = All-from_recursion (GoesTo n) (group.agree_block op.depth) (tt, (tt, (tt, (tt, tt))))
+group_all n back levels op (Some o.Farm) leads = All-from_recursion (GoesTo n) group.farm_block (tt, tt)
+group_all n back levels op (Some o.Seq) leads =
     All-from_recursion (GoesTo n) (group.seq_block op.target) (tt, (tt, (tt, (tt, (tt, (jump_goes n op.target leads, (tt, tt)))))))
-group_all n back op (Some o.End) leads =
-    All-from_recursion (GoesTo n) (group.end_block op.target) (tt, (tt, (tt, (tt, (tt, (tt, (jump_goes n op.target leads, tt)))))))
-group_all n back op (Some o.Resume) leads = meet_all n 1 20
-group_all n back op (Some (o.Meet false)) leads = meet_all n 0 11
-group_all n back op (Some (o.Meet true)) leads = meet_all n 1 20
-group_all n back op (Some (o.Frame nesting words)) leads =
+group_all n back levels op (Some o.End) leads = by (levels.count == 0)
+  where
+    by : (start : Bool) → All (GoesTo n) (if start then group.end_block op.target else splits.end_part_block levels op.target)
+    by true = All-from_recursion (GoesTo n) (group.end_block op.target) (tt, (tt, (tt, (tt, (tt, (tt, (jump_goes n op.target leads, tt)))))))
+    by false = All-from_recursion (GoesTo n) (splits.end_part_block levels op.target) (tt, (tt, (tt, (tt, (jump_goes n op.target leads, tt)))))
+group_all n back levels op (Some o.Resume) leads = meet_all n 1 20
+group_all n back levels op (Some (o.Meet false)) leads = meet_all n 0 11
+group_all n back levels op (Some (o.Meet true)) leads = meet_all n 1 20
+group_all n back levels op (Some (o.Frame nesting words)) leads =
     go_nowhere n (group.frame_block words op.site)
     (All-append IsUnlabeled (map quiet (add_number (4 * words) 12)) (group.frame_lines op.site) (quiet_all (add_number (4 * words) 12))
     (All-from_recursion IsUnlabeled (group.frame_lines op.site) (refl, (refl, (refl, (refl, (refl, (refl, (refl, (refl, tt))))))))))
-group_all n back op (Some o.Block) leads =
+group_all n back levels op (Some o.Block) leads =
     go_nowhere n (group.shalloc_block op.depth)
     (All-from_recursion IsUnlabeled (group.shalloc_block op.depth)
     (refl, (refl, (refl, (refl, (refl, (refl, (refl, (refl, (refl, (refl, (refl, (refl, (refl, tt))))))))))))))
-group_all n back op operation leads = All-nil (GoesTo n)
+group_all n back levels op (Some (o.Split by)) leads =
+    All-append (GoesTo n) (map quiet (splits.part_lines by op.depth)) (splits.parting_lines (splits.parts_label by) (splits.level_word levels levels.count) op.target op.site)
+    (go_nowhere n (map quiet (splits.part_lines by op.depth)) (quiet_all (splits.part_lines by op.depth)))
+    (All-from_recursion (GoesTo n) (splits.parting_lines (splits.parts_label by) (splits.level_word levels levels.count) op.target op.site)
+    (tt, ((inl (parts_low by), (1, refl)), (jump_goes n op.target leads, (tt, (tt, (tt, tt)))))))
+group_all n back levels op (Some o.Shrink) leads =
+    All-append (GoesTo n) (splits.staying_lines op.depth) (splits.outward_lines false (splits.last_level levels) op.target ++ splits.size_line)
+    (All-from_recursion (GoesTo n) (splits.staying_lines op.depth) (tt, (tt, (tt, (tt, (tt, (tt, tt)))))))
+    (All-from_recursion (GoesTo n) (splits.outward_lines false (splits.last_level levels) op.target ++ splits.size_line)
+    (tt, (tt, (tt, (tt, (jump_goes n op.target leads, (tt, tt)))))))
+group_all n back levels op operation leads = All-nil (GoesTo n)
 
 -- a jump is no operation, and so none that leads anywhere
 leads_all : (n back : ℕ) (op : CoreOp) (jump : Bool) → is_jump op ≡ jump → (is_jump op ≡ false → Leads n back op (operation_of op.kind op.number))
@@ -186,33 +210,46 @@ block_all n p jumps leads = by (kind_of p.op)
     by : (kind : Kind) → All (GoesTo n) (block_in kind p)
     by Flow = flow_block_all n p.clears p.back p.op jumps leads
     by Access = access_all n (operation_of p.op.kind p.op.number) p.op.depth p.op.site
-    by Group = group_all n p.back p.op (operation_of p.op.kind p.op.number) (leads_all n p.back p.op (is_jump p.op) refl leads)
+    by Group = group_all n p.back p.levels p.op (operation_of p.op.kind p.op.number) (leads_all n p.back p.op (is_jump p.op) refl leads)
     by Expression = go_nowhere n _ (expression_all p.globals p.op.depth (operation_of p.op.kind p.op.number))
 
 -- ---- in a list
 
-leads_by : (core : List CoreOp) (kept : List Set) (main : ℕ) (firsts : List ℕ) (i : ℕ) (op : CoreOp) (operation : Option Operation)
-    → IsGenerable core kept main firsts → slice_get core i ≡ Some op → is_jump op ≡ false → operation_of op.kind op.number ≡ operation
+-- a `fork` has no block
+no_fork : {A : Type 0} → HasOwnBlock (o.Split split.Fork) → A
+no_fork (inl alone) = absurd (cc)
+no_fork (inr (inl halt)) = absurd (cc)
+no_fork (inr (inr step)) = absurd (cc)
+
+leads_by : (core : List CoreOp) (kept : List Set) (saved : List Levels) (main : ℕ) (firsts : List ℕ) (i : ℕ) (op : CoreOp) (operation : Option Operation)
+    → IsGenerable core kept saved main firsts → slice_get core i ≡ Some op → is_jump op ≡ false → operation_of op.kind op.number ≡ operation
     → Leads (length core) (back_by operation core i) op operation
-leads_by core kept main firsts i op (Some (o.Branch onward)) is e quiet' read =
+leads_by core kept saved main firsts i op (Some (o.Branch onward)) is e quiet' read =
     is.blocks.targets i op (o.Branch onward) (record { stands = e; no_jump = quiet'; is_read = read }) refl
-leads_by core kept main firsts i op (Some (o.Enter arguments)) is e quiet' read =
+leads_by core kept saved main firsts i op (Some (o.Enter arguments)) is e quiet' read =
     let stands : OpAt core i op (o.Enter arguments) = record { stands = e; no_jump = quiet'; is_read = read } in
     ((is.suits.fits i op (o.Enter arguments) stands).goes_on.few, is.blocks.returns i op arguments stands)
-leads_by core kept main firsts i op (Some o.Begin) is e quiet' read = is.blocks.targets i op o.Begin (record { stands = e; no_jump = quiet'; is_read = read }) refl
-leads_by core kept main firsts i op (Some o.Seq) is e quiet' read = is.blocks.targets i op o.Seq (record { stands = e; no_jump = quiet'; is_read = read }) refl
-leads_by core kept main firsts i op (Some o.End) is e quiet' read = is.blocks.targets i op o.End (record { stands = e; no_jump = quiet'; is_read = read }) refl
-leads_by core kept main firsts i op operation is e quiet' read = tt
+leads_by core kept saved main firsts i op (Some o.Begin) is e quiet' read = is.blocks.targets i op o.Begin (record { stands = e; no_jump = quiet'; is_read = read }) refl
+leads_by core kept saved main firsts i op (Some o.Seq) is e quiet' read = is.blocks.targets i op o.Seq (record { stands = e; no_jump = quiet'; is_read = read }) refl
+leads_by core kept saved main firsts i op (Some o.End) is e quiet' read = is.blocks.targets i op o.End (record { stands = e; no_jump = quiet'; is_read = read }) refl
+leads_by core kept saved main firsts i op (Some (o.Split split.IfAlone)) is e quiet' read = is.blocks.targets i op (o.Split split.IfAlone) (record { stands = e; no_jump = quiet'; is_read = read }) refl
+leads_by core kept saved main firsts i op (Some (o.Split split.IfElse)) is e quiet' read = is.blocks.targets i op (o.Split split.IfElse) (record { stands = e; no_jump = quiet'; is_read = read }) refl
+leads_by core kept saved main firsts i op (Some (o.Split split.AndThen)) is e quiet' read = is.blocks.targets i op (o.Split split.AndThen) (record { stands = e; no_jump = quiet'; is_read = read }) refl
+leads_by core kept saved main firsts i op (Some (o.Split split.OrElse)) is e quiet' read = is.blocks.targets i op (o.Split split.OrElse) (record { stands = e; no_jump = quiet'; is_read = read }) refl
+leads_by core kept saved main firsts i op (Some (o.Split split.Loop)) is e quiet' read = is.blocks.targets i op (o.Split split.Loop) (record { stands = e; no_jump = quiet'; is_read = read }) refl
+leads_by core kept saved main firsts i op (Some (o.Split split.Fork)) is e quiet' read = no_fork (is.blocks.operations i op (o.Split split.Fork) (record { stands = e; no_jump = quiet'; is_read = read }))
+leads_by core kept saved main firsts i op (Some o.Shrink) is e quiet' read = is.blocks.targets i op o.Shrink (record { stands = e; no_jump = quiet'; is_read = read }) refl
+leads_by core kept saved main firsts i op operation is e quiet' read = tt
 
-jumps_to : (core : List CoreOp) (kept : List Set) (main : ℕ) (firsts : List ℕ) (i : ℕ) (op : CoreOp) → IsGenerable core kept main firsts
+jumps_to : (core : List CoreOp) (kept : List Set) (saved : List Levels) (main : ℕ) (firsts : List ℕ) (i : ℕ) (op : CoreOp) → IsGenerable core kept saved main firsts
     → slice_get core i ≡ Some op → is_jump op ≡ true → op.target < length core
-jumps_to core kept main firsts i op is e jump = is.blocks.jumps i op e jump
+jumps_to core kept saved main firsts i op is e jump = is.blocks.jumps i op e jump
 
-pub op_goes : (core : List CoreOp) (kept : List Set) (main : ℕ) (firsts : List ℕ) (globals i : ℕ) (op : CoreOp) → IsGenerable core kept main firsts
-    → slice_get core i ≡ Some op → All (GoesTo (length core)) (block_of (placed core globals kept i op))
-op_goes core kept main firsts globals i op is e =
-    block_all (length core) (placed core globals kept i op) (jumps_to core kept main firsts i op is e)
-    (λ quiet'. leads_by core kept main firsts i op (operation_of op.kind op.number) is e quiet' refl)
+pub op_goes : (core : List CoreOp) (kept : List Set) (saved : List Levels) (main : ℕ) (firsts : List ℕ) (globals i : ℕ) (op : CoreOp) → IsGenerable core kept saved main firsts
+    → slice_get core i ≡ Some op → All (GoesTo (length core)) (block_of (placed core globals kept saved i op))
+op_goes core kept saved main firsts globals i op is e =
+    block_all (length core) (placed core globals kept saved i op) (jumps_to core kept saved main firsts i op is e)
+    (λ quiet'. leads_by core kept saved main firsts i op (operation_of op.kind op.number) is e quiet' refl)
 
 -- ---- how many words
 
@@ -339,22 +376,36 @@ flow_words clears back op (Some (o.Enter arguments)) =
 flow_words clears back op (Some o.Halt) = omega arith
 flow_words clears back op operation = omega arith
 
-group_words : (operation : Option Operation) (d target site : ℕ) → length (group.block_of operation d target site) ≤ words_by operation
-group_words (Some o.Begin) d target site = omega arith
-group_words (Some o.Agree) d target site = omega arith
-group_words (Some o.Farm) d target site = omega arith
-group_words (Some o.Seq) d target site = omega arith
-group_words (Some o.End) d target site = omega arith
-group_words (Some o.Resume) d target site = omega arith
-group_words (Some (o.Meet false)) d target site = omega arith
-group_words (Some (o.Meet true)) d target site = omega arith
-group_words (Some (o.Frame nesting words)) d target site =
+split_words : (by : SplitKind) (levels : Levels) (d target site : ℕ) → length (splits.split_block by levels d target site) ≤ 15
+split_words split.IfAlone levels d target site = omega arith
+split_words split.IfElse levels d target site = omega arith
+split_words split.AndThen levels d target site = omega arith
+split_words split.OrElse levels d target site = omega arith
+split_words split.Loop levels d target site = omega arith
+split_words split.Fork levels d target site = omega arith
+
+group_words : (operation : Option Operation) (levels : Levels) (d target site : ℕ) → length (group.block_by operation levels d target site) ≤ words_by operation
+group_words (Some o.Begin) levels d target site = omega arith
+group_words (Some o.Agree) levels d target site = omega arith
+group_words (Some o.Farm) levels d target site = omega arith
+group_words (Some o.Seq) levels d target site = omega arith
+group_words (Some o.End) levels d target site = by (levels.count == 0)
+  where
+    by : (start : Bool) → length (if start then group.end_block target else splits.end_part_block levels target) ≤ 15
+    by true = omega arith
+    by false = omega arith
+group_words (Some (o.Split by)) levels d target site = split_words by levels d target site
+group_words (Some o.Shrink) levels d target site = omega arith
+group_words (Some o.Resume) levels d target site = omega arith
+group_words (Some (o.Meet false)) levels d target site = omega arith
+group_words (Some (o.Meet true)) levels d target site = omega arith
+group_words (Some (o.Frame nesting words)) levels d target site =
     let all = length-append (map quiet (add_number (4 * words) 12)) (group.frame_lines site) in
     let same = length-map (add_number (4 * words) 12) quiet in
     let sum = sum_few (high_part (4 * words) == 0) (4 * words) 12 in
     omega arith
-group_words (Some o.Block) d target site = omega arith
-group_words operation d target site = omega arith
+group_words (Some o.Block) levels d target site = omega arith
+group_words operation levels d target site = omega arith
 
 words_of : (jump : Bool) (p : Placed) (operation : Option Operation) → is_jump p.op ≡ jump → operation_of p.op.kind p.op.number ≡ operation
     → length (block_in (kind_by (jump || flow.is_some_flow operation) (accesses.is_access operation) (group.is_group_step operation)) p)
@@ -365,19 +416,19 @@ words_of false p operation j read = by (kind_by (flow.is_some_flow operation) (a
     by : (kind : Kind) → length (block_in kind p) ≤ words_by operation
     by Flow = rw (j, read) (flow_words p.clears p.back p.op operation)
     by Access = rw read (access_words operation p.op.depth p.op.site)
-    by Group = rw read (group_words operation p.op.depth p.op.target p.op.site)
+    by Group = rw read (group_words operation p.levels p.op.depth p.op.target p.op.site)
     by Expression = rw read (expression_words p.globals p.op.depth operation)
 
 block_words : (p : Placed) → length (block_of p) ≤ most_words p.op
 block_words p = words_of (is_jump p.op) p (operation_of p.op.kind p.op.number) refl refl
 
-pub all_words : (core : List CoreOp) (globals : ℕ) (kept : List Set) (k : ℕ) (ops : List CoreOp) → length (flat_map block_of (placed_from core globals kept k ops)) ≤ sum_by most_words ops
-all_words core globals kept k [] = omega arith
-all_words core globals kept k (op ∷ ops) =
-    let rest = all_words core globals kept (suc k) ops in
-    let sum = length-append (block_of (placed core globals kept k op)) (flat_map block_of (placed_from core globals kept (suc k) ops)) in
+pub all_words : (core : List CoreOp) (globals : ℕ) (kept : List Set) (saved : List Levels) (k : ℕ) (ops : List CoreOp) → length (flat_map block_of (placed_from core globals kept saved k ops)) ≤ sum_by most_words ops
+all_words core globals kept saved k [] = omega arith
+all_words core globals kept saved k (op ∷ ops) =
+    let rest = all_words core globals kept saved (suc k) ops in
+    let sum = length-append (block_of (placed core globals kept saved k op)) (flat_map block_of (placed_from core globals kept saved (suc k) ops)) in
     let most = sum_by-cons most_words op ops in
-    let one = block_words (placed core globals kept k op) in
+    let one = block_words (placed core globals kept saved k op) in
     omega (arith, rest, sum, most, one)
 
 -- ---- the opening
@@ -434,3 +485,17 @@ heap_goes n globals =
     (All-append IsUnlabeled (map quiet heap.add_up) (commits heap.tell ∷ []) (quiet_all heap.add_up) (All-cons IsUnlabeled (commits heap.tell) [] refl (All-nil IsUnlabeled)))
     (All-append IsUnlabeled (map quiet (heap.find_end globals)) giving (quiet_all (heap.find_end globals))
     (All-append IsUnlabeled (map quiet heap.give) (quiet heap.back ∷ []) (quiet_all heap.give) (All-cons IsUnlabeled (quiet heap.back) [] refl (All-nil IsUnlabeled))))))
+
+-- ---- the code that splits share
+
+pub one_part_goes : (n : ℕ) → All (GoesTo n) splits.one_part_lines
+one_part_goes n =
+    go_nowhere n splits.one_part_lines
+    (All-from_recursion IsUnlabeled splits.one_part_lines
+    (refl, (refl, (refl, (refl, (refl, (refl, (refl, (refl, (refl, (refl, (refl, (refl, (refl, (refl, (refl, (refl, (refl, (refl, (refl, (refl, (refl, (refl, tt)))))))))))))))))))))))
+
+pub two_parts_goes : (n : ℕ) → All (GoesTo n) splits.two_parts_lines
+two_parts_goes n =
+    go_nowhere n splits.two_parts_lines
+    (All-from_recursion IsUnlabeled splits.two_parts_lines
+    (refl, (refl, (refl, (refl, (refl, (refl, (refl, (refl, (refl, (refl, (refl, (refl, (refl, (refl, (refl, (refl, (refl, (refl, (refl, (refl, (refl, (refl, (refl, (refl, (refl, (refl, (refl, tt))))))))))))))))))))))))))))

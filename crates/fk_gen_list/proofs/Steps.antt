@@ -9,13 +9,15 @@ use Rattle.fk_core_liveness.specs.declared.set.Set.{Set}
 use Rattle.fk_gen.specs.Lines.{clear_label, label_of}
 use Rattle.fk_gen_access.specs.Heap.{heap_label, heap_lines}
 use Rattle.fk_gen_flow.specs.Calls.{most_privates}
+use Rattle.fk_gen.specs.declared.placed.Levels.{Levels}
 use Rattle.fk_gen.specs.declared.placed.Placed.{Placed}
 use Rattle.fk_gen_group.specs.Blocks.{start_label, start_lines}
+use Rattle.fk_gen_group.specs.Splits.{one_part_label, two_parts_label, one_part_lines, two_parts_lines}
 use Rattle.fk_gen_list.specs.Generable.{IsGenerable, most_words}
 use Rattle.fk_gen_list.specs.Kinds.{block_of}
-use Rattle.fk_gen_list.specs.Layout.{copying_lines, clearing_lines, AddsBlocks, AddsCopying, AddsClearing, AddsStart, AddsHeap, IsLaid}
+use Rattle.fk_gen_list.specs.Layout.{copying_lines, clearing_lines, AddsBlocks, AddsCopying, AddsClearing, AddsStart, AddsHeap, AddsOnePart, AddsTwoParts, IsLaid}
 use Rattle.fk_gen_list.proofs.Blocks.{length-with_block}
-use Rattle.fk_gen_list.proofs.Laid.{GoesTo, length-copying, length-clearing, length-start, length-heap, labelled_count, labelled_other, labelled_words, laid_all}
+use Rattle.fk_gen_list.proofs.Laid.{GoesTo, length-copying, length-clearing, length-start, length-heap, length-one, length-two, labelled_count, labelled_other, labelled_words, laid_all}
 use Rattle.fk_gen_list.proofs.Laying.{few_ops, goes_to_made, labelled, opened_words, opened_labels, opened_free, opened_followed}
 use Rattle.fk_gen_list.proofs.Shapes.{all_words, opening_length}
 use Rattle.fk_gen_list.proofs.Whole.{ops, opening, length-ops, blocks_go, few_firsts}
@@ -28,12 +30,12 @@ if_ok_two (Err e) P Q R f p q = tt
 pub short_list : (core : List CoreOp) → sum_by most_words core ≤ 256000 → length core ≤ 256000
 short_list core small = let few = few_ops core in omega arith
 
-module _ (core : List CoreOp) (kept : List Set) (main : ℕ) (firsts : List ℕ) (globals : ℕ) (is : IsGenerable core kept main firsts)
+module _ (core : List CoreOp) (kept : List Set) (saved : List Levels) (main : ℕ) (firsts : List ℕ) (globals : ℕ) (is : IsGenerable core kept saved main firsts)
     (small : sum_by most_words core ≤ 256000) (begun opened : Assembly)
     (e1 : begun ≡ record empty { bound = replicate (label_of (length core)) None })
-    (e2 : opened ≡ with_block begun (opening core kept main firsts globals is)) where
+    (e2 : opened ≡ with_block begun (opening core kept saved main firsts globals is)) where
   abbrev first : List MarkedLine
-  first = opening core kept main firsts globals is
+  first = opening core kept saved main firsts globals is
 
   made : opened ≡ with_block (labelled (length core) first) first
   made = e2 ∙ ap (λ (a : Assembly). with_block a first) e1
@@ -42,7 +44,7 @@ module _ (core : List CoreOp) (kept : List Set) (main : ℕ) (firsts : List ℕ)
   words = opened_words (length core) first opened made ∙ opening_length (length firsts) firsts main
 
   pub room_for_copying : length opened.lines < 2 ^ 20
-  room_for_copying = let w = words in let few = few_firsts core kept main firsts globals is in omega arith
+  room_for_copying = let w = words in let few = few_firsts core kept saved main firsts globals is in omega arith
 
   pub followed : AreFollowed opened
   followed = opened_followed (length core) first opened made
@@ -63,7 +65,7 @@ module _ (core : List CoreOp) (kept : List Set) (main : ℕ) (firsts : List ℕ)
         omega (arith, w, grown, copying)
 
     pub room_for_clearing : length copied.lines < 2 ^ 20
-    room_for_clearing = let w = words_copied in let few = few_firsts core kept main firsts globals is in omega (arith, w, few)
+    room_for_clearing = let w = words_copied in let few = few_firsts core kept saved main firsts globals is in omega (arith, w, few)
 
     pub labels_copied : length copied.bound ≡ label_of (length core)
     labels_copied = copies.count ∙ labels_opened
@@ -83,7 +85,7 @@ module _ (core : List CoreOp) (kept : List Set) (main : ℕ) (firsts : List ℕ)
           omega (arith, w, grown, clearing)
 
       pub room_for_starting : length cleared.lines < 2 ^ 20
-      room_for_starting = let w = words_cleared in let few = few_firsts core kept main firsts globals is in omega (arith, w, few)
+      room_for_starting = let w = words_cleared in let few = few_firsts core kept saved main firsts globals is in omega (arith, w, few)
 
       pub labels_cleared : length cleared.bound ≡ label_of (length core)
       labels_cleared = clears.count ∙ labels_copied
@@ -107,7 +109,7 @@ module _ (core : List CoreOp) (kept : List Set) (main : ℕ) (firsts : List ℕ)
             omega (arith, w, grown, start)
 
         pub room_for_hiring : length started.lines < 2 ^ 20
-        room_for_hiring = let w = words_started in let few = few_firsts core kept main firsts globals is in omega (arith, w, few)
+        room_for_hiring = let w = words_started in let few = few_firsts core kept saved main firsts globals is in omega (arith, w, few)
 
         pub labels_started : length started.bound ≡ label_of (length core)
         labels_started = labelled_count start_label (start_lines globals) cleared started starts ∙ labels_cleared
@@ -117,44 +119,91 @@ module _ (core : List CoreOp) (kept : List Set) (main : ℕ) (firsts : List ℕ)
             labelled_other start_label (start_lines globals) cleared started starts heap_label (λ e. omega arith)
             ∙ free_behind heap_label (omega arith) (omega arith)
 
+        -- a label behind that of `shmalloc` is still free
+        free_past : (label : ℕ) → heap_label < label → label < clear_label 0 → slice_index_or started.bound label None ≡ None
+        free_past label from less =
+            labelled_other start_label (start_lines globals) cleared started starts label (λ e. omega arith)
+            ∙ free_behind label (omega arith) less
+
         module _ (hiring : Assembly) (hires : AddsHeap globals started hiring) where
-          abbrev list : List Placed
-          list = ops core kept main firsts globals is
-
-          labels_hiring : length hiring.bound ≡ label_of (length core)
-          labels_hiring = labelled_count heap_label (heap_lines globals) started hiring hires ∙ labels_started
-
-          pub blocks_made : All (λ op. All (GoesToMade hiring.bound) (block_of op)) (ops core kept main firsts globals is)
-          blocks_made =
-              let count : length hiring.bound ≡ label_of (length list) = labels_hiring ∙ ap label_of (sym (length-ops core kept main firsts globals is)) in
-              All-weaker (λ op. All (GoesTo (length list)) (block_of op))
-              (λ op. All (GoesToMade hiring.bound) (block_of op))
-              (λ op go. goes_to_made (length list) hiring.bound (block_of op) count go)
-              list (blocks_go core kept main firsts globals is)
-
-          pub room_for_blocks : length hiring.lines + length (flat_map block_of (ops core kept main firsts globals is)) < 2 ^ 30
-          room_for_blocks =
+          words_hiring : length hiring.lines ≡ 3 * length firsts + 252
+          words_hiring =
               let w = words_started in
-              let few = few_firsts core kept main firsts globals is in
               let grown = labelled_words heap_label (heap_lines globals) started hiring hires in
               let heap = length-heap globals in
-              let blocks = all_words core globals kept 0 core in
-              omega (arith, w, few, grown, heap, blocks, small)
+              omega (arith, w, grown, heap)
 
-          pub labels_free : (i : ℕ) → i < length core → slice_index_or hiring.bound (label_of i) None ≡ None
-          labels_free i lt =
-              labelled_other heap_label (heap_lines globals) started hiring hires (label_of i) (λ e. omega arith)
-              ∙ labelled_other start_label (start_lines globals) cleared started starts (label_of i) (λ e. omega arith)
-              ∙ clears.others (label_of i) (λ m few e. absurd (omega arith))
-              ∙ copies.others (label_of i) (λ m few e. absurd (omega arith))
-              ∙ free_opened (label_of i) (omega arith)
+          pub room_for_parting : length hiring.lines < 2 ^ 20
+          room_for_parting = let w = words_hiring in let few = few_firsts core kept saved main firsts globals is in omega (arith, w, few)
 
-          pub enough_labels : label_of (length core) ≤ length hiring.bound
-          enough_labels = let e = labels_hiring in omega (arith, e)
+          pub labels_hiring : length hiring.bound ≡ label_of (length core)
+          labels_hiring = labelled_count heap_label (heap_lines globals) started hiring hires ∙ labels_started
 
-          pub all_laid : (laid : Assembly) → AddsBlocks block_of (ops core kept main firsts globals is) hiring laid
-              → IsLaid block_of first globals (ops core kept main firsts globals is) laid
-          all_laid laid blocks =
-              let again : opened ≡ with_block (labelled (length list) first) first =
-              made ∙ ap (λ (n : ℕ). with_block (labelled n first) first) (sym (length-ops core kept main firsts globals is)) in
-              laid_all block_of first globals list opened copied cleared started hiring laid again copies clears starts hires blocks
+          pub free_hiring : slice_index_or hiring.bound one_part_label None ≡ None
+          free_hiring =
+              labelled_other heap_label (heap_lines globals) started hiring hires one_part_label (λ e. omega arith)
+              ∙ free_past one_part_label (omega arith) (omega arith)
+
+          module _ (parting : Assembly) (parts : AddsOnePart hiring parting) where
+            words_parting : length parting.lines ≡ 3 * length firsts + 274
+            words_parting =
+                let w = words_hiring in
+                let grown = labelled_words one_part_label one_part_lines hiring parting parts in
+                let one = length-one in
+                omega (arith, w, grown, one)
+
+            pub room_for_halving : length parting.lines < 2 ^ 20
+            room_for_halving = let w = words_parting in let few = few_firsts core kept saved main firsts globals is in omega (arith, w, few)
+
+            pub labels_parting : length parting.bound ≡ label_of (length core)
+            labels_parting = labelled_count one_part_label one_part_lines hiring parting parts ∙ labels_hiring
+
+            pub free_parting : slice_index_or parting.bound two_parts_label None ≡ None
+            free_parting =
+                labelled_other one_part_label one_part_lines hiring parting parts two_parts_label (λ e. omega arith)
+                ∙ labelled_other heap_label (heap_lines globals) started hiring hires two_parts_label (λ e. omega arith)
+                ∙ free_past two_parts_label (omega arith) (omega arith)
+
+            module _ (halving : Assembly) (halves : AddsTwoParts parting halving) where
+              abbrev list : List Placed
+              list = ops core kept saved main firsts globals is
+
+              labels_halving : length halving.bound ≡ label_of (length core)
+              labels_halving = labelled_count two_parts_label two_parts_lines parting halving halves ∙ labels_parting
+
+              pub blocks_made : All (λ op. All (GoesToMade halving.bound) (block_of op)) (ops core kept saved main firsts globals is)
+              blocks_made =
+                  let count : length halving.bound ≡ label_of (length list) = labels_halving ∙ ap label_of (sym (length-ops core kept saved main firsts globals is)) in
+                  All-weaker (λ op. All (GoesTo (length list)) (block_of op))
+                  (λ op. All (GoesToMade halving.bound) (block_of op))
+                  (λ op go. goes_to_made (length list) halving.bound (block_of op) count go)
+                  list (blocks_go core kept saved main firsts globals is)
+
+              pub room_for_blocks : length halving.lines + length (flat_map block_of (ops core kept saved main firsts globals is)) < 2 ^ 30
+              room_for_blocks =
+                  let w = words_parting in
+                  let few = few_firsts core kept saved main firsts globals is in
+                  let grown = labelled_words two_parts_label two_parts_lines parting halving halves in
+                  let two = length-two in
+                  let blocks = all_words core globals kept saved 0 core in
+                  omega (arith, w, few, grown, two, blocks, small)
+
+              pub labels_free : (i : ℕ) → i < length core → slice_index_or halving.bound (label_of i) None ≡ None
+              labels_free i lt =
+                  labelled_other two_parts_label two_parts_lines parting halving halves (label_of i) (λ e. omega arith)
+                  ∙ labelled_other one_part_label one_part_lines hiring parting parts (label_of i) (λ e. omega arith)
+                  ∙ labelled_other heap_label (heap_lines globals) started hiring hires (label_of i) (λ e. omega arith)
+                  ∙ labelled_other start_label (start_lines globals) cleared started starts (label_of i) (λ e. omega arith)
+                  ∙ clears.others (label_of i) (λ m few e. absurd (omega arith))
+                  ∙ copies.others (label_of i) (λ m few e. absurd (omega arith))
+                  ∙ free_opened (label_of i) (omega arith)
+
+              pub enough_labels : label_of (length core) ≤ length halving.bound
+              enough_labels = let e = labels_halving in omega (arith, e)
+
+              pub all_laid : (laid : Assembly) → AddsBlocks block_of (ops core kept saved main firsts globals is) halving laid
+                  → IsLaid block_of first globals (ops core kept saved main firsts globals is) laid
+              all_laid laid blocks =
+                  let again : opened ≡ with_block (labelled (length list) first) first =
+                  made ∙ ap (λ (n : ℕ). with_block (labelled n first) first) (sym (length-ops core kept saved main firsts globals is)) in
+                  laid_all block_of first globals list opened copied cleared started hiring parting halving laid again copies clears starts hires parts halves blocks

@@ -5,7 +5,8 @@ use Rattle.std.proofs.lemmas.Bool.{eqb-true}
 use Rattle.fk_meaning_operation.specs.declared.operation.OwnValue.TheVariants.{Value, Rank, GroupNumber, ProcessorNumber, Processors, GroupSize, InputLength, FrameAddress, InputAddress}
 use Rattle.fk_meaning_operation.specs.declared.operation.Multiprefix.{Multiprefix}
 use Rattle.fk_meaning_operation.specs.declared.operation.Operation.{Operation}
-use Rattle.fk_meaning_operation.specs.declared.operation.Operation.TheVariants.{Push, Get, Set, DropLast, CopyLast, Apply, Binary, Index, Branch, Enter, Leave, Combine, Halt, Begin, Agree, Farm, Seq, End, Resume, Meet, Frame, Block}
+use Rattle.fk_meaning_operation.specs.declared.operation.Operation.TheVariants.{Push, Get, Set, DropLast, CopyLast, Apply, Binary, Index, Branch, Enter, Leave, Combine, Halt, Begin, Agree, Farm, Seq, End, Resume, Meet, Frame, Block, Split, Shrink}
+use Rattle.fk_meaning_operation.specs.declared.operation.SplitKind.TheVariants.{IfAlone, IfElse, AndThen, OrElse, Loop}
 use Rattle.fk_meaning_operation.specs.declared.operation.Variable.TheVariants.{Private, OfFile}
 use Rattle.fk_meaning_operation.specs.declared.kinds.Class.{Class}
 use Rattle.fk_meaning_operation.specs.declared.kinds.Class.TheVariants.{Local, Request, Tree}
@@ -20,7 +21,8 @@ use Rattle.fk_sim_block.specs.Suits.{Fits}
 use Rattle.fk_gen_expr.specs.Expressions.{IsExpression}
 use Rattle.fk_gen_access.specs.Blocks.{is_access}
 use Rattle.fk_gen_flow.specs.Blocks.{is_flow, is_some_flow, HasOperands}
-use Rattle.fk_gen_group.specs.Blocks.{is_group_step, HasWords}
+use Rattle.fk_gen.specs.declared.placed.Levels.{Levels}
+use Rattle.fk_gen_group.specs.Blocks.{is_group_step, HasWords, HasLevelWords}
 use Rattle.fk_gen_list.specs.declared.kind.Kind.TheVariants.{Group}
 use Rattle.fk_gen_list.specs.Kinds.{kind_of, kind_by, HasBlockIn, HasBlockOf}
 use Rattle.fk_gen_list.specs.Layout.{back_by}
@@ -134,6 +136,8 @@ alone_is_no_step Resume alone = never alone
 alone_is_no_step (Meet closing) alone = never alone
 alone_is_no_step (Frame nesting words) alone = never alone
 alone_is_no_step Block alone = never alone
+alone_is_no_step (Split by) alone = never alone
+alone_is_no_step Shrink alone = never alone
 alone_is_no_step operation alone = refl
 
 -- and a step has its own kind
@@ -147,6 +151,12 @@ step_kind Resume step = refl
 step_kind (Meet closing) step = refl
 step_kind (Frame nesting words) step = refl
 step_kind Block step = refl
+step_kind (Split IfAlone) step = refl
+step_kind (Split IfElse) step = refl
+step_kind (Split AndThen) step = refl
+step_kind (Split OrElse) step = refl
+step_kind (Split Loop) step = refl
+step_kind Shrink step = refl
 step_kind operation step = never step
 
 -- ---- all of them
@@ -166,10 +176,10 @@ frame_words : (core : List CoreOp) (frames : Frames) (i : ℕ) (op : CoreOp) (op
 frame_words core frames i op (Frame nesting words) fits = fits.place
 frame_words core frames i op operation fits = tt
 
-module _ (core : List CoreOp) (frames : Frames) (i globals : ℕ) (op : CoreOp) (operation : Operation) (clears : Bool) (back : ℕ) where
+module _ (core : List CoreOp) (frames : Frames) (i globals : ℕ) (op : CoreOp) (operation : Operation) (clears : Bool) (back : ℕ) (levels : Levels) where
   has_by : (flow access : Bool) → is_flow operation ≡ flow → is_access (Some operation) ≡ access → OpAt core i op operation
       → Fits core frames i op operation → frames.of_file ≤ 56 → op.number < 2 ^ 32 → HasOperands op.depth op.target back (Some operation)
-      → globals ≤ 2 ^ 20 → (is_alone operation ≡ true) ⊎ (operation ≡ Halt) → HasBlockIn (kind_by flow access false) (record { op = op; globals = globals; clears = clears; back = back })
+      → globals ≤ 2 ^ 20 → (is_alone operation ≡ true) ⊎ (operation ≡ Halt) → HasBlockIn (kind_by flow access false) (record { op = op; globals = globals; clears = clears; back = back; levels = levels })
   has_by true access f a stands fits few number operands some alone = record {
     kind = inr (ap is_some_flow stands.is_read ∙ f);
     depth = λ e. shallow core frames i op operation fits;
@@ -187,27 +197,28 @@ module _ (core : List CoreOp) (frames : Frames) (i globals : ℕ) (op : CoreOp) 
   -- the kind of one that is no step of a group
   lone_has : is_group_step (Some operation) ≡ false → OpAt core i op operation → Fits core frames i op operation → frames.of_file ≤ 56 → op.number < 2 ^ 32
       → HasOperands op.depth op.target back (Some operation) → globals ≤ 2 ^ 20 → (is_alone operation ≡ true) ⊎ (operation ≡ Halt)
-      → HasBlockOf (record { op = op; globals = globals; clears = clears; back = back })
+      → HasBlockOf (record { op = op; globals = globals; clears = clears; back = back; levels = levels })
   lone_has no_step stands fits few number operands some alone =
-      subst (λ k. HasBlockIn k (record { op = op; globals = globals; clears = clears; back = back }))
+      subst (λ k. HasBlockIn k (record { op = op; globals = globals; clears = clears; back = back; levels = levels }))
       (sym (kind_here core i op operation stands ∙ ap (kind_by (is_flow operation) (is_access (Some operation))) no_step))
       (has_by (is_flow operation) (is_access (Some operation)) refl refl stands fits few number operands some alone)
 
   -- an operation that suits frames has a block
   pub has_block_of : OpAt core i op operation → Fits core frames i op operation → frames.of_file ≤ 56 → op.number < 2 ^ 32 → HasOperands op.depth op.target back (Some operation)
-      → globals ≤ 2 ^ 20 → (is_group_step (Some operation) ≡ true → op.target < 2 ^ 31) → HasOwnBlock operation
-      → HasBlockOf (record { op = op; globals = globals; clears = clears; back = back })
-  has_block_of stands fits few number operands some near (inl alone) =
+      → globals ≤ 2 ^ 20 → (is_group_step (Some operation) ≡ true → op.target < 2 ^ 31) → HasLevelWords (Some operation) levels → HasOwnBlock operation
+      → HasBlockOf (record { op = op; globals = globals; clears = clears; back = back; levels = levels })
+  has_block_of stands fits few number operands some near room (inl alone) =
       lone_has (alone_is_no_step operation alone) stands fits few number operands some (inl alone)
-  has_block_of stands fits few number operands some near (inr (inl halt)) =
+  has_block_of stands fits few number operands some near room (inr (inl halt)) =
       lone_has (ap (λ o. is_group_step (Some o)) halt) stands fits few number operands some (inr halt)
-  has_block_of stands fits few number operands some near (inr (inr step)) =
-      subst (λ k. HasBlockIn k (record { op = op; globals = globals; clears = clears; back = back })) (sym (kind_here core i op operation stands ∙ step_kind operation step))
+  has_block_of stands fits few number operands some near room (inr (inr step)) =
+      subst (λ k. HasBlockIn k (record { op = op; globals = globals; clears = clears; back = back; levels = levels })) (sym (kind_here core i op operation stands ∙ step_kind operation step))
       (record {
         kind = ap is_group_step stands.is_read ∙ step;
         depth = shallow core frames i op operation fits;
         target = near step;
         words = subst HasWords (sym stands.is_read) (frame_words core frames i op operation fits);
+        levels = subst (λ o. HasLevelWords o levels) (sym stands.is_read) room;
       })
 
 -- a jump is no operation
@@ -215,10 +226,10 @@ pub jump_none : (op : CoreOp) → is_jump op ≡ true → operation_of op.kind o
 jump_none op jump = ap (λ k. operation_of k op.number) (eqb-true op.kind 0 jump)
 
 -- but it has a block
-pub jump_has : (op : CoreOp) (globals : ℕ) (clears : Bool) (back : ℕ) → is_jump op ≡ true → op.target < 2 ^ 31 → HasBlockOf (record { op = op; globals = globals; clears = clears; back = back })
-jump_has op globals clears back jump target =
+pub jump_has : (op : CoreOp) (globals : ℕ) (clears : Bool) (back : ℕ) (levels : Levels) → is_jump op ≡ true → op.target < 2 ^ 31 → HasBlockOf (record { op = op; globals = globals; clears = clears; back = back; levels = levels })
+jump_has op globals clears back levels jump target =
     let e = ap (λ b. kind_by (b || is_some_flow (operation_of op.kind op.number)) (is_access (operation_of op.kind op.number)) (is_group_step (operation_of op.kind op.number))) jump in
-    subst (λ k. HasBlockIn k (record { op = op; globals = globals; clears = clears; back = back })) (sym e)
+    subst (λ k. HasBlockIn k (record { op = op; globals = globals; clears = clears; back = back; levels = levels })) (sym e)
     (record {
       kind = inl jump;
       depth = λ no. never (sym no ∙ jump);

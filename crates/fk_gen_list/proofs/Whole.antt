@@ -9,19 +9,21 @@ use Rattle.fk_isa.specs.Find.{row}
 use Rattle.fk_asm.specs.Assembly.{Assembly, instructions, IsBound, IsFirstTooFar}
 use Rattle.fk_asm.specs.Block.{MarkedLine, lines_of, entries_from}
 use Rattle.fk_core_liveness.specs.declared.set.Set.{Set}
+use Rattle.fk_gen.specs.declared.placed.Levels.{Levels}
 use Rattle.fk_gen.specs.declared.placed.Placed.{Placed}
 use Rattle.fk_gen_access.specs.Heap.{heap_lines}
+use Rattle.fk_gen_group.specs.Splits.{one_part_lines, two_parts_lines}
 use Rattle.fk_gen_flow.specs.Opening.{opening_lines}
 use Rattle.fk_gen_group.specs.Blocks.{start_lines}
 use Rattle.fk_gen_list.specs.Generable.{IsGenerable, most_words}
 use Rattle.fk_gen_list.specs.Kinds.{block_of}
-use Rattle.fk_gen_list.specs.Layout.{placed, all_placed, copying_lines, clearing_lines, calls_front, start_front, front, all_lines, IsLaid}
+use Rattle.fk_gen_list.specs.Layout.{placed, all_placed, copying_lines, clearing_lines, calls_front, start_front, heap_front, part_front, front, all_lines, IsLaid}
 use Rattle.fk_gen_list.proofs.Chain.{copying_straight, clearing_straight}
 use Rattle.fk_gen_list.proofs.InImage.{IsAssembled}
 use Rattle.fk_gen_list.proofs.Laid.{GoesTo, length-front, all_go_far}
 use Rattle.fk_gen_list.proofs.Near.{are_bound, none_too_far}
 use Rattle.fk_gen_list.proofs.AllPlaced.{length-placed, all_from}
-use Rattle.fk_gen_list.proofs.Shapes.{go_nowhere, op_goes, all_words, start_goes, heap_goes, opening_goes, opening_length}
+use Rattle.fk_gen_list.proofs.Shapes.{go_nowhere, op_goes, all_words, start_goes, heap_goes, one_part_goes, two_parts_goes, opening_goes, opening_length}
 
 all_flat : (P : MarkedLine → Type 0) (block : Placed → List MarkedLine) (ops : List Placed) → All (λ op. All P (block op)) ops
     → All P (flat_map block ops)
@@ -30,9 +32,9 @@ all_flat P block (op ∷ ops) all =
     All-append P (block op) (flat_map block ops) (All-head (λ o. All P (block o)) op ops all)
     (all_flat P block ops (All-tail (λ o. All P (block o)) op ops all))
 
-module _ (core : List CoreOp) (kept : List Set) (main : ℕ) (firsts : List ℕ) (globals : ℕ) (is : IsGenerable core kept main firsts) where
+module _ (core : List CoreOp) (kept : List Set) (saved : List Levels) (main : ℕ) (firsts : List ℕ) (globals : ℕ) (is : IsGenerable core kept saved main firsts) where
   abbrev pub ops : List Placed
-  ops = all_placed globals kept core
+  ops = all_placed globals kept saved core
 
   abbrev pub opening : List MarkedLine
   opening = opening_lines (length firsts) firsts main
@@ -41,19 +43,21 @@ module _ (core : List CoreOp) (kept : List Set) (main : ℕ) (firsts : List ℕ)
   whole = all_lines block_of opening globals ops
 
   pub length-ops : length ops ≡ length core
-  length-ops = length-placed core globals kept 0 core
+  length-ops = length-placed core globals kept saved 0 core
 
   pub blocks_go : All (λ op. All (GoesTo (length ops)) (block_of op)) ops
   blocks_go =
-      all_from (λ op. All (GoesTo (length ops)) (block_of op)) core globals kept 0 core
+      all_from (λ op. All (GoesTo (length ops)) (block_of op)) core globals kept saved 0 core
       (λ i j op at same.
-      subst (λ n. All (GoesTo n) (block_of (placed core globals kept j op))) (sym length-ops)
-      (op_goes core kept main firsts globals j op is (subst (λ k. slice_get core k ≡ Some op) (let e : i ≡ j = omega arith in e) at)))
+      subst (λ n. All (GoesTo n) (block_of (placed core globals kept saved j op))) (sym length-ops)
+      (op_goes core kept saved main firsts globals j op is (subst (λ k. slice_get core k ≡ Some op) (let e : i ≡ j = omega arith in e) at)))
 
   pub all_go : All (GoesTo (length ops)) whole
   all_go =
       let main_there : main < length ops = let e = length-ops in let lt = is.begins in omega (arith, e, lt) in
       All-append (GoesTo (length ops)) (front opening globals) (flat_map block_of ops)
+      (All-append (GoesTo (length ops)) (part_front opening globals) two_parts_lines
+      (All-append (GoesTo (length ops)) (heap_front opening globals) one_part_lines
       (All-append (GoesTo (length ops)) (start_front opening globals) (heap_lines globals)
       (All-append (GoesTo (length ops)) (calls_front opening) (start_lines globals)
       (All-append (GoesTo (length ops)) (opening ++ copying_lines) clearing_lines
@@ -63,12 +67,14 @@ module _ (core : List CoreOp) (kept : List Set) (main : ℕ) (firsts : List ℕ)
       (go_nowhere (length ops) clearing_lines clearing_straight))
       (start_goes (length ops) globals))
       (heap_goes (length ops) globals))
+      (one_part_goes (length ops)))
+      (two_parts_goes (length ops)))
       (all_flat (GoesTo (length ops)) block_of ops blocks_go)
 
   pub few_firsts : length firsts ≤ 56
   few_firsts = let few = is.suits.few in let same = is.of_file in omega arith
 
-  pub length-whole : length whole ≡ 3 * length firsts + 252 + length (flat_map block_of ops)
+  pub length-whole : length whole ≡ 3 * length firsts + 301 + length (flat_map block_of ops)
   length-whole =
       let sum = length-append (front opening globals) (flat_map block_of ops) in
       let first = length-front block_of opening globals ops in
@@ -80,7 +86,7 @@ module _ (core : List CoreOp) (kept : List Set) (main : ℕ) (firsts : List ℕ)
     few_words =
         let all = length-whole in
         let firsts' = few_firsts in
-        let blocks = all_words core globals kept 0 core in
+        let blocks = all_words core globals kept saved 0 core in
         omega arith
 
     module _ (a : Assembly) (laid : IsLaid block_of opening globals ops a) where

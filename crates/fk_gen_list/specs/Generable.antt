@@ -14,22 +14,24 @@ use Rattle.fk_sim_block.specs.Ready.{is_alone}
 use Rattle.fk_sim_block.specs.Suits.{Suits}
 use Rattle.fk_sim_block.specs.Block.{BlockLaw}
 use Rattle.fk_core_liveness.specs.declared.set.Set.{Set}
+use Rattle.fk_gen.specs.declared.placed.Levels.{Levels}
 use Rattle.fk_core_liveness.specs.Frames.{kept_in}
 use Rattle.fk_gen.specs.InPlace.{HasBlock}
 use Rattle.fk_gen_access.specs.Heap.{HasHeap}
 use Rattle.fk_gen_flow.specs.Calls.{HasShared}
 use Rattle.fk_gen_flow.specs.Laws.{return_in}
 use Rattle.fk_gen_flow.specs.Opening.{HasOpening}
-use Rattle.fk_gen_group.specs.Blocks.{HasStart, is_group_step}
+use Rattle.fk_gen_group.specs.Blocks.{HasStart, HasLevelWords, is_group_step}
+use Rattle.fk_gen_group.specs.Splits.{HasParts}
 use Rattle.fk_gen_list.specs.Kinds.{block_of}
-use Rattle.fk_gen_list.specs.Layout.{placed}
+use Rattle.fk_gen_list.specs.Layout.{placed, levels_in}
 
 -- Frames keep no words except those of the sets.
 abbrev pub AreKept : Frames → List Set → Type 0
 AreKept frames kept = (index word : ℕ) → frames.keeps index word ≡ true
     → kept_in (slice_get kept index) word ≡ true
 
--- An operation with a block of its own: one that a processor does alone, a halt, or a step of one
+-- An operation with a block of its own: one that a processor does alone, a halt, or a step of a
 -- group.
 abbrev pub HasOwnBlock : Operation → Type 0
 HasOwnBlock operation = (is_alone operation ≡ true)
@@ -53,10 +55,10 @@ pub record HasBlocks (core : List CoreOp) : Type 0 where
   pub returns : (i : ℕ) (op : CoreOp) (arguments : ℕ) → OpAt core i op (Enter arguments)
       → behind_jump core (suc i) < length core
 
--- A list of operations of processors in one group or in none. It suits some frames with as many
--- private variables of file scope as there are first values, in which calls keep no words except
--- these.
-pub record IsGenerable (core : List CoreOp) (kept : List Set) (main : ℕ)
+-- A list without a `fork`. It suits some frames with as many private variables of file scope as
+-- there are first values, in which calls keep no words except these, and which have room for these
+-- levels.
+pub record IsGenerable (core : List CoreOp) (kept : List Set) (saved : List Levels) (main : ℕ)
     (firsts : List ℕ) : Type 0 where
   pub blocks : HasBlocks core
   pub operations : (i : ℕ) (op : CoreOp) → slice_get core i ≡ Some op → is_jump op ≡ false
@@ -66,6 +68,8 @@ pub record IsGenerable (core : List CoreOp) (kept : List Set) (main : ℕ)
   pub suits : Suits core frames main
   pub keeps : AreKept frames kept
   pub of_file : frames.of_file ≡ length firsts
+  pub levels : (i : ℕ) (op : CoreOp) (operation : Operation) → OpAt core i op operation
+      → HasLevelWords (Some operation) (levels_in saved i)
   -- The numbers are words, as in every slice.
   pub words : All (λ op. (op.site < 2 ^ 32) × (op.number < 2 ^ 32)) core
   pub first_words : All (λ v. v < 2 ^ 32) firsts
@@ -118,21 +122,23 @@ DoesTheList core kept main firsts globals code =
 
 -- The image has the opening, the block of each index, which clears where it has to, and the code
 -- that calls, beginnings of `start` and blocks of `shmalloc` share. Calls return into their blocks.
-pub record HasWholeCode (core : List CoreOp) (kept : List Set) (image : Image) (bound : ℕ → ℕ)
-    (places : Places) (firsts : List ℕ) (main : ℕ) : Type 0 where
+pub record HasWholeCode (core : List CoreOp) (kept : List Set) (saved : List Levels)
+    (image : Image) (bound : ℕ → ℕ) (places : Places) (firsts : List ℕ)
+    (main : ℕ) : Type 0 where
   pub opening : HasOpening image bound places firsts main
   pub blocks : (i : ℕ) (op : CoreOp) → slice_get core i ≡ Some op
       → HasBlock image bound places i
-      (block_of (placed core (length image.globals.items) kept i op))
+      (block_of (placed core (length image.globals.items) kept saved i op))
   pub returns : (i : ℕ) → places.returns i ≡ return_at core places.block i (slice_get core i)
   pub shared : HasShared image bound
   pub start : HasStart image bound
   pub heap : HasHeap image bound
+  pub parts : HasParts image bound
 
 -- Each image with this code has all of it, with each label bound to a word.
-abbrev pub GivesWholeCode : (core : List CoreOp) (kept : List Set) (main : ℕ) (firsts : List ℕ)
+abbrev pub GivesWholeCode : (core : List CoreOp) (kept : List Set) (saved : List Levels) (main : ℕ) (firsts : List ℕ)
     (globals : ℕ) → Code → Type 0
-GivesWholeCode core kept main firsts globals code =
+GivesWholeCode core kept saved main firsts globals code =
     (image : Image) (frames : Frames) → HasCode code globals image → frames.of_file ≡ length firsts
     → (block : (index : ℕ) → ℕ) × ((bound : (label : ℕ) → ℕ)
-    × HasWholeCode core kept image bound (places_in core block frames) firsts main)
+    × HasWholeCode core kept saved image bound (places_in core block frames) firsts main)

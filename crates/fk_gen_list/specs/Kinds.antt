@@ -28,9 +28,7 @@ abbrev pub block_in : Kind → Placed → List MarkedLine
 block_in Flow placed = flow.flow_block placed.clears placed.back placed.op
 block_in Access placed =
     accesses.block_of (operation_of placed.op.kind placed.op.number) placed.op.depth placed.op.site
-block_in Group placed =
-    group.block_of (operation_of placed.op.kind placed.op.number) placed.op.depth placed.op.target
-    placed.op.site
+block_in Group placed = group.block_of placed
 block_in Expression placed = expressions.block_of placed
 
 abbrev pub block_of : Placed → List MarkedLine

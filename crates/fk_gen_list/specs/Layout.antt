@@ -10,11 +10,14 @@ use Rattle.fk_core.specs.Numbers.{operation_of}
 use Rattle.fk_asm.specs.Assembly.{Assembly, empty}
 use Rattle.fk_asm.specs.Block.{MarkedLine, with_block}
 use Rattle.fk_core_liveness.specs.declared.set.Set.{Set}
+use Rattle.fk_gen.specs.declared.placed.Levels.{Levels}
 use Rattle.fk_gen.specs.declared.placed.Placed.{Placed}
 use Rattle.fk_gen.specs.Lines.{copy_label, clear_label, label_of}
 use Rattle.fk_gen_access.specs.Heap.{heap_label, heap_lines}
 use Rattle.fk_gen_flow.specs.Calls.{chain_lines, copy_lines, clear_lines, most_privates}
 use Rattle.fk_gen_group.specs.Blocks.{start_label, start_lines}
+use Rattle.fk_gen_group.specs.Splits.{one_part_label, two_parts_label, one_part_lines}
+use Rattle.fk_gen_group.specs.Splits.{two_parts_lines}
 
 -- A call clears where its set has a word that is no argument.
 abbrev pub clears_by : Option Operation → Option Set → Bool
@@ -27,26 +30,36 @@ abbrev pub back_by : Option Operation → List CoreOp → (index : ℕ) → ℕ
 back_by (Some (Enter arguments)) core index = behind_jump core (suc index)
 back_by operation core index = 0
 
+-- The levels in the frame of the running call. Where nothing is told it has none.
+abbrev pub told_levels : Option Levels → Levels
+told_levels None = record { count = 0; behind = 0 }
+told_levels (Some levels) = levels
+
+abbrev pub levels_in : List Levels → (index : ℕ) → Levels
+levels_in saved index = told_levels (slice_get saved index)
+
 -- The operation at an index of a list. The words that are kept as a call begins are those at the
 -- next index.
-abbrev pub placed : List CoreOp → (globals : ℕ) → List Set → (index : ℕ) → CoreOp → Placed
-placed core globals kept index op =
+abbrev pub placed : List CoreOp → (globals : ℕ) → List Set → List Levels → (index : ℕ) → CoreOp
+    → Placed
+placed core globals kept saved index op =
     record {
       op = op;
       globals = globals;
       clears = clears_by (operation_of op.kind op.number) (slice_get kept (suc index));
       back = back_by (operation_of op.kind op.number) core index;
+      levels = levels_in saved index;
     }
 
-abbrev pub placed_from : List CoreOp → (globals : ℕ) → List Set → (index : ℕ) → List CoreOp
-    → List Placed
-placed_from core globals kept index [] = []
-placed_from core globals kept index (op ∷ ops) =
-    placed core globals kept index op ∷ placed_from core globals kept (suc index) ops
+abbrev pub placed_from : List CoreOp → (globals : ℕ) → List Set → List Levels → (index : ℕ)
+    → List CoreOp → List Placed
+placed_from core globals kept saved index [] = []
+placed_from core globals kept saved index (op ∷ ops) =
+    placed core globals kept saved index op ∷ placed_from core globals kept saved (suc index) ops
 
 -- All operations of a list.
-abbrev pub all_placed : (globals : ℕ) → List Set → List CoreOp → List Placed
-all_placed globals kept ops = placed_from ops globals kept 0 ops
+abbrev pub all_placed : (globals : ℕ) → List Set → List Levels → List CoreOp → List Placed
+all_placed globals kept saved ops = placed_from ops globals kept saved 0 ops
 
 -- The word where the block of an index begins, given the word where the first one begins. The index
 -- after the list gives the word where the last block ends.
@@ -100,24 +113,36 @@ AddsLabelled label lines old new =
     new
     ≡ with_block (record old { bound = slice_set old.bound label (Some (length old.lines)) }) lines
 
--- The code that all beginnings of `start` share, and the code that all blocks of `shmalloc` share,
--- for an image with this many words of globals.
+-- The code that all beginnings of `start` share, the code that all blocks of `shmalloc` share, for
+-- an image with this many words of globals, and the code that splits share.
 abbrev pub AddsStart : (globals : ℕ) → (old new : Assembly) → Type 0
 AddsStart globals old new = AddsLabelled start_label (start_lines globals) old new
 
 abbrev pub AddsHeap : (globals : ℕ) → (old new : Assembly) → Type 0
 AddsHeap globals old new = AddsLabelled heap_label (heap_lines globals) old new
 
--- The lines before the code of `start`, those before the code of `shmalloc`, those before the
--- blocks, and all lines of the code.
+abbrev pub AddsOnePart : (old new : Assembly) → Type 0
+AddsOnePart old new = AddsLabelled one_part_label one_part_lines old new
+
+abbrev pub AddsTwoParts : (old new : Assembly) → Type 0
+AddsTwoParts old new = AddsLabelled two_parts_label two_parts_lines old new
+
+-- The lines before the code of `start`, those before the code of `shmalloc`, those before the code
+-- of splits into one part and into two, those before the blocks, and all lines of the code.
 abbrev pub calls_front : (opening : List MarkedLine) → List MarkedLine
 calls_front opening = (opening ++ copying_lines) ++ clearing_lines
 
 abbrev pub start_front : (opening : List MarkedLine) → (globals : ℕ) → List MarkedLine
 start_front opening globals = calls_front opening ++ start_lines globals
 
+abbrev pub heap_front : (opening : List MarkedLine) → (globals : ℕ) → List MarkedLine
+heap_front opening globals = start_front opening globals ++ heap_lines globals
+
+abbrev pub part_front : (opening : List MarkedLine) → (globals : ℕ) → List MarkedLine
+part_front opening globals = heap_front opening globals ++ one_part_lines
+
 abbrev pub front : (opening : List MarkedLine) → (globals : ℕ) → List MarkedLine
-front opening globals = start_front opening globals ++ heap_lines globals
+front opening globals = part_front opening globals ++ two_parts_lines
 
 abbrev pub all_lines : (Placed → List MarkedLine) → (opening : List MarkedLine) → (globals : ℕ)
     → List Placed → List MarkedLine
@@ -129,6 +154,8 @@ pub record IsSpare (label : ℕ) : Type 0 where
   pub no_copy : (n : ℕ) → n ≤ most_privates → label ≡ copy_label n → ⊥
   pub no_start : label ≡ start_label → ⊥
   pub no_heap : label ≡ heap_label → ⊥
+  pub no_part : label ≡ one_part_label → ⊥
+  pub no_parts : label ≡ two_parts_label → ⊥
   pub no_clear : (n : ℕ) → n ≤ most_privates → label ≡ clear_label n → ⊥
 
 -- An assembler with all of the code.
@@ -143,6 +170,10 @@ pub record IsLaid (block : Placed → List MarkedLine) (opening : List MarkedLin
       ≡ Some (length (opening ++ copying_lines) + clear_offset n)
   pub starts : slice_index_or a.bound start_label None ≡ Some (length (calls_front opening))
   pub hires : slice_index_or a.bound heap_label None ≡ Some (length (start_front opening globals))
+  pub divides : slice_index_or a.bound one_part_label None
+      ≡ Some (length (heap_front opening globals))
+  pub halves : slice_index_or a.bound two_parts_label None
+      ≡ Some (length (part_front opening globals))
   pub spare : (label : ℕ) → IsSpare label → slice_index_or a.bound label None ≡ None
   pub labels : (i : ℕ) → i < length ops
       → slice_index_or a.bound (label_of i) None

@@ -13,7 +13,7 @@ use crate::placing::placed;
 use fk_asm::{AsmFault, Assembler, Blocks, Code};
 use fk_core::CoreOp;
 use fk_core_liveness::Set;
-use fk_gen::Placed;
+use fk_gen::{Levels, Placed};
 use std::alloc::AllocError;
 
 /// The label of the block of the first operation.
@@ -36,26 +36,27 @@ pub(crate) fn emit_blocks<B: Blocks<Placed>>(
     blocks: &B,
     ops: &[CoreOp],
     kept: &[Set],
+    saved: &[Levels],
     globals: u32,
     into: &mut Assembler,
 ) -> Result<(), AllocError>
-    requires known { All B.has_block (all_placed globals kept.now ops.now) }
+    requires known { All B.has_block (all_placed globals kept.now saved.now ops.now) }
     requires goes { All (λ op. All (GoesToMade into.old.bound) (B.block op))
-        (all_placed globals kept.now ops.now) }
+        (all_placed globals kept.now saved.now ops.now) }
     requires room { length into.old.lines
-        + length (flat_map B.block (all_placed globals kept.now ops.now)) < 2 ^ 30 }
+        + length (flat_map B.block (all_placed globals kept.now saved.now ops.now)) < 2 ^ 30 }
     requires followed { AreFollowed into.old }
     requires made { label_of (length ops.now) ≤ length into.old.bound }
     requires few { label_of (length ops.now) < 2 ^ 32 }
     requires free { (i : ℕ) → i < length ops.now
         → slice_index_or into.old.bound (label_of i) None ≡ None }
     ensures added { OnOk result
-        (AddsBlocks B.block (all_placed globals kept.now ops.now) into.old into.new) }
+        (AddsBlocks B.block (all_placed globals kept.now saved.now ops.now) into.old into.new) }
     ensures followed { OnOk result (AreFollowed into.new) }
 {
     for (i, op) in ops.iter().enumerate() {
         into.bind(FIRST_LABEL + i as u32)?;
-        blocks.emit_op(&placed(*op, ops, kept, i, globals), into)?;
+        blocks.emit_op(&placed(*op, ops, kept, saved, i, globals), into)?;
     }
     Ok(())
 }

@@ -13,39 +13,43 @@ use crate::all_blocks::AllBlocks;
 use crate::assemble::{FIRST_LABEL, emit_blocks, finish, make_labels};
 use crate::copying::{emit_clearing, emit_copying};
 use crate::hiring::emit_hiring;
+use crate::splitting::{emit_halving, emit_parting};
 use crate::starting::emit_starting;
 use fk_asm::{Assembler, Code};
 use fk_core::CoreOp;
 use fk_core_liveness::Set;
+use fk_gen::Levels;
 use fk_gen_flow::emit_opening;
 use std::alloc::{AllocError, Global};
 
-/// The code of a list of operations that processors do in one group or in none. `kept` has the
-/// private words that calls keep at each index, `main` is the index where the program begins,
-/// `firsts` are the first values of private variables of file scope, and the image has `globals`
-/// words of globals.
+/// The code of a list of operations, without a `fork`. `kept` has the private words that calls keep
+/// at each index, `saved` the levels of groups in their frames, `main` is the index where the
+/// program begins, `firsts` are the first values of private variables of file scope, and the image
+/// has `globals` words of globals.
 ///
 /// The opening is at word 0. After it comes the code that all calls share, that which all
-/// beginnings of `start` share, that which all blocks of `shmalloc` share, and then the block of
-/// each operation, in their order.
+/// beginnings of `start` share, that which all blocks of `shmalloc` share, that which splits share,
+/// and then the block of each operation, in their order.
 pub(crate) fn assemble_list(
     alloc: Global,
     ops: &[CoreOp],
     kept: &[Set],
+    saved: &[Levels],
     main: u32,
     firsts: &[u32],
     globals: u32,
 ) -> Result<Code, AllocError>
-    requires list { IsGenerable ops.now kept.now main firsts.now }
+    requires list { IsGenerable ops.now kept.now saved.now main firsts.now }
     requires small { sum_by most_words ops.now ≤ 256000 }
     requires globals { globals ≤ 2 ^ 19 }
     ensures law { IfOk result (DoesTheList ops.now kept.now main firsts.now globals) }
-    ensures stands { IfOk result (GivesWholeCode ops.now kept.now main firsts.now globals) }
+    ensures stands { IfOk result
+        (GivesWholeCode ops.now kept.now saved.now main firsts.now globals) }
     ensures table { IfOk result (λ code. IsCommitTable (vec_len code.words) code.commits.items) }
     ensures some { IfOk result (λ code. 1 ≤ vec_len code.words) }
     ensures few { IfOk result (λ code. vec_len code.words ≤ most_code_words) }
 {
-    let laid = lay(alloc, ops, kept, main, firsts, globals)?;
+    let laid = lay(alloc, ops, kept, saved, main, firsts, globals)?;
     finish(laid)
 }
 
@@ -54,15 +58,16 @@ fn lay(
     alloc: Global,
     ops: &[CoreOp],
     kept: &[Set],
+    saved: &[Levels],
     main: u32,
     firsts: &[u32],
     globals: u32,
 ) -> Result<Assembler, AllocError>
-    requires list { IsGenerable ops.now kept.now main firsts.now }
+    requires list { IsGenerable ops.now kept.now saved.now main firsts.now }
     requires small { sum_by most_words ops.now ≤ 256000 }
     requires globals { globals ≤ 2 ^ 19 }
     ensures laid { IfOk result (IsLaid block_of (opening_lines (length firsts.now) firsts.now main)
-        globals (all_placed globals kept.now ops.now)) }
+        globals (all_placed globals kept.now saved.now ops.now)) }
     ensures followed { IfOk result AreFollowed }
 {
     let mut into = Assembler::new(alloc);
@@ -72,6 +77,8 @@ fn lay(
     emit_clearing(&mut into)?;
     emit_starting(&mut into, globals)?;
     emit_hiring(&mut into, globals)?;
-    emit_blocks(&AllBlocks, ops, kept, globals, &mut into)?;
+    emit_parting(&mut into)?;
+    emit_halving(&mut into)?;
+    emit_blocks(&AllBlocks, ops, kept, saved, globals, &mut into)?;
     Ok(into)
 }

@@ -1,7 +1,7 @@
 //! The kinds of blocks.
 
 use fk_core::CoreOp;
-use fk_meaning_operation::Operation;
+use fk_meaning_operation::{Operation, SplitKind};
 
 /// The kind of an operation's block.
 #[derive(Clone, Copy, PartialEq, Eq, Debug)]
@@ -52,7 +52,15 @@ impl Kind {
                 | Operation::Resume
                 | Operation::Meet(_)
                 | Operation::Frame { .. }
-                | Operation::Block,
+                | Operation::Block
+                | Operation::Shrink
+                | Operation::Split(
+                    SplitKind::IfAlone
+                    | SplitKind::IfElse
+                    | SplitKind::AndThen
+                    | SplitKind::OrElse
+                    | SplitKind::Loop,
+                ),
             ) => Kind::Group,
             _ => Kind::Expression,
         }

@@ -7,7 +7,7 @@ ghost use Rattle.fk_gen_list.specs.Layout as layout;
 use fk_core::CoreOp;
 use fk_core_list::behind_jump;
 use fk_core_liveness::Set;
-use fk_gen::Placed;
+use fk_gen::{Levels, Placed};
 use fk_meaning_operation::Operation;
 
 // Whether a call has private words that are kept as it begins and are no arguments.
@@ -37,17 +37,38 @@ fn back(op: CoreOp, ops: &[CoreOp], index: usize) -> u32
     }
 }
 
-/// The operation at an index of a list in which calls keep these words, in an image with `globals`
-/// words of globals.
-pub(crate) fn placed(op: CoreOp, ops: &[CoreOp], kept: &[Set], index: usize, globals: u32) -> Placed
+// The levels in the frame of the running call. Where nothing is told it has none.
+fn levels(saved: &[Levels], index: usize) -> Levels
+    ensures { result ≡ layout.levels_in saved.now index }
+{
+    match saved.get(index) {
+        Some(levels) => *levels,
+        None => Levels {
+            count: 0,
+            behind: 0,
+        },
+    }
+}
+
+/// The operation at an index of a list in which calls keep these words, and have these levels in
+/// their frames, in an image with `globals` words of globals.
+pub(crate) fn placed(
+    op: CoreOp,
+    ops: &[CoreOp],
+    kept: &[Set],
+    saved: &[Levels],
+    index: usize,
+    globals: u32,
+) -> Placed
     requires within { index < length ops.now }
     requires small { length ops.now < 2 ^ 32 }
-    ensures { result ≡ layout.placed ops.now globals kept.now index op }
+    ensures { result ≡ layout.placed ops.now globals kept.now saved.now index op }
 {
     Placed {
         op,
         globals,
         clears: clears(op, kept, index),
         back: back(op, ops, index),
+        levels: levels(saved, index),
     }
 }

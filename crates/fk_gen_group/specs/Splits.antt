@@ -1,0 +1,216 @@
+-- The blocks of splits, of the ends of parts, and of loops that shrink.
+use Rattle.std.specs.Prelude.{ℕ, ◌+◌, ◌-◌, ◌*◌, ◌^◌, List, [], ◌∷◌, ◌++◌, length, map, Bool, true}
+use Rattle.std.specs.Prelude.{false}
+use Rattle.fk_meaning_operation.specs.declared.operation.SplitKind.{SplitKind}
+use Rattle.fk_meaning_operation.specs.declared.operation.SplitKind.TheVariants.{IfAlone, IfElse}
+use Rattle.fk_meaning_operation.specs.declared.operation.SplitKind.TheVariants.{AndThen, OrElse}
+use Rattle.fk_meaning_operation.specs.declared.operation.SplitKind.TheVariants.{Loop, Fork}
+use Rattle.fk_image.specs.declared.Image.{Image}
+use Rattle.fk_isa.specs.declared.instruction.Instruction.{Instruction}
+use Rattle.fk_isa.specs.declared.instruction.Instruction.TheVariants.{Lui, Jal, Jalr, Bne, Bgeu, Lw}
+use Rattle.fk_isa.specs.declared.instruction.Instruction.TheVariants.{Sw, Addi, Sltiu, Slli, Srli, Add}
+use Rattle.fk_isa.specs.declared.instruction.Instruction.TheVariants.{Sub, Sltu, Mul, AmoAddW}
+use Rattle.fk_asm.specs.Assembly.{straight}
+use Rattle.fk_asm.specs.Block.{MarkedLine}
+use Rattle.fk_sim_block.specs.Stands.{frame_register, end_register, size_register, device_register}
+use Rattle.fk_sim_block.specs.Node.{node_register, frames_register, blocks_register}
+use Rattle.fk_sim_block.specs.Node.{barrier_word, closing_word}
+use Rattle.fk_gen.specs.Registers.{zero_register, ra, t0, t1, t2, t3, t4}
+use Rattle.fk_gen.specs.Lines.{quiet, commits, goes_to, commit_of, at_value, at_private, label_of}
+use Rattle.fk_gen.specs.Lines.{high_part, low_part}
+use Rattle.fk_gen.specs.InPlace.{LinesAt}
+use Rattle.fk_gen.specs.declared.placed.Levels.{Levels}
+
+-- Numbers below 0, as words.
+abbrev pub minus : (n : ℕ) → ℕ
+minus n = 2 ^ 32 - n
+
+-- The word after the header at which the level after `count` others begins.
+abbrev pub level_word : Levels → (count : ℕ) → ℕ
+level_word levels count = levels.behind + 4 * count
+
+-- Without room the site goes to the device that faults.
+abbrev pub no_room : (site : ℕ) → List MarkedLine
+no_room site =
+    quiet (Lui t1 (high_part site)) ∷ quiet (Addi t1 t1 (low_part site))
+    ∷ commits (Sw device_register t1 8) ∷ []
+
+-- ---- splits
+
+-- A split into one part has 1 in t3 for who enters it, and 0 for who waits. A split into two has
+-- the number of the part. Who waits at an `||` has 1 in place of its value, and at an `&&` 0.
+abbrev pub part_lines : SplitKind → (depth : ℕ) → List Instruction
+part_lines IfAlone d = Lw t3 end_register (at_value d) ∷ Sltu t3 zero_register t3 ∷ []
+part_lines IfElse d = Lw t3 end_register (at_value d) ∷ Sltiu t3 t3 1 ∷ []
+part_lines AndThen d = Lw t3 end_register (at_value d) ∷ Sltu t3 zero_register t3 ∷ []
+part_lines OrElse d =
+    Lw t3 end_register (at_value d) ∷ Sltu t0 zero_register t3 ∷
+    Sw end_register t0 (at_value d) ∷ Sltiu t3 t3 1 ∷ []
+part_lines Loop d = Addi t3 zero_register 1 ∷ []
+part_lines Fork d = []
+
+-- The labels of the code that all splits into one part share, and all splits into two.
+abbrev pub one_part_label : ℕ
+one_part_label = 59
+
+abbrev pub two_parts_label : ℕ
+two_parts_label = 60
+
+abbrev pub parts_label : SplitKind → ℕ
+parts_label IfElse = two_parts_label
+parts_label by = one_part_label
+
+-- A processor goes to that code with its part in t3 and the address of the level in t2. It comes
+-- back right here if it waits, or is in the second part; one word after that if there is no room;
+-- and at the next block if it is in the first part.
+abbrev pub parting_lines : (label word target site : ℕ) → List MarkedLine
+parting_lines label word target site =
+    quiet (Addi t2 frame_register (at_private word)) ∷ goes_to (Jal ra 0) label ∷
+    goes_to (Jal zero_register 0) (label_of target) ∷ no_room site
+
+abbrev pub split_block : SplitKind → Levels → (depth target site : ℕ) → List MarkedLine
+split_block by levels d target site =
+    map quiet (part_lines by d)
+    ++ parting_lines (parts_label by) (level_word levels levels.count) target site
+
+-- ---- the code that splits share
+
+-- 4 words of the free ones are kept back for each part, and a part needs 16. The one part begins
+-- after those kept back. Who waits stays with the words of its own node.
+abbrev pub one_part_place : List MarkedLine
+one_part_place =
+    quiet (Addi t1 frames_register 80) ∷ quiet (Bgeu blocks_register t1 8) ∷
+    quiet (Jalr zero_register ra 4) ∷
+    quiet (Addi t1 t1 (minus 64)) ∷ quiet (Sub t1 t1 node_register) ∷
+    quiet (Mul t1 t1 t3) ∷ quiet (Add t1 t1 node_register) ∷ []
+
+-- Two parts lie one after the other, each with half of what is left.
+abbrev pub two_parts_place : List MarkedLine
+two_parts_place =
+    quiet (Sub t0 blocks_register frames_register) ∷ quiet (Addi t1 zero_register 160) ∷
+    quiet (Bgeu t0 t1 8) ∷ quiet (Jalr zero_register ra 4) ∷
+    quiet (Srli t0 t0 3) ∷ quiet (Slli t0 t0 2) ∷ quiet (Addi t4 t0 (minus 16)) ∷
+    quiet (Mul t1 t3 t4) ∷ quiet (Add t1 t1 frames_register) ∷ quiet (Addi t1 t1 32) ∷
+    quiet (Addi t0 zero_register 1) ∷ []
+
+-- All members clear the words at which those of their part will meet. Each adds to the first of
+-- these what a register has, finds the sum, and clears it again.
+abbrev pub counting_lines : (register : ℕ) → List MarkedLine
+counting_lines register =
+    quiet (Sw t1 zero_register (4 * closing_word)) ∷
+    quiet (Sw t1 zero_register (4 * barrier_word)) ∷
+    quiet (AmoAddW zero_register t1 register false false) ∷
+    quiet (Lw t0 t1 (4 * barrier_word))
+    ∷ commits (Sw t1 zero_register (4 * barrier_word)) ∷ []
+
+-- A member that enters saves the level of its group, and has the node, the size and the space of
+-- its part.
+abbrev pub saving_lines : List MarkedLine
+saving_lines =
+    quiet (Sw t2 size_register 0) ∷ quiet (Sw t2 node_register 4) ∷
+    quiet (Sw t2 blocks_register 8) ∷ quiet (Sw t2 frames_register 12) ∷
+    quiet (Addi node_register t1 0) ∷ quiet (Addi size_register t0 0)
+    ∷ quiet (Addi frames_register t1 32) ∷ []
+
+-- The blocks of the one part begin where those of its group do. Two parts have blocks of their own.
+abbrev pub waiting_lines : List MarkedLine
+waiting_lines = quiet (Bne t3 zero_register 8) ∷ quiet (Jalr zero_register ra 0) ∷ []
+
+abbrev pub into_one_part : List MarkedLine
+into_one_part = quiet (Jalr zero_register ra 16) ∷ []
+
+abbrev pub into_two_parts : List MarkedLine
+into_two_parts =
+    quiet (Add blocks_register t1 t4) ∷ quiet (Bne t3 zero_register 8) ∷
+    quiet (Jalr zero_register ra 16) ∷ quiet (Jalr zero_register ra 0) ∷ []
+
+abbrev pub one_part_lines : List MarkedLine
+one_part_lines =
+    one_part_place ++ (counting_lines t3 ++ (waiting_lines ++ (saving_lines ++ into_one_part)))
+
+abbrev pub two_parts_lines : List MarkedLine
+two_parts_lines = two_parts_place ++ (counting_lines t0 ++ (saving_lines ++ into_two_parts))
+
+-- The image has this code, at its labels.
+pub record HasParts (image : Image) (bound : ℕ → ℕ) : Type 0 where
+  pub one : LinesAt image bound (bound one_part_label) one_part_lines
+  pub two : LinesAt image bound (bound two_parts_label) two_parts_lines
+
+-- ---- the way out of a part
+
+-- The line of an instruction that may do the operation.
+abbrev pub with_commit : Bool → Instruction → MarkedLine
+with_commit commits i = record { line = straight i; commit = commit_of commits }
+
+-- The group around a part: its size, its node and its space.
+abbrev pub outward_lines : (commits : Bool) → (word target : ℕ) → List MarkedLine
+outward_lines commits word target =
+    with_commit commits (Lw size_register frame_register (at_private word))
+    ∷ quiet (Lw node_register frame_register (at_private (word + 1)))
+    ∷ quiet (Lw blocks_register frame_register (at_private (word + 2)))
+    ∷ quiet (Lw frames_register frame_register (at_private (word + 3)))
+    ∷ goes_to (Jal zero_register 0) (label_of target) ∷ []
+
+-- The word of the innermost level.
+abbrev pub last_level : Levels → ℕ
+last_level levels = level_word levels (levels.count - 1)
+
+abbrev pub end_part_block : Levels → (target : ℕ) → List MarkedLine
+end_part_block levels target = outward_lines true (last_level levels) target
+
+-- ---- a loop that shrinks
+
+-- Those whose value isn't 0 are counted at a word that is 0 in lockstep. They go past the way out,
+-- and stay as so many.
+abbrev pub staying_lines : (depth : ℕ) → List MarkedLine
+staying_lines d =
+    quiet (Lw t3 end_register (at_value d)) ∷ quiet (Sltu t3 zero_register t3) ∷
+    quiet (AmoAddW zero_register node_register t3 false false) ∷
+    quiet (Lw t0 node_register (4 * barrier_word)) ∷
+    commits (Sw node_register zero_register (4 * barrier_word))
+    ∷ quiet (Bne t3 zero_register 24) ∷ []
+
+abbrev pub size_line : List MarkedLine
+size_line = quiet (Addi size_register t0 0) ∷ []
+
+abbrev pub shrink_block : Levels → (depth target : ℕ) → List MarkedLine
+shrink_block levels d target =
+    staying_lines d ++ (outward_lines false (last_level levels) target ++ size_line)
+
+-- ---- cycles
+
+-- The cycles of a split before its commit, where there is room for its parts: those of its block,
+-- and those of the code that splits share.
+abbrev pub before_parts : SplitKind → ℕ
+before_parts IfElse = 14
+before_parts by = 10
+
+abbrev pub split_takes : SplitKind → ℕ
+split_takes by = length (part_lines by 0) + 2 + before_parts by
+
+-- Where there is no room, those before the lowest member faults.
+abbrev pub before_full : SplitKind → ℕ
+before_full IfElse = 4
+before_full by = 3
+
+abbrev pub split_faults_in : SplitKind → ℕ
+split_faults_in by = length (part_lines by 0) + 2 + before_full by + 2
+
+-- The cycles after its commit: on the first way those who enter the only part or the first of two,
+-- on the other those who wait or enter the second.
+abbrev pub split_goes_on : SplitKind → (onward : Bool) → ℕ
+split_goes_on IfElse true = 10
+split_goes_on IfElse false = 11
+split_goes_on by true = 9
+split_goes_on by false = 3
+
+-- The cycles of the end of a part after its commit; and those of a shrink before and after it.
+abbrev pub end_part_takes : ℕ
+end_part_takes = 4
+
+abbrev pub shrink_takes : ℕ
+shrink_takes = 4
+
+abbrev pub shrink_goes_on : (onward : Bool) → ℕ
+shrink_goes_on true = 2
+shrink_goes_on false = 6
