@@ -357,7 +357,7 @@ module _ (core : List CoreOp) (places : Places) where
           home = takes.main ∙ running.home;
           values = values_kept m m' n (values p.runner.has) (λ j le lt. other_word m w v j (λ e. omega arith)) running.values;
           privates = λ y e.
-              let above = above_group n in
+              let above = above_group n known in
               other_word m w v (frame_start places n + 7 + y) (λ f. omega arith) ∙ running.privates y (takes.kept y e);
           group = λ told e. by_told told (running.group told) (takes.group told e) (told == number) refl;
         };
@@ -370,9 +370,9 @@ module _ (core : List CoreOp) (places : Places) where
       there : (told : ℕ) → told ≡ number → put p.runner.has.call.frames number first told ≡ first
       there told same = ap (put p.runner.has.call.frames number first) same ∙ same_word p.runner.has.call.frames number first
 
-      above_group : (n : ℕ) → group_word n number < frame_start places n + 7
-      above_group zero = omega arith
-      above_group (suc n) = omega arith
+      above_group : (n : ℕ) → number < 4 → group_word n number < frame_start places n + 7
+      above_group zero low = omega arith
+      above_group (suc n) low = omega arith
 
       abbrev HasTaken : (told : ℕ) → Type 0
       HasTaken told =

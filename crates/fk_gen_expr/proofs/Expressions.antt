@@ -280,7 +280,7 @@ module _ (core : List CoreOp) (image : Image) (places : Places) (bound : ℕ →
       let same : word (a + number) ≡ word (address_of (p.runner.has.call.frames nesting + w)) = omega arith in
       get_with (FrameAddress nesting w) (load ∷ on_registers (add_by short number t1)) t0 (word (address_of (p.runner.has.call.frames nesting + w))) here
       (ap (λ rest. first_commits (load_frame t1 nesting ∷ rest)) (instructions_of-append (add_by short number t1) (result_line t0 n (d + 1) ∷ []))
-      ∙ ap (λ b. first_commits (frame_word b w ++ result t0 (d + 1) ∷ [])) (sym e))
+      ∙ ap (λ b. first_commits (frame_word b nesting w ++ result t0 (d + 1) ∷ [])) (sym e))
       (few_of_sum load short number) refl
       (subst (Gives told (load ∷ on_registers (add_by short number t1)) h t0) same
       (gives_behind told (load ∷ []) (on_registers (add_by short number t1)) h t0 (word (a + number))
