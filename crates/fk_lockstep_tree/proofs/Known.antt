@@ -285,7 +285,7 @@ module _ {W : Type 0} (next : W → Option (Step W)) (set : Setting) (round : Ro
         let of = group_steps p.depth c.step.operation true way.0 c.changes goes' in
         let deep : (m : ℕ) → p.depth ≡ suc m → parent s.tree g ≢ 0
         = λ m two zero_is.
-            parent_below set s.tree (ranges_of s) h (s.tree.places h) c.act.runner.has.level c.act.runner.has.outer m here.levels (p.above_is ∙ ap suc two) (ap (parent s.tree) at ∙ zero_is) in
+        parent_below set s.tree (ranges_of s) h (s.tree.places h) c.act.runner.has.level c.act.runner.has.outer m here.levels (p.above_is ∙ ap suc two) (ap (parent s.tree) at ∙ zero_is) in
         record {
           changes = changes_op;
           fits = subst (λ (x : Operation). StepFits s.tree g x) c.op_is (locked_fits s.tree g p.depth c.step.operation way.0 of goes' deep e);
