@@ -1,17 +1,18 @@
 -- What is known of a reached state, in the form that the laws of machines need.
-use Rattle.std.specs.Prelude.{◌≡◌, ◌≢◌, ℕ, ◌+◌, ◌^◌, ◌<◌, ◌≤◌, List, length, Some, None, true}
-use Rattle.std.specs.Prelude.{false, slice_get, ◌⊎◌}
+use Rattle.std.specs.Prelude.{◌≡◌, ◌≢◌, ℕ, ◌+◌, ◌^◌, ◌<◌, ◌≤◌, nat_lt, List, length, Some, None}
+use Rattle.std.specs.Prelude.{true, false, slice_get, is_some, if◌then◌else◌, ◌⊎◌}
+use Rattle.fk_space.specs.Space.{Space}
 use Rattle.fk_meaning_operation.specs.declared.operation.Operation.TheVariants.{Begin}
 use Rattle.fk_tree.specs.declared.node.Kind.TheVariants.{Lockstep, Asynchronous}
 use Rattle.fk_tree.specs.Tree as trees
 use Rattle.fk_tree.specs.Tree.{Tree}
-use Rattle.fk_meaning.specs.Processor.{Setting, setting_of}
+use Rattle.fk_meaning.specs.Processor.{Setting, setting_of, group_space}
 use Rattle.fk_meaning.specs.Round.{Runner, State, result, is_possible}
 use Rattle.fk_meaning.specs.Schedule.{Schedule, run}
 use Rattle.fk_core.specs.declared.op.CoreOp.{CoreOp}
 use Rattle.fk_core.specs.Next.{Position, next, list_opening}
 use Rattle.fk_lockstep_frames.specs.Lists.{HasLocalFrames, HasToldFrames}
-use Rattle.fk_lockstep_tree.specs.Ranges.{ranges_of}
+use Rattle.fk_lockstep_tree.specs.Ranges.{range_of, ranges_of}
 use Rattle.fk_sim_nodes.specs.Node.{of_node}
 use Rattle.fk_sim_nodes.specs.Source.{AllPass}
 use Rattle.fk_sim_match.specs.Stage.{Stage, counts_for}
@@ -35,7 +36,15 @@ ReachedTreesHaveSpaces =
     (core : List CoreOp) (setting : Setting) (s : State Position) → IsReached core setting s
     → IsTree setting s.tree (ranges_of s)
 
--- The words of a group are the same after a round, if it is still there.
+-- The words of the nodes in one cycle, from a state to the one behind it: those of before, and for
+-- a new node those behind. The next group of the root may be one that nobody enters.
+abbrev pub ranges_over : Setting → (s behind : State Position) → (g : ℕ) → Space
+ranges_over setting s behind g =
+    if nat_lt g s.tree.given then ranges_of s g
+    else if is_some (behind.tree.nodes g) then ranges_of behind g
+    else range_of (group_space setting)
+
+-- The words of a node are the same after a round, if it is still there.
 abbrev pub ReachedRangesStay : Type 0
 ReachedRangesStay =
     (core : List CoreOp) (nestings : Nestings) (main : ℕ) (setting : Setting) (stages : List Stage)
@@ -43,7 +52,7 @@ ReachedRangesStay =
     → let behind = result (next core) setting (counts_for stages) s in
     IsOfTree core nestings main → IsReached core setting s → IsReached core setting behind
     → is_possible (next core) setting (counts_for stages) s ≡ true
-    → g ≢ 0 → g < s.tree.given → behind.tree.nodes g ≢ None
+    → g < s.tree.given → behind.tree.nodes g ≢ None
     → ranges_of behind g ≡ ranges_of s g
 
 -- All processors have the levels that the tree has at their nodes.
