@@ -48,7 +48,7 @@ module _ (runs_reach : RunsReach) (core : List CoreOp) (main : ℕ) (firsts : Li
   pub given : AreGiven image.globals.items firsts input p
   given = record { few = few; room = is_input.room; globals_are_words = carries.globals_are_words; firsts_are_words = carries.firsts_are_words; input_are_words = is_input.words }
 
-  pub reached : (schedule : Schedule) → ArePossible (next core) setting schedule first → AreSingle schedule → (state schedule).fault ≡ None → IsReached core setting (state schedule)
+  pub reached : (schedule : Schedule) → ArePossible (next core) setting schedule first → AreSingle schedule → (state schedule).fault ≡ None → IsReached core nestings setting (state schedule)
   reached schedule possible single none =
       runs_reach core nestings main carries.tree image.globals.items firsts input p schedule some given possible single none
 

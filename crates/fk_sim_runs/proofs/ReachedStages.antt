@@ -93,7 +93,7 @@ first_due core tree spaces [] (q ∷ rs) r due at = absurd due
 first_due core tree spaces (x ∷ stages) [] r due at = absurd due
 
 module _ (core : List CoreOp) (nestings : Nestings) (main : ℕ) (setting : Setting) (s : State Position) (stages : List Stage) (did : List Doing) (list : IsOfTree core nestings main)
-    (reached : AreReached core setting s stages) (round : IsRoundOf core setting s stages did) (spaces : ℕ → Space) (due : AllDue core s.tree spaces 0 stages (landed_state core s).runners) where
+    (reached : AreReached core setting s stages nestings) (round : IsRoundOf core setting s stages did) (spaces : ℕ → Space) (due : AllDue core s.tree spaces 0 stages (landed_state core s).runners) where
   no_group : BeginsGroup s.tree did → ⊥
   no_group begins =
       let some = reached.before.stands.sound.some in

@@ -49,7 +49,7 @@ module _ (runs_reach : RunsReach) (runs_reach_rounds : RunsReachRounds) (core : 
 
   -- ---- one cycle
 
-  module _ (s : State Position) (nodes : List ℕ) (printed : List ℕ) (stages : List Stage) (m : Machine) (are : AreReached core setting s stages) (running : is_running m.stand ≡ true) where
+  module _ (s : State Position) (nodes : List ℕ) (printed : List ℕ) (stages : List Stage) (m : Machine) (are : AreReached core setting s stages nestings) (running : is_running m.stand ≡ true) where
     ready_behind : GoesWith core image places nestings setting spaces s nodes printed stages m → is_possible (next core) setting (counts_for stages) s ≡ true
         → IsReady setting s.tree m.shared.control → IsReady setting (result (next core) setting (counts_for stages) s).tree (cycle m).shared.control
     ready_behind with possible ready =

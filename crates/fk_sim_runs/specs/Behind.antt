@@ -56,9 +56,9 @@ module _ (core : List CoreOp) (setting : Setting) (s : State Position) (stages :
     pub passes : AllPass (core_source core setting) (counts_for stages) ps shared did shared'
 
   -- The states before and after the round are reached.
-  pub record AreReached : Type 0 where
-    pub before : IsReached core setting s
-    pub after : IsReached core setting behind
+  pub record AreReached (nestings : Nestings) : Type 0 where
+    pub before : IsReached core nestings setting s
+    pub after : IsReached core nestings setting behind
 
   -- The words of the nodes in this round.
   abbrev pub spaces_in_round : ℕ → Space
@@ -85,7 +85,7 @@ ReachedRoundsGoOn =
     (core : List CoreOp) (nestings : Nestings) (main : ℕ) (setting : Setting) (s : State Position)
     (stages : List Stage) (afters : List (Option Stage)) (did : List Doing)
     → IsOfTree core nestings main → setting.processors ≤ 1024
-    → AreReached core setting s stages → IsRoundOf core setting s stages did
+    → AreReached core setting s stages nestings → IsRoundOf core setting s stages did
     → HadNext core afters s.runners → GoAhead core setting s stages nestings did afters
 
 -- Where each processor is about to do what its stage tells, and stages stay or are over, nobody
@@ -95,7 +95,7 @@ ReachedStagesGoOn =
     (core : List CoreOp) (nestings : Nestings) (main : ℕ) (setting : Setting) (s : State Position)
     (stages : List Stage) (afters : List (Option Stage)) (did : List Doing)
     (spaces : ℕ → Space) → IsOfTree core nestings main
-    → setting.processors ≤ 1024 → AreReached core setting s stages
+    → setting.processors ≤ 1024 → AreReached core setting s stages nestings
     → IsRoundOf core setting s stages did → AllDue core s.tree spaces 0 stages
     (landed_state core s).runners → Pairwise Remains stages afters
     → IsKnownRound s.tree did × GoAhead core setting s stages nestings did afters
@@ -112,4 +112,5 @@ RunsReachRounds =
     → ArePossible (next core) setting (schedule ++ counts_for stages ∷ []) first
     → AreSingle schedule
     → is_possible (next core) setting (counts_for stages) s ≡ true
-    → IsReached core setting s × IsReached core setting (behind core setting s stages)
+    → IsReached core nestings setting s
+    × IsReached core nestings setting (behind core setting s stages)

@@ -35,7 +35,7 @@ ReachedCyclesStayReady =
     → let behind = result (next core) setting (counts_for stages) s in
     let spaces = ranges_over setting s behind in
     GroupLaw core image places nestings cycles firsts main → IsOfTree core nestings main
-    → IsReached core setting s → HasSpace setting
+    → IsReached core nestings setting s → HasSpace setting
     → length m.harts < 2 ^ 31 → is_running m.stand ≡ true
     → GoesWith core image places nestings setting spaces s nodes printed stages m
     → is_possible (next core) setting (counts_for stages) s ≡ true
@@ -57,7 +57,8 @@ ReachedStartsFindHeaders =
     (s : State Position) (nodes : List ℕ) (printed : List ℕ) (stages : List Stage) (m : Machine)
     → let behind = result (next core) setting (counts_for stages) s in
     let spaces = ranges_over setting s behind in
-    IsOfTree core nestings main → IsReached core setting s → IsReached core setting behind
+    IsOfTree core nestings main → IsReached core nestings setting s
+    → IsReached core nestings setting behind
     → HasSpace setting → length m.harts < 2 ^ 31 → is_running m.stand ≡ true
     → GoesToStart core image places nestings setting spaces s nodes printed stages m
     → is_possible (next core) setting (counts_for stages) s ≡ true
