@@ -55,7 +55,7 @@ fn levels_are_behind_words(rt: HostRuntime) -> Result<(), AllocError> {
     assert!(rt; is_at(&found, 0, 0, 3));
     assert!(rt; is_at(&found, 2, 0, 3));
     assert!(rt; is_at(&found, 3, 1, 3));
-    assert!(rt; is_at(&found, 5, 0, 0));
+    assert!(rt; is_at(&found, 5, 0, 6));
     assert!(rt; is_at(&found, 6, 1, 3));
     assert!(rt; is_at(&found, 7, 0, 3));
     assert!(rt; is_at(&found, 9, 1, 3));
