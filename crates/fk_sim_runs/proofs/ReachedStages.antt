@@ -142,9 +142,9 @@ module _ (core : List CoreOp) (nestings : Nestings) (main : ℕ) (setting : Sett
       (reached_rounds_are_known core nestings main setting stages s round.ps did round.shared round.shared' list reached.before round.order round.beside round.possible round.passes)
 
 pub reached_stages_go_on : ReachedStagesGoOn
-reached_stages_go_on core nestings main setting s stages afters did spaces list space limit reached round due stay = (
+reached_stages_go_on core nestings main setting s stages afters did spaces list limit reached round due stay = (
   known core nestings main setting s stages did list reached round spaces due,
-  reached_rounds_go_on core nestings main setting s stages afters did list space limit reached round
+  reached_rounds_go_on core nestings main setting s stages afters did list limit reached round
       (had core s.tree spaces list.jumps 0 stages afters s.runners due stay),
 )
 
