@@ -23,6 +23,11 @@ parts [] = 0
 parts (OfFunction frame ∷ nests) = parts nests
 parts (OfPart frame ∷ nests) = suc (parts nests)
 
+-- The number of parts that these calls are in.
+abbrev pub parts_in : (core : List CoreOp) (main : ℕ) → HasLocalFrames core main
+    → (indices : List ℕ) → ℕ
+parts_in core main local indices = parts (nests_of core local.in_main local.nests indices)
+
 -- These are the nests of a function outside its parts.
 abbrev pub IsFunction : List Nest → Type 0
 IsFunction nests = (frame : Option ℕ) × (nests ≡ OfFunction frame ∷ [])
@@ -41,22 +46,19 @@ module _ (nest : (index : ℕ) → Nesting) where
       × (1 ≤ outside + parts nests) × StandsIn outside (nest split) nests)
 
   module _ (core : List CoreOp) (main : ℕ) (local : HasLocalFrames core main) where
-    -- The number of parts that these calls are in.
-    abbrev pub parts_of : (indices : List ℕ) → ℕ
-    parts_of indices = parts (nests_of core local.in_main local.nests indices)
-
     abbrev pub StandsAt : (outside index : ℕ) → Type 0
     StandsAt outside i = i < length core → StandsIn outside (nest i) (local.nests i)
 
     -- Each call has the parts around it that the calls are in which wait for it.
     abbrev pub AllStandAt : (indices : List ℕ) → Type 0
     AllStandAt [] = Unit {0}
-    AllStandAt (i ∷ indices) = StandsAt (parts_of indices) i × AllStandAt indices
+    AllStandAt (i ∷ indices) = StandsAt (parts_in core main local indices) i × AllStandAt indices
 
     -- A processor has as many groups around its own level as its calls are in parts, and each call
     -- saves the levels that its nests tell.
     pub record HasToldLevels (r : Runner Position) : Type 0 where
-      pub groups : length r.has.outer ≡ parts_of (landing core r.left.at ∷ r.left.callers)
+      pub groups : length r.has.outer
+          ≡ parts_in core main local (landing core r.left.at ∷ r.left.callers)
       pub calls : AllStandAt (landing core r.left.at ∷ r.left.callers)
 
 -- So it is in every run of a list in which no processor splits a group outside of groups.
@@ -80,8 +82,8 @@ leaves_part Shrink = true
 leaves_part End = true
 leaves_part operation = false
 
--- In the root, and in the group of a `start`, the frames of a processor's calls have no saved level.
--- Where it is about to leave a part of another group, the frame of its call has one.
+-- In the root, and in the group of a `start`, the frames of a processor's calls have no saved
+-- level. Where it is about to leave any other part, the frame of its call has one.
 pub record SavesLevels (core : List CoreOp) (nestings : Nestings)
     (r : Runner Position) : Type 0 where
   pub none : (op : CoreOp) (operation : Operation)
