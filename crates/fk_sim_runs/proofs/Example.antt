@@ -23,12 +23,10 @@ use Rattle.fk_core.specs.Numbers.{operation_of}
 use Rattle.fk_core.specs.Next.{Position, position, is_jump, led_by, landing_by, landing, follows, next, list_opening}
 use Rattle.fk_core.specs.WellFormed.{LeadsOn, HasDepths}
 use Rattle.fk_core.proofs.Examples.{op}
-use Rattle.fk_core_nestings.specs.declared.nesting.Nesting.{Nesting}
-use Rattle.fk_core_nestings.specs.Nestings as spec
 use Rattle.fk_lockstep.specs.Course.{InGroup, Waits, ByItself, Follows}
 use Rattle.fk_lockstep.specs.Frames.{IsFramed}
 use Rattle.fk_lockstep.proofs.Round.{some_at}
-use Rattle.fk_lockstep_frames.specs.Nests.{Nest, OfFunction, OfPart}
+use Rattle.fk_lockstep_frames.specs.Nests.{Nest, OfFunction, OfPart, levels_of}
 use Rattle.fk_lockstep_frames.specs.Lists as l
 use Rattle.fk_lockstep_frames.specs.Lists.{HasLocalFrames}
 use Rattle.fk_lockstep_frames.proofs.Found.{found}
@@ -58,24 +56,6 @@ abbrev nth : {A : Type 0} → (otherwise : A) → List A → ℕ → A
 nth otherwise [] i = otherwise
 nth otherwise (x ∷ xs) zero = x
 nth otherwise (x ∷ xs) (suc i) = nth otherwise xs i
-
--- ---- how each index stands in the groups of its function
-
-abbrev in_group : Nesting
-in_group = spec.with_frame 2 spec.in_start
-
-abbrev nest : ℕ → Nesting
-nest =
-    nth spec.outermost
-    (spec.outermost ∷ spec.outermost ∷ spec.in_start ∷ in_group ∷ in_group ∷ in_group ∷ in_group ∷ in_group ∷ in_group ∷ in_group ∷ spec.in_part 9 in_group ∷
-    in_group ∷ in_group ∷ in_group ∷ in_group ∷ in_group ∷ [])
-
-abbrev nestings : Nestings
-nestings = record {
-  levels = λ i. (nest i).levels;
-  behind = λ i. 0;
-  start = record { there = λ i. record { at = 0; changes = λ r. false }; coming = λ i h. h };
-}
 
 -- ---- groups, parts and bodies in their order
 
@@ -493,6 +473,13 @@ nests =
 abbrev in_main : ℕ → Bool
 in_main i = true
 
+abbrev nestings : Nestings
+nestings = record {
+  levels = λ i. levels_of (in_main i) (nests i);
+  behind = λ i. 0;
+  start = record { there = λ i. record { at = 0; changes = λ r. false }; coming = λ i h. h };
+}
+
 -- ---- one operation
 
 -- the operation at an index, with `depth` values, goes on in the list, and where it does as many values are as stand there
@@ -511,7 +498,6 @@ record Is (i : ℕ) (x : CoreOp) : Type 0 where
   within : is_end operation ≡ false → (onward : Bool) → StaysInList core (follows core operation i x.target [] onward)
   may : (r : Runner Position) → r.left.callers ≡ [] → IsSpace r.has.level.space → MayDo operation r
   frames : l.Fits core in_main nests i x.target operation
-  nested : spec.AfterEntry nest core (λ j at. nest j ≡ at) (Some x) i
   moves : Moves i x.target x.depth operation
 
 dropped : (vs : List ℕ) → length vs ≡ 1 → length (before 1 vs) ≡ 0
@@ -573,7 +559,6 @@ counts = record {
   within = λ ends. either_way 1 1 (omega arith) (omega arith) (follows core (o.Get k.Processors) 0 0 []) refl refl;
   may = λ r none space. tt;
   frames = fits (o.Get k.Processors) 0 0 tt (elim [ true ↦ leads outermost 0 1 refl | false ↦ leads outermost 0 1 refl ]);
-  nested = (refl, refl);
   moves = record {
     locals = λ set has c d. (refl, ap suc d);
     requests = λ v has c. absurd (cc);
@@ -589,7 +574,6 @@ begins = record {
   within = λ ends. either_way 2 16 (omega arith) (omega arith) (follows core o.Begin 1 16 []) refl refl;
   may = λ r none space. tt;
   frames = fits o.Begin 1 16 (record { main = refl; nested = refl }) (elim [ true ↦ leads (in_start None) 1 2 refl | false ↦ leads outermost 1 16 refl ]);
-  nested = (refl, refl);
   moves = record {
     locals = λ set has c. absurd (cc);
     requests = λ v has c. absurd (cc);
@@ -605,7 +589,6 @@ takes_frame = record {
   within = λ ends. either_way 3 3 (omega arith) (omega arith) (follows core (o.Frame 1 2) 2 0 []) refl refl;
   may = λ r none space. space;
   frames = fits (o.Frame 1 2) 2 0 (refl, refl) (elim [ true ↦ leads framing 2 3 refl | false ↦ leads framing 2 3 refl ]);
-  nested = (refl, refl);
   moves = record {
     locals = λ set has c. absurd (cc);
     requests = λ v has c. absurd (cc);
@@ -621,7 +604,6 @@ pushes = record {
   within = λ ends. either_way 4 4 (omega arith) (omega arith) (follows core (o.Push 1) 3 0 []) refl refl;
   may = λ r none space. tt;
   frames = fits (o.Push 1) 3 0 tt (elim [ true ↦ leads framing 3 4 refl | false ↦ leads framing 3 4 refl ]);
-  nested = (refl, refl);
   moves = record {
     locals = λ set has c d. (refl, ap suc d);
     requests = λ v has c. absurd (cc);
@@ -637,7 +619,6 @@ agrees = record {
   within = λ ends. either_way 5 5 (omega arith) (omega arith) (follows core o.Agree 4 0 []) refl refl;
   may = λ r none space. tt;
   frames = fits o.Agree 4 0 tt (elim [ true ↦ leads framing 4 5 refl | false ↦ leads framing 4 5 refl ]);
-  nested = (refl, refl);
   moves = record {
     locals = λ set has c. absurd (cc);
     requests = λ v has c. absurd (cc);
@@ -653,7 +634,6 @@ takes_block = record {
   within = λ ends. either_way 6 6 (omega arith) (omega arith) (follows core o.Block 5 0 []) refl refl;
   may = λ r none space. space;
   frames = fits o.Block 5 0 tt (elim [ true ↦ leads framing 5 6 refl | false ↦ leads framing 5 6 refl ]);
-  nested = (refl, refl);
   moves = record {
     locals = λ set has c. absurd (cc);
     requests = λ v has c. absurd (cc);
@@ -669,7 +649,6 @@ asks_heap = record {
   within = λ ends. either_way 7 7 (omega arith) (omega arith) (follows core o.Heap 6 0 []) refl refl;
   may = λ r none space. tt;
   frames = fits o.Heap 6 0 tt (elim [ true ↦ leads framing 6 7 refl | false ↦ leads framing 6 7 refl ]);
-  nested = (refl, refl);
   moves = record {
     locals = λ set has c. absurd (cc);
     requests = λ v has c d. (refl, replaced v (values has) d);
@@ -685,7 +664,6 @@ drops = record {
   within = λ ends. either_way 8 8 (omega arith) (omega arith) (follows core o.DropLast 7 0 []) refl refl;
   may = λ r none space. tt;
   frames = fits o.DropLast 7 0 tt (elim [ true ↦ leads framing 7 8 refl | false ↦ leads framing 7 8 refl ]);
-  nested = (refl, refl);
   moves = record {
     locals = λ set has c d. (refl, dropped (values has) d);
     requests = λ v has c. absurd (cc);
@@ -701,7 +679,6 @@ gets_rank = record {
   within = λ ends. either_way 9 9 (omega arith) (omega arith) (follows core (o.Get k.Rank) 8 0 []) refl refl;
   may = λ r none space. tt;
   frames = fits (o.Get k.Rank) 8 0 tt (elim [ true ↦ leads framing 8 9 refl | false ↦ leads framing 8 9 refl ]);
-  nested = (refl, refl);
   moves = record {
     locals = λ set has c d. (refl, ap suc d);
     requests = λ v has c. absurd (cc);
@@ -717,7 +694,6 @@ splits = record {
   within = λ ends. either_way 10 11 (omega arith) (omega arith) (follows core (o.Split IfAlone) 9 11 []) refl refl;
   may = λ r none space. tt;
   frames = fits (o.Split IfAlone) 9 11 tt (elim [ true ↦ leads dividing 9 10 refl | false ↦ leads framing 9 11 refl ]);
-  nested = (refl, refl);
   moves = record {
     locals = λ set has c. absurd (cc);
     requests = λ v has c. absurd (cc);
@@ -733,7 +709,6 @@ ends_part = record {
   within = λ ends. either_way 11 11 (omega arith) (omega arith) (follows core o.End 10 11 []) refl refl;
   may = λ r none space. tt;
   frames = fits o.End 10 11 tt (elim [ true ↦ leads framing 10 11 refl | false ↦ leads framing 10 11 refl ]);
-  nested = (refl, refl);
   moves = record {
     locals = λ set has c. absurd (cc);
     requests = λ v has c. absurd (cc);
@@ -749,7 +724,6 @@ goes_on = record {
   within = λ ends. either_way 12 12 (omega arith) (omega arith) (follows core o.Resume 11 0 []) refl refl;
   may = λ r none space. tt;
   frames = fits o.Resume 11 0 tt (elim [ true ↦ leads framing 11 12 refl | false ↦ leads framing 11 12 refl ]);
-  nested = (refl, refl);
   moves = record {
     locals = λ set has c. absurd (cc);
     requests = λ v has c. absurd (cc);
@@ -765,7 +739,6 @@ farms = record {
   within = λ ends. either_way 13 14 (omega arith) (omega arith) (follows core o.Farm 12 14 []) refl refl;
   may = λ r none space. tt;
   frames = fits o.Farm 12 14 tt (elim [ true ↦ leads framing 12 13 refl | false ↦ leads framing 12 14 refl ]);
-  nested = (refl, refl);
   moves = record {
     locals = λ set has c. absurd (cc);
     requests = λ v has c. absurd (cc);
@@ -781,7 +754,6 @@ waits = record {
   within = λ ends. either_way 14 14 (omega arith) (omega arith) (follows core (o.Meet false) 13 0 []) refl refl;
   may = λ r none space. tt;
   frames = fits (o.Meet false) 13 0 tt (elim [ true ↦ leads framing 13 14 refl | false ↦ leads framing 13 14 refl ]);
-  nested = (refl, refl);
   moves = record {
     locals = λ set has c. absurd (cc);
     requests = λ v has c. absurd (cc);
@@ -797,7 +769,6 @@ meets = record {
   within = λ ends. either_way 15 15 (omega arith) (omega arith) (follows core (o.Meet true) 14 0 []) refl refl;
   may = λ r none space. tt;
   frames = fits (o.Meet true) 14 0 tt (elim [ true ↦ leads framing 14 15 refl | false ↦ leads framing 14 15 refl ]);
-  nested = (refl, refl);
   moves = record {
     locals = λ set has c. absurd (cc);
     requests = λ v has c. absurd (cc);
@@ -813,7 +784,6 @@ ends = record {
   within = λ ends. either_way 16 16 (omega arith) (omega arith) (follows core o.End 15 16 []) refl refl;
   may = λ r none space. tt;
   frames = fits o.End 15 16 tt (elim [ true ↦ leads outermost 15 16 refl | false ↦ leads outermost 15 16 refl ]);
-  nested = (refl, refl);
   moves = record {
     locals = λ set has c. absurd (cc);
     requests = λ v has c. absurd (cc);
@@ -829,7 +799,6 @@ resumes = record {
   within = λ ends. either_way 17 17 (omega arith) (omega arith) (follows core o.Resume 16 0 []) refl refl;
   may = λ r none space. tt;
   frames = fits o.Resume 16 0 tt (elim [ true ↦ leads outermost 16 17 refl | false ↦ leads outermost 16 17 refl ]);
-  nested = (refl, refl);
   moves = record {
     locals = λ set has c. absurd (cc);
     requests = λ v has c. absurd (cc);
@@ -845,7 +814,6 @@ halts = record {
   within = λ ends. absurd (cc);
   may = λ r none space. none;
   frames = fits o.Halt 17 0 tt (record { main = refl; nested = refl });
-  nested = tt;
   moves = record {
     locals = λ set has c. absurd (cc);
     requests = λ v has c. absurd (cc);
@@ -964,13 +932,6 @@ may words firsts input p schedule space h r x operation at stands reads =
     subst (λ q. MayDo q r) (same_operation r.left.at x operation it reads)
     (it.may r (always_at words firsts input p schedule h r at).0 told.nests.spaces.0.space)
 
-nested : spec.NestingsFit core 0 nest
-nested = record { begins = refl; on = λ i. by i (slice_get core i) refl }
-  where
-    by : (i : ℕ) (x : Option CoreOp) → slice_get core i ≡ x → spec.AfterEntry nest core (λ j at. nest j ≡ at) x i
-    by i None e = tt
-    by i (Some x) e = (is_at i x e).nested
-
 in_tree : AlwaysInTree (next core) (λ w. landing core w.at) (At 0)
 in_tree processors globals firsts input schedule some space possible single none =
     let own : (before : Schedule) → HaveOwnSpaces (run (next core) (setting_of processors globals input) before (list_opening 0 globals firsts input processors))
@@ -992,9 +953,7 @@ list = record {
       let it = is_at i x at.stands in
       subst (λ q. is_end q ≡ false → (onward : Bool) → StaysInList core (follows core q i x.target [] onward)) (same_operation i x operation it at.is_read) it.within;
   frames = frames;
-  nest = nest;
-  nested = nested;
-  levels = λ i. refl;
+  levels = λ i lt. refl;
   in_tree = in_tree;
   well_formed = record { leads_on = leads_on; depths = depths };
   may = may;
