@@ -1,5 +1,5 @@
 -- What each group does next, in a state that a run has come to.
-use Rattle.std.proofs.Common.{◌≡◌, ◌≢◌, ◌⊎◌, inl, inr, ⊎_elim, ℕ, zero, suc, ◌+◌, ◌<◌, ◌≤◌, true, List, [], ◌∷◌, length, map, Some, refl, sym, ap, ◌∙◌, subst, arith}
+use Rattle.std.proofs.Common.{◌≡◌, ◌≢◌, ◌⊎◌, inl, inr, ⊎_elim, ℕ, zero, suc, ◌+◌, true, List, [], ◌∷◌, length, map, Some, refl, sym, ap, ◌∙◌, subst, arith}
 use Rattle.std.specs.Prelude.{All, slice_get}
 use Rattle.std.proofs.lemmas.List.Elements.{All-head, All-tail}
 use Rattle.fk_space.specs.Space.{IsSpace}
@@ -10,7 +10,7 @@ use Rattle.fk_tree.specs.Tree as trees
 use Rattle.fk_meaning.specs.Processor.{Level, Setting}
 use Rattle.fk_meaning.specs.Round.{State, body_of}
 use Rattle.fk_core.specs.declared.op.CoreOp.{CoreOp}
-use Rattle.fk_core.specs.Next.{Position, landing, next}
+use Rattle.fk_core.specs.Next.{Position, next}
 use Rattle.fk_lockstep.proofs.Round.{first_is, at_below}
 use Rattle.fk_lockstep_tree.specs.Where.{Where, InRoot, InGroup}
 use Rattle.fk_lockstep_tree.specs.Ranges.{ranges_of}
