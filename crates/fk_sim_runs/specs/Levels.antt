@@ -3,7 +3,7 @@ use Rattle.std.specs.Prelude.{◌≡◌, ℕ, ◌+◌, ◌<◌, ◌≤◌, Bool,
 use Rattle.std.specs.Prelude.{slice_get}
 use Rattle.fk_meaning_operation.specs.declared.operation.Operation.{Operation}
 use Rattle.fk_meaning_operation.specs.declared.operation.Operation.TheVariants.{Shrink, End}
-use Rattle.fk_meaning.specs.Processor.{Setting, setting_of}
+use Rattle.fk_meaning.specs.Processor.{setting_of}
 use Rattle.fk_meaning.specs.Round.{Runner}
 use Rattle.fk_meaning.specs.Schedule.{Schedule, run}
 use Rattle.fk_core.specs.declared.op.CoreOp.{CoreOp}
