@@ -29,10 +29,10 @@ pub record Comes (image : Image) (t : MachineSetting) (steps k : ℕ) (Ready : M
   pub ready : Ready (record m { hart = hart }) p
 
 module _ (image : Image) (t : MachineSetting) (steps k : ℕ) (Ready : Member → Owner → Type 0) where
-  pub came_harts : (ms : List Member) (ps : List Owner) → Both (Comes image t steps k Ready) ms ps → List Hart
+  abbrev came_harts : (ms : List Member) (ps : List Owner) → Both (Comes image t steps k Ready) ms ps → List Hart
   came_harts [] [] all = []
   came_harts (m ∷ ms) (p ∷ ps) all = all.0.hart ∷ came_harts ms ps all.1
-  came_harts ms ps all = absurd (assumption all)
+  came_harts ms ps all = []
 
   all_run : (ms : List Member) (ps : List Owner) → (all : Both (Comes image t steps k Ready) ms ps) → AllRunPrivately image t steps ms (came_harts ms ps all)
   all_run [] [] all = tt
@@ -51,7 +51,7 @@ module _ (image : Image) (t : MachineSetting) (steps k : ℕ) (Ready : Member �
 
 -- ---- they count
 
-module _ (core : List CoreOp) (image : Image) (bound : ℕ → ℕ) (setting : Setting) (mine : Words) (register : ℕ) (other : 6 ≢ 5) (word count : Owner → ℕ) (Ready : Member → Owner → Type 0)
+module _ (core : List CoreOp) (image : Image) (bound : ℕ → ℕ) (setting : Setting) (mine : Words) (register : ℕ) (other : ◌≢◌ {A = ℕ} 6 5) (word count : Owner → ℕ) (Ready : Member → Owner → Type 0)
     (to_count : (m : Member) (p : Owner) → Ready m p → IsToCount mine 6 register word count m p) (k : ℕ) (lines : LinesAt image bound k (counting_lines register)) (ps : List Owner) (ds : List Doing)
     (apart : AreApart mine (core_source core setting).common) (Then : List Member → Memory → Type 0) where
   abbrev GivesOf : Member → Owner → Type 0

@@ -84,11 +84,11 @@ module _ (core : List CoreOp) (image : Image) (bound : ℕ → ℕ) (places : Pl
 
   -- ---- one part
 
-  one_lines : Quiets
+  abbrev one_lines : Quiets
   one_lines = (Addi 6 6 (2 ^ 32 - 64), Plain) ∷ (Sub 6 6 10, Plain) ∷ (Mul 6 6 28, Plain) ∷ (Add 6 6 10, Plain) ∷ []
 
   -- what the lines come to, by whether it enters
-  pub one_word : ℕ → ℕ
+  abbrev pub one_word : ℕ → ℕ
   one_word flag = word_sum (applied num.Mul (applied num.Sub (word_sum (word_sum (h1.registers 12) 80) (2 ^ 32 - 64)) (h1.registers 10)) flag) (h1.registers 10)
 
   distance_is : applied num.Sub (word_sum (word_sum (h1.registers 12) 80) (2 ^ 32 - 64)) (h1.registers 10) ≡ 4 * (space.frames + 4 - first)
@@ -168,17 +168,17 @@ module _ (core : List CoreOp) (image : Image) (bound : ℕ → ℕ) (places : Pl
 
   -- ---- two parts
 
-  two_lines : Quiets
+  abbrev two_lines : Quiets
   two_lines =
       (Srli 5 5 3, Plain) ∷ (Slli 5 5 2, Plain) ∷ (Addi 29 5 (2 ^ 32 - 16), Plain) ∷ (Mul 6 28 29, Plain) ∷ (Add 6 6 12, Plain) ∷ (Addi 6 6 32, Plain) ∷ (Addi 5 0 1, Plain) ∷ []
 
   abbrev left : ℕ
   left = applied num.Sub (h1.registers 13) (h1.registers 12)
 
-  share_word : ℕ
+  abbrev share_word : ℕ
   share_word = word_sum (applied num.Shl (applied num.ShrU left 3) 2) (2 ^ 32 - 16)
 
-  pub two_word : ℕ → ℕ
+  abbrev pub two_word : ℕ → ℕ
   two_word flag = word_sum (word_sum (applied num.Mul flag share_word) (h1.registers 12)) 32
 
   left_is : left ≡ 4 * free space
@@ -558,42 +558,38 @@ saves told first h memory s word size b =
 
 -- ---- the ways behind the commit
 
-module _ (image : Image) (bound : ℕ → ℕ) (places : Places) (shared : HasParts image bound) (t : MachineSetting) (number link target next : ℕ) (site : ℕ)
-    (holds : Holds image t) (labels : HasLabels bound places) (back : LinesAt image bound link (goes_to (Jal 0 0) (label_of target) ∷ no_room site)) (here : next ≡ link + 4)
-    (first h : Hart) (memory : Memory) (s word size : ℕ) (behind : IsBehind first h memory s word size) (linked : h.registers 1 ≡ 4 * link)
-    (zero_is : h.registers 0 ≡ 0) where
-  abbrev k1 : ℕ
-  k1 = bound one_part_label
-
-  abbrev k2 : ℕ
-  k2 = bound two_parts_label
-
-  behind_one : LinesAt image bound (k1 + 7 + 5) (waiting_lines ++ (saving_lines ++ into_one_part))
+module _ (image : Image) (bound : ℕ → ℕ) (shared : HasParts image bound) where
+  behind_one : LinesAt image bound (bound one_part_label + 7 + 5) (waiting_lines ++ (saving_lines ++ into_one_part))
   behind_one =
-      let a = lines_split image bound k1 one_part_place (counting_lines t3 ++ (waiting_lines ++ (saving_lines ++ into_one_part))) shared.one in
-      (lines_split image bound (k1 + 7) (counting_lines t3) (waiting_lines ++ (saving_lines ++ into_one_part)) a.1).1
+      let k = bound one_part_label in
+      let a = lines_split image bound k one_part_place (counting_lines t3 ++ (waiting_lines ++ (saving_lines ++ into_one_part))) shared.one in
+      (lines_split image bound (k + 7) (counting_lines t3) (waiting_lines ++ (saving_lines ++ into_one_part)) a.1).1
 
-  behind_two : LinesAt image bound (k2 + 11 + 5) (saving_lines ++ into_two_parts)
+  behind_two : LinesAt image bound (bound two_parts_label + 11 + 5) (saving_lines ++ into_two_parts)
   behind_two =
-      let a = lines_split image bound k2 two_parts_place (counting_lines t0 ++ (saving_lines ++ into_two_parts)) shared.two in
-      (lines_split image bound (k2 + 11) (counting_lines t0) (saving_lines ++ into_two_parts) a.1).1
+      let k = bound two_parts_label in
+      let a = lines_split image bound k two_parts_place (counting_lines t0 ++ (saving_lines ++ into_two_parts)) shared.two in
+      (lines_split image bound (k + 11) (counting_lines t0) (saving_lines ++ into_two_parts) a.1).1
 
-  -- who waits goes to where those wait
+-- who waits goes to where those wait
+module _ (image : Image) (bound : ℕ → ℕ) (places : Places) (shared : HasParts image bound) (t : MachineSetting) (number link target site : ℕ)
+    (holds : Holds image t) (labels : HasLabels bound places) (back : LinesAt image bound link (goes_to (Jal 0 0) (label_of target) ∷ no_room site))
+    (h : Hart) (live : h.ended ≡ false) (linked : h.registers 1 ≡ 4 * link) (zero_is : h.registers 0 ≡ 0) where
   abbrev pub wait_hart : Hart
   wait_hart = jumps (jumps (goes_to_pc h (word_sum h.pc 4)) 0 (4 * link)) 0 (4 * bound (label_of target))
 
-  pub wait_runs : h.pc ≡ 4 * (k1 + 7 + 5) → h.registers 28 ≡ 0 → RunsPrivately image t number 3 h wait_hart
+  pub wait_runs : h.pc ≡ 4 * (bound one_part_label + 7 + 5) → h.registers 28 ≡ 0 → RunsPrivately image t number 3 h wait_hart
   wait_runs pc flag =
       let t1 = later t in
       let t2 = later t1 in
-      let k = k1 + 7 + 5 in
-      let bne = behind_one.0 in
-      let jalr = behind_one.1.0 in
+      let k = bound one_part_label + 7 + 5 in
+      let lines = behind_one image bound shared in
+      let bne = lines.0 in
+      let jalr = lines.1.0 in
       let near = jalr.within in
       let near' = back.0.within in
       let ha = goes_to_pc h (word_sum h.pc 4) in
       let hb = jumps ha 0 (4 * link) in
-      let live = behind.live in
       let to : word_sum (h.registers 1) 0 / 2 * 2 ≡ 4 * link = omega arith in
       let aligned : 4 * link % 4 ≡ 0 = omega arith in (
         ha,
@@ -604,6 +600,17 @@ module _ (image : Image) (bound : ℕ → ℕ) (places : Places) (shared : HasPa
           (wait_hart, jal_private image bound t2 number link 0 (label_of target) hb holds back.0 (labels.within (label_of target)) refl live, refl),
         ),
       )
+
+-- who enters a part
+module _ (image : Image) (bound : ℕ → ℕ) (places : Places) (shared : HasParts image bound) (t : MachineSetting) (number link target next : ℕ) (site : ℕ)
+    (holds : Holds image t) (labels : HasLabels bound places) (back : LinesAt image bound link (goes_to (Jal 0 0) (label_of target) ∷ no_room site)) (here : next ≡ link + 4)
+    (first h : Hart) (memory : Memory) (s word size : ℕ) (behind : IsBehind first h memory s word size) (linked : h.registers 1 ≡ 4 * link)
+    (zero_is : h.registers 0 ≡ 0) where
+  abbrev k1 : ℕ
+  k1 = bound one_part_label
+
+  abbrev k2 : ℕ
+  k2 = bound two_parts_label
 
   -- who enters the one part
   abbrev pub one_hart : Hart
@@ -626,8 +633,9 @@ module _ (image : Image) (bound : ℕ → ℕ) (places : Places) (shared : HasPa
   one_runs pc flag =
       let k = k1 + 7 + 5 in
       let t1 = later t in
-      let bne = behind_one.0 in
-      let rest = lines_split image bound (suc (suc k)) saving_lines into_one_part behind_one.1.1 in
+      let lines = behind_one image bound shared in
+      let bne = lines.0 in
+      let rest = lines_split image bound (suc (suc k)) saving_lines into_one_part lines.1.1 in
       let jalr = rest.1.0 in
       let near = jalr.within in
       let near' = back.0.within in
@@ -671,7 +679,7 @@ module _ (image : Image) (bound : ℕ → ℕ) (places : Places) (shared : HasPa
   both_runs : h.pc ≡ 4 * (k2 + 11 + 5) → RunsPrivately image t number 8 h both_hart × (both_hart.pc ≡ 4 * (k2 + 11 + 5 + 8)) × (both_hart.ended ≡ false)
   both_runs pc =
       let k = k2 + 11 + 5 in
-      let rest = lines_split image bound k saving_lines into_two_parts behind_two in
+      let rest = lines_split image bound k saving_lines into_two_parts (behind_two image bound shared) in
       let add = rest.1.0 in
       let near = add.within in
       let w = walked image bound t number holds (saving s) k h rest.0 pc behind.live (can_save (told_of t number) first h memory s word size behind) in
@@ -690,7 +698,7 @@ module _ (image : Image) (bound : ℕ → ℕ) (places : Places) (shared : HasPa
   first_runs pc flag =
       let k = k2 + 11 + 5 in
       let t8 = in_cycles 8 t in
-      let rest = lines_split image bound k saving_lines into_two_parts behind_two in
+      let rest = lines_split image bound k saving_lines into_two_parts (behind_two image bound shared) in
       let bne = rest.1.1.0 in
       let jalr = rest.1.1.1.0 in
       let near = jalr.within in
@@ -715,7 +723,7 @@ module _ (image : Image) (bound : ℕ → ℕ) (places : Places) (shared : HasPa
   second_runs pc flag =
       let k = k2 + 11 + 5 in
       let t8 = in_cycles 8 t in
-      let rest = lines_split image bound k saving_lines into_two_parts behind_two in
+      let rest = lines_split image bound k saving_lines into_two_parts (behind_two image bound shared) in
       let bne = rest.1.1.0 in
       let jalr = rest.1.1.1.1.0 in
       let near = jalr.within in
