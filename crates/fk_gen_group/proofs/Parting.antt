@@ -292,24 +292,24 @@ part_in_memory core places m m' p i i' low vs few waiting at flows held start wo
     let n = length p.runner.has.callers in
     let running = subst (λ a. FrameInMemory places m n a p.runner.has.call) at held.running in
     let begins = starts_in places n in
-    let group = group_at n in
     record {
       running = record {
         home = flows.main ∙ running.home;
         values = values';
         privates = λ x e. below (frame_start places n + 7 + x) (words x e) ∙ running.privates x (flows.kept x e refl);
         group = λ number told.
-            frame_stays m m' n (p.runner.has.call.frames number) (below (group_word n) (omega arith)) (running.group number (flows.group number told));
+            frame_stays m m' n number (p.runner.has.call.frames number) (λ known. let g = group_at n number known in below (group_word n number) (omega (arith, g)))
+            (running.group number (flows.group number told));
       };
-      waiting = waiting_kept places m m' p.runner.left.callers p.runner.has.callers few (below 3 (omega arith)) (λ j le lt. below j (omega arith)) held.waiting;
+      waiting = waiting_kept places m m' p.runner.left.callers p.runner.has.callers few (λ j le lt. below j (omega arith)) (λ j le lt. below j (omega arith)) held.waiting;
       own = λ x lt. below (7 + x) (omega arith) ∙ held.own x lt;
       heap = λ x lt. above (16384 + x) (omega arith) ∙ held.heap x lt;
       full = below 2 (omega arith) ∙ held.full;
     }
   where
-    group_at : (n : ℕ) → group_word n < frame_start places n + 7
-    group_at zero = omega arith
-    group_at (suc n) = omega arith
+    group_at : (n number : ℕ) → number < 4 → group_word n number < frame_start places n + 7
+    group_at zero number known = omega arith
+    group_at (suc n) number known = omega arith
 
 -- who waits at an `||` has another value, and else nothing is written
 pub memory_other : (by : SplitKind) (depth : ℕ) (h : Hart) (j : ℕ) → (taken_by by ≡ 1 → j ≡ value_word depth h → ⊥) → memory_by by depth h j ≡ h.local j
