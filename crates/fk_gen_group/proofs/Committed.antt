@@ -19,13 +19,14 @@ use Rattle.fk_machine.specs.Hart.{Hart, Setting as MachineSetting}
 use Rattle.fk_sim_nodes.specs.Node.{Member}
 use Rattle.fk_sim_nodes.specs.Alone.{RunsPrivately}
 use Rattle.fk_sim_block.specs.Owner.{Owner, number_of}
-use Rattle.fk_sim_block.specs.Stands.{Places, HasValues, StandsAt, frame_start, frame_end, value_in}
+use Rattle.fk_sim_block.specs.Stands.{Places, HasValues, StandsAt, frame_start, frame_end, value_in, zero_register}
 use Rattle.fk_sim_block.specs.Suits.{Flows, nothing}
 use Rattle.fk_sim_block.specs.Block.{Enters}
-use Rattle.fk_sim_block.specs.Node.{Nestings, HasLevelRoom, HasOuter, HasNestings, first_word, control_address}
+use Rattle.fk_sim_block.specs.Node.{Nestings, HasLevelRoom, HasOuter, HasNestings, first_word, control_address, blocks_register}
 use Rattle.fk_sim_block.specs.Lockstep.{IsMember, ComesByWay, LevelsStay, LevelOpens}
 use Rattle.fk_sim_block.specs.Parts.{IsToDivide, part_of, parts_of, is_implicit}
 use Rattle.fk_sim_block.proofs.Spaces.{space_kept}
+use Rattle.fk_gen.specs.Registers.{ra, t0, t3}
 use Rattle.fk_gen.proofs.Values.{values_before, values_put}
 use Rattle.fk_gen.proofs.ValueLines.{operand_is, place_word}
 use Rattle.fk_gen.proofs.Standing.{InMemory, SameRegisters, in_memory, stands_with, with_list, value_written, nothing_written}
@@ -50,16 +51,16 @@ module _ (core : List CoreOp) (image : Image) (bound : ℕ → ℕ) (places : Pl
   pub live_at : h.ended ≡ false
   live_at = ended ∙ placed.live
 
-  pub flag_at : h.registers 28 ≡ flag_by by (values p.runner.has)
+  pub flag_at : h.registers t3 ≡ flag_by by (values p.runner.has)
   flag_at = same 28 (λ e. omega arith) ∙ placed.others 28 (λ e. omega arith) (λ e. omega arith) (λ e. omega arith) ∙ front.flag
 
-  pub link_is : h.registers 1 ≡ 4 * link_at core image bound places nestings i op by place setting cycle0 m p en
+  pub link_is : h.registers ra ≡ 4 * link_at core image bound places nestings i op by place setting cycle0 m p en
   link_is = same 1 (λ e. omega arith) ∙ placed.others 1 (λ e. omega arith) (λ e. omega arith) (λ e. omega arith) ∙ front.link
 
   pub others_at : (r : ℕ) → r ≢ 1 → r ≢ 5 → r ≢ 6 → r ≢ 7 → r ≢ 28 → r ≢ 29 → h.registers r ≡ m.hart.registers r
   others_at r a b c d e f = same r b ∙ placed.others r b c f ∙ front.others r a b d e
 
-  pub nought_at : h.registers 0 ≡ 0
+  pub nought_at : h.registers zero_register ≡ 0
   nought_at = others_at 0 (λ e. omega arith) (λ e. omega arith) (λ e. omega arith) (λ e. omega arith) (λ e. omega arith) (λ e. omega arith) ∙ en.at.stands.nought
 
   pub local_at : h.local ≡ memory_by by op.depth m.hart
@@ -69,7 +70,7 @@ module _ (core : List CoreOp) (image : Image) (bound : ℕ → ℕ) (places : Pl
   abbrev pub saved_at_word : ℕ
   saved_at_word = frame_start places (length p.runner.has.callers) + 7 + nestings.behind i + 4 * nestings.levels i
 
-  pub is_behind : (size : ℕ) → h.registers 5 ≡ size → size < 2 ^ 32 → word + 8 ≤ 2 ^ 20 → IsBehind m.hart h (memory_by by op.depth m.hart) saved_at_word word size
+  pub is_behind : (size : ℕ) → h.registers t0 ≡ size → size < 2 ^ 32 → word + 8 ≤ 2 ^ 20 → IsBehind m.hart h (memory_by by op.depth m.hart) saved_at_word word size
   is_behind size sum small within =
       let n = length p.runner.has.callers in
       let calls = en.ready.in_range.waiting in
@@ -233,11 +234,11 @@ module _ (core : List CoreOp) (image : Image) (bound : ℕ → ℕ) (places : Pl
       let some : 0 < op.depth = omega arith in
       let v = is_value core image bound places nestings i op (Split OrElse) place setting cycle0 p m.hart m.hart some en refl in
       let value = is_last core image bound places nestings i op (Split OrElse) place setting cycle0 p m.hart some en in
-      let one : applied num.LtU (m.hart.registers 0) (m.hart.local (value_word op.depth m.hart)) ≡ 1 =
+      let one : applied num.LtU (m.hart.registers zero_register) (m.hart.local (value_word op.depth m.hart)) ≡ 1 =
       ap (λ z. from_bool (nat_lt z (m.hart.local (value_word op.depth m.hart)))) en.at.stands.nought ∙ ap (λ x. from_bool (nat_lt 0 x)) value
       ∙ ap from_bool (positive (last vs) (waits_with_value (last vs == 0) none)) in
       let same : memory_by OrElse op.depth m.hart ≡ put m.hart.local (frame_end n - op.depth) 1 =
-      ap (λ w. put m.hart.local w (applied num.LtU (m.hart.registers 0) (m.hart.local (value_word op.depth m.hart)))) v.index
+      ap (λ w. put m.hart.local w (applied num.LtU (m.hart.registers zero_register) (m.hart.local (value_word op.depth m.hart)))) v.index
       ∙ ap (put m.hart.local (frame_end n - op.depth)) one in
       subst (λ l. InMemory places l (with_list core places op.target (1 ∷ before 1 vs) p)) (sym same)
       (value_written core places m.hart.local p i op.target op.depth 1 (1 ∷ before 1 vs) place.few en.ready.in_range.waiting en.index place.fits.room some flows (in_memory places p m.hart en.at.stands)
@@ -278,7 +279,7 @@ module _ (core : List CoreOp) (image : Image) (bound : ℕ → ℕ) (places : Pl
   pub has_entered : (index size word : ℕ) (hb h : Hart)
       → HasSavedLevel m.hart hb (memory_by by op.depth m.hart) (saved_word core image bound places nestings i op by place setting cycle0 first m p en member divides.group j flows opens room) word size
       → word ≡ word_at space first count (Some index) → h.ended ≡ false → h.pc ≡ 4 * places.block j → h.local ≡ hb.local → ((r : ℕ) → r ≢ 13 → h.registers r ≡ hb.registers r)
-      → h.registers 13 ≡ control_address (word + equal_part space count)
+      → h.registers blocks_register ≡ control_address (word + equal_part space count)
       → HasEntered core image bound places nestings i op by place setting cycle0 first m p en member divides.group j flows opens room (part_level by p.runner.has size index) h
   has_entered index size word hb h saved at live pc local same blocks =
       let c = child_is by space count index p divides size in

@@ -14,12 +14,12 @@ use Rattle.fk_sim_nodes.specs.Node.{Member, Words}
 use Rattle.fk_sim_nodes.specs.Alone.{Holds}
 use Rattle.fk_sim_nodes.specs.Together.{Together}
 use Rattle.fk_sim_block.specs.Owner.{Owner, core_source}
-use Rattle.fk_sim_block.specs.Stands.{Places}
+use Rattle.fk_sim_block.specs.Stands.{Places, zero_register}
 use Rattle.fk_sim_block.specs.Block.{Enters}
 use Rattle.fk_sim_block.specs.Node.{Nestings, OwnsHeader, OwnsSpace, IsAtRest, KnowsSpace, control_address}
 use Rattle.fk_sim_block.specs.Lockstep.{IsMember, AllEnter, ComesByWay, LevelsStay, highest_value, is_due}
 use Rattle.fk_sim_block.specs.Parts.{IsToDivide, AllAreToDivide, part_of, parts_of, size_behind, is_implicit}
-use Rattle.fk_gen.specs.Registers.{t3}
+use Rattle.fk_gen.specs.Registers.{t3, ra}
 use Rattle.fk_gen.specs.InPlace.{LinesAt}
 use Rattle.fk_gen.proofs.Walk.{lines_split}
 use Rattle.fk_gen_group.specs.Splits.{part_lines, parts_label, one_part_label, one_part_place, counting_lines, waiting_lines, saving_lines, into_one_part, split_goes_on}
@@ -178,7 +178,7 @@ module _ (core : List CoreOp) (image : Image) (bound : ℕ → ℕ) (places : Pl
         live_at core image bound places nestings i op by split.place split.parts setting space 1 is_space cycle0 first m0 p came.enters came.member came.divides ready.front one_part_label 7 steps (word p)
         ready.placed m.hart ended local same
 
-    flag_is : m.hart.registers 28 ≡ flag p
+    flag_is : m.hart.registers t3 ≡ flag p
     flag_is =
         flag_at core image bound places nestings i op by split.place split.parts setting space 1 is_space cycle0 first m0 p came.enters came.member came.divides ready.front one_part_label 7 steps (word p)
         ready.placed m.hart ended local same
@@ -186,12 +186,12 @@ module _ (core : List CoreOp) (image : Image) (bound : ℕ → ℕ) (places : Pl
     abbrev link : ℕ
     link = link_at core image bound places nestings i op by split.place setting cycle0 m0 p came.enters
 
-    linked : m.hart.registers 1 ≡ 4 * link
+    linked : m.hart.registers ra ≡ 4 * link
     linked =
         link_is core image bound places nestings i op by split.place split.parts setting space 1 is_space cycle0 first m0 p came.enters came.member came.divides ready.front one_part_label 7 steps (word p)
         ready.placed m.hart ended local same
 
-    nought : m.hart.registers 0 ≡ 0
+    nought : m.hart.registers zero_register ≡ 0
     nought =
         nought_at core image bound places nestings i op by split.place split.parts setting space 1 is_space cycle0 first m0 p came.enters came.member came.divides ready.front one_part_label 7 steps (word p)
         ready.placed m.hart ended local same

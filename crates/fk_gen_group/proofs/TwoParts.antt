@@ -16,12 +16,12 @@ use Rattle.fk_sim_nodes.specs.Node.{Member, Words}
 use Rattle.fk_sim_nodes.specs.Alone.{Holds}
 use Rattle.fk_sim_nodes.specs.Together.{Together}
 use Rattle.fk_sim_block.specs.Owner.{Owner, core_source}
-use Rattle.fk_sim_block.specs.Stands.{Places}
+use Rattle.fk_sim_block.specs.Stands.{Places, zero_register}
 use Rattle.fk_sim_block.specs.Block.{Enters}
 use Rattle.fk_sim_block.specs.Node.{Nestings, OwnsHeader, OwnsSpace, IsAtRest, control_address}
 use Rattle.fk_sim_block.specs.Lockstep.{IsMember, AllEnter, ComesByWay, highest_value, is_due}
 use Rattle.fk_sim_block.specs.Parts.{IsToDivide, AllAreToDivide, part_of, parts_of, size_behind}
-use Rattle.fk_gen.specs.Registers.{t0}
+use Rattle.fk_gen.specs.Registers.{t0, ra, t1, t3, t4}
 use Rattle.fk_gen.specs.InPlace.{LinesAt}
 use Rattle.fk_gen.proofs.Walk.{walk, told_of, lines_split}
 use Rattle.fk_gen_group.specs.Splits.{two_parts_label, two_parts_place, counting_lines, saving_lines, into_two_parts, split_goes_on}
@@ -185,7 +185,7 @@ module _ (core : List CoreOp) (image : Image) (bound : ℕ → ℕ) (places : Pl
         live_at core image bound places nestings i op IfElse split.place split.parts setting space 2 is_space cycle0 first m0 p came.enters came.member came.divides ready.front two_parts_label 11 steps (word p)
         ready.halved.placed m.hart ended local same
 
-    flag_is : m.hart.registers 28 ≡ flag p
+    flag_is : m.hart.registers t3 ≡ flag p
     flag_is =
         flag_at core image bound places nestings i op IfElse split.place split.parts setting space 2 is_space cycle0 first m0 p came.enters came.member came.divides ready.front two_parts_label 11 steps (word p)
         ready.halved.placed m.hart ended local same
@@ -193,17 +193,17 @@ module _ (core : List CoreOp) (image : Image) (bound : ℕ → ℕ) (places : Pl
     abbrev link : ℕ
     link = link_at core image bound places nestings i op IfElse split.place setting cycle0 m0 p came.enters
 
-    linked : m.hart.registers 1 ≡ 4 * link
+    linked : m.hart.registers ra ≡ 4 * link
     linked =
         link_is core image bound places nestings i op IfElse split.place split.parts setting space 2 is_space cycle0 first m0 p came.enters came.member came.divides ready.front two_parts_label 11 steps (word p)
         ready.halved.placed m.hart ended local same
 
-    nought : m.hart.registers 0 ≡ 0
+    nought : m.hart.registers zero_register ≡ 0
     nought =
         nought_at core image bound places nestings i op IfElse split.place split.parts setting space 2 is_space cycle0 first m0 p came.enters came.member came.divides ready.front two_parts_label 11 steps (word p)
         ready.halved.placed m.hart ended local same
 
-    share_is : m.hart.registers 29 ≡ 4 * equal_part space 2
+    share_is : m.hart.registers t4 ≡ 4 * equal_part space 2
     share_is = same 29 (λ e. omega arith) ∙ ready.halved.share
 
     abbrev Gone : Type 0
@@ -235,7 +235,7 @@ module _ (core : List CoreOp) (image : Image) (bound : ℕ → ℕ) (places : Pl
     word_within j e = subst (λ x. word_at space first 2 x + equal_part space 2 ≤ 2 ^ 20) (sym e) (part_within j (subst (Within 2) e (are.within p)))
 
     -- where the blocks of the part begin
-    blocks_are : (j : ℕ) → part_of IfElse p ≡ Some j → (found : ℕ) → found ≡ control_address (word p) → word_sum found (m.hart.registers 29) ≡ control_address (word p + equal_part space 2)
+    blocks_are : (j : ℕ) → part_of IfElse p ≡ Some j → (found : ℕ) → found ≡ control_address (word p) → word_sum found (m.hart.registers t4) ≡ control_address (word p + equal_part space 2)
     blocks_are j e found is =
         let within = word_within j e in
         let share = share_is in
@@ -259,7 +259,7 @@ module _ (core : List CoreOp) (image : Image) (bound : ℕ → ℕ) (places : Pl
         let hb = walk (told_of t m.number) (saving saved) m.hart in
         let entered =
         has_entered core image bound places nestings i op IfElse place refl setting space 2 cycle0 first m0 p came.enters came.member came.divides (suc i) (place.fits.goes_on true) place.stay split.room
-        0 (size p) (word p) hb hart level at_word live refl refl (λ r ne. rw (ne_eqb r 13 ne)) (blocks_are 0 e (m.hart.registers 6) behind.word_is) in
+        0 (size p) (word p) hb hart level at_word live refl refl (λ r ne. rw (ne_eqb r 13 ne)) (blocks_are 0 e (m.hart.registers t1) behind.word_is) in
         let goes =
         enters_part core image bound places nestings i op IfElse place setting cycle0 first m0 p came.enters came.member came.divides.group (suc i) (place.fits.goes_on true) place.stay split.room
         (part_level IfElse p.runner.has (size p) 0) hart entered in
@@ -286,7 +286,7 @@ module _ (core : List CoreOp) (image : Image) (bound : ℕ → ℕ) (places : Pl
         let room = split.aside.1 in
         let entered =
         has_entered core image bound places nestings i op IfElse place refl setting space 2 cycle0 first m0 p came.enters came.member came.divides op.target flows opens room
-        1 (size p) (word p) hb hart level at_word live (ap (λ k. 4 * k) (place.block.labels.blocks op.target)) refl (λ r ne. rw (ne_eqb r 13 ne)) (blocks_are 1 e (m.hart.registers 6) behind.word_is) in
+        1 (size p) (word p) hb hart level at_word live (ap (λ k. 4 * k) (place.block.labels.blocks op.target)) refl (λ r ne. rw (ne_eqb r 13 ne)) (blocks_are 1 e (m.hart.registers t1) behind.word_is) in
         let goes =
         enters_part core image bound places nestings i op IfElse place setting cycle0 first m0 p came.enters came.member came.divides.group op.target flows opens room
         (part_level IfElse p.runner.has (size p) 1) hart entered in
