@@ -19,7 +19,7 @@ use Rattle.fk_machine.specs.Hart.{Hart, Setting as MachineSetting}
 use Rattle.fk_sim_nodes.specs.Node.{Member}
 use Rattle.fk_sim_nodes.specs.Alone.{RunsPrivately}
 use Rattle.fk_sim_block.specs.Owner.{Owner, number_of}
-use Rattle.fk_sim_block.specs.Stands.{Places, HasValues, StandsAt, frame_start, frame_end, value_in, zero_register}
+use Rattle.fk_sim_block.specs.Stands.{Places, HasValues, local_address, frame_start, frame_end, value_in, zero_register}
 use Rattle.fk_sim_block.specs.Suits.{Flows, nothing}
 use Rattle.fk_sim_block.specs.Block.{Enters}
 use Rattle.fk_sim_block.specs.Node.{Nestings, HasLevelRoom, HasOuter, HasNestings, first_word, control_address, blocks_register}
@@ -34,7 +34,7 @@ use Rattle.fk_gen_group.specs.Splits.{HasParts, parts_label, one_part_label, spl
 use Rattle.fk_gen_group.specs.Laws.{IsInPlace}
 use Rattle.fk_gen_group.proofs.Last.{value_word, is_value, is_last}
 use Rattle.fk_gen_group.proofs.Levels.{below_values, lies_below, outer_on, many_callers}
-use Rattle.fk_gen_group.proofs.Slots.{is_slot}
+use Rattle.fk_gen_group.proofs.Slots.{slot_of, is_slot}
 use Rattle.fk_gen_group.proofs.Fronts.{Fronted, flag_by, link_at, memory_by}
 use Rattle.fk_gen_group.proofs.PartSizes.{word_at}
 use Rattle.fk_gen_group.proofs.Parting.{IsPlaced, IsBehind, HasSavedLevel, HasEntered, memory_other, saved_word}
@@ -77,15 +77,12 @@ module _ (core : List CoreOp) (image : Image) (bound : ℕ → ℕ) (places : Pl
       let room = place.levels.room in
       let level_word = nestings.behind i + 4 * nestings.levels i in
       let slot = is_slot places n level_word m.hart place.few calls (omega arith) en.at.stands.frame in
-      let inside = slot.within in
-      let index = slot.index in
-      let few = place.few in
-      let address = slot.address in
+      let there : slot_of level_word m.hart ≡ saved_at_word = slot.index ∙ sums (frame_start places n + 7) (nestings.behind i) (4 * nestings.levels i) in
       let at = same 7 (λ e. omega arith) ∙ placed.others 7 (λ e. omega arith) (λ e. omega arith) (λ e. omega arith) ∙ front.slot in
       let start = frame_start_few n calls in
       record {
         live = live_at;
-        slot = omega arith;
+        slot = at ∙ slot.address ∙ ap local_address there;
         inside = omega arith;
         word_is = same 6 (λ e. omega arith) ∙ placed.word_is;
         within = within;
@@ -98,6 +95,9 @@ module _ (core : List CoreOp) (image : Image) (bound : ℕ → ℕ) (places : Pl
       frame_start_few : (n : ℕ) → n < 256 → frame_start places n ≤ 16384
       frame_start_few zero lt = let few = place.few in omega arith
       frame_start_few (suc n) lt = omega arith
+
+      sums : (a b c : ℕ) → a + (b + c) ≡ a + b + c
+      sums a b c = omega arith
 
 -- ---- who waits
 

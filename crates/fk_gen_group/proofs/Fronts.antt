@@ -14,18 +14,19 @@ use Rattle.fk_meaning.specs.Processor.{Setting, values, last}
 use Rattle.fk_meaning.specs.Group.{part, has_parts}
 use Rattle.fk_core.specs.declared.op.CoreOp.{CoreOp}
 use Rattle.fk_image.specs.declared.Image.{Image}
-use Rattle.fk_isa.specs.declared.instruction.Instruction.TheVariants.{Jal, Lw, Sw, Addi, Sltiu, Sltu}
+use Rattle.fk_isa.specs.declared.instruction.Instruction.TheVariants.{Jal, Addi, Sltiu, Sltu}
 use Rattle.fk_asm.specs.Block.{MarkedLine}
 use Rattle.fk_machine.specs.Hart.{Hart, Setting as MachineSetting}
 use Rattle.fk_sim_nodes.specs.Node.{Member}
 use Rattle.fk_sim_nodes.specs.Alone.{RunsPrivately, in_cycles}
 use Rattle.fk_sim_block.specs.Owner.{Owner}
-use Rattle.fk_sim_block.specs.Stands.{Places, zero_register, frame_register, end_register}
+use Rattle.fk_sim_block.specs.Stands.{Places, zero_register, frame_register}
 use Rattle.fk_sim_block.specs.Block.{Enters}
 use Rattle.fk_sim_block.specs.Node.{Nestings}
 use Rattle.fk_sim_block.specs.Parts.{is_implicit}
 use Rattle.fk_gen.specs.Registers.{ra, t0, t2, t3}
-use Rattle.fk_gen.specs.Lines.{goes_to, at_value, at_private, label_of}
+use Rattle.fk_gen.specs.Lines.{goes_to, at_private, label_of}
+use Rattle.fk_gen.specs.Operands.{operand, result}
 use Rattle.fk_gen.specs.InPlace.{LinesAt}
 use Rattle.fk_gen.proofs.Walk.{Quiets, Plain, LocalAt, CanWalk, quiet_lines, walk, told_of, walked, lines_split, runs_join}
 use Rattle.fk_gen.proofs.Jumps.{jumps, jal_private}
@@ -196,7 +197,7 @@ fronted core image bound places nestings i op IfAlone place setting t m p en is 
     let d = op.depth in
     let w = value_word d m.hart in
     let quiets : Quiets =
-    (Lw t3 end_register (at_value d), LocalAt w) ∷ (Sltu t3 zero_register t3, Plain) ∷ (Addi t2 frame_register (at_private (nestings.behind i + 4 * nestings.levels i)), Plain) ∷ [] in
+    (operand t3 d, LocalAt w) ∷ (Sltu t3 zero_register t3, Plain) ∷ (Addi t2 frame_register (at_private (nestings.behind i + 4 * nestings.levels i)), Plain) ∷ [] in
     let next = place.block.next in
     fronted_with core image bound places nestings i op IfAlone place setting t m p en quiets refl place.block.lines ((v.within, v.address), (tt, (tt, tt))) (omega arith)
     (ap (λ z. from_bool (nat_lt z (m.hart.local w))) en.at.stands.nought ∙ ap (λ x. from_bool (nat_lt 0 x)) value ∙ not_nought (last (values p.runner.has)))
@@ -209,7 +210,7 @@ fronted core image bound places nestings i op AndThen place setting t m p en is 
     let d = op.depth in
     let w = value_word d m.hart in
     let quiets : Quiets =
-    (Lw t3 end_register (at_value d), LocalAt w) ∷ (Sltu t3 zero_register t3, Plain) ∷ (Addi t2 frame_register (at_private (nestings.behind i + 4 * nestings.levels i)), Plain) ∷ [] in
+    (operand t3 d, LocalAt w) ∷ (Sltu t3 zero_register t3, Plain) ∷ (Addi t2 frame_register (at_private (nestings.behind i + 4 * nestings.levels i)), Plain) ∷ [] in
     let next = place.block.next in
     fronted_with core image bound places nestings i op AndThen place setting t m p en quiets refl place.block.lines ((v.within, v.address), (tt, (tt, tt))) (omega arith)
     (ap (λ z. from_bool (nat_lt z (m.hart.local w))) en.at.stands.nought ∙ ap (λ x. from_bool (nat_lt 0 x)) value ∙ not_nought (last (values p.runner.has)))
@@ -222,7 +223,7 @@ fronted core image bound places nestings i op IfElse place setting t m p en is =
     let d = op.depth in
     let w = value_word d m.hart in
     let quiets : Quiets =
-    (Lw t3 end_register (at_value d), LocalAt w) ∷ (Sltiu t3 t3 1, Plain) ∷ (Addi t2 frame_register (at_private (nestings.behind i + 4 * nestings.levels i)), Plain) ∷ [] in
+    (operand t3 d, LocalAt w) ∷ (Sltiu t3 t3 1, Plain) ∷ (Addi t2 frame_register (at_private (nestings.behind i + 4 * nestings.levels i)), Plain) ∷ [] in
     let next = place.block.next in
     fronted_with core image bound places nestings i op IfElse place setting t m p en quiets refl place.block.lines ((v.within, v.address), (tt, (tt, tt))) (omega arith)
     (ap (λ x. from_bool (nat_lt x 1)) value ∙ nought_is (last (values p.runner.has)))
@@ -235,7 +236,7 @@ fronted core image bound places nestings i op OrElse place setting t m p en is =
     let d = op.depth in
     let w = value_word d m.hart in
     let quiets : Quiets =
-    (Lw t3 end_register (at_value d), LocalAt w) ∷ (Sltu t0 zero_register t3, Plain) ∷ (Sw end_register t0 (at_value d), LocalAt w) ∷ (Sltiu t3 t3 1, Plain)
+    (operand t3 d, LocalAt w) ∷ (Sltu t0 zero_register t3, Plain) ∷ (result t0 d, LocalAt w) ∷ (Sltiu t3 t3 1, Plain)
     ∷ (Addi t2 frame_register (at_private (nestings.behind i + 4 * nestings.levels i)), Plain) ∷ [] in
     let next = place.block.next in
     fronted_with core image bound places nestings i op OrElse place setting t m p en quiets refl place.block.lines

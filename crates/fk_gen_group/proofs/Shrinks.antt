@@ -23,7 +23,7 @@ use Rattle.fk_sim_nodes.specs.OnePlace.{AllAreAt, last_or, sum_from}
 use Rattle.fk_sim_nodes.proofs.Runs.{cycle_map}
 use Rattle.fk_sim_nodes.proofs.Members.{cycle_commits, together_map}
 use Rattle.fk_sim_block.specs.Owner.{Owner, Doing, core_source}
-use Rattle.fk_sim_block.specs.Stands.{Places, HasValues, value_in, zero_register, frame_register, end_register, size_register}
+use Rattle.fk_sim_block.specs.Stands.{Places, HasValues, value_in, zero_register, frame_register, size_register}
 use Rattle.fk_sim_block.specs.Suits.{Flows, nothing}
 use Rattle.fk_sim_block.specs.Block.{Enters}
 use Rattle.fk_sim_block.specs.Node.{Nestings, OwnsHeader, IsAtRest, KnowsSpace, first_word, control_address}
@@ -31,7 +31,8 @@ use Rattle.fk_sim_block.specs.Lockstep.{IsMember, AllEnter, AllComeByWay, ComesB
 use Rattle.fk_sim_block.specs.Parts.{IsInPart, AreInPart, AllMove, size_behind, size_of_stay}
 use Rattle.fk_sim_block.proofs.Spaces.{space_kept}
 use Rattle.fk_gen.specs.Registers.{t0, t3}
-use Rattle.fk_gen.specs.Lines.{at_value, at_private}
+use Rattle.fk_gen.specs.Lines.{at_private}
+use Rattle.fk_gen.specs.Operands.{operand}
 use Rattle.fk_gen.proofs.Values.{values_before}
 use Rattle.fk_gen.proofs.Walk.{LocalAt, private, runs_join, told_of, can_run_goes}
 use Rattle.fk_gen.proofs.Jumps.{goes_to_pc, bne_taken, bne_on}
@@ -98,10 +99,10 @@ module _ (core : List CoreOp) (image : Image) (bound : ℕ → ℕ) (places : Pl
     pub came : Came (record m { hart = hart }) p
     pub is : m.hart ≡ flag_hart hart
 
-  loads : (t : MachineSetting) (m : Member) (p : Owner) → Came m p → (s : Shared) → GoesAlone (perform t m.number (Lw t3 end_register (at_value op.depth)) m.hart s) (load_hart m.hart) s
+  loads : (t : MachineSetting) (m : Member) (p : Owner) → Came m p → (s : Shared) → GoesAlone (perform t m.number (operand t3 op.depth) m.hart s) (load_hart m.hart) s
   loads t m p came s =
       let v = is_value core image bound places nestings i op Shrink place setting cycle0 p m.hart m.hart some came.enters refl in
-      can_run_goes (Lw t3 end_register (at_value op.depth)) (LocalAt (value_word op.depth m.hart)) m.hart (v.within, v.address) t m.number s
+      can_run_goes (operand t3 op.depth) (LocalAt (value_word op.depth m.hart)) m.hart (v.within, v.address) t m.number s
 
   loaded : (m : Member) (p : Owner) → Came m p → Loaded (record m { hart = load_hart m.hart }) p
   loaded m p came = record { hart = m.hart; came = came; is = refl }
@@ -483,7 +484,7 @@ module _ (core : List CoreOp) (image : Image) (bound : ℕ → ℕ) (places : Pl
       let load : Member → Hart = λ m. load_hart m.hart in
       cycle_map image mine cycle0 0 ms own (λ ms' own'. AllAreAt (suc k) ms' × Both Loaded ms' ps × (own' ≡ own)) (λ ms' own'. AtFlag ps ms' own')
       (λ ms' own' x. subst (AtFlag ps ms') (sym x.2) (flag_step p others ms' own holds rest few x.0 x.1))
-      (alone_cycle image mine cycle0 k (Lw t3 end_register (at_value op.depth)) load Came Loaded ms ps own holds place.block.lines.0 (λ m. (refl, refl)) (loads cycle0) loaded
+      (alone_cycle image mine cycle0 k (operand t3 op.depth) load Came Loaded ms ps own holds place.block.lines.0 (λ m. (refl, refl)) (loads cycle0) loaded
       (all_stand k Came ms ps (λ m q came. at_block core image places nestings i op Shrink setting cycle0 first m q came.enters) all) all)
 
 pub parts_shrink : PartsShrink
