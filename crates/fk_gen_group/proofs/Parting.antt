@@ -59,8 +59,7 @@ module _ (core : List CoreOp) (image : Image) (bound : ℕ → ℕ) (places : Pl
 
   known : (h1.registers frames_register ≡ control_address space.frames) × (h1.registers blocks_register ≡ control_address space.blocks)
   known =
-      let k = subst (λ o. KnowsSpace p.runner.has.level o m.hart) divides.group.outer member.node.space in
-      (
+      let k = subst (λ o. KnowsSpace p.runner.has.level o m.hart) divides.group.outer member.node.space in (
         kept 12 (λ e. omega arith) (λ e. omega arith) (λ e. omega arith) (λ e. omega arith) ∙ k.0 ∙ ap (λ (s : Space). control_address s.frames) divides.space_is,
         kept 13 (λ e. omega arith) (λ e. omega arith) (λ e. omega arith) (λ e. omega arith) ∙ k.1 ∙ ap (λ (s : Space). control_address s.blocks) divides.space_is,
       )
