@@ -52,6 +52,7 @@ abbrev nestings : Nestings
 nestings = record {
   levels = λ i. 0;
   behind = λ i. 0;
+  nest = λ i. 0;
   start = record { there = λ i. record { at = 0; changes = λ r. false }; coming = λ i h. h };
 }
 

@@ -1,5 +1,5 @@
 -- Where the group frames of parts begin.
-use Rattle.std.specs.Prelude.{◌≡◌, ℕ, suc, ◌+◌, ◌-◌, ◌^◌, ◌≤◌, List, [], ◌∷◌}
+use Rattle.std.specs.Prelude.{◌≡◌, ℕ, suc, ◌+◌, ◌-◌, ◌^◌, ◌≤◌, List, ◌∷◌}
 use Rattle.fk_meaning_operation.specs.declared.operation.OwnValue.TheVariants.{FrameAddress}
 use Rattle.fk_meaning_operation.specs.declared.operation.Operation.{Operation}
 use Rattle.fk_meaning_operation.specs.declared.operation.Operation.TheVariants.{Get}
@@ -7,15 +7,6 @@ use Rattle.fk_meaning.specs.Processor.{Level, Processor}
 use Rattle.fk_meaning.specs.Round.{Runner}
 use Rattle.fk_core.specs.Next.{Position}
 use Rattle.fk_sim_block.specs.Node.{Nestings, past_levels}
-
--- The number of the group of `start` among the parts of `main`. It has a number in no other call.
-abbrev pub of_start : (callers : List ℕ) → ℕ
-of_start [] = 1
-of_start (i ∷ callers) = 0
-
--- The number of the innermost part of the running call in which a processor is.
-abbrev pub innermost : Nestings → Position → ℕ
-innermost nestings left = nestings.levels left.at + of_start left.callers
 
 -- So many levels outward from a processor's own one there is that of a group, and the frame with
 -- this number begins right after the header of its space.
@@ -30,6 +21,6 @@ pub record FrameBegins (out number : ℕ) (p : Processor) : Type 0 where
 -- A processor that is about to get the address of a word in the frame of a part is in that part.
 abbrev pub FindsFrame : Nestings → Operation → Runner Position → Type 0
 FindsFrame nestings (Get (FrameAddress (suc part) word)) r =
-    (suc part ≤ innermost nestings r.left)
-    × FrameBegins (innermost nestings r.left - suc part) (suc part) r.has
+    (suc part ≤ nestings.nest r.left.at)
+    × FrameBegins (nestings.nest r.left.at - suc part) (suc part) r.has
 FindsFrame nestings operation r = Unit {0}
