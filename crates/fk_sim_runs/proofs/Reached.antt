@@ -5,6 +5,7 @@ use Rattle.std.specs.Prelude.{All}
 use Rattle.std.proofs.lemmas.List.Elements.{All-nil, All-cons}
 use Rattle.fk_space.specs.Space.{Space, IsSpace}
 use Rattle.fk_lockstep_frames.specs.Nests.{Nest, outward}
+use Rattle.fk_lockstep_frames.specs.Lists.{told as told_nests}
 use Rattle.fk_lockstep_frames.specs.Taken.{spaces_of, AreTaken}
 use Rattle.fk_tree.specs.Tree as t
 use Rattle.fk_tree.specs.Tree.{Tree, is_member, root}
@@ -153,7 +154,7 @@ runs_reach stay core nestings main list words firsts input p schedule some given
       stands = list.in_tree p words firsts input schedule some space possible single none;
       spaces = λ h r at.
           let told = lists_tell_frames core main list.frames words firsts input p schedule space h r at in
-          all_spaces _ (spaces_of r.has) told.nests.spaces;
+          all_spaces (told_nests core list.frames.in_main list.frames.nests r.left) (spaces_of r.has) told.nests.spaces;
       saves = λ h r at.
           let leads = main_goes core nestings main list words firsts input p some space in
           let there = all_there core nestings main list words firsts input p given.room schedule possible single none h r at in
