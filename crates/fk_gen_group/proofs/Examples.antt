@@ -14,7 +14,7 @@ use Rattle.fk_gen_group.specs.Start.{gathering_of}
 
 -- no variables, and code of one block a word; at index 9 one level is saved
 frames : Frames
-frames = record { keeps = λ index word. false; is_main = λ index. true; group = λ index. None; of_file = 0 }
+frames = record { keeps = λ index word. false; is_main = λ index. true; group = λ index number. false; of_file = 0 }
 
 places : Places
 places = record { block = λ index. index; returns = λ index. None; frames = frames }
@@ -23,7 +23,7 @@ levels_at : ℕ → ℕ
 levels_at index = if index == 9 then 1 else 0
 
 nestings : Nestings
-nestings = record { levels = levels_at; behind = λ index. 0; start = gathering_of [] (λ label. 0) }
+nestings = record { levels = levels_at; behind = λ index. 0; nest = λ index. 0; start = gathering_of [] (λ label. 0) }
 
 -- 4 processors, no globals and no input
 setting : Setting

@@ -34,7 +34,7 @@ use Rattle.fk_sim_runs.specs.Reached.{the_end, IsReached}
 use Rattle.fk_sim_runs.specs.Facts.{ReachedGroupsHaveNext}
 use Rattle.fk_sim_runs.specs.Levels.{leaves_part}
 use Rattle.fk_sim_runs.proofs.Ways.{MovesAt, StepOf, Leading}
-use Rattle.fk_sim_runs.proofs.Nexts.{leads_to, ready, does}
+use Rattle.fk_sim_runs.proofs.Nexts.{leads_to, ready, may_alone, does}
 
 pub runners_length : (ps : List Owner) → length (runners_of ps) ≡ length ps
 runners_length [] = refl
@@ -117,7 +117,7 @@ module _ (core : List CoreOp) (nestings : Nestings) (main : ℕ) (setting : Sett
     may_move n e op same moves = absurd moves
 
     may_step : (n : ℕ) → length p.runner.has.outer ≡ suc n → (is_no_step (class_of leads.operation) ≡ true) ⊎ StepOf (InGroup n) leads.operation → MayInStep nestings leads.operation (landed core p)
-    may_step n e (inl plain) = inl plain
+    may_step n e (inl plain) = inl (may_alone core nestings main setting s list is h p.runner p.heap at leads plain)
     may_step n e (inr (inl shared)) = inr (inl shared)
     may_step n e (inr (inr moves)) = inr (inr (may_move n e leads.operation refl moves))
 

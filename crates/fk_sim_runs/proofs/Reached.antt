@@ -39,6 +39,7 @@ use Rattle.fk_sim_runs.specs.Reached.{the_end, RunsReach}
 use Rattle.fk_sim_runs.proofs.Trees.{is_space}
 use Rattle.fk_sim_runs.proofs.Levels.{levels_are_told, saves_levels}
 use Rattle.fk_sim_runs.proofs.Ways.{leading, goes_within}
+use Rattle.fk_sim_runs.proofs.Finds.{finds_frame}
 
 abbrev IsThere : List CoreOp → Position → Type 0
 IsThere core w = StaysInList core w ⊎ (w ≡ the_end core)
@@ -162,5 +163,7 @@ runs_reach stay core nestings main list words firsts input p schedule some given
       within = all_there core nestings main list words firsts input p given.room schedule possible single none;
       depth = λ h r op at stands. list.well_formed.depths words firsts input p schedule possible none h r op at stands;
       may = λ h r op operation at stands is_read. list.may words firsts input p schedule space h r op operation at stands is_read;
+      finds = λ h r op operation at stands is_read.
+          finds_frame core nestings main list setting r (lists_tell_frames core main list.frames words firsts input p schedule space h r at) op stands operation is_read;
       in_range = λ h r at. stay core main words firsts input p schedule given h r at;
     }
