@@ -43,32 +43,34 @@ first_frame : (nests : List Nest) (first : Memory) (calls : List Memory) (l : Le
 first_frame [] first calls l outer part words has around begun e = absurd (none_some words e)
 first_frame (OfFunction f ∷ nests) first calls l outer part words has around begun e = absurd (none_some words e)
 first_frame (OfPart f ∷ nests) first calls l [] part words has around begun e = absurd (no_call nests first calls around begun.1)
-first_frame (OfPart f ∷ nests) first calls l (o ∷ outer) part words has around begun e = by (suc part == suc (nesting nests)) refl e
+first_frame (OfPart f ∷ nests) first calls l (o ∷ outer) part words has around begun e =
+    by (λ is. first_frame nests first calls o outer part words around.0 around.1 begun.1 is) (suc part == suc (nesting nests)) refl e
   where
-    by : (same : Bool) → (suc part == suc (nesting nests)) ≡ same → (if same then f else frame_at nests (suc part)) ≡ Some words
+    by : (frame_at nests (suc part) ≡ Some words → (suc part ≤ nesting nests) × IsFirst (nesting nests - suc part) (suc part) first (o ∷ outer))
+        → (same : Bool) → (suc part == suc (nesting nests)) ≡ same → (if same then f else frame_at nests (suc part)) ≡ Some words
         → (suc part ≤ suc (nesting nests)) × IsFirst (suc (nesting nests) - suc part) (suc part) first (l ∷ o ∷ outer)
-    by true same is =
+    by further true same is =
         let here : suc part ≡ suc (nesting nests) = eqb-true (suc part) (suc (nesting nests)) same in
         let none : 0 ≡ suc (nesting nests) - suc part = omega (arith, here) in (
           omega (arith, here),
           subst (λ k. IsFirst k (suc part) first (l ∷ o ∷ outer)) none
-          (record {
-            level = l;
-            around = o;
-            further = outer;
-            there = refl;
-            begins = ap first here ∙ begins_there f words (first (suc (nesting nests))) (l.space.low + 8) is begun.0;
-            within = header_within (taken (OfPart f ∷ nests)) l.space has;
-          }),
+              (record {
+                level = l;
+                around = o;
+                further = outer;
+                there = refl;
+                begins = ap first here ∙ begins_there f words (first (suc (nesting nests))) (l.space.low + 8) is begun.0;
+                within = header_within (taken (OfPart f ∷ nests)) l.space has;
+              }),
         )
-    by false same is =
-        let inner = first_frame nests first calls o outer part words around.0 around.1 begun.1 is in
+    by further false same is =
+        let inner = further is in
         let low : suc part ≤ nesting nests = inner.0 in
         let more : suc (nesting nests - suc part) ≡ suc (nesting nests) - suc part = omega (arith, low) in
         let x = inner.1 in (
           omega (arith, low),
           subst (λ k. IsFirst k (suc part) first (l ∷ o ∷ outer)) more
-          (record { level = x.level; around = x.around; further = x.further; there = x.there; begins = x.begins; within = x.within }),
+              (record { level = x.level; around = x.around; further = x.further; there = x.there; begins = x.begins; within = x.within }),
         )
 
 pub part_begins : (nests : List Nest) (p : Processor) → HasNests nests p → (part word : ℕ) → has_word nests (suc part) word ≡ true
