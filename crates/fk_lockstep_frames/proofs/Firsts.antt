@@ -42,7 +42,8 @@ first_frame : (nests : List Nest) (first : Memory) (calls : List Memory) (l : Le
     → AreTaken (outward nests) (map (λ (l : Level). l.space) outer) → AreBegun nests (first ∷ calls) (l.space.low ∷ map (λ (l : Level). l.space.low) outer)
     → frame_at nests (suc part) ≡ Some words → (suc part ≤ nesting nests) × IsFirst (nesting nests - suc part) (suc part) first (l ∷ outer)
 first_frame [] first calls l outer part words has around begun e = absurd (none_some words e)
-first_frame (OfFunction f ∷ nests) first calls l outer part words has around begun e = absurd (none_some words e)
+first_frame (OfFunction f ∷ nests) first calls l outer part words has around begun e =
+    pick f None (suc part) 0 words (suc part == 0) refl e (λ here is. absurd (let z : ⊥ = omega (arith, here) in z)) (λ is. absurd (none_some words is))
 first_frame (OfPart f ∷ nests) first calls l [] part words has around begun e = absurd (no_call nests first calls around begun.1)
 first_frame (OfPart f ∷ nests) first calls l (o ∷ outer) part words has around begun e =
     pick f (frame_at nests (suc part)) (suc part) (suc (nesting nests)) words (suc part == suc (nesting nests)) refl e
