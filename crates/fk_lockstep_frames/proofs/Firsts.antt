@@ -7,6 +7,7 @@ use Rattle.fk_space.specs.Space.{Space, IsSpace}
 use Rattle.fk_meaning.specs.Processor.{Call, Level, Processor}
 use Rattle.fk_lockstep_frames.specs.Nests.{Nest, OfFunction, OfPart, nesting, frame_at, frame_has, has_word, taken, outward}
 use Rattle.fk_lockstep_frames.specs.Taken.{HasTaken, AreTaken, Begins, AreBegun, HasNests, IsFirstFrame}
+use Rattle.fk_lockstep_frames.proofs.Lies.{pick}
 
 none_some : (words : ℕ) → None ≡ Some words → ⊥
 none_some words e = absurd (cc)
@@ -44,34 +45,29 @@ first_frame [] first calls l outer part words has around begun e = absurd (none_
 first_frame (OfFunction f ∷ nests) first calls l outer part words has around begun e = absurd (none_some words e)
 first_frame (OfPart f ∷ nests) first calls l [] part words has around begun e = absurd (no_call nests first calls around begun.1)
 first_frame (OfPart f ∷ nests) first calls l (o ∷ outer) part words has around begun e =
-    by (λ is. first_frame nests first calls o outer part words around.0 around.1 begun.1 is) (suc part == suc (nesting nests)) refl e
-  where
-    by : (frame_at nests (suc part) ≡ Some words → (suc part ≤ nesting nests) × IsFirst (nesting nests - suc part) (suc part) first (o ∷ outer))
-        → (same : Bool) → (suc part == suc (nesting nests)) ≡ same → (if same then f else frame_at nests (suc part)) ≡ Some words
-        → (suc part ≤ suc (nesting nests)) × IsFirst (suc (nesting nests) - suc part) (suc part) first (l ∷ o ∷ outer)
-    by further true same is =
-        let here : suc part ≡ suc (nesting nests) = eqb-true (suc part) (suc (nesting nests)) same in
-        let none : 0 ≡ suc (nesting nests) - suc part = omega (arith, here) in (
-          omega (arith, here),
-          subst (λ k. IsFirst k (suc part) first (l ∷ o ∷ outer)) none
-              (record {
-                level = l;
-                around = o;
-                further = outer;
-                there = refl;
-                begins = ap first here ∙ begins_there f words (first (suc (nesting nests))) (l.space.low + 8) is begun.0;
-                within = header_within (taken (OfPart f ∷ nests)) l.space has;
-              }),
-        )
-    by further false same is =
-        let inner = further is in
-        let low : suc part ≤ nesting nests = inner.0 in
-        let more : suc (nesting nests - suc part) ≡ suc (nesting nests) - suc part = omega (arith, low) in
-        let x = inner.1 in (
-          omega (arith, low),
-          subst (λ k. IsFirst k (suc part) first (l ∷ o ∷ outer)) more
-              (record { level = x.level; around = x.around; further = x.further; there = x.there; begins = x.begins; within = x.within }),
-        )
+    pick f (frame_at nests (suc part)) (suc part) (suc (nesting nests)) words (suc part == suc (nesting nests)) refl e
+    (λ here is.
+    let none : 0 ≡ suc (nesting nests) - suc part = omega (arith, here) in (
+      omega (arith, here),
+      subst (λ k. IsFirst k (suc part) first (l ∷ o ∷ outer)) none
+      (record {
+        level = l;
+        around = o;
+        further = outer;
+        there = refl;
+        begins = ap first here ∙ begins_there f words (first (suc (nesting nests))) (l.space.low + 8) is begun.0;
+        within = header_within (taken (OfPart f ∷ nests)) l.space has;
+      }),
+    ))
+    (λ is.
+    let inner = first_frame nests first calls o outer part words around.0 around.1 begun.1 is in
+    let low : suc part ≤ nesting nests = inner.0 in
+    let more : suc (nesting nests - suc part) ≡ suc (nesting nests) - suc part = omega (arith, low) in
+    let x = inner.1 in (
+      omega (arith, low),
+      subst (λ k. IsFirst k (suc part) first (l ∷ o ∷ outer)) more
+      (record { level = x.level; around = x.around; further = x.further; there = x.there; begins = x.begins; within = x.within }),
+    ))
 
 pub part_begins : (nests : List Nest) (p : Processor) → HasNests nests p → (part word : ℕ) → has_word nests (suc part) word ≡ true
     → (suc part ≤ nesting nests) × IsFirstFrame (nesting nests - suc part) (suc part) p
