@@ -2,6 +2,7 @@
 use Rattle.std.proofs.Common.{◌≡◌, ℕ, zero, suc, ◌+◌, ◌-◌, ◌*◌, ◌^◌, ◌<◌, ◌≤◌, ◌==◌, Bool, true, false, true≢false, List, [], ◌∷◌, Option, Some, None, refl, sym, ap, ◌∙◌, subst, arith, drop, if◌then◌else◌}
 use Rattle.std.specs.Prelude.{map}
 use Rattle.std.proofs.lemmas.Bool.{eqb-true}
+use Rattle.std.proofs.Math.Dec.{eqb-suc-zero}
 use Rattle.fk_num.specs.Word.{Memory}
 use Rattle.fk_space.specs.Space.{Space, IsSpace}
 use Rattle.fk_meaning.specs.Processor.{Call, Level, Processor}
@@ -43,7 +44,7 @@ first_frame : (nests : List Nest) (first : Memory) (calls : List Memory) (l : Le
     → frame_at nests (suc part) ≡ Some words → (suc part ≤ nesting nests) × IsFirst (nesting nests - suc part) (suc part) first (l ∷ outer)
 first_frame [] first calls l outer part words has around begun e = absurd (none_some words e)
 first_frame (OfFunction f ∷ nests) first calls l outer part words has around begun e =
-    pick f None (suc part) 0 words (suc part == 0) refl e (λ here is. absurd (let z : ⊥ = omega (arith, here) in z)) (λ is. absurd (none_some words is))
+    absurd (none_some words (sym (ap (λ b. if b then f else None) (eqb-suc-zero part)) ∙ e))
 first_frame (OfPart f ∷ nests) first calls l [] part words has around begun e = absurd (no_call nests first calls around begun.1)
 first_frame (OfPart f ∷ nests) first calls l (o ∷ outer) part words has around begun e =
     pick f (frame_at nests (suc part)) (suc part) (suc (nesting nests)) words (suc part == suc (nesting nests)) refl e
@@ -51,14 +52,14 @@ first_frame (OfPart f ∷ nests) first calls l (o ∷ outer) part words has arou
     let none : 0 ≡ suc (nesting nests) - suc part = omega (arith, here) in (
       omega (arith, here),
       subst (λ k. IsFirst k (suc part) first (l ∷ o ∷ outer)) none
-      (record {
-        level = l;
-        around = o;
-        further = outer;
-        there = refl;
-        begins = ap first here ∙ begins_there f words (first (suc (nesting nests))) (l.space.low + 8) is begun.0;
-        within = header_within (taken (OfPart f ∷ nests)) l.space has;
-      }),
+          (record {
+            level = l;
+            around = o;
+            further = outer;
+            there = refl;
+            begins = ap first here ∙ begins_there f words (first (suc (nesting nests))) (l.space.low + 8) is begun.0;
+            within = header_within (taken (OfPart f ∷ nests)) l.space has;
+          }),
     ))
     (λ is.
     let inner = first_frame nests first calls o outer part words around.0 around.1 begun.1 is in
@@ -67,7 +68,7 @@ first_frame (OfPart f ∷ nests) first calls l (o ∷ outer) part words has arou
     let x = inner.1 in (
       omega (arith, low),
       subst (λ k. IsFirst k (suc part) first (l ∷ o ∷ outer)) more
-      (record { level = x.level; around = x.around; further = x.further; there = x.there; begins = x.begins; within = x.within }),
+          (record { level = x.level; around = x.around; further = x.further; there = x.there; begins = x.begins; within = x.within }),
     ))
 
 pub part_begins : (nests : List Nest) (p : Processor) → HasNests nests p → (part word : ℕ) → has_word nests (suc part) word ≡ true
