@@ -139,7 +139,7 @@ is_in_part = record {
     body = tt;
     space = (refl, refl);
     outer = (
-      (omega arith, (record { size = refl; node = refl; blocks = refl }, tt), record { number = refl; rank = refl; size = refl }),
+      (omega arith, (record { size = refl; node = refl; blocks = refl; frames = refl }, tt), record { number = refl; rank = refl; size = refl }),
       tt,
     );
   };
