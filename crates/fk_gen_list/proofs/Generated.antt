@@ -18,7 +18,8 @@ use Rattle.fk_gen_flow.specs.Blocks.{is_flow, is_some_flow}
 use Rattle.fk_gen_flow.proofs.Law.{block_of_jump}
 use Rattle.fk_gen_group.specs.Blocks.{block_by, is_group_step}
 use Rattle.fk_gen_list.specs.Kinds.{kind_of, kind_by, block_in, block_of}
-use Rattle.fk_gen_list.specs.Layout.{placed, levels_in}
+use Rattle.fk_gen.specs.Levels.{levels_in}
+use Rattle.fk_gen_list.specs.Layout.{placed}
 use Rattle.fk_gen_list.proofs.Suited.{alone_is_no_step, step_kind, kind_here}
 use Rattle.fk_gen_list.proofs.Returns.{calls_return}
 use Rattle.fk_gen_list.specs.Laws.{is_lone}

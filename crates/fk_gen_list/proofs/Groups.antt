@@ -38,7 +38,7 @@ use Rattle.fk_gen_group.proofs.Lacks.{groups_lack_room}
 use Rattle.fk_gen_group.proofs.Phases.{blocks_meet}
 use Rattle.fk_gen_group.proofs.Starts.{groups_start}
 use Rattle.fk_gen_list.specs.Cycles.{before_at, behind_at, end_takes}
-use Rattle.fk_gen_list.specs.Layout.{levels_in}
+use Rattle.fk_gen.specs.Levels.{levels_in}
 use Rattle.fk_gen_list.specs.Laws.{AreInRange, HasGroupCode, StepsHaveValues, HaveStepLevels, ListsHaveTheLaw}
 use Rattle.fk_gen_list.proofs.Law.{lists_do_alone}
 use Rattle.fk_gen_list.proofs.At.{before_is, behind_is}

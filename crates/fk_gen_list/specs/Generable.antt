@@ -24,7 +24,8 @@ use Rattle.fk_gen_flow.specs.Opening.{HasOpening}
 use Rattle.fk_gen_group.specs.Blocks.{HasStart, HasLevelWords, is_group_step}
 use Rattle.fk_gen_group.specs.Splits.{HasParts}
 use Rattle.fk_gen_list.specs.Kinds.{block_of}
-use Rattle.fk_gen_list.specs.Layout.{placed, levels_in}
+use Rattle.fk_gen.specs.Levels.{levels_in}
+use Rattle.fk_gen_list.specs.Layout.{placed}
 
 -- Frames keep no words except those of the sets.
 abbrev pub AreKept : Frames → List Set → Type 0

@@ -24,7 +24,8 @@ use Rattle.fk_gen_access.specs.Heap.{HasHeap}
 use Rattle.fk_gen_flow.specs.Calls.{HasShared}
 use Rattle.fk_gen_flow.specs.Laws.{HasJumps, CallsReturn}
 use Rattle.fk_gen_list.specs.Kinds.{block_in}
-use Rattle.fk_gen_list.specs.Layout.{placed, levels_in}
+use Rattle.fk_gen.specs.Levels.{levels_in}
+use Rattle.fk_gen_list.specs.Layout.{placed}
 use Rattle.fk_gen_list.specs.Generable.{AreKept}
 use Rattle.fk_sim_block.specs.Node.{Gathering, Nestings, HasLevelRoom}
 use Rattle.fk_sim_block.specs.Lockstep.{LevelsStay, LevelOpens, values_of_step}

@@ -11,6 +11,7 @@ use Rattle.fk_asm.specs.Assembly.{Assembly, empty}
 use Rattle.fk_asm.specs.Block.{MarkedLine, with_block}
 use Rattle.fk_core_liveness.specs.declared.set.Set.{Set}
 use Rattle.fk_gen.specs.declared.placed.Levels.{Levels}
+use Rattle.fk_gen.specs.Levels.{levels_in}
 use Rattle.fk_gen.specs.declared.placed.Placed.{Placed}
 use Rattle.fk_gen.specs.Lines.{copy_label, clear_label, label_of}
 use Rattle.fk_gen_access.specs.Heap.{heap_label, heap_lines}
@@ -29,14 +30,6 @@ clears_by operation set = false
 abbrev pub back_by : Option Operation → List CoreOp → (index : ℕ) → ℕ
 back_by (Some (Enter arguments)) core index = behind_jump core (suc index)
 back_by operation core index = 0
-
--- The levels in the frame of the running call. Where nothing is told it has none.
-abbrev pub told_levels : Option Levels → Levels
-told_levels None = record { count = 0; behind = 0 }
-told_levels (Some levels) = levels
-
-abbrev pub levels_in : List Levels → (index : ℕ) → Levels
-levels_in saved index = told_levels (slice_get saved index)
 
 -- The operation at an index of a list. The words that are kept as a call begins are those at the
 -- next index.

@@ -2,6 +2,7 @@
 
 ghost use Rattle.std.specs.Prelude.{◌≡◌, ◌<◌, ◌^◌, length, suc, slice_get};
 ghost use Rattle.fk_core.specs.Numbers.{operation_of};
+ghost use Rattle.fk_gen.specs.Levels.{levels_in};
 ghost use Rattle.fk_gen_list.specs.Layout as layout;
 
 use fk_core::CoreOp;
@@ -39,7 +40,7 @@ fn back(op: CoreOp, ops: &[CoreOp], index: usize) -> u32
 
 // The levels in the frame of the running call. Where nothing is told it has none.
 fn levels(saved: &[Levels], index: usize) -> Levels
-    ensures { result ≡ layout.levels_in saved.now index }
+    ensures { result ≡ levels_in saved.now index }
 {
     match saved.get(index) {
         Some(levels) => *levels,

@@ -1,0 +1,3 @@
+pub mod Raised
+pub mod Settling
+pub mod Swept

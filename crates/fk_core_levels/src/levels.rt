@@ -1,0 +1,43 @@
+//! The levels of a list.
+
+ghost use Rattle.std.specs.Prelude.{◌≡◌, ◌<◌, ◌^◌, false, IfOk, length};
+ghost use Rattle.fk_core_levels.specs.Levels as l;
+
+use crate::behind::{named, settle};
+use crate::count::{after, here, opens};
+use fk_core::CoreOp;
+use fk_gen::Levels;
+use std::alloc::{AllocError, Global};
+
+// What is told of each operation by itself.
+fn told(alloc: Global, ops: &[CoreOp]) -> Result<Vec<Levels>, AllocError>
+    requires small { length ops.now < 2 ^ 31 }
+    ensures { IfOk result (λ saved. saved.items ≡ l.told_from 0 false ops.now) }
+{
+    let mut saved = Vec::new(alloc);
+    let mut parts = 0;
+    let mut opening = false;
+    for op in ops {
+        let count = here(parts, *op);
+        saved.push(Levels {
+            count: if opening { 0 } else { count },
+            behind: named(*op),
+        })?;
+        parts = after(count, *op);
+        opening = opens(opening, *op);
+    }
+    Ok(saved)
+}
+
+/// The levels of groups in the frame of the running call, at each index of a flat list: as many as
+/// parts of the call are open there, after the words of the call. A sweep takes time linear in the
+/// list and no memory, and there are at most two more sweeps than jumps. Fails only for want of
+/// memory.
+pub fn levels(alloc: Global, ops: &[CoreOp]) -> Result<Vec<Levels>, AllocError>
+    requires small { length ops.now < 2 ^ 31 }
+    ensures { IfOk result (λ saved. l.AreLevels ops.now saved.items) }
+{
+    let mut saved = told(alloc, ops)?;
+    settle(&mut saved, ops);
+    Ok(saved)
+}

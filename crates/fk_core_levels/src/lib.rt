@@ -1,0 +1,11 @@
+//! The levels of groups in the frames of calls, at each index of a flat list: how many there are,
+//! and after which word they begin.
+#![tactic(auto)]
+
+mod behind;
+mod count;
+mod levels;
+#[cfg(test)]
+mod tests;
+
+pub use levels::levels;
