@@ -1,7 +1,7 @@
 -- What a processor has in local memory stays there, but what is written.
-use Rattle.std.proofs.Common.{◌≡◌, ℕ, zero, suc, ◌+◌, ◌-◌, ◌*◌, ◌^◌, ◌<◌, ◌≤◌, List, [], ◌∷◌, length, Bool, true, false, sym, ap, subst, ◌∙◌, arith, refl, eq-eqb}
-use Rattle.std.specs.Prelude.{◌==◌}
-use Rattle.std.proofs.lemmas.Bool.{ne_eqb, eqb-true}
+use Rattle.std.proofs.Common.{◌≡◌, ℕ, zero, suc, ◌+◌, ◌-◌, ◌*◌, ◌^◌, ◌<◌, ◌≤◌, List, [], ◌∷◌, length, Bool, true, false, sym, ap, subst, ◌∙◌, arith, refl, eq-eqb, inl, inr}
+use Rattle.std.specs.Prelude.{◌==◌, ◌⊎◌}
+use Rattle.std.proofs.lemmas.Bool.{ne_eqb, eqb-true, eqb-false}
 use Rattle.std.specs.Int.{from_bool}
 use Rattle.fk_num.specs.Word.{Memory, put}
 use Rattle.fk_meaning_operation.specs.declared.operation.Variable.TheVariants.{Private, OfFile}
@@ -51,18 +51,23 @@ lies_in places (suc n) at count few home room =
 
 -- ---- frames and waiting calls keep what no word of theirs is written to
 
--- the header's word with the address of a group frame, of which that of `main` lies below all frames
-pub group_kept : (places : Places) (m m' : Memory) (waiting : ℕ) → places.frames.of_file ≤ 56 → m' 3 ≡ m 3
-    → ((j : ℕ) → places.frames.of_file + 7 ≤ j → j < 64 * waiting + 4 → m' j ≡ m j) → m' (group_word waiting) ≡ m (group_word waiting)
-group_kept places m m' zero few low same = low
-group_kept places m m' (suc n) few low same = same (group_word (suc n)) (omega arith) (omega arith)
+-- the words of the header of `main` with addresses of group frames lie below all frames
+abbrev pub MainKeepsFrames : (m m' : Memory) → Type 0
+MainKeepsFrames m m' = (j : ℕ) → 3 ≤ j → j < 7 → m' j ≡ m j
+
+-- the header's word with the address of a group frame
+pub group_kept : (places : Places) (m m' : Memory) (waiting number : ℕ) → number < 4 → places.frames.of_file ≤ 56 → MainKeepsFrames m m'
+    → ((j : ℕ) → places.frames.of_file + 7 ≤ j → j < 64 * waiting + 7 → m' j ≡ m j) → m' (group_word waiting number) ≡ m (group_word waiting number)
+group_kept places m m' zero number known few low same = low (group_word zero number) (omega arith) (omega arith)
+group_kept places m m' (suc n) number known few low same = same (group_word (suc n) number) (omega arith) (omega arith)
 
 -- a group frame that the header of one call has the address of, that of another has
-pub frame_stays : (m m' : Memory) (waiting first : ℕ) → m' (group_word waiting) ≡ m (group_word waiting) → HasGroupFrame m waiting first → HasGroupFrame m' waiting first
-frame_stays m m' waiting first same has = record { within = has.within; address = same ∙ has.address }
+pub frame_stays : (m m' : Memory) (waiting number first : ℕ) → (number < 4 → m' (group_word waiting number) ≡ m (group_word waiting number))
+    → HasGroupFrame m waiting number first → HasGroupFrame m' waiting number first
+frame_stays m m' waiting number first same has = record { few = has.few; within = has.within; address = same has.few ∙ has.address }
 
 pub frame_kept : (places : Places) (m m' : Memory) (waiting at count : ℕ) (call : Call) → places.frames.of_file ≤ 56 → HasRoom places.frames at count
-    → length call.values ≤ count → m' 3 ≡ m 3 → ((j : ℕ) → places.frames.of_file + 7 ≤ j → j < frame_end waiting → m' j ≡ m j)
+    → length call.values ≤ count → MainKeepsFrames m m' → ((j : ℕ) → places.frames.of_file + 7 ≤ j → j < frame_end waiting → m' j ≡ m j)
     → FrameInMemory places m waiting at call → FrameInMemory places m' waiting at call
 frame_kept places m m' waiting at count call few room within low same f =
     let l = lies_in places waiting at count few f.home room in
@@ -73,10 +78,10 @@ frame_kept places m m' waiting at count call few room within low same f =
       values = values_kept m m' waiting call.values (λ j le lt. same j (omega arith) lt) f.values;
       privates = λ i e. let k = l.kept i e in same (frame_start places waiting + 7 + i) (omega arith) (omega arith) ∙ f.privates i e;
       group = λ number told.
-          frame_stays m m' waiting (call.frames number) (group_kept places m m' waiting few low (λ j le lt. same j le (omega arith))) (f.group number told);
+          frame_stays m m' waiting number (call.frames number) (λ known. group_kept places m m' waiting number known few low (λ j le lt. same j le (omega arith))) (f.group number told);
     }
 
-pub waiting_kept : (places : Places) (m m' : Memory) (backs : List ℕ) (calls : List Call) → places.frames.of_file ≤ 56 → m' 3 ≡ m 3
+pub waiting_kept : (places : Places) (m m' : Memory) (backs : List ℕ) (calls : List Call) → places.frames.of_file ≤ 56 → MainKeepsFrames m m'
     → ((j : ℕ) → places.frames.of_file + 7 ≤ j → j < 64 * length calls + 3 → m' j ≡ m j) → HasWaiting places m backs calls → HasWaiting places m' backs calls
 waiting_kept places m m' [] [] few low same held = tt
 waiting_kept places m m' (i ∷ backs) (c ∷ calls) few low same held =
@@ -219,9 +224,9 @@ module _ (core : List CoreOp) (places : Places) where
               let k = l.kept x kept in
               below (frame_start places n + 7 + x) (omega arith) ∙ running.privates x kept;
           group = λ number told.
-              frame_stays m m' n (p.runner.has.call.frames number) (below (group_word n) (omega arith)) (running.group number (flows.group number told));
+              frame_stays m m' n number (p.runner.has.call.frames number) (λ known. below (group_word n number) (omega arith)) (running.group number (flows.group number told));
         };
-        waiting = waiting_kept places m m' p.runner.left.callers p.runner.has.callers few (below 3 (omega arith)) (λ j le lt. below j (omega arith)) held.waiting;
+        waiting = waiting_kept places m m' p.runner.left.callers p.runner.has.callers few (λ j le lt. below j (omega arith)) (λ j le lt. below j (omega arith)) held.waiting;
         own = λ x lt. below (7 + x) (omega arith) ∙ held.own x lt;
         heap = λ x lt. above (16384 + x) (omega arith) ∙ held.heap x lt;
         full = below 2 (omega arith) ∙ held.full;
@@ -269,9 +274,9 @@ module _ (core : List CoreOp) (places : Places) where
           values = values_kept m m' n (values p.runner.has) (λ j le lt. other_word m w v j (λ e. omega arith)) running.values;
           privates = λ y e. word_here m (frame_start places n + 7) x v p.runner.has.call.privates y (λ other. running.privates y (flows.kept y e other));
           group = λ number told.
-              frame_stays m m' n (p.runner.has.call.frames number) (other_word m w v (group_word n) (λ e. omega arith)) (running.group number (flows.group number told));
+              frame_stays m m' n number (p.runner.has.call.frames number) (λ known. other_word m w v (group_word n number) (λ e. omega arith)) (running.group number (flows.group number told));
         };
-        waiting = waiting_kept places m m' p.runner.left.callers p.runner.has.callers few (other_word m w v 3 (λ e. omega arith)) (λ j le lt. other_word m w v j (λ e. omega arith)) held.waiting;
+        waiting = waiting_kept places m m' p.runner.left.callers p.runner.has.callers few (λ j le lt. other_word m w v j (λ e. omega arith)) (λ j le lt. other_word m w v j (λ e. omega arith)) held.waiting;
         own = λ y lt. other_word m w v (7 + y) (λ e. omega arith) ∙ held.own y lt;
         heap = λ y lt. other_word m w v (16384 + y) (λ e. omega arith) ∙ held.heap y lt;
         full = other_word m w v 2 (λ e. omega arith) ∙ held.full;
@@ -307,10 +312,10 @@ module _ (core : List CoreOp) (places : Places) where
           values = values_kept m m' n (values p.runner.has) (λ j le lt. other_word m (7 + x) v j (λ e. omega arith)) running.values;
           privates = λ y e. other_word m (7 + x) v (frame_start places n + 7 + y) (λ f. omega arith) ∙ running.privates y (flows.kept y e refl);
           group = λ number told.
-              frame_stays m m' n (p.runner.has.call.frames number) (other_word m (7 + x) v (group_word n) (λ e. omega arith))
+              frame_stays m m' n number (p.runner.has.call.frames number) (λ known. other_word m (7 + x) v (group_word n number) (λ e. omega arith))
               (running.group number (flows.group number told));
         };
-        waiting = waiting_kept places m m' p.runner.left.callers p.runner.has.callers few (other_word m (7 + x) v 3 (λ e. omega arith))
+        waiting = waiting_kept places m m' p.runner.left.callers p.runner.has.callers few (λ j le lt. other_word m (7 + x) v j (λ e. omega arith))
             (λ j le lt. other_word m (7 + x) v j (λ e. omega arith)) held.waiting;
         own = λ y lt. word_here m 7 x v p.runner.has.own y (λ other. held.own y lt);
         heap = λ y lt. other_word m (7 + x) v (16384 + y) (λ e. omega arith) ∙ held.heap y lt;
@@ -328,20 +333,20 @@ module _ (core : List CoreOp) (places : Places) where
   }
 
   -- in `main` no call waits
-  waiting_kept_by : (m : Memory) (w v : ℕ) (backs : List ℕ) (calls : List Call) → places.frames.of_file ≤ 56 → w ≡ group_word (length calls)
+  waiting_kept_by : (m : Memory) (w v number : ℕ) (backs : List ℕ) (calls : List Call) → places.frames.of_file ≤ 56 → number < 4 → w ≡ group_word (length calls) number
       → HasWaiting places m backs calls → HasWaiting places (put m w v) backs calls
-  waiting_kept_by m w v [] [] few e held = tt
-  waiting_kept_by m w v (b ∷ backs) (c ∷ calls) few e held =
-      waiting_kept places m (put m w v) (b ∷ backs) (c ∷ calls) few (other_word m w v 3 (λ f. omega arith)) (λ j le lt. other_word m w v j (λ f. omega arith)) held
-  waiting_kept_by m w v backs calls few e held = absurd (assumption held)
+  waiting_kept_by m w v number [] [] few known e held = tt
+  waiting_kept_by m w v number (b ∷ backs) (c ∷ calls) few known e held =
+      waiting_kept places m (put m w v) (b ∷ backs) (c ∷ calls) few (λ j le lt. other_word m w v j (λ f. omega arith)) (λ j le lt. other_word m w v j (λ f. omega arith)) held
+  waiting_kept_by m w v number backs calls few known e held = absurd (assumption held)
 
   pub frame_written : (m : Memory) (p : Owner) (i i' number first count : ℕ) → places.frames.of_file ≤ 56 → length p.runner.has.callers < 256
-      → p.runner.left.at ≡ i → HasRoom places.frames i count → length (values p.runner.has) ≤ count → TakesFrame core places.frames number i i' → first ≤ 2 ^ 20
+      → p.runner.left.at ≡ i → HasRoom places.frames i count → length (values p.runner.has) ≤ count → number < 4 → TakesFrame core places.frames number i i' → first ≤ 2 ^ 20
       → InMemory places m p
-      → InMemory places (put m (group_word (length p.runner.has.callers)) (address_of first)) (with_frame i' number first p)
-  frame_written m p i i' number first count few waiting at room within takes small held =
+      → InMemory places (put m (group_word (length p.runner.has.callers) number) (address_of first)) (with_frame i' number first p)
+  frame_written m p i i' number first count few waiting at room within known takes small held =
       let n = length p.runner.has.callers in
-      let w = group_word n in
+      let w = group_word n number in
       let v = address_of first in
       let m' = put m w v in
       let running = subst (λ a. FrameInMemory places m n a p.runner.has.call) at held.running in
@@ -352,16 +357,11 @@ module _ (core : List CoreOp) (places : Places) where
           home = takes.main ∙ running.home;
           values = values_kept m m' n (values p.runner.has) (λ j le lt. other_word m w v j (λ e. omega arith)) running.values;
           privates = λ y e.
-              let above = above_group n in
+              let above = above_group n known in
               other_word m w v (frame_start places n + 7 + y) (λ f. omega arith) ∙ running.privates y (takes.kept y e);
-          group = λ told e.
-              let same : told ≡ number = takes.group told e in
-              record {
-                within = subst (λ x. x ≤ 2 ^ 20) (sym (there told same)) small;
-                address = same_word m w v ∙ ap address_of (sym (there told same));
-              };
+          group = λ told e. by_told told (running.group told) (takes.group told e) (told == number) refl;
         };
-        waiting = waiting_kept_by m w v p.runner.left.callers p.runner.has.callers few refl held.waiting;
+        waiting = waiting_kept_by m w v number p.runner.left.callers p.runner.has.callers few known refl held.waiting;
         own = λ y lt. other_word m w v (7 + y) (λ e. omega arith) ∙ held.own y lt;
         heap = λ y lt. other_word m w v (16384 + y) (λ e. omega arith) ∙ held.heap y lt;
         full = other_word m w v 2 (λ e. omega arith) ∙ held.full;
@@ -370,9 +370,38 @@ module _ (core : List CoreOp) (places : Places) where
       there : (told : ℕ) → told ≡ number → put p.runner.has.call.frames number first told ≡ first
       there told same = ap (put p.runner.has.call.frames number first) same ∙ same_word p.runner.has.call.frames number first
 
-      above_group : (n : ℕ) → group_word n < frame_start places n + 7
-      above_group zero = omega arith
-      above_group (suc n) = omega arith
+      above_group : (n : ℕ) → number < 4 → group_word n number < frame_start places n + 7
+      above_group zero low = omega arith
+      above_group (suc n) low = omega arith
+
+      abbrev HasTaken : (told : ℕ) → Type 0
+      HasTaken told =
+          HasGroupFrame (put m (group_word (length p.runner.has.callers) number) (address_of first)) (length p.runner.has.callers) told (put p.runner.has.call.frames number first told)
+
+      taken : (told : ℕ) → told ≡ number → HasTaken told
+      taken told same =
+          let n = length p.runner.has.callers in
+          record {
+            few = subst (λ x. x < 4) (sym same) known;
+            within = subst (λ x. x ≤ 2 ^ 20) (sym (there told same)) small;
+            address = ap (λ k. put m (group_word n number) (address_of first) (group_word n k)) same ∙ same_word m (group_word n number) (address_of first) ∙ ap address_of (sym (there told same));
+          }
+
+      by_told : (told : ℕ) → (places.frames.group i told ≡ true → HasGroupFrame m (length p.runner.has.callers) told (p.runner.has.call.frames told))
+          → (told ≡ number) ⊎ (places.frames.group i told ≡ true) → (same : Bool) → (told == number) ≡ same → HasTaken told
+      by_told told old either true e = taken told (eqb-true told number e)
+      by_told told old (inl same) false e = taken told same
+      by_told told old (inr before) false e =
+          let n = length p.runner.has.callers in
+          let has = old before in
+          let low : told < 4 = has.few in
+          let apart : told ≡ number → ⊥ = eqb-false told number e in
+          let kept : put p.runner.has.call.frames number first told ≡ p.runner.has.call.frames told = other_word p.runner.has.call.frames number first told apart in
+          record {
+            few = low;
+            within = subst (λ x. x ≤ 2 ^ 20) (sym kept) has.within;
+            address = other_word m (group_word n number) (address_of first) (group_word n told) (λ same. apart (omega (arith, same, low, known))) ∙ has.address ∙ ap address_of (sym kept);
+          }
 
   -- a word of the private heap is written
   pub heap_written : (m : Memory) (p : Owner) (i x v count : ℕ) → places.frames.of_file ≤ 56 → length p.runner.has.callers < 256
@@ -383,8 +412,8 @@ module _ (core : List CoreOp) (places : Places) where
       let m' = put m (16384 + x) v in
       let room' = subst (λ a. HasRoom places.frames a count) (sym at) room in
       record {
-        running = frame_kept places m m' n p.runner.left.at count p.runner.has.call few room' within (other_word m (16384 + x) v 3 (λ e. omega arith)) (λ j le lt. other_word m (16384 + x) v j (λ e. omega arith)) held.running;
-        waiting = waiting_kept places m m' p.runner.left.callers p.runner.has.callers few (other_word m (16384 + x) v 3 (λ e. omega arith)) (λ j le lt. other_word m (16384 + x) v j (λ e. omega arith)) held.waiting;
+        running = frame_kept places m m' n p.runner.left.at count p.runner.has.call few room' within (λ j le lt. other_word m (16384 + x) v j (λ e. omega arith)) (λ j le lt. other_word m (16384 + x) v j (λ e. omega arith)) held.running;
+        waiting = waiting_kept places m m' p.runner.left.callers p.runner.has.callers few (λ j le lt. other_word m (16384 + x) v j (λ e. omega arith)) (λ j le lt. other_word m (16384 + x) v j (λ e. omega arith)) held.waiting;
         own = λ y lt. other_word m (16384 + x) v (7 + y) (λ e. omega arith) ∙ held.own y lt;
         heap = λ y lt. word_here m 16384 x v p.heap.words y (λ other. held.heap y lt);
         full = other_word m (16384 + x) v 2 (λ e. omega arith) ∙ held.full;

@@ -2,7 +2,7 @@
 
 ghost use Rattle.std.specs.Prelude.{◌≡◌, ◌<◌, ◌≤◌, ◌^◌};
 ghost use Rattle.fk_isa.specs.Fits.{IsShort};
-ghost use Rattle.fk_gen.specs.Lines.{at_value, at_private, high_part, low_part};
+ghost use Rattle.fk_gen.specs.Lines.{at_value, at_private, at_group_frame, high_part, low_part};
 
 /// The offset of the k-th value of a call, counted from 1, from the word after its frame, in bytes.
 pub fn at_value(k: u32) -> u32
@@ -23,15 +23,21 @@ pub fn at_private(i: u32) -> u32
     4 * (7 + i)
 }
 
-/// The offset of the header's word with the address of a group frame, from the word after the
-/// frame, in bytes: 61 words back.
-pub const AT_GROUP_FRAME: u32 = 0xffff_ff0c;
 /// The upper 20 bits of what is added to the address of a data word for that of the control word
 /// with the same index.
 pub const TO_CONTROL: u32 = 0x0_8000;
 /// The upper 20 bits of what is added to the address of a control word for that of the data word
 /// with the same index.
 pub const TO_DATA: u32 = 0xf_8000;
+
+/// The offset of the header's word with the address of the group frame with a number, from the word
+/// after the frame, in bytes.
+pub fn at_group_frame(number: u32) -> u32
+    ensures exact { result ≡ at_group_frame number }
+    ensures short { IsShort 12 result }
+{
+    at_value(61u32.saturating_sub(number))
+}
 
 /// The upper 20 bits of a number, as `lui` takes them where `addi` adds the lower 12 as a signed
 /// number.

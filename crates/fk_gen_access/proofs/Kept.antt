@@ -110,9 +110,9 @@ module _ (places : Places) where
                 let lt = l.kept word kept' in
                 below (frame_start places n + 7 + word) (omega arith) (λ e. omega arith) ∙ frame.privates word kept';
             group = λ number told.
-                frame_stays h.local h'.local n (p.runner.has.call.frames number) (below (group_word n) (omega arith) (λ e. omega arith)) (frame.group number (flows.group number told));
+                frame_stays h.local h'.local n number (p.runner.has.call.frames number) (λ known. below (group_word n number) (omega arith) (λ e. omega arith)) (frame.group number (flows.group number told));
           };
-          waiting = waiting_kept places h.local h'.local p.runner.left.callers p.runner.has.callers few (below 3 (omega arith) (λ e. omega arith))
+          waiting = waiting_kept places h.local h'.local p.runner.left.callers p.runner.has.callers few (λ k le lt. below k (omega arith) (λ e. omega arith))
               (λ k le lt. below k (omega arith) (λ e. omega arith)) stands.waiting;
           own = λ k lt. below (7 + k) (omega arith) (λ e. omega arith) ∙ stands.own k lt;
           heap = heap';

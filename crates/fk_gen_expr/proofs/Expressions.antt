@@ -146,9 +146,9 @@ module _ (core : List CoreOp) (image : Image) (places : Places) (bound : ℕ →
       operand_runs register n k h here.enters.at.stands.behind here.enters.ready.in_range.waiting first last
 
   -- the header's word with the address of the call's group frame is loaded
-  header_runs : (operation : Operation) (register : ℕ) → Here operation → CanRun (load_frame register) (LocalAt (group_word n)) h
-  header_runs operation register here =
-      value_place (h.registers end_register) n 61 here.enters.at.stands.behind here.enters.ready.in_range.waiting (omega arith) (omega arith)
+  header_runs : (operation : Operation) (register nesting : ℕ) → nesting < 4 → Here operation → CanRun (load_frame register nesting) (LocalAt (group_word n nesting)) h
+  header_runs operation register nesting known here =
+      value_place (h.registers end_register) n (61 - nesting) here.enters.at.stands.behind here.enters.ready.in_range.waiting (omega arith) (omega arith)
 
   -- ---- operations that push
 
@@ -255,15 +255,15 @@ module _ (core : List CoreOp) (image : Image) (places : Places) (bound : ℕ →
   frame_word_does nesting w true e here =
       let stands = here.enters.at.stands in
       let place = here.fits.place in
-      let told_at = ap places.frames.group here.enters.index ∙ place.0.0 in
+      let told_at = ap (λ j. places.frames.group j nesting) here.enters.index ∙ place.0.0 in
       let has = stands.running.group nesting told_at in
       let small = has.within in
       let address = has.address in
       let none = eqb-true w 0 e in
-      get_with (FrameAddress nesting w) ((load_frame t0, LocalAt (group_word n)) ∷ []) t0 (word (address_of (p.runner.has.call.frames nesting + w))) here
-      (ap (λ b. first_commits (frame_word b w ++ result t0 (d + 1) ∷ [])) (sym e)) (omega arith) refl
+      get_with (FrameAddress nesting w) ((load_frame t0 nesting, LocalAt (group_word n nesting)) ∷ []) t0 (word (address_of (p.runner.has.call.frames nesting + w))) here
+      (ap (λ b. first_commits (frame_word b nesting w ++ result t0 (d + 1) ∷ [])) (sym e)) (omega arith) refl
       record {
-        can = (header_runs (Get (FrameAddress nesting w)) t0 here, tt);
+        can = (header_runs (Get (FrameAddress nesting w)) t0 nesting has.few here, tt);
         same = itself h;
         local = refl;
         result = omega arith;
@@ -271,20 +271,20 @@ module _ (core : List CoreOp) (image : Image) (places : Places) (bound : ℕ →
   frame_word_does nesting w false e here =
       let stands = here.enters.at.stands in
       let place = here.fits.place in
-      let told_at = ap places.frames.group here.enters.index ∙ place.0.0 in
+      let told_at = ap (λ j. places.frames.group j nesting) here.enters.index ∙ place.0.0 in
       let has = stands.running.group nesting told_at in
       let a = address_of (p.runner.has.call.frames nesting) in
       let number = 4 * w in
       let short = high_part number == 0 in
-      let load : Instruction × Reached = (load_frame t1, LocalAt (group_word n)) in
+      let load : Instruction × Reached = (load_frame t1 nesting, LocalAt (group_word n nesting)) in
       let same : word (a + number) ≡ word (address_of (p.runner.has.call.frames nesting + w)) = omega arith in
       get_with (FrameAddress nesting w) (load ∷ on_registers (add_by short number t1)) t0 (word (address_of (p.runner.has.call.frames nesting + w))) here
-      (ap (λ rest. first_commits (load_frame t1 ∷ rest)) (instructions_of-append (add_by short number t1) (result_line t0 n (d + 1) ∷ []))
-      ∙ ap (λ b. first_commits (frame_word b w ++ result t0 (d + 1) ∷ [])) (sym e))
+      (ap (λ rest. first_commits (load_frame t1 nesting ∷ rest)) (instructions_of-append (add_by short number t1) (result_line t0 n (d + 1) ∷ []))
+      ∙ ap (λ b. first_commits (frame_word b nesting w ++ result t0 (d + 1) ∷ [])) (sym e))
       (few_of_sum load short number) refl
       (subst (Gives told (load ∷ on_registers (add_by short number t1)) h t0) same
       (gives_behind told (load ∷ []) (on_registers (add_by short number t1)) h t0 (word (a + number))
-      (header_runs (Get (FrameAddress nesting w)) t1 here, tt) (itself h) refl
+      (header_runs (Get (FrameAddress nesting w)) t1 nesting has.few here, tt) (itself h) refl
       (sum_gives short number a refl (after told load.0 load.1 h) has.address)))
 
   get_does : (known : OwnValue) → Here (Get known) → IsDone (Get known)

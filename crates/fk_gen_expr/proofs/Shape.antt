@@ -57,9 +57,9 @@ sum_short : (short : Bool) (n r : ℕ) (l s : Instruction) → IsShortCode (leng
 sum_short true n r l s = record { some = omega arith; few = omega arith }
 sum_short false n r l s = record { some = omega arith; few = omega arith }
 
-frame_short : (is_first : Bool) (word : ℕ) (s : Instruction) → IsShortCode (length (first_commits (frame_word is_first word ++ s ∷ [])))
-frame_short true word s = record { some = omega arith; few = omega arith }
-frame_short false word s = sum_short (high_part (4 * word) == 0) (4 * word) t1 (load_frame t1) s
+frame_short : (is_first : Bool) (nesting word : ℕ) (s : Instruction) → IsShortCode (length (first_commits (frame_word is_first nesting word ++ s ∷ [])))
+frame_short true nesting word s = record { some = omega arith; few = omega arith }
+frame_short false nesting word s = sum_short (high_part (4 * word) == 0) (4 * word) t1 (load_frame t1 nesting) s
 
 pub block_short : (globals d : ℕ) (operation : Operation) → IsExpression globals d operation → IsShortCode (length (expression_block globals d operation))
 block_short globals d (Push n) is = number_short (high_part n == 0) n (result t0 (d + 1))
@@ -71,7 +71,7 @@ block_short globals d (Get ProcessorNumber) is = record { some = omega arith; fe
 block_short globals d (Get Processors) is = record { some = omega arith; few = omega arith }
 block_short globals d (Get InputLength) is = record { some = omega arith; few = omega arith }
 block_short globals d (Get InputAddress) is = number_short (high_part (address_of globals) == 0) (address_of globals) (result t0 (d + 1))
-block_short globals d (Get (FrameAddress nesting word)) is = frame_short (word == 0) word (result t0 (d + 1))
+block_short globals d (Get (FrameAddress nesting word)) is = frame_short (word == 0) nesting word (result t0 (d + 1))
 block_short globals d (Set variable) is = record { some = omega arith; few = omega arith }
 block_short globals d DropLast is = record { some = omega arith; few = omega arith }
 block_short globals d CopyLast is = record { some = omega arith; few = omega arith }

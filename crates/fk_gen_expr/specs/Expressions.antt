@@ -65,16 +65,16 @@ push_device d offset = Lw t0 device_register offset ∷ result t0 (d + 1) ∷ []
 abbrev pub push_number : (depth n : ℕ) → List Instruction
 push_number d n = load_number n ++ result t0 (d + 1) ∷ []
 
--- The address of a word of the call's group frame, in t0. The header has that of the first word.
-abbrev pub load_frame : (register : ℕ) → Instruction
-load_frame register = Lw register end_register at_group_frame
+-- The address of a word of a group frame of the call, in t0. The header has that of the first word.
+abbrev pub load_frame : (register nesting : ℕ) → Instruction
+load_frame register nesting = Lw register end_register (at_group_frame nesting)
 
-abbrev pub frame_word : (is_first : Bool) (word : ℕ) → List Instruction
-frame_word true word = load_frame t0 ∷ []
-frame_word false word = load_frame t1 ∷ add_number (4 * word) t1
+abbrev pub frame_word : (is_first : Bool) (nesting word : ℕ) → List Instruction
+frame_word true nesting word = load_frame t0 nesting ∷ []
+frame_word false nesting word = load_frame t1 nesting ∷ add_number (4 * word) t1
 
-abbrev pub frame_address : (depth word : ℕ) → List Instruction
-frame_address d word = frame_word (word == 0) word ++ result t0 (d + 1) ∷ []
+abbrev pub frame_address : (depth nesting word : ℕ) → List Instruction
+frame_address d nesting word = frame_word (word == 0) nesting word ++ result t0 (d + 1) ∷ []
 
 abbrev pub get_code : (globals depth : ℕ) → OwnValue → List Instruction
 get_code globals d (Value variable) = load_variable variable ∷ result t0 (d + 1) ∷ []
@@ -85,7 +85,7 @@ get_code globals d ProcessorNumber = push_device d 20
 get_code globals d Processors = push_device d 24
 get_code globals d InputLength = push_device d 28
 get_code globals d InputAddress = push_number d (address_of globals)
-get_code globals d (FrameAddress nesting word) = frame_address d word
+get_code globals d (FrameAddress nesting word) = frame_address d nesting word
 
 -- An operator on the last two values, which come to these registers.
 abbrev pub join_code : (depth : ℕ) → Op → (first second : ℕ) → List Instruction

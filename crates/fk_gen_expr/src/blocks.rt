@@ -10,7 +10,7 @@ ghost use Rattle.fk_gen_expr.specs.Operators as operators;
 ghost use Rattle.fk_gen_expr.specs.Expressions as code;
 
 use fk_asm::{Assembler, Blocks};
-use fk_gen::numbers::{AT_GROUP_FRAME, at_private, high_part, low_part};
+use fk_gen::numbers::{at_group_frame, at_private, high_part, low_part};
 use fk_gen::registers::{DEVICES, END, FRAME, LOCAL, NUMBER, RANK, SIZE, T0, T1, T2, ZERO};
 use fk_gen::{BlockLine, Placed, emit_lines, operand, result};
 use fk_isa::Instruction;
@@ -128,27 +128,32 @@ fn get(into: &mut Assembler, globals: u32, depth: u32, known: OwnValue) -> Resul
         OwnValue::Processors => push_device(into, depth, HARTS),
         OwnValue::InputLength => push_device(into, depth, INPUTS),
         OwnValue::InputAddress => push_number(into, depth, 0x1000_0000 + 4 * globals),
-        OwnValue::FrameAddress(_, word) => frame_address(into, depth, word),
+        OwnValue::FrameAddress(nesting, word) => frame_address(into, depth, nesting, word),
     }
 }
 
-// The address of a word of the call's group frame. The header has that of the first word.
-fn frame_address(into: &mut Assembler, depth: u32, word: u32) -> Result<(), AllocError>
+// The address of a word of a group frame of the call. The header has that of the first word.
+fn frame_address(
+    into: &mut Assembler,
+    depth: u32,
+    nesting: u32,
+    word: u32,
+) -> Result<(), AllocError>
     requires depth { depth < 64 }
     requires word { word < 2 ^ 21 }
     requires room { length into.old.lines
-        + length (first_commits (code.frame_address depth word)) < 2 ^ 30 }
+        + length (first_commits (code.frame_address depth nesting word)) < 2 ^ 30 }
     requires free { AreFollowed into.old }
     ensures added { OnOk result
-        (into.new ≡ with_block into.old (first_commits (code.frame_address depth word))) }
+        (into.new ≡ with_block into.old (first_commits (code.frame_address depth nesting word))) }
     ensures begun { OnErr result
-        (HasBegun (first_commits (code.frame_address depth word)) into.old into.new) }
+        (HasBegun (first_commits (code.frame_address depth nesting word)) into.old into.new) }
 {
     let store = result(T0, depth + 1);
     if word == 0 {
-        return move_word(into, load_frame(T0), store);
+        return move_word(into, load_frame(T0, nesting), store);
     }
-    let load = BlockLine::commits(load_frame(T1));
+    let load = BlockLine::commits(load_frame(T1, nesting));
     let high = high_part(4 * word);
     let low = low_part(4 * word);
     if high == 0 {
@@ -361,13 +366,13 @@ fn first_instruction(sign: Op) -> Instruction
     }
 }
 
-// Loads the address of the call's group frame into a register.
-fn load_frame(register: u8) -> Instruction
+// Loads the address of a group frame of the call into a register.
+fn load_frame(register: u8, nesting: u32) -> Instruction
     requires register { IsRegister register }
-    ensures exact { result ≡ code.load_frame register }
+    ensures exact { result ≡ code.load_frame register nesting }
     ensures fits { Fits result }
 {
-    Instruction::Lw(register, END, AT_GROUP_FRAME)
+    Instruction::Lw(register, END, at_group_frame(nesting))
 }
 
 fn load_variable(variable: Variable) -> Instruction

@@ -118,7 +118,7 @@ module _ (core : List CoreOp) (image : Image) (bound : ℕ → ℕ) (places : Pl
                 | inl lt ↦ begun.copies a lt ∙ ap h.local (argument_word a lt) ∙ arguments_at (value_in h w) n vs a (suc a + (op.depth - n)) held.values (omega arith) lt (omega arith)
                 | inr le ↦ begun.zeros (enough a k le) a le (calls.kept a k) ∙ sym (arguments_end n vs a le)
               ];
-              group = λ number told. let none : None ≡ Some number = sym calls.none ∙ told in absurd (cc);
+              group = λ number told. let none : false ≡ true = sym (calls.none number) ∙ told in absurd (cc);
             };
             waiting = (
               record {
@@ -130,8 +130,8 @@ module _ (core : List CoreOp) (image : Image) (bound : ℕ → ℕ) (places : Pl
                 result = begun.result ∙ omega arith;
                 room = room;
               },
-              frame_kept places h.local h'.local w onward (length (before n vs)) call' few (room_below places onward (length (before n vs)) (suc (length (before n vs))) (omega arith) room) (omega arith) (begun.below 3 (omega arith)) (λ j a b. begun.below j b) flowed,
-              waiting_kept places h.local h'.local p.runner.left.callers p.runner.has.callers few (begun.below 3 (omega arith)) (λ j a b. begun.below j (omega arith)) stands.waiting,
+              frame_kept places h.local h'.local w onward (length (before n vs)) call' few (room_below places onward (length (before n vs)) (suc (length (before n vs))) (omega arith) room) (omega arith) (λ j a b. begun.below j (omega arith)) (λ j a b. begun.below j b) flowed,
+              waiting_kept places h.local h'.local p.runner.left.callers p.runner.has.callers few (λ j a b. begun.below j (omega arith)) (λ j a b. begun.below j (omega arith)) stands.waiting,
             );
             own = λ j lt. begun.below (7 + j) (omega arith) ∙ stands.own j lt;
             heap = λ j lt. begun.above (16384 + j) (omega arith) ∙ stands.heap j lt;

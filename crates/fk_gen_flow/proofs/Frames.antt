@@ -27,7 +27,7 @@ module _ (places : Places) where
     home = flows.main ∙ held.home;
     values = values;
     privates = λ w e. held.privates w (flows.kept w e (never w)) ∙ ap (λ f. f w) (sym same);
-    group = λ number told. subst (λ f. HasGroupFrame m n (f number)) (sym frames) (held.group number (flows.group number told));
+    group = λ number told. subst (λ f. HasGroupFrame m n number (f number)) (sym frames) (held.group number (flows.group number told));
   }
 
   -- the call that waits last

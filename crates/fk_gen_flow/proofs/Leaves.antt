@@ -184,10 +184,10 @@ module _ (core : List CoreOp) (image : Image) (bound : ℕ → ℕ) (places : Pl
                   let below = word.privates w e in
                   others (frame_start places m + 7 + w) (λ f. omega arith) ∙ l.frame.privates w e ∙ ap (λ f. f w) (sym (handed_privates gives v l.call));
               group = λ number told.
-                  subst (λ f. HasGroupFrame h'.local m (f number)) (sym (handed_frames gives v l.call))
-                  (frame_stays h.local h'.local m (l.call.frames number) (others (group_word m) (λ f. omega arith)) (l.frame.group number told));
+                  subst (λ f. HasGroupFrame h'.local m number (f number)) (sym (handed_frames gives v l.call))
+                  (frame_stays h.local h'.local m number (l.call.frames number) (λ known. others (group_word m number) (λ f. omega arith)) (l.frame.group number told));
             };
-            waiting = waiting_kept places h.local h'.local l.backs' l.calls' few (others 3 (λ f. omega arith)) (λ j a b. others j (λ f. omega arith)) l.others;
+            waiting = waiting_kept places h.local h'.local l.backs' l.calls' few (λ j a b. others j (λ f. omega arith)) (λ j a b. others j (λ f. omega arith)) l.others;
             own = λ j lt. let below = word.own j lt in others (7 + j) (λ f. omega arith) ∙ stands.own j lt ∙ ap (λ f. f j) (sym u.own);
             heap = λ j lt. others (16384 + j) (λ f. omega arith) ∙ stands.heap j lt;
             full = others 2 (λ f. omega arith) ∙ stands.full;
@@ -291,13 +291,13 @@ module _ (core : List CoreOp) (image : Image) (bound : ℕ → ℕ) (places : Pl
       (λ r' a b c f. rw b) refl (λ j ne. refl) l.frame.values)
 
   -- what the header has of the group frame
-  frame_of_call : (gives : Bool) → Entered gives true → places.frames.group i ≡ Some 0 → HasGroupFrame h.local (length p.runner.has.callers) (p.runner.has.call.frames 0)
-  frame_of_call gives enters told = enters.at.stands.running.group 0 (ap places.frames.group enters.index ∙ told)
+  frame_of_call : (gives : Bool) → Entered gives true → places.frames.group i 0 ≡ true → HasGroupFrame h.local (length p.runner.has.callers) 0 (p.runner.has.call.frames 0)
+  frame_of_call gives enters told = enters.at.stands.running.group 0 (ap (λ j. places.frames.group j 0) enters.index ∙ told)
 
   -- a hart that has given the frame back
   abbrev given : Hart
   given =
-      let h1 = writes h t1 (h.local (group_word (length p.runner.has.callers))) in
+      let h1 = writes h t1 (h.local (group_word (length p.runner.has.callers) 0)) in
       let h2 = writes h1 t2 (0x08000 * 4096) in
       writes h2 frames_register (word_sum (h2.registers t1) (h2.registers t2))
 
@@ -314,13 +314,13 @@ module _ (core : List CoreOp) (image : Image) (bound : ℕ → ℕ) (places : Pl
       let about = about_block image bound places t p h i enters.running.code enters.index at in
       let l = last_call gives true enters in
       let place = value_place (h.registers end_register) n 61 at.stands.behind waiting (omega arith) (omega arith) in
-      let h1 = writes h t1 (h.local (group_word n)) in
+      let h1 = writes h t1 (h.local (group_word n 0)) in
       let h2 = writes h1 t2 (0x08000 * 4096) in
       let Goal : Hart → Type 0 = λ h'. HasDone core image places (ended core image bound places i op gives true p h.local l) h' × Keeps true h' in
-      let about1 = writing image t k h 6 (h.local (group_word n)) about lines.0.within in
+      let about1 = writing image t k h 6 (h.local (group_word n 0)) about lines.0.within in
       let about2 = writing image (later t) (suc k) h1 7 (0x08000 * 4096) about1 lines.1.0.within in
       let about3 = writing image (later (later t)) (suc (suc k)) h2 12 (word_sum (h2.registers t1) (h2.registers t2)) about2 lines.1.1.0.within in
-      lw_does core image places setting t p h (ended core image bound places i op gives true p h.local l) (Keeps true) k 6 9 at_group_frame (group_word n) (suc (suc behind)) about lines.0
+      lw_does core image places setting t p h (ended core image bound places i op gives true p h.local l) (Keeps true) k 6 9 (at_group_frame 0) (group_word n 0) (suc (suc behind)) about lines.0
       (place.1, place.0) (omega arith)
       (ended_part core image bound places i op gives true setting p h.local l op_at enters.index)
       (first image (later t) number (suc behind) (suc k) _ h1 h2 Goal about1 lines.1.0 (λ s. (s.reserved, refl))

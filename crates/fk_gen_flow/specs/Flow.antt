@@ -32,7 +32,7 @@ branch_block onward depth target =
 -- begins.
 abbrev pub giving_back : List Instruction
 giving_back =
-    Lw t1 end_register at_group_frame ∷ Lui t2 to_control ∷ Add frames_register t1 t2 ∷ []
+    Lw t1 end_register (at_group_frame 0) ∷ Lui t2 to_control ∷ Add frames_register t1 t2 ∷ []
 
 -- The end of the block that ends a call. The frame of the waiting call is that of the running call
 -- again. The hart returns into the block that began the call, to the address in t1, where a jump

@@ -100,6 +100,7 @@ HartsBegin =
     (core : List CoreOp) (image : Image) (places : Places) (bound : ℕ → ℕ)
     (firsts : List ℕ) (main : ℕ)
     → HasOpening image bound places firsts main → AreFirsts places.frames.of_file firsts
-    → places.frames.is_main main ≡ true → places.frames.group main ≡ None
+    → places.frames.is_main main ≡ true
+    → ((number : ℕ) → places.frames.group main number ≡ false)
     → (setting : Setting) (t : MachineSetting) (number : ℕ) → IsRunning image setting t
     → Begins core image places t (beginner setting (slice_index firsts) main number)

@@ -12,7 +12,7 @@ ghost use Rattle.fk_isa.specs.Fits.{Fits};
 use crate::calls::emit_enter;
 use crate::registers::FRAMES;
 use fk_asm::{Assembler, Blocks};
-use fk_gen::numbers::{AT_GROUP_FRAME, TO_CONTROL};
+use fk_gen::numbers::{TO_CONTROL, at_group_frame};
 use fk_gen::registers::{DEVICES, END, FRAME, T0, T1, T2, ZERO};
 use fk_gen::{BlockLine, Placed, emit_lines, operand};
 use fk_isa::Instruction;
@@ -140,7 +140,7 @@ fn emit_giving_back(into: &mut Assembler) -> Result<(), AllocError>
     emit_lines(
         into,
         &[
-            BlockLine::commits(Instruction::Lw(T1, END, AT_GROUP_FRAME)),
+            BlockLine::commits(Instruction::Lw(T1, END, at_group_frame(0))),
             BlockLine::quiet(Instruction::Lui(T2, TO_CONTROL)),
             BlockLine::quiet(Instruction::Add(FRAMES, T1, T2)),
         ],

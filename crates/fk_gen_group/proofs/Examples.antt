@@ -14,7 +14,7 @@ use Rattle.fk_gen_group.specs.Start.{gathering_of}
 
 -- no variables, and code of one block a word; at index 9 one level is saved
 frames : Frames
-frames = record { keeps = λ index word. false; is_main = λ index. true; group = λ index. None; of_file = 0 }
+frames = record { keeps = λ index word. false; is_main = λ index. true; group = λ index number. false; of_file = 0 }
 
 places : Places
 places = record { block = λ index. index; returns = λ index. None; frames = frames }

@@ -43,9 +43,9 @@ use Rattle.fk_gen_group.proofs.Members.{due_part, fault_part}
 use Rattle.fk_gen_group.proofs.Levels.{outer_by, many_callers}
 use Rattle.fk_gen_group.proofs.Taking.{Takes, step_together}
 
-group_below : (places : Places) (n : ℕ) → group_word n < frame_start places n + 7
-group_below places zero = omega arith
-group_below places (suc n) = omega arith
+group_below : (places : Places) (n number : ℕ) → number < 4 → group_word n number < frame_start places n + 7
+group_below places zero number few = omega arith
+group_below places (suc n) number few = omega arith
 
 module _ (core : List CoreOp) (image : Image) (bound : ℕ → ℕ) (places : Places) (nestings : Nestings) (i : ℕ) (op : CoreOp) (nesting words : ℕ)
     (place : IsInPlace core image bound places nestings i op (Frame nesting words)) (small : op.site < 2 ^ 32)
@@ -111,7 +111,7 @@ module _ (core : List CoreOp) (image : Image) (bound : ℕ → ℕ) (places : Pl
   abbrev Done : (count : ℕ) → Type 0
   Done count = OneDoes (core_source core setting) image cycle0 1 (count + 4) 0 m p (Takes core image places nestings i op (Frame nesting words) setting first highest lowest size m.number p)
 
-  module _ (count : ℕ) (sum : HasSum count) (lines : LinesAt image bound (k + count) (frame_lines op.site)) (next : places.block (suc i) ≡ k + count + 8) where
+  module _ (count : ℕ) (sum : HasSum count) (lines : LinesAt image bound (k + count) (frame_lines nesting op.site)) (next : places.block (suc i) ≡ k + count + 8) where
     abbrev k1 : ℕ
     k1 = k + count
 
@@ -127,7 +127,7 @@ module _ (core : List CoreOp) (image : Image) (bound : ℕ → ℕ) (places : Pl
     -- without room the site faults
     faults : free space < words → Done count
     faults lt =
-        let few = place.fits.place in
+        let few = place.fits.place.1 in
         let is = en.ready.may in
         let header = is.header in
         let ordered = is.ordered in
@@ -207,7 +207,7 @@ module _ (core : List CoreOp) (image : Image) (bound : ℕ → ℕ) (places : Pl
     h4 = writes h3 t1 address
 
     abbrev h5 : Hart
-    h5 = record (moves h4) { local = put sum.hart.local (group_word n) address }
+    h5 = record (moves h4) { local = put sum.hart.local (group_word n nesting) address }
 
     abbrev h6 : Hart
     h6 = writes h5 frames_register (word_sum (sum.hart.registers t0) 0)
@@ -229,8 +229,8 @@ module _ (core : List CoreOp) (image : Image) (bound : ℕ → ℕ) (places : Pl
         let same = sum.same frames_register refl in
         omega arith
 
-    memory : put m.hart.local (group_word n) (address_of space.frames) ≡ h5.local
-    memory = sym (ap (λ l. put l (group_word n) address) sum.local ∙ ap (put m.hart.local (group_word n)) address_is)
+    memory : put m.hart.local (group_word n nesting) (address_of space.frames) ≡ h5.local
+    memory = sym (ap (λ l. put l (group_word n nesting) address) sum.local ∙ ap (put m.hart.local (group_word n nesting)) address_is)
 
     stands_behind : words ≤ free space → h6.pc ≡ 4 * places.block (suc i) → IsMember places nestings setting None first (record m { hart = h6 }) (taken (Some larger))
     stands_behind le pc =
@@ -252,10 +252,10 @@ module _ (core : List CoreOp) (image : Image) (bound : ℕ → ℕ) (places : Pl
         let many = many_callers places nestings m.hart.local callers p.runner.has.callers stands.waiting in
         let written : InMemory places h5.local (with_frame core places (suc i) nesting space.frames p) =
         subst (λ l. InMemory places l (with_frame core places (suc i) nesting space.frames p)) memory
-        (frame_written core places m.hart.local p i (suc i) nesting space.frames op.depth few calls here place.fits.room (omega arith) takes (omega arith) (in_memory places p m.hart stands)) in
-        let same : (x : ℕ) → (x ≡ group_word n → ⊥) → h5.local x ≡ m.hart.local x =
-        λ x e. ap (λ l. l x) (sym memory) ∙ other_word m.hart.local (group_word n) (address_of space.frames) x e in
-        let below = group_below places n in
+        (frame_written core places m.hart.local p i (suc i) nesting space.frames op.depth few calls here place.fits.room (omega arith) place.fits.place.0 takes (omega arith) (in_memory places p m.hart stands)) in
+        let same : (x : ℕ) → (x ≡ group_word n nesting → ⊥) → h5.local x ≡ m.hart.local x =
+        λ x e. ap (λ l. l x) (sym memory) ∙ other_word m.hart.local (group_word n nesting) (address_of space.frames) x e in
+        let below = group_below places n nesting place.fits.place.0 in
         let outer =
         outer_by places nestings setting.processors (number_of p) m.hart.local h5.local i (suc i) callers p.runner.has.outer few place.stay
         (λ x from lt. same x (λ e. omega arith))
@@ -301,7 +301,8 @@ module _ (core : List CoreOp) (image : Image) (bound : ℕ → ℕ) (places : Pl
 
     takes_frame : words ≤ free space → Done count
     takes_frame le =
-        let few = place.fits.place in
+        let few = place.fits.place.1 in
+        let shallow : nesting < 4 = place.fits.place.0 in
         let is = en.ready.may in
         let ordered = is.ordered in
         let within = is.within in
@@ -329,7 +330,7 @@ module _ (core : List CoreOp) (image : Image) (bound : ℕ → ℕ) (places : Pl
         let e5 : h5.pc ≡ 4 * suc (suc k5) = omega arith in
         let e6 : h6.pc ≡ 4 * places.block (suc i) = omega arith in
         let end : h4.registers end_register ≡ local_address (frame_end n) = sum.same end_register refl ∙ en.at.stands.behind in
-        let word_at = value_place (h4.registers end_register) n 61 end calls (omega arith) (omega arith) in
+        let word_at = value_place (h4.registers end_register) n (61 - nesting) end calls (omega arith) (omega arith) in
         let not_full = le-ltb (free space) words le in
         let room = ap (λ x. is_some (if x then None else Some larger)) not_full in
         let is_taken : frame space words ≡ Some larger = ap (λ x. if x then None else Some larger) not_full in
@@ -346,8 +347,8 @@ module _ (core : List CoreOp) (image : Image) (bound : ℕ → ℕ) (places : Pl
                 private image cycle3 m.number k5 (Add t1 t1 frames_register) h3 h4 holds1 l5 e3 sum.live (λ s. (s.reserved, refl)),
                 (
                   h5,
-                  private image t4 m.number (suc k5) (Sw end_register t1 at_group_frame) h4 h5 holds1 l6 e4 sum.live
-                      (λ s. can_run_goes (Sw end_register t1 at_group_frame) (LocalAt (group_word n)) h4 (word_at.0, word_at.1) t4 m.number s),
+                  private image t4 m.number (suc k5) (Sw end_register t1 (at_group_frame nesting)) h4 h5 holds1 l6 e4 sum.live
+                      (λ s. can_run_goes (Sw end_register t1 (at_group_frame nesting)) (LocalAt (group_word n nesting)) h4 (word_at.0, word_at.1) t4 m.number s),
                   refl,
                 ),
               ),
@@ -387,12 +388,12 @@ module _ (core : List CoreOp) (image : Image) (bound : ℕ → ℕ) (places : Pl
   does_by : (short : Bool) → (high_part (4 * words) == 0) ≡ short → Done (length (add_by short (4 * words) 12))
   does_by short e =
       let adds = map quiet (add_by short (4 * words) 12) in
-      let block = subst (λ b. LinesAt image bound k (map quiet (add_by b (4 * words) 12) ++ frame_lines op.site)) e place.block.lines in
-      let long = subst (λ b. places.block (suc i) ≡ k + length (map quiet (add_by b (4 * words) 12) ++ frame_lines op.site)) e place.block.next in
-      let split = lines_split image bound k adds (frame_lines op.site) block in
+      let block = subst (λ b. LinesAt image bound k (map quiet (add_by b (4 * words) 12) ++ frame_lines nesting op.site)) e place.block.lines in
+      let long = subst (λ b. places.block (suc i) ≡ k + length (map quiet (add_by b (4 * words) 12) ++ frame_lines nesting op.site)) e place.block.next in
+      let split = lines_split image bound k adds (frame_lines nesting op.site) block in
       let many : length adds ≡ length (add_by short (4 * words) 12) = length-map (add_by short (4 * words) 12) quiet in
-      let all = length-append adds (frame_lines op.site) in
-      does (length (add_by short (4 * words) 12)) (sum_by short e split.0) (subst (λ c. LinesAt image bound (k + c) (frame_lines op.site)) many split.1) (omega arith)
+      let all = length-append adds (frame_lines nesting op.site) in
+      does (length (add_by short (4 * words) 12)) (sum_by short e split.0) (subst (λ c. LinesAt image bound (k + c) (frame_lines nesting op.site)) many split.1) (omega arith)
 
   pub frame_does : Done (length (add_number (4 * words) 12))
   frame_does = does_by (high_part (4 * words) == 0) refl

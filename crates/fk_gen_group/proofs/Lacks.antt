@@ -46,19 +46,19 @@ use Rattle.fk_gen_group.proofs.Fronts.{Fronted, fronted, full_of_one, full_of_tw
 module _ (core : List CoreOp) (image : Image) (bound : ℕ → ℕ) (places : Places) (nestings : Nestings) (i : ℕ) (op : CoreOp) (by : SplitKind)
     (place : IsInPlace core image bound places nestings i op (Split by)) (shared : HasParts image bound) (small : op.site < 2 ^ 32)
     (setting : Setting) (space : Space) (count : ℕ) (is_space : IsSpace space) (full : has_parts space count ≡ false)
-    (t0 : MachineSetting) (first : ℕ) (m : Member) (p : Owner) (en : Enters core image places setting t0 i op (Split by) p m.hart)
-    (member : IsMember places nestings setting None first m p) (divides : IsToDivide by space count p) (front : Fronted core image bound places nestings i op by place setting t0 m p en) where
+    (cycle0 : MachineSetting) (first : ℕ) (m : Member) (p : Owner) (en : Enters core image places setting cycle0 i op (Split by) p m.hart)
+    (member : IsMember places nestings setting None first m p) (divides : IsToDivide by space count p) (front : Fronted core image bound places nestings i op by place setting cycle0 m p en) where
   abbrev n : ℕ
   n = length (part_lines by op.depth) + 2
 
   abbrev link : ℕ
-  link = link_at core image bound places nestings i op by place setting t0 m p en
+  link = link_at core image bound places nestings i op by place setting cycle0 m p en
 
   abbrev h1 : Hart
   h1 = front.hart
 
   abbrev Faulting : ℕ → Type 0
-  Faulting before = OneDoes (core_source core setting) image t0 1 before 0 m p (λ h d. ⊥)
+  Faulting before = OneDoes (core_source core setting) image cycle0 1 before 0 m p (λ h d. ⊥)
 
   -- where its group's free words begin and end
   known : (h1.registers 12 ≡ control_address space.frames) × (h1.registers 13 ≡ control_address space.blocks)
@@ -71,13 +71,13 @@ module _ (core : List CoreOp) (image : Image) (bound : ℕ → ℕ) (places : Pl
 
   -- ---- the lines that fault
 
-  faults_from : (c : ℕ) (h4 : Hart) → RunsPrivately image t0 m.number c m.hart h4 → h4.pc ≡ 4 * suc link → h4.ended ≡ false → h4.registers 26 ≡ 0x30000000 → Faulting (c + 2)
+  faults_from : (c : ℕ) (h4 : Hart) → RunsPrivately image cycle0 m.number c m.hart h4 → h4.pc ≡ 4 * suc link → h4.ended ≡ false → h4.registers 26 ≡ 0x30000000 → Faulting (c + 2)
   faults_from c h4 runs e4 live device =
       let k = suc link in
       let holds = en.running.code in
-      let t4 = in_cycles c t0 in
+      let t4 = in_cycles c cycle0 in
       let t5 = later t4 in
-      let t6 = in_cycles (c + 2) t0 in
+      let t6 = in_cycles (c + 2) cycle0 in
       let l4 = front.back.1.0 in
       let l5 = front.back.1.1.0 in
       let l6 = front.back.1.1.1.0 in
@@ -86,14 +86,14 @@ module _ (core : List CoreOp) (image : Image) (bound : ℕ → ℕ) (places : Pl
       let v5 = word_sum v4 (low_part op.site) in
       let h5 = writes h4 6 v4 in
       let h6 = writes h5 6 v5 in
-      let holds4 = holds_in_cycles image c t0 holds in
+      let holds4 = holds_in_cycles image c cycle0 holds in
       let e5 : h5.pc ≡ 4 * suc k = omega arith in
       let e6 : h6.pc ≡ 4 * suc (suc k) = omega arith in
       let no_room = ap (λ (s : Space). has_parts s (parts by (values p.runner.has))) divides.space_is ∙ ap (has_parts space) divides.count_is ∙ full in
       let site_is : word op.site ≡ op.site = omega arith in
       record {
         committing = h6;
-        runs = runs_join image t0 m.number c 2 m.hart h4 h6 runs (
+        runs = runs_join image cycle0 m.number c 2 m.hart h4 h6 runs (
           h5,
           private image t4 m.number k (Lui 6 (high_part op.site)) h4 h5 holds4 l4 e4 live (λ s. (s.reserved, refl)),
           (h6, private image t5 m.number (suc k) (Addi 6 6 (low_part op.site)) h5 h6 holds4 l5 e5 live (λ s. (s.reserved, refl)), refl),
@@ -105,7 +105,7 @@ module _ (core : List CoreOp) (image : Image) (bound : ℕ → ℕ) (places : Pl
             site = op.site;
             part = fault_part core setting i op (Split by) s p place.stands refl no_room en.index;
             stops = λ earlier sh shows.
-                step_at image (suc (suc k)) 1 (Sw 26 6 8) l6 t6 (holds_in_cycles image (c + 2) t0 holds) m.number h6 sh e6
+                step_at image (suc (suc k)) 1 (Sw 26 6 8) l6 t6 (holds_in_cycles image (c + 2) cycle0 holds) m.number h6 sh e6
                 ∙ sw-fault t6 m.number 26 6 8 h6 sh (omega (arith, device)) (ap (λ a. place_of (word_sum a 8)) device ∙ place_of-fault)
                 ∙ ap (λ v. Stops (Faulted v m.number)) (number_of_parts op.site ∙ site_is);
           });
@@ -120,14 +120,14 @@ module _ (core : List CoreOp) (image : Image) (bound : ℕ → ℕ) (places : Pl
   lacks_one : parts_label by ≡ one_part_label → free space < 20 → Faulting (n + 3 + 2)
   lacks_one label few =
       let k = bound one_part_label in
-      let holds = holds_in_cycles image n t0 en.running.code in
+      let holds = holds_in_cycles image n cycle0 en.running.code in
       let header = is_space.header in
       let ordered = is_space.ordered in
       let within = is_space.within in
       let top = is_space.shared in
       let frames = known.0 in
       let blocks = known.1 in
-      let t1 = in_cycles n t0 in
+      let t1 = in_cycles n cycle0 in
       let t2 = later t1 in
       let t3 = later t2 in
       let l1 = shared.one.0 in
@@ -145,7 +145,7 @@ module _ (core : List CoreOp) (image : Image) (bound : ℕ → ℕ) (places : Pl
       let target : word_sum (h1.registers 1) 4 / 2 * 2 ≡ 4 * suc link = omega arith in
       let aligned : 4 * suc link % 4 ≡ 0 = omega arith in
       faults_from (n + 3) h4
-      (runs_join image t0 m.number n 3 m.hart h1 h4 front.runs (
+      (runs_join image cycle0 m.number n 3 m.hart h1 h4 front.runs (
         h2,
         private image t1 m.number k (Addi 6 12 80) h1 h2 holds l1 e1 front.live (λ s. (s.reserved, refl)),
         (
@@ -161,14 +161,14 @@ module _ (core : List CoreOp) (image : Image) (bound : ℕ → ℕ) (places : Pl
   lacks_two : parts_label by ≡ two_parts_label → free space < 40 → Faulting (n + 4 + 2)
   lacks_two label few =
       let k = bound two_parts_label in
-      let holds = holds_in_cycles image n t0 en.running.code in
+      let holds = holds_in_cycles image n cycle0 en.running.code in
       let header = is_space.header in
       let ordered = is_space.ordered in
       let within = is_space.within in
       let top = is_space.shared in
       let frames = known.0 in
       let blocks = known.1 in
-      let t1 = in_cycles n t0 in
+      let t1 = in_cycles n cycle0 in
       let t2 = later t1 in
       let t3 = later t2 in
       let t4 = later t3 in
@@ -193,7 +193,7 @@ module _ (core : List CoreOp) (image : Image) (bound : ℕ → ℕ) (places : Pl
       let target : word_sum (h1.registers 1) 4 / 2 * 2 ≡ 4 * suc link = omega arith in
       let aligned : 4 * suc link % 4 ≡ 0 = omega arith in
       faults_from (n + 4) h5
-      (runs_join image t0 m.number n 4 m.hart h1 h5 front.runs (
+      (runs_join image cycle0 m.number n 4 m.hart h1 h5 front.runs (
         h2,
         private image t1 m.number k (Sub 5 13 12) h1 h2 holds l1 e1 front.live (λ s. (s.reserved, refl)),
         (

@@ -24,7 +24,7 @@ use Rattle.fk_gen_group.proofs.PartSizes.{AreCounted, Within, word_at}
 
 module _ (core : List CoreOp) (image : Image) (bound : ℕ → ℕ) (places : Places) (nestings : Nestings) (i : ℕ) (op : CoreOp) (by : SplitKind)
     (split : IsSplitInPlace core image bound places nestings i op by) (is : is_implicit by ≡ true) (label : parts_label by ≡ one_part_label)
-    (setting : Setting) (space : Space) (is_space : IsSpace space) (many : 20 ≤ free space) (t0 : MachineSetting) (mine : Words) (first : ℕ)
+    (setting : Setting) (space : Space) (is_space : IsSpace space) (many : 20 ≤ free space) (cycle0 : MachineSetting) (mine : Words) (first : ℕ)
     (owns : OwnsHeader mine first) (all_own : OwnsSpace mine space)
     (are : AreCounted by space first 1 (λ p. flag_by by (values p.runner.has))) where
   abbrev pub flag : Owner → ℕ
@@ -34,7 +34,7 @@ module _ (core : List CoreOp) (image : Image) (bound : ℕ → ℕ) (places : Pl
   word p = word_at space first 1 (part_of by p)
 
   pub record Came (m : Member) (p : Owner) : Type 0 where
-    pub enters : Enters core image places setting t0 i op (Split by) p m.hart
+    pub enters : Enters core image places setting cycle0 i op (Split by) p m.hart
     pub member : IsMember places nestings setting None first m p
     pub divides : IsToDivide by space 1 p
 
@@ -42,11 +42,11 @@ module _ (core : List CoreOp) (image : Image) (bound : ℕ → ℕ) (places : Pl
   steps = length (part_lines by op.depth) + 2 + 6
 
   abbrev pub FrontOf : (m : Member) (p : Owner) → Came m p → Type 0
-  FrontOf m p came = Fronted core image bound places nestings i op by split.place setting t0 m p came.enters
+  FrontOf m p came = Fronted core image bound places nestings i op by split.place setting cycle0 m p came.enters
 
   abbrev pub PlacedOf : (m : Member) (p : Owner) (came : Came m p) → FrontOf m p came → Type 0
   PlacedOf m p came front =
-      IsPlaced core image bound places nestings i op by split.place split.parts setting space 1 is_space t0 first m p came.enters came.member came.divides front one_part_label 7 steps (word p)
+      IsPlaced core image bound places nestings i op by split.place split.parts setting space 1 is_space cycle0 first m p came.enters came.member came.divides front one_part_label 7 steps (word p)
 
   -- a member at the lines that count
   pub record Ready (m : Member) (p : Owner) : Type 0 where
@@ -57,27 +57,27 @@ module _ (core : List CoreOp) (image : Image) (bound : ℕ → ℕ) (places : Pl
     pub is : m.hart ≡ placed.hart
 
   abbrev word_by : (m : Member) (p : Owner) (came : Came m p) → FrontOf m p came → ℕ → ℕ
-  word_by m p came front = one_word core image bound places nestings i op by split.place split.parts setting space 1 is_space t0 first m p came.enters came.member came.divides front
+  word_by m p came front = one_word core image bound places nestings i op by split.place split.parts setting space 1 is_space cycle0 first m p came.enters came.member came.divides front
 
   -- the word is by who enters
   word_of : (m : Member) (p : Owner) (came : Came m p) (front : FrontOf m p came) (o : Option ℕ) → part_of by p ≡ o → word_by m p came front (flag p) ≡ control_address (word p)
   word_of m p came front None e =
       ap (word_by m p came front) (are.none p e)
-      ∙ waits_word core image bound places nestings i op by split.place split.parts setting space 1 is_space t0 first m p came.enters came.member came.divides front
+      ∙ waits_word core image bound places nestings i op by split.place split.parts setting space 1 is_space cycle0 first m p came.enters came.member came.divides front
       ∙ ap (λ x. control_address (word_at space first 1 x)) (sym e)
   word_of m p came front (Some zero) e =
       let start : space.frames + 4 ≡ word_at space first 1 (Some 0) = omega arith in
       ap (word_by m p came front) (are.one p 0 e)
-      ∙ enters_word core image bound places nestings i op by split.place split.parts setting space 1 is_space t0 first m p came.enters came.member came.divides front
+      ∙ enters_word core image bound places nestings i op by split.place split.parts setting space 1 is_space cycle0 first m p came.enters came.member came.divides front
       ∙ ap control_address start ∙ ap (λ x. control_address (word_at space first 1 x)) (sym e)
   word_of m p came front (Some (suc j)) e =
       let inside : suc j < 1 = subst (Within 1) e (are.within p) in
       absurd (omega arith)
 
-  pub comes : (m : Member) (p : Owner) → Came m p → Comes image t0 steps (bound one_part_label + 7) Ready m p
+  pub comes : (m : Member) (p : Owner) → Came m p → Comes image cycle0 steps (bound one_part_label + 7) Ready m p
   comes m p came =
-      let front = fronted core image bound places nestings i op by split.place setting t0 m p came.enters is in
-      let placed = placed_one core image bound places nestings i op by split.place split.parts setting space 1 is_space t0 first m p came.enters came.member came.divides front
+      let front = fronted core image bound places nestings i op by split.place setting cycle0 m p came.enters is in
+      let placed = placed_one core image bound places nestings i op by split.place split.parts setting space 1 is_space cycle0 first m p came.enters came.member came.divides front
       (flag p) (word p) label many front.flag (word_of m p came front (part_of by p) refl) in
       record {
         hart = placed.hart;

@@ -43,9 +43,9 @@ part_block image bound places levels i target some block =
 
 module _ (core : List CoreOp) (image : Image) (bound : ℕ → ℕ) (places : Places) (nestings : Nestings) (i : ℕ) (op : CoreOp) (place : IsInPlace core image bound places nestings i op End)
     (block : HasBlock image bound places i (end_part_block (levels_at nestings i) op.target)) (opens : LevelOpens nestings op.target i)
-    (setting : Setting) (t0 : MachineSetting) (mine : Words) (first : ℕ) (owns : OwnsHeader mine first) where
+    (setting : Setting) (cycle0 : MachineSetting) (mine : Words) (first : ℕ) (owns : OwnsHeader mine first) where
   record Came (m : Member) (p : Owner) : Type 0 where
-    pub enters : Enters core image places setting t0 i op End p m.hart
+    pub enters : Enters core image places setting cycle0 i op End p m.hart
     pub member : IsMember places nestings setting None first m p
     pub part : IsInPart nestings p
 
@@ -73,12 +73,12 @@ module _ (core : List CoreOp) (image : Image) (bound : ℕ → ℕ) (places : Pl
   same_hart : (h : Hart) → SameRegisters h h
   same_hart h = (refl, refl, refl, refl, refl, refl, refl, refl, refl, refl, refl, refl)
 
-  runs : (m : Member) (p : Owner) → Holds image t0 → (e : Ended m p) → RunsPrivately image (later t0) m.number 4 m.hart (gone (later t0) m.number e.hart)
+  runs : (m : Member) (p : Owner) → Holds image cycle0 → (e : Ended m p) → RunsPrivately image (later cycle0) m.number 4 m.hart (gone (later cycle0) m.number e.hart)
   runs m p holds e =
       let en = e.came.enters in
-      subst (λ h. RunsPrivately image (later t0) m.number 4 h (gone (later t0) m.number e.hart)) (sym e.is)
-      (out_runs core image bound places nestings i op End place (place.fits.goes_on true) opens setting t0 first (record m { hart = e.hart }) p en e.came.member e.came.part e.hart
-      (same_hart e.hart) refl refl en.at.live (later t0) (suc (places.block i)) holds block.labels block.lines.1 e.at)
+      subst (λ h. RunsPrivately image (later cycle0) m.number 4 h (gone (later cycle0) m.number e.hart)) (sym e.is)
+      (out_runs core image bound places nestings i op End place (place.fits.goes_on true) opens setting cycle0 first (record m { hart = e.hart }) p en e.came.member e.came.part e.hart
+      (same_hart e.hart) refl refl en.at.live (later cycle0) (suc (places.block i)) holds block.labels block.lines.1 e.at)
 
   -- a processor in the group around its part
   abbrev Back : List Level → Member → Hart → Owner → Type 0
@@ -86,25 +86,25 @@ module _ (core : List CoreOp) (image : Image) (bound : ℕ → ℕ) (places : Pl
       let q = left_to core image bound places nestings i op End place (place.fits.goes_on true) opens outer (values p.runner.has) p in
       IsMember places nestings setting None (first_word q.runner.has.level q.runner.has.outer) (record m { hart = h }) q
 
-  back : (m : Member) (p : Owner) → (e : Ended m p) → Back p.runner.has.outer m (gone (later t0) m.number e.hart) p
+  back : (m : Member) (p : Owner) → (e : Ended m p) → Back p.runner.has.outer m (gone (later cycle0) m.number e.hart) p
   back m p e =
       let en = e.came.enters in
-      subst (λ o. Back o m (gone (later t0) m.number e.hart) p) (sym e.came.part.outer)
-      (out_member core image bound places nestings i op End place (place.fits.goes_on true) opens setting t0 first (record m { hart = e.hart }) p en e.came.member e.came.part e.hart
-      (same_hart e.hart) refl refl en.at.live (told_of (later t0) m.number) (values p.runner.has) block.labels en.at.stands.running.values)
+      subst (λ o. Back o m (gone (later cycle0) m.number e.hart) p) (sym e.came.part.outer)
+      (out_member core image bound places nestings i op End place (place.fits.goes_on true) opens setting cycle0 first (record m { hart = e.hart }) p en e.came.member e.came.part e.hart
+      (same_hart e.hart) refl refl en.at.live (told_of (later cycle0) m.number) (values p.runner.has) block.labels en.at.stands.running.values)
 
   -- ---- all of them
 
   abbrev Gone : (highest : ℕ) → (Owner → ℕ) → List Member → List Owner → Type 0
-  Gone highest size ms ps = AllComeByWay core image places nestings i op End setting (later t0) (λ onward. 4) (λ p. None) highest 0 size ms ps
+  Gone highest size ms ps = AllComeByWay core image places nestings i op End setting (later cycle0) (λ onward. 4) (λ p. None) highest 0 size ms ps
 
-  all_gone : (highest : ℕ) (size : Owner → ℕ) (ms : List Member) (ps : List Owner) → Holds image t0 → Both Ended ms ps → Gone highest size ms ps
+  all_gone : (highest : ℕ) (size : Owner → ℕ) (ms : List Member) (ps : List Owner) → Holds image cycle0 → Both Ended ms ps → Gone highest size ms ps
   all_gone highest size [] [] holds all = tt
   all_gone highest size (m ∷ ms) (p ∷ ps) holds all =
-      (record { hart = gone (later t0) m.number all.0.hart; runs = runs m p holds all.0; member = back m p all.0 }, all_gone highest size ms ps holds all.1)
+      (record { hart = gone (later cycle0) m.number all.0.hart; runs = runs m p holds all.0; member = back m p all.0 }, all_gone highest size ms ps holds all.1)
   all_gone highest size ms ps holds all = absurd (assumption all)
 
-  came_all : (ms : List Member) (ps : List Owner) → AllEnter core image places nestings i op End setting t0 None first ms ps → AreInPart nestings ps → Both Came ms ps
+  came_all : (ms : List Member) (ps : List Owner) → AllEnter core image places nestings i op End setting cycle0 None first ms ps → AreInPart nestings ps → Both Came ms ps
   came_all [] [] all part = tt
   came_all (m ∷ ms) (p ∷ ps) all part = (record { enters = all.0; member = all.1; part = part.0 }, came_all ms ps all.2 part.1)
   came_all ms ps all part = absurd (assumption all)
@@ -113,26 +113,26 @@ module _ (core : List CoreOp) (image : Image) (bound : ℕ → ℕ) (places : Pl
   due_here m p came = (refl, came.enters.index)
 
   -- the first line loads from the frame
-  loads : (m : Member) (p : Owner) → Came m p → (s : Shared) → GoesAlone (perform t0 m.number (Lw 20 8 (at_private word)) m.hart s) (committed m.hart) s
+  loads : (m : Member) (p : Owner) → Came m p → (s : Shared) → GoesAlone (perform cycle0 m.number (Lw 20 8 (at_private word)) m.hart s) (committed m.hart) s
   loads m p came s =
       let en = came.enters in
-      let slot = first_slot core image bound places nestings i op End place (place.fits.goes_on true) opens setting t0 first m p en came.member came.part m.hart (same_hart m.hart) refl refl en.at.live in
-      can_run_goes (Lw 20 8 (at_private word)) (LocalAt (slot_of word m.hart)) m.hart (slot.within, slot.address) t0 m.number s
+      let slot = first_slot core image bound places nestings i op End place (place.fits.goes_on true) opens setting cycle0 first m p en came.member came.part m.hart (same_hart m.hart) refl refl en.at.live in
+      can_run_goes (Lw 20 8 (at_private word)) (LocalAt (slot_of word m.hart)) m.hart (slot.within, slot.address) cycle0 m.number s
 
-  together : (highest : ℕ) (size : Owner → ℕ) (ms : List Member) (ps : List Owner) (own : Memory) → Holds image t0 → Both Came ms ps
-      → Together (core_source core setting) image mine t0 1 0 ms ps own
+  together : (highest : ℕ) (size : Owner → ℕ) (ms : List Member) (ps : List Owner) (own : Memory) → Holds image cycle0 → Both Came ms ps
+      → Together (core_source core setting) image mine cycle0 1 0 ms ps own
       (λ ms' ds own'. (ds ≡ map (is_due core i op End) ps) × (Gone highest size ms' ps × (own' ≡ own)))
   together highest size ms ps own holds all =
       let f : Member → Hart = λ m. committed m.hart in
-      let stand = all_stand (places.block i) Came ms ps (λ m p came. at_block core image places nestings i op End setting t0 first m p came.enters) all in
-      cycle_commits (core_source core setting) image mine t0 1 ms ps (map (is_due core i op End) ps) own (λ ms' own'. Gone highest size ms' ps × (own' ≡ own))
+      let stand = all_stand (places.block i) Came ms ps (λ m p came. at_block core image places nestings i op End setting cycle0 first m p came.enters) all in
+      cycle_commits (core_source core setting) image mine cycle0 1 ms ps (map (is_due core i op End) ps) own (λ ms' own'. Gone highest size ms' ps × (own' ≡ own))
       owns.apart
       (all_due core setting i op End Came ms ps place.stands refl due_here all)
-      (cycle_map image mine t0 1 ms own (λ ms' own'. (ms' ≡ on_each f ms) × (own' ≡ own)) (λ ms' own'. Gone highest size ms' ps × (own' ≡ own))
+      (cycle_map image mine cycle0 1 ms own (λ ms' own'. (ms' ≡ on_each f ms) × (own' ≡ own)) (λ ms' own'. Gone highest size ms' ps × (own' ≡ own))
       (λ ms' own' x.
       (all_gone highest size ms' ps holds (subst (λ l. Both Ended l ps) (sym x.0) (each_standing (places.block i) Came Ended f ms ps ended stand all)), x.1))
-      (private_of_all image mine t0 (places.block i) 1 (Lw 20 8 (at_private word)) f ms own holds block.lines.0 stand
-      (all_alone Came t0 (Lw 20 8 (at_private word)) f ms ps loads all)))
+      (private_of_all image mine cycle0 (places.block i) 1 (Lw 20 8 (at_private word)) f ms own holds block.lines.0 stand
+      (all_alone Came cycle0 (Lw 20 8 (at_private word)) f ms ps loads all)))
 
 pub parts_end : PartsEnd
 parts_end core image bound places nestings i op place leads setting t mine first [] [] own owns all part = record { counted = tt; chain = (refl, tt, refl) }

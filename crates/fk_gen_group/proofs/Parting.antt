@@ -20,7 +20,7 @@ use Rattle.fk_machine.proofs.Performs.{writes}
 use Rattle.fk_sim_nodes.specs.Node.{Member}
 use Rattle.fk_sim_nodes.specs.Alone.{Holds, RunsPrivately, later, in_cycles}
 use Rattle.fk_sim_block.specs.Owner.{Owner, number_of}
-use Rattle.fk_sim_block.specs.Stands.{Places, HasValues, HasRoom, HasFrame, local_address, frame_start, frame_end, group_word}
+use Rattle.fk_sim_block.specs.Stands.{Places, HasValues, FrameInMemory, local_address, frame_start, frame_end, group_word, value_of}
 use Rattle.fk_sim_block.specs.Suits.{Flows, nothing}
 use Rattle.fk_sim_block.specs.Block.{Enters}
 use Rattle.fk_sim_block.specs.Node.{Nestings, HasLevel, HasLevelRoom, HasSaved, HasOuter, KnowsSpace, saved_at, first_word, past_levels, control_address}
@@ -46,8 +46,8 @@ use Rattle.fk_gen_group.proofs.Fronts.{Fronted, link_at, memory_by}
 module _ (core : List CoreOp) (image : Image) (bound : ℕ → ℕ) (places : Places) (nestings : Nestings) (i : ℕ) (op : CoreOp) (by : SplitKind)
     (place : IsInPlace core image bound places nestings i op (Split by)) (shared : HasParts image bound)
     (setting : Setting) (space : Space) (count : ℕ) (is_space : IsSpace space)
-    (t0 : MachineSetting) (first : ℕ) (m : Member) (p : Owner) (en : Enters core image places setting t0 i op (Split by) p m.hart)
-    (member : IsMember places nestings setting None first m p) (divides : IsToDivide by space count p) (front : Fronted core image bound places nestings i op by place setting t0 m p en) where
+    (cycle0 : MachineSetting) (first : ℕ) (m : Member) (p : Owner) (en : Enters core image places setting cycle0 i op (Split by) p m.hart)
+    (member : IsMember places nestings setting None first m p) (divides : IsToDivide by space count p) (front : Fronted core image bound places nestings i op by place setting cycle0 m p en) where
   abbrev n : ℕ
   n = length (part_lines by op.depth) + 2
 
@@ -75,7 +75,7 @@ module _ (core : List CoreOp) (image : Image) (bound : ℕ → ℕ) (places : Pl
   -- the hart at the lines that count
   pub record IsPlaced (label offset steps word : ℕ) : Type 0 where
     pub hart : Hart
-    pub runs : RunsPrivately image t0 m.number steps m.hart hart
+    pub runs : RunsPrivately image cycle0 m.number steps m.hart hart
     pub at : hart.pc ≡ 4 * (bound label + offset)
     pub live : hart.ended ≡ false
     pub word_is : hart.registers 6 ≡ control_address word
@@ -125,13 +125,13 @@ module _ (core : List CoreOp) (image : Image) (bound : ℕ → ℕ) (places : Pl
   pub placed_one : (flag word : ℕ) → parts_label by ≡ one_part_label → 20 ≤ free space → h1.registers 28 ≡ flag → one_word flag ≡ control_address word → IsPlaced one_part_label 7 (n + 6) word
   placed_one flag word label many e is =
       let k = bound one_part_label in
-      let holds = holds_in_cycles image n t0 en.running.code in
+      let holds = holds_in_cycles image n cycle0 en.running.code in
       let frames = known.0 in
       let blocks = known.1 in
       let ordered = is_space.ordered in
       let within = is_space.within in
       let top = is_space.shared in
-      let t1 = in_cycles n t0 in
+      let t1 = in_cycles n cycle0 in
       let t2 = later t1 in
       let t3 = later t2 in
       let l1 = shared.one.0 in
@@ -150,7 +150,7 @@ module _ (core : List CoreOp) (image : Image) (bound : ℕ → ℕ) (places : Pl
       let pc = w.pc in
       record {
         hart = h7;
-        runs = runs_join image t0 m.number n 6 m.hart h1 h7 front.runs (
+        runs = runs_join image cycle0 m.number n 6 m.hart h1 h7 front.runs (
           h2,
           private image t1 m.number k (Addi 6 12 80) h1 h2 holds l1 e1 front.live (λ s. (s.reserved, refl)),
           (
@@ -221,11 +221,11 @@ module _ (core : List CoreOp) (image : Image) (bound : ℕ → ℕ) (places : Pl
   pub placed_two : (flag word : ℕ) → parts_label by ≡ two_parts_label → 40 ≤ free space → h1.registers 28 ≡ flag → two_word flag ≡ control_address word → IsHalved word
   placed_two flag word label many e is =
       let k = bound two_parts_label in
-      let holds = holds_in_cycles image n t0 en.running.code in
+      let holds = holds_in_cycles image n cycle0 en.running.code in
       let within = is_space.within in
       let top = is_space.shared in
       let free_is = left_is in
-      let t1 = in_cycles n t0 in
+      let t1 = in_cycles n cycle0 in
       let t2 = later t1 in
       let t3 = later t2 in
       let t4 = later t3 in
@@ -250,7 +250,7 @@ module _ (core : List CoreOp) (image : Image) (bound : ℕ → ℕ) (places : Pl
       record {
         placed = record {
           hart = h11;
-          runs = runs_join image t0 m.number n 10 m.hart h1 h11 front.runs (
+          runs = runs_join image cycle0 m.number n 10 m.hart h1 h11 front.runs (
             h2,
             private image t1 m.number k (Sub 5 13 12) h1 h2 holds l1 e1 front.live (λ s. (s.reserved, refl)),
             (
@@ -286,11 +286,11 @@ pub part_in_memory : (core : List CoreOp) (places : Places) (m m' : Memory) (p :
     → frame_start places (length p.runner.has.callers) + 7 ≤ low
     → ((word : ℕ) → places.frames.keeps i' word ≡ true → frame_start places (length p.runner.has.callers) + 7 + word < low)
     → ((j : ℕ) → j < low → m' j ≡ m j) → ((j : ℕ) → frame_end (length p.runner.has.callers) ≤ j → m' j ≡ m j)
-    → HasValues m' (frame_end (length p.runner.has.callers)) vs
+    → HasValues (value_of m' (length p.runner.has.callers)) vs
     → InMemory places m' (with_list core places i' vs p)
 part_in_memory core places m m' p i i' low vs few waiting at flows held start words below above values' =
     let n = length p.runner.has.callers in
-    let running = subst (λ a. HasFrame places m n a p.runner.has.call) at held.running in
+    let running = subst (λ a. FrameInMemory places m n a p.runner.has.call) at held.running in
     let begins = starts_in places n in
     let group = group_at n in
     record {
@@ -350,8 +350,8 @@ is_written m at size node blocks frames =
 -- ---- a member enters a part
 
 module _ (core : List CoreOp) (image : Image) (bound : ℕ → ℕ) (places : Places) (nestings : Nestings) (i : ℕ) (op : CoreOp) (by : SplitKind)
-    (place : IsInPlace core image bound places nestings i op (Split by)) (setting : Setting) (t0 : MachineSetting) (first : ℕ) (m : Member) (p : Owner)
-    (en : Enters core image places setting t0 i op (Split by) p m.hart) (member : IsMember places nestings setting None first m p) (inside : IsInGroup p)
+    (place : IsInPlace core image bound places nestings i op (Split by)) (setting : Setting) (cycle0 : MachineSetting) (first : ℕ) (m : Member) (p : Owner)
+    (en : Enters core image places setting cycle0 i op (Split by) p m.hart) (member : IsMember places nestings setting None first m p) (inside : IsInGroup p)
     (j : ℕ) (flows : Flows core places.frames nothing i j) (opens : LevelOpens nestings i j) (room : HasLevelRoom places.frames nestings j (op.depth - taken_by by)) where
   abbrev waiting : ℕ
   waiting = length p.runner.has.callers
@@ -411,8 +411,8 @@ module _ (core : List CoreOp) (image : Image) (bound : ℕ → ℕ) (places : Pl
       λ x lt. ap (λ l. l x) e.local ∙ written.below x lt ∙ memory_other by op.depth m.hart x (λ one f. value_apart x one (inl (omega arith)) f) in
       let high : (x : ℕ) → frame_end n - (op.depth - taken_by by) ≤ x → m' x ≡ m.hart.local x =
       λ x le. ap (λ l. l x) e.local ∙ written.above x (omega arith) ∙ memory_other by op.depth m.hart x (λ one f. value_apart x one (inr (let same : op.depth - taken_by by ≡ op.depth - 1 = omega arith in omega arith)) f) in
-      let held : HasValues m' (frame_end n) vs =
-      values_kept m.hart.local m' (frame_end n) vs (omega arith) (λ x le lt. high x (omega arith)) (values_before (taken_by by) m.hart.local (frame_end n) (values p.runner.has) stands.running.values) in
+      let held : HasValues (value_of m' n) vs =
+      values_kept m.hart.local m' n vs (λ x le lt. high x (omega arith)) (values_before (taken_by by) (value_of m.hart.local n) (values p.runner.has) stands.running.values) in
       let listed = with_list core places j vs p in
       let starts = starts_in places n in
       let memory : InMemory places m' listed =
@@ -487,13 +487,13 @@ module _ (core : List CoreOp) (image : Image) (bound : ℕ → ℕ) (places : Pl
       value_apart x one (inl lt) f =
           let filled = place.values in
           let header = place.fits.room.header in
-          let v = is_value core image bound places nestings i op (Split by) place setting t0 p m.hart m.hart (omega arith) en refl in
+          let v = is_value core image bound places nestings i op (Split by) place setting cycle0 p m.hart m.hart (omega arith) en refl in
           let index = v.index in
           omega arith
       value_apart x one (inr le) f =
           let filled = place.values in
           let header = place.fits.room.header in
-          let v = is_value core image bound places nestings i op (Split by) place setting t0 p m.hart m.hart (omega arith) en refl in
+          let v = is_value core image bound places nestings i op (Split by) place setting cycle0 p m.hart m.hart (omega arith) en refl in
           let index = v.index in
           omega arith
 

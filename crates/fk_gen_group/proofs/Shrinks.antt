@@ -23,7 +23,7 @@ use Rattle.fk_sim_nodes.specs.OnePlace.{AllAreAt, last_or, sum_from}
 use Rattle.fk_sim_nodes.proofs.Runs.{cycle_map}
 use Rattle.fk_sim_nodes.proofs.Members.{cycle_commits, together_map}
 use Rattle.fk_sim_block.specs.Owner.{Owner, Doing, core_source}
-use Rattle.fk_sim_block.specs.Stands.{Places, HasValues, frame_end}
+use Rattle.fk_sim_block.specs.Stands.{Places, HasValues, value_in}
 use Rattle.fk_sim_block.specs.Suits.{Flows, nothing}
 use Rattle.fk_sim_block.specs.Block.{Enters}
 use Rattle.fk_sim_block.specs.Node.{Nestings, OwnsHeader, IsAtRest, KnowsSpace, first_word, control_address}
@@ -67,7 +67,7 @@ same_but first h f = (
 )
 
 module _ (core : List CoreOp) (image : Image) (bound : ℕ → ℕ) (places : Places) (nestings : Nestings) (i : ℕ) (op : CoreOp) (place : IsInPlace core image bound places nestings i op Shrink)
-    (opens : LevelOpens nestings op.target i) (setting : Setting) (t0 : MachineSetting) (mine : Words) (first : ℕ) (owns : OwnsHeader mine first) where
+    (opens : LevelOpens nestings op.target i) (setting : Setting) (cycle0 : MachineSetting) (mine : Words) (first : ℕ) (owns : OwnsHeader mine first) where
   abbrev k : ℕ
   k = places.block i
 
@@ -75,7 +75,7 @@ module _ (core : List CoreOp) (image : Image) (bound : ℕ → ℕ) (places : Pl
   some = let filled = place.values in omega arith
 
   record Came (m : Member) (p : Owner) : Type 0 where
-    pub enters : Enters core image places setting t0 i op Shrink p m.hart
+    pub enters : Enters core image places setting cycle0 i op Shrink p m.hart
     pub member : IsMember places nestings setting None first m p
     pub part : IsInPart nestings p
 
@@ -99,7 +99,7 @@ module _ (core : List CoreOp) (image : Image) (bound : ℕ → ℕ) (places : Pl
 
   loads : (t : MachineSetting) (m : Member) (p : Owner) → Came m p → (s : Shared) → GoesAlone (perform t m.number (Lw 28 9 (at_value op.depth)) m.hart s) (load_hart m.hart) s
   loads t m p came s =
-      let v = is_value core image bound places nestings i op Shrink place setting t0 p m.hart m.hart some came.enters refl in
+      let v = is_value core image bound places nestings i op Shrink place setting cycle0 p m.hart m.hart some came.enters refl in
       can_run_goes (Lw 28 9 (at_value op.depth)) (LocalAt (value_word op.depth m.hart)) m.hart (v.within, v.address) t m.number s
 
   loaded : (m : Member) (p : Owner) → Came m p → Loaded (record m { hart = load_hart m.hart }) p
@@ -131,7 +131,7 @@ module _ (core : List CoreOp) (image : Image) (bound : ℕ → ℕ) (places : Pl
       let came = r.came in
       let h = r.hart in
       let within = owns.within in
-      let value = is_last core image bound places nestings i op Shrink place setting t0 p h some came.enters in
+      let value = is_last core image bound places nestings i op Shrink place setting cycle0 p h some came.enters in
       subst (λ x. IsToCount mine 10 28 word count (record m { hart = x }) p) (sym r.is)
       (record {
         address = came.member.node.node ∙ ap control_address came.member.words;
@@ -198,8 +198,8 @@ module _ (core : List CoreOp) (image : Image) (bound : ℕ → ℕ) (places : Pl
     abbrev came : Came (record m { hart = h0 }) p
     came = near.ready.came
 
-    held : HasValues h0.local (frame_end (length p.runner.has.callers)) (before 1 (values p.runner.has))
-    held = values_before 1 h0.local (frame_end (length p.runner.has.callers)) (values p.runner.has) came.enters.at.stands.running.values
+    held : HasValues (value_in h0 (length p.runner.has.callers)) (before 1 (values p.runner.has))
+    held = values_before 1 (value_in h0 (length p.runner.has.callers)) (values p.runner.has) came.enters.at.stands.running.values
 
     -- one that stays
     abbrev stay_hart : Hart
@@ -242,7 +242,7 @@ module _ (core : List CoreOp) (image : Image) (bound : ℕ → ℕ) (places : Pl
         let registers = others_are m p near in
         let same : SameRegisters h0 m.hart = same_but h0 m.hart registers in
         let hx = goes_to_pc m.hart (4 * places.block (suc i)) in
-        let behind = goes_behind_with core image bound places nestings i op Shrink place (suc i) (place.fits.goes_on true) place.stay setting t0 None first (before 1 (values p.runner.has)) (record m { hart = h0 }) p hx
+        let behind = goes_behind_with core image bound places nestings i op Shrink place (suc i) (place.fits.goes_on true) place.stay setting cycle0 None first (before 1 (values p.runner.has)) (record m { hart = h0 }) p hx
         en member held (live_is m p near) (local_is m p near) same (registers 21 (λ e. omega arith) (λ e. omega arith)) refl in
         let s = behind.0.stands in
         let first_same : first_word level' outer ≡ first_word level outer = ap (first_word level') came.part.outer ∙ sym (ap (first_word level) came.part.outer) in
@@ -307,7 +307,7 @@ module _ (core : List CoreOp) (image : Image) (bound : ℕ → ℕ) (places : Pl
         let local = local_is m p near in
         let flows = place.fits.goes_on false in
         let word_out = out_word core image bound places nestings i op Shrink place flows opens in
-        let slot = first_slot core image bound places nestings i op Shrink place flows opens setting t0 first (record m { hart = h0 }) p came.enters came.member came.part out_front same top local live in
+        let slot = first_slot core image bound places nestings i op Shrink place flows opens setting cycle0 first (record m { hart = h0 }) p came.enters came.member came.part out_front same top local live in
         let size_hart = sized core image bound places nestings i op Shrink place flows opens out_front in
         let pc6 : out_front.pc ≡ 4 * suc k5 = omega arith in (
           out_front,
@@ -316,7 +316,7 @@ module _ (core : List CoreOp) (image : Image) (bound : ℕ → ℕ) (places : Pl
             size_hart,
             private image (later t) m.number (suc k5) (Lw 20 8 (at_private word_out)) out_front size_hart holds size_line pc6 live
                 (λ s. can_run_goes (Lw 20 8 (at_private word_out)) (LocalAt (slot_of word_out out_front)) out_front (slot.within, slot.address) (later t) m.number s),
-            out_runs core image bound places nestings i op Shrink place flows opens setting t0 first (record m { hart = h0 }) p came.enters came.member came.part out_front same top local live
+            out_runs core image bound places nestings i op Shrink place flows opens setting cycle0 first (record m { hart = h0 }) p came.enters came.member came.part out_front same top local live
                 (later (later t)) (suc (suc k5)) holds place.block.labels (rest.0, (rest.1.0, (rest.1.1.0, (rest.1.1.1.0, tt)))) (omega arith),
           ),
         )
@@ -331,7 +331,7 @@ module _ (core : List CoreOp) (image : Image) (bound : ℕ → ℕ) (places : Pl
     gone_member size =
         let same : SameRegisters h0 out_front = same_but h0 out_front (others_are m p near) in
         subst Out (sym came.part.outer)
-        (out_member core image bound places nestings i op Shrink place (place.fits.goes_on false) opens setting t0 first (record m { hart = h0 }) p came.enters came.member came.part out_front same
+        (out_member core image bound places nestings i op Shrink place (place.fits.goes_on false) opens setting cycle0 first (record m { hart = h0 }) p came.enters came.member came.part out_front same
         (others_are m p near 21 (λ e. omega arith) (λ e. omega arith)) (local_is m p near) (live_is m p near) (told_of (later (later t)) m.number) (before 1 (values p.runner.has)) place.block.labels held)
 
     abbrev Comes : (highest : ℕ) → (Owner → ℕ) → Type 0
@@ -363,7 +363,7 @@ module _ (core : List CoreOp) (image : Image) (bound : ℕ → ℕ) (places : Pl
   )
   all_gone t own highest size ms ps holds sum small stand all = absurd (assumption all)
 
-  came_all : (ms : List Member) (ps : List Owner) → AllEnter core image places nestings i op Shrink setting t0 None first ms ps → AreInPart nestings ps → Both Came ms ps
+  came_all : (ms : List Member) (ps : List Owner) → AllEnter core image places nestings i op Shrink setting cycle0 None first ms ps → AreInPart nestings ps → Both Came ms ps
   came_all [] [] all part = tt
   came_all (m ∷ ms) (p ∷ ps) all part = (record { enters = all.0; member = all.1; part = part.0 }, came_all ms ps all.2 part.1)
   came_all ms ps all part = absurd (assumption all)
@@ -390,19 +390,19 @@ module _ (core : List CoreOp) (image : Image) (bound : ℕ → ℕ) (places : Pl
 
   abbrev Goal : List Owner → List Member → List Doing → Memory → Type 0
   Goal ps ms' ds own' =
-      (ds ≡ map (is_due core i op Shrink) ps) × (Gone (later (in_cycles 4 t0)) (highest_value ps) (size_behind Shrink ps) ms' ps × IsAtRest first own')
+      (ds ≡ map (is_due core i op Shrink) ps) × (Gone (later (in_cycles 4 cycle0)) (highest_value ps) (size_behind Shrink ps) ms' ps × IsAtRest first own')
 
   abbrev AtCommit : List Owner → List Member → Memory → Type 0
-  AtCommit ps ms own = Commits (core_source core setting) image mine (in_cycles 4 t0) 1 ms ps own (Goal ps)
+  AtCommit ps ms own = Commits (core_source core setting) image mine (in_cycles 4 cycle0) 1 ms ps own (Goal ps)
 
   abbrev AtLoad : List Owner → List Member → Memory → Type 0
-  AtLoad ps ms own = NodeCycle image mine (in_cycles 3 t0) 0 ms own (λ ms' own'. AtCommit ps ms' own')
+  AtLoad ps ms own = NodeCycle image mine (in_cycles 3 cycle0) 0 ms own (λ ms' own'. AtCommit ps ms' own')
 
   abbrev AtAdd : List Owner → List Member → Memory → Type 0
-  AtAdd ps ms own = NodeCycle image mine (in_cycles 2 t0) 0 ms own (λ ms' own'. AtLoad ps ms' own')
+  AtAdd ps ms own = NodeCycle image mine (in_cycles 2 cycle0) 0 ms own (λ ms' own'. AtLoad ps ms' own')
 
   abbrev AtFlag : List Owner → List Member → Memory → Type 0
-  AtFlag ps ms own = NodeCycle image mine (in_cycles 1 t0) 0 ms own (λ ms' own'. AtAdd ps ms' own')
+  AtFlag ps ms own = NodeCycle image mine (in_cycles 1 cycle0) 0 ms own (λ ms' own'. AtAdd ps ms' own')
 
   -- all have added to the word
   abbrev IsSum : List Owner → Memory → Memory → Type 0
@@ -422,11 +422,11 @@ module _ (core : List CoreOp) (image : Image) (bound : ℕ → ℕ) (places : Pl
             ∙ sum (first + 1) ∙ ap (sum_from (own (first + 1))) (no_shares word count (first + 1) ps apart') ∙ rest.closing;
       }
 
-  commit_step : (p : Owner) (others : List Owner) (ms : List Member) (own summed : Memory) → Holds image t0 → IsAtRest first own → length (p ∷ others) ≤ 1024 → IsSum (p ∷ others) own summed
+  commit_step : (p : Owner) (others : List Owner) (ms : List Member) (own summed : Memory) → Holds image cycle0 → IsAtRest first own → length (p ∷ others) ≤ 1024 → IsSum (p ∷ others) own summed
       → AllAreAt (suc (suc (suc (suc k)))) ms → Both (Counted summed) ms (p ∷ others) → AtCommit (p ∷ others) ms summed
   commit_step p others ms own summed holds rest few sum stand all =
       let ps = p ∷ others in
-      let t4 = in_cycles 4 t0 in
+      let t4 = in_cycles 4 cycle0 in
       let k4 = suc (suc (suc (suc k))) in
       let nought : own first ≡ 0 = ap own same_word ∙ rest.barrier in
       let size_is : summed first ≡ size_of_stay ps = sum first ∙ ap (λ v. sum_from v (shares word count first ps)) nought ∙ counted_size ps few in
@@ -448,42 +448,42 @@ module _ (core : List CoreOp) (image : Image) (bound : ℕ → ℕ) (places : Pl
       same_word : first ≡ first + 0
       same_word = omega arith
 
-  load_step : (p : Owner) (others : List Owner) (ms : List Member) (own summed : Memory) → Holds image t0 → IsAtRest first own → length (p ∷ others) ≤ 1024 → IsSum (p ∷ others) own summed
+  load_step : (p : Owner) (others : List Owner) (ms : List Member) (own summed : Memory) → Holds image cycle0 → IsAtRest first own → length (p ∷ others) ≤ 1024 → IsSum (p ∷ others) own summed
       → AllAreAt (suc (suc (suc k))) ms → Both Given ms (p ∷ others) → AtLoad (p ∷ others) ms summed
   load_step p others ms own summed holds rest few sum stand all =
       let ps = p ∷ others in
       let k3 = suc (suc (suc k)) in
-      cycle_map image mine (in_cycles 3 t0) 0 ms summed (λ ms' own'. AllAreAt (suc k3) ms' × Both (Counted summed) ms' ps × (own' ≡ summed)) (λ ms' own'. AtCommit ps ms' own')
+      cycle_map image mine (in_cycles 3 cycle0) 0 ms summed (λ ms' own'. AllAreAt (suc k3) ms' × Both (Counted summed) ms' ps × (own' ≡ summed)) (λ ms' own'. AtCommit ps ms' own')
       (λ ms' own' x. subst (AtCommit ps ms') (sym x.2) (commit_step p others ms' own summed holds rest few sum x.0 x.1))
-      (load_cycle image mine 10 28 other word count Ready to_count (in_cycles 3 t0) k3 ms ps summed holds place.block.lines.1.1.1.0 stand all)
+      (load_cycle image mine 10 28 other word count Ready to_count (in_cycles 3 cycle0) k3 ms ps summed holds place.block.lines.1.1.1.0 stand all)
 
-  add_step : (p : Owner) (others : List Owner) (ms : List Member) (own : Memory) → Holds image t0 → IsAtRest first own → length (p ∷ others) ≤ 1024
+  add_step : (p : Owner) (others : List Owner) (ms : List Member) (own : Memory) → Holds image cycle0 → IsAtRest first own → length (p ∷ others) ≤ 1024
       → AllAreAt (suc (suc k)) ms → Both Given ms (p ∷ others) → AtAdd (p ∷ others) ms own
   add_step p others ms own holds rest few stand all =
       let ps = p ∷ others in
       let k2 = suc (suc k) in
-      cycle_map image mine (in_cycles 2 t0) 0 ms own (λ ms' own'. AllAreAt (suc k2) ms' × Both Given ms' ps × IsSum ps own own') (λ ms' own'. AtLoad ps ms' own')
+      cycle_map image mine (in_cycles 2 cycle0) 0 ms own (λ ms' own'. AllAreAt (suc k2) ms' × Both Given ms' ps × IsSum ps own own') (λ ms' own'. AtLoad ps ms' own')
       (λ ms' own' x. load_step p others ms' own own' holds rest few x.2 x.0 x.1)
-      (add_cycle image mine 10 28 other word count Ready to_count (in_cycles 2 t0) k2 ms ps own holds place.block.lines.1.1.0 stand all)
+      (add_cycle image mine 10 28 other word count Ready to_count (in_cycles 2 cycle0) k2 ms ps own holds place.block.lines.1.1.0 stand all)
 
-  flag_step : (p : Owner) (others : List Owner) (ms : List Member) (own : Memory) → Holds image t0 → IsAtRest first own → length (p ∷ others) ≤ 1024
+  flag_step : (p : Owner) (others : List Owner) (ms : List Member) (own : Memory) → Holds image cycle0 → IsAtRest first own → length (p ∷ others) ≤ 1024
       → AllAreAt (suc k) ms → Both Loaded ms (p ∷ others) → AtFlag (p ∷ others) ms own
   flag_step p others ms own holds rest few stand all =
       let ps = p ∷ others in
-      let t1 = in_cycles 1 t0 in
+      let t1 = in_cycles 1 cycle0 in
       cycle_map image mine t1 0 ms own (λ ms' own'. AllAreAt (suc (suc k)) ms' × Both Ready ms' ps × (own' ≡ own)) (λ ms' own'. AtAdd ps ms' own')
       (λ ms' own' x. subst (AtAdd ps ms') (sym x.2) (add_step p others ms' own holds rest few x.0 (given_all ms' ps x.1)))
       (alone_cycle image mine t1 (suc k) (Sltu 28 0 28) flagged Loaded Ready ms ps own holds place.block.lines.1.0 (λ m. (refl, refl)) (λ m q l s. (s.reserved, refl)) ready stand all)
 
-  together : (p : Owner) (others : List Owner) (ms : List Member) (own : Memory) → Holds image t0 → IsAtRest first own → length (p ∷ others) ≤ 1024 → Both Came ms (p ∷ others)
-      → Together (core_source core setting) image mine t0 1 4 ms (p ∷ others) own (Goal (p ∷ others))
+  together : (p : Owner) (others : List Owner) (ms : List Member) (own : Memory) → Holds image cycle0 → IsAtRest first own → length (p ∷ others) ≤ 1024 → Both Came ms (p ∷ others)
+      → Together (core_source core setting) image mine cycle0 1 4 ms (p ∷ others) own (Goal (p ∷ others))
   together p others ms own holds rest few all =
       let ps = p ∷ others in
       let load : Member → Hart = λ m. load_hart m.hart in
-      cycle_map image mine t0 0 ms own (λ ms' own'. AllAreAt (suc k) ms' × Both Loaded ms' ps × (own' ≡ own)) (λ ms' own'. AtFlag ps ms' own')
+      cycle_map image mine cycle0 0 ms own (λ ms' own'. AllAreAt (suc k) ms' × Both Loaded ms' ps × (own' ≡ own)) (λ ms' own'. AtFlag ps ms' own')
       (λ ms' own' x. subst (AtFlag ps ms') (sym x.2) (flag_step p others ms' own holds rest few x.0 x.1))
-      (alone_cycle image mine t0 k (Lw 28 9 (at_value op.depth)) load Came Loaded ms ps own holds place.block.lines.0 (λ m. (refl, refl)) (loads t0) loaded
-      (all_stand k Came ms ps (λ m q came. at_block core image places nestings i op Shrink setting t0 first m q came.enters) all) all)
+      (alone_cycle image mine cycle0 k (Lw 28 9 (at_value op.depth)) load Came Loaded ms ps own holds place.block.lines.0 (λ m. (refl, refl)) (loads cycle0) loaded
+      (all_stand k Came ms ps (λ m q came. at_block core image places nestings i op Shrink setting cycle0 first m q came.enters) all) all)
 
 pub parts_shrink : PartsShrink
 parts_shrink core image bound places nestings i op place opens setting t mine first [] [] own owns all part few rest = record { counted = tt; chain = (refl, tt, rest) }

@@ -12,7 +12,7 @@ use Rattle.fk_machine.proofs.Performs.{writes}
 use Rattle.fk_sim_nodes.specs.Node.{Member}
 use Rattle.fk_sim_nodes.specs.Alone.{Holds, RunsPrivately}
 use Rattle.fk_sim_block.specs.Owner.{Owner, number_of}
-use Rattle.fk_sim_block.specs.Stands.{Places, HasValues, StandsFor, local_address, frame_start, frame_end}
+use Rattle.fk_sim_block.specs.Stands.{Places, HasValues, StandsFor, local_address, frame_start, value_in}
 use Rattle.fk_sim_block.specs.Suits.{Flows, nothing}
 use Rattle.fk_sim_block.specs.Block.{Enters}
 use Rattle.fk_sim_block.specs.Node.{Nestings, HasLevel, HasSaved, HasOuter, KnowsSpace, past_levels, saved_at, first_word, control_address}
@@ -95,7 +95,7 @@ module _ (core : List CoreOp) (image : Image) (bound : ℕ → ℕ) (places : Pl
   }
 
   -- a hart that has all of a member's but what is free in blocks
-  module _ (setting : Setting) (t0 : MachineSetting) (first : ℕ) (m : Member) (p : Owner) (en : Enters core image places setting t0 i op operation p m.hart)
+  module _ (setting : Setting) (cycle0 : MachineSetting) (first : ℕ) (m : Member) (p : Owner) (en : Enters core image places setting cycle0 i op operation p m.hart)
       (member : IsMember places nestings setting None first m p) (part : IsInPart nestings p) (h : Hart) (same : SameRegisters m.hart h) (top : h.registers 21 ≡ m.hart.registers 21)
       (local : h.local ≡ m.hart.local) (live : h.ended ≡ false) where
     abbrev n : ℕ
@@ -151,7 +151,7 @@ module _ (core : List CoreOp) (image : Image) (bound : ℕ → ℕ) (places : Pl
         ap (λ l. l (slot_of word h)) local ∙ ap m.hart.local there
 
     -- it stands for its processor in that group
-    pub out_member : (told : Told) (vs : List ℕ) → HasLabels bound places → HasValues m.hart.local (frame_end n) vs
+    pub out_member : (told : Told) (vs : List ℕ) → HasLabels bound places → HasValues (value_in m.hart n) vs
         → IsMember places nestings setting None (first_word part.around (part.beyond ∷ part.further)) (record m { hart = out_hart told h }) (left_to (part.around ∷ (part.beyond ∷ part.further)) vs p)
     out_member told vs labels held =
         let stands = en.at.stands in

@@ -82,20 +82,20 @@ end_block target =
 
 -- The two ways of a frame have equally many lines. With room the header gets the address of the
 -- frame's first word, and the frames of the group end where the frame does.
-abbrev pub taking_lines : List MarkedLine
-taking_lines =
-    quiet (Add t1 t1 frames_register) ∷ quiet (Sw end_register t1 at_group_frame)
+abbrev pub taking_lines : (nesting : ℕ) → List MarkedLine
+taking_lines nesting =
+    quiet (Add t1 t1 frames_register) ∷ quiet (Sw end_register t1 (at_group_frame nesting))
     ∷ commits (Addi frames_register t0 0) ∷ []
 
 -- A frame is taken behind those of the group, if it ends where the group's blocks begin, or before.
-abbrev pub frame_lines : (site : ℕ) → List MarkedLine
-frame_lines site =
+abbrev pub frame_lines : (nesting site : ℕ) → List MarkedLine
+frame_lines nesting site =
     quiet (Lui t1 to_data) ∷ quiet (Bgeu blocks_register t0 16)
-    ∷ (no_room site ++ taking_lines)
+    ∷ (no_room site ++ taking_lines nesting)
 
-abbrev pub frame_block : (words site : ℕ) → List MarkedLine
-frame_block words site =
-    map quiet (add_number (4 * words) frames_register) ++ frame_lines site
+abbrev pub frame_block : (nesting words site : ℕ) → List MarkedLine
+frame_block nesting words site =
+    map quiet (add_number (4 * words) frames_register) ++ frame_lines nesting site
 
 -- The cycles of a frame before its commit, on either way.
 abbrev pub frame_takes : (words : ℕ) → ℕ
@@ -196,7 +196,7 @@ block_by (Some End) levels depth target site = end_by levels target
 block_by (Some Resume) levels depth target site = closing_block
 block_by (Some (Meet false)) levels depth target site = barrier_block
 block_by (Some (Meet true)) levels depth target site = closing_block
-block_by (Some (Frame nesting words)) levels depth target site = frame_block words site
+block_by (Some (Frame nesting words)) levels depth target site = frame_block nesting words site
 block_by (Some Block) levels depth target site = shalloc_block depth
 block_by (Some (Split by)) levels depth target site =
     split_block by levels depth target site

@@ -12,12 +12,13 @@ use Rattle.fk_isa.specs.declared.instruction.Instruction.TheVariants.{Sw, Addi, 
 use Rattle.fk_isa.specs.declared.instruction.Instruction.TheVariants.{Sub, Sltu, Mul, AmoAddW}
 use Rattle.fk_asm.specs.Assembly.{straight}
 use Rattle.fk_asm.specs.Block.{MarkedLine}
-use Rattle.fk_sim_block.specs.Stands.{frame_register, end_register, size_register, device_register}
+use Rattle.fk_sim_block.specs.Stands.{zero_register, frame_register, size_register, device_register}
 use Rattle.fk_sim_block.specs.Node.{node_register, frames_register, blocks_register}
 use Rattle.fk_sim_block.specs.Node.{barrier_word, closing_word}
-use Rattle.fk_gen.specs.Registers.{zero_register, ra, t0, t1, t2, t3, t4}
-use Rattle.fk_gen.specs.Lines.{quiet, commits, goes_to, commit_of, at_value, at_private, label_of}
+use Rattle.fk_gen.specs.Registers.{ra, t0, t1, t2, t3, t4}
+use Rattle.fk_gen.specs.Lines.{quiet, commits, goes_to, commit_of, at_private, label_of}
 use Rattle.fk_gen.specs.Lines.{high_part, low_part}
+use Rattle.fk_gen.specs.Operands.{operand, result}
 use Rattle.fk_gen.specs.InPlace.{LinesAt}
 use Rattle.fk_gen.specs.declared.placed.Levels.{Levels}
 
@@ -40,12 +41,12 @@ no_room site =
 -- A split into one part has 1 in t3 for who enters it, and 0 for who waits. A split into two has
 -- the number of the part. Who waits at an `||` has 1 in place of its value, and at an `&&` 0.
 abbrev pub part_lines : SplitKind → (depth : ℕ) → List Instruction
-part_lines IfAlone d = Lw t3 end_register (at_value d) ∷ Sltu t3 zero_register t3 ∷ []
-part_lines IfElse d = Lw t3 end_register (at_value d) ∷ Sltiu t3 t3 1 ∷ []
-part_lines AndThen d = Lw t3 end_register (at_value d) ∷ Sltu t3 zero_register t3 ∷ []
+part_lines IfAlone d = operand t3 d ∷ Sltu t3 zero_register t3 ∷ []
+part_lines IfElse d = operand t3 d ∷ Sltiu t3 t3 1 ∷ []
+part_lines AndThen d = operand t3 d ∷ Sltu t3 zero_register t3 ∷ []
 part_lines OrElse d =
-    Lw t3 end_register (at_value d) ∷ Sltu t0 zero_register t3 ∷
-    Sw end_register t0 (at_value d) ∷ Sltiu t3 t3 1 ∷ []
+    operand t3 d ∷ Sltu t0 zero_register t3 ∷
+    result t0 d ∷ Sltiu t3 t3 1 ∷ []
 part_lines Loop d = Addi t3 zero_register 1 ∷ []
 part_lines Fork d = []
 
@@ -164,7 +165,7 @@ end_part_block levels target = outward_lines true (last_level levels) target
 -- and stay as so many.
 abbrev pub staying_lines : (depth : ℕ) → List MarkedLine
 staying_lines d =
-    quiet (Lw t3 end_register (at_value d)) ∷ quiet (Sltu t3 zero_register t3) ∷
+    quiet (operand t3 d) ∷ quiet (Sltu t3 zero_register t3) ∷
     quiet (AmoAddW zero_register node_register t3 false false) ∷
     quiet (Lw t0 node_register (4 * barrier_word)) ∷
     commits (Sw node_register zero_register (4 * barrier_word))

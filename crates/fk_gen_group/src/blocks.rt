@@ -10,7 +10,7 @@ ghost use Rattle.fk_gen_group.specs.Blocks.{shalloc_block, end_by};
 use crate::splits::{end_part, shrink, split};
 use crate::start::START_LABEL;
 use fk_asm::{Assembler, Blocks};
-use fk_gen::numbers::{AT_GROUP_FRAME, TO_DATA, high_part, low_part};
+use fk_gen::numbers::{TO_DATA, at_group_frame, high_part, low_part};
 use fk_gen::registers::{DEVICES as DEVICE, END, NUMBER, RA, RANK, SIZE, T0, T1, T2, T3, ZERO};
 use fk_gen::{BlockLine, Levels, Placed, emit_lines, emit_sum, operand, result};
 use fk_gen_flow::registers::{BLOCKS, BODY, FRAMES, NODE};
@@ -62,7 +62,7 @@ impl Blocks<Placed> for GroupBlocks {
             Some(Operation::Resume) => meet(into, CLOSING_WORD, SIZE),
             Some(Operation::Meet(true)) => meet(into, CLOSING_WORD, SIZE),
             Some(Operation::Meet(false)) => meet(into, BARRIER_WORD, BODY),
-            Some(Operation::Frame { words, .. }) => frame(into, words, op.op.site),
+            Some(Operation::Frame { nesting, words }) => frame(into, nesting, words, op.op.site),
             Some(Operation::Block) => shalloc(into, op.op.depth),
             Some(Operation::Split(by)) => {
                 split(into, by, op.levels, op.op.depth, op.op.target, op.op.site)
@@ -214,23 +214,23 @@ fn end(into: &mut Assembler, target: u32) -> Result<(), AllocError>
 }
 
 // A group frame of so many words.
-fn frame(into: &mut Assembler, words: u32, site: u32) -> Result<(), AllocError>
+fn frame(into: &mut Assembler, nesting: u32, words: u32, site: u32) -> Result<(), AllocError>
     requires few { words < 2 ^ 21 }
-    requires room { length into.old.lines + length (frame_block words site) < 2 ^ 30 }
+    requires room { length into.old.lines + length (frame_block nesting words site) < 2 ^ 30 }
     requires free { AreFollowed into.old }
-    ensures added { OnOk result (into.new ≡ with_block into.old (frame_block words site)) }
-    ensures begun { OnErr result (HasBegun (frame_block words site) into.old into.new) }
+    ensures added { OnOk result (into.new ≡ with_block into.old (frame_block nesting words site)) }
+    ensures begun { OnErr result (HasBegun (frame_block nesting words site) into.old into.new) }
 {
     emit_sum(into, 4 * words, FRAMES)?;
-    emit_taking(into, site)
+    emit_taking(into, nesting, site)
 }
 
 // The lines of a frame that ends at the address in `t0`.
-fn emit_taking(into: &mut Assembler, site: u32) -> Result<(), AllocError>
+fn emit_taking(into: &mut Assembler, nesting: u32, site: u32) -> Result<(), AllocError>
     requires room { length into.old.lines + 8 < 2 ^ 30 }
     requires free { AreFollowed into.old }
-    ensures added { OnOk result (into.new ≡ with_block into.old (frame_lines site)) }
-    ensures begun { OnErr result (HasBegun (frame_lines site) into.old into.new) }
+    ensures added { OnOk result (into.new ≡ with_block into.old (frame_lines nesting site)) }
+    ensures begun { OnErr result (HasBegun (frame_lines nesting site) into.old into.new) }
 {
     emit_lines(
         into,
@@ -241,7 +241,7 @@ fn emit_taking(into: &mut Assembler, site: u32) -> Result<(), AllocError>
             BlockLine::quiet(Instruction::Addi(T1, T1, low_part(site))),
             BlockLine::commits(Instruction::Sw(DEVICE, T1, FAULT_DEVICE)),
             BlockLine::quiet(Instruction::Add(T1, T1, FRAMES)),
-            BlockLine::quiet(Instruction::Sw(END, T1, AT_GROUP_FRAME)),
+            BlockLine::quiet(Instruction::Sw(END, T1, at_group_frame(nesting))),
             BlockLine::commits(Instruction::Addi(FRAMES, T0, 0)),
         ],
     )

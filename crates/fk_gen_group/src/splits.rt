@@ -9,9 +9,9 @@ ghost use Rattle.fk_meaning_operation.specs.declared.operation.SplitKind.TheVari
 
 use crate::parts::{ONE_PART_LABEL, TWO_PARTS_LABEL};
 use fk_asm::{Assembler, Line};
-use fk_gen::numbers::{at_private, at_value, high_part, low_part};
-use fk_gen::registers::{DEVICES, END, FRAME, RA, SIZE, T0, T1, T2, T3, ZERO};
-use fk_gen::{BlockLine, Levels, emit_lines};
+use fk_gen::numbers::{at_private, high_part, low_part};
+use fk_gen::registers::{DEVICES, FRAME, RA, SIZE, T0, T1, T2, T3, ZERO};
+use fk_gen::{BlockLine, Levels, emit_lines, operand, result};
 use fk_gen_flow::registers::{BLOCKS, FRAMES, NODE};
 use fk_isa::Instruction;
 use fk_meaning_operation::SplitKind;
@@ -90,7 +90,7 @@ fn emit_if_not_0(into: &mut Assembler, depth: u32) -> Result<(), AllocError>
     emit_lines(
         into,
         &[
-            BlockLine::quiet(Instruction::Lw(T3, END, at_value(depth))),
+            BlockLine::quiet(operand(T3, depth)),
             BlockLine::quiet(Instruction::Sltu(T3, ZERO, T3)),
         ],
     )
@@ -109,7 +109,7 @@ fn emit_if_0(into: &mut Assembler, depth: u32) -> Result<(), AllocError>
     emit_lines(
         into,
         &[
-            BlockLine::quiet(Instruction::Lw(T3, END, at_value(depth))),
+            BlockLine::quiet(operand(T3, depth)),
             BlockLine::quiet(Instruction::Sltiu(T3, T3, 1)),
         ],
     )
@@ -128,9 +128,9 @@ fn emit_or(into: &mut Assembler, depth: u32) -> Result<(), AllocError>
     emit_lines(
         into,
         &[
-            BlockLine::quiet(Instruction::Lw(T3, END, at_value(depth))),
+            BlockLine::quiet(operand(T3, depth)),
             BlockLine::quiet(Instruction::Sltu(T0, ZERO, T3)),
-            BlockLine::quiet(Instruction::Sw(END, T0, at_value(depth))),
+            BlockLine::quiet(result(T0, depth)),
             BlockLine::quiet(Instruction::Sltiu(T3, T3, 1)),
         ],
     )
@@ -261,7 +261,7 @@ fn emit_staying(into: &mut Assembler, depth: u32) -> Result<(), AllocError>
     emit_lines(
         into,
         &[
-            BlockLine::quiet(Instruction::Lw(T3, END, at_value(depth))),
+            BlockLine::quiet(operand(T3, depth)),
             BlockLine::quiet(Instruction::Sltu(T3, ZERO, T3)),
             BlockLine::quiet(Instruction::AmoAddW(ZERO, NODE, T3, false, false)),
             BlockLine::quiet(Instruction::Lw(T0, NODE, 0)),

@@ -34,7 +34,7 @@ core = pushes ∷ begins ∷ ends ∷ resumes ∷ halts ∷ []
 
 -- no private words, and all of it is `main`
 abbrev frames : Frames
-frames = record { keeps = λ index word. false; is_main = λ index. true; group = λ index. None; of_file = 0 }
+frames = record { keeps = λ index word. false; is_main = λ index. true; group = λ index number. false; of_file = 0 }
 
 -- what is so of each operation is so of the one at an index
 each : (P : ℕ → CoreOp → Operation → Type 0) → P 0 pushes (Push 3) → P 1 begins Begin → P 2 ends End → P 3 resumes Resume → P 4 halts Halt

@@ -178,9 +178,9 @@ group_all n back levels op (Some o.Resume) leads = meet_all n 1 20
 group_all n back levels op (Some (o.Meet false)) leads = meet_all n 0 11
 group_all n back levels op (Some (o.Meet true)) leads = meet_all n 1 20
 group_all n back levels op (Some (o.Frame nesting words)) leads =
-    go_nowhere n (group.frame_block words op.site)
-    (All-append IsUnlabeled (map quiet (add_number (4 * words) 12)) (group.frame_lines op.site) (quiet_all (add_number (4 * words) 12))
-    (All-from_recursion IsUnlabeled (group.frame_lines op.site) (refl, (refl, (refl, (refl, (refl, (refl, (refl, (refl, tt))))))))))
+    go_nowhere n (group.frame_block nesting words op.site)
+    (All-append IsUnlabeled (map quiet (add_number (4 * words) 12)) (group.frame_lines nesting op.site) (quiet_all (add_number (4 * words) 12))
+    (All-from_recursion IsUnlabeled (group.frame_lines nesting op.site) (refl, (refl, (refl, (refl, (refl, (refl, (refl, (refl, tt))))))))))
 group_all n back levels op (Some o.Block) leads =
     go_nowhere n (group.shalloc_block op.depth)
     (All-from_recursion IsUnlabeled (group.shalloc_block op.depth)
@@ -310,9 +310,9 @@ sum_few : (short : Bool) (n register : ℕ) → length (add_by short n register)
 sum_few true n register = omega arith
 sum_few false n register = omega arith
 
-frame_word_length : (is_first : Bool) (d word : ℕ) → length (expressions.frame_word is_first word ++ result t0 (d + 1) ∷ []) ≤ 15
-frame_word_length true d word = omega arith
-frame_word_length false d word =
+frame_word_length : (is_first : Bool) (d nesting word : ℕ) → length (expressions.frame_word is_first nesting word ++ result t0 (d + 1) ∷ []) ≤ 15
+frame_word_length true d nesting word = omega arith
+frame_word_length false d nesting word =
     let all = length-append (add_number (4 * word) t1) (result t0 (d + 1) ∷ []) in
     let sum = sum_few (high_part (4 * word) == 0) (4 * word) t1 in
     omega arith
@@ -326,7 +326,7 @@ get_length globals d known.ProcessorNumber = omega arith
 get_length globals d known.Processors = omega arith
 get_length globals d known.InputLength = omega arith
 get_length globals d known.InputAddress = push_length d (address_of globals)
-get_length globals d (known.FrameAddress nesting word) = frame_word_length (word == 0) d word
+get_length globals d (known.FrameAddress nesting word) = frame_word_length (word == 0) d nesting word
 
 code_length : (globals d : ℕ) (operation : Operation) → length (expressions.expression_code globals d operation) ≤ words_by (Some operation)
 code_length globals d (o.Push n) = push_length d n
@@ -400,7 +400,7 @@ group_words (Some o.Resume) levels d target site = omega arith
 group_words (Some (o.Meet false)) levels d target site = omega arith
 group_words (Some (o.Meet true)) levels d target site = omega arith
 group_words (Some (o.Frame nesting words)) levels d target site =
-    let all = length-append (map quiet (add_number (4 * words) 12)) (group.frame_lines site) in
+    let all = length-append (map quiet (add_number (4 * words) 12)) (group.frame_lines nesting site) in
     let same = length-map (add_number (4 * words) 12) quiet in
     let sum = sum_few (high_part (4 * words) == 0) (4 * words) 12 in
     omega arith

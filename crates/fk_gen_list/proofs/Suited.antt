@@ -173,7 +173,7 @@ no_halt operation (inr e) f = never (sym f ∙ ap is_flow e)
 
 -- the words of a frame have a number
 frame_words : (core : List CoreOp) (frames : Frames) (i : ℕ) (op : CoreOp) (operation : Operation) → Fits core frames i op operation → HasWords (Some operation)
-frame_words core frames i op (Frame nesting words) fits = fits.place
+frame_words core frames i op (Frame nesting words) fits = fits.place.1
 frame_words core frames i op operation fits = tt
 
 module _ (core : List CoreOp) (frames : Frames) (i globals : ℕ) (op : CoreOp) (operation : Operation) (clears : Bool) (back : ℕ) (levels : Levels) where

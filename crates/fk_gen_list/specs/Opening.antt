@@ -14,6 +14,7 @@ GroupsBegin =
     (core : List CoreOp) (image : Image) (bound : ℕ → ℕ) (places : Places) (nestings : Nestings)
     (firsts : List ℕ) (main : ℕ)
     → HasOpening image bound places firsts main → AreFirsts places.frames.of_file firsts
-    → places.frames.is_main main ≡ true → places.frames.group main ≡ None
+    → places.frames.is_main main ≡ true
+    → ((number : ℕ) → places.frames.group main number ≡ false)
     → nestings.levels main ≡ 0 → HasLevelRoom places.frames nestings main 0
     → HartsBeginInNode core image places nestings firsts main

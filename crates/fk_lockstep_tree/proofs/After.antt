@@ -772,8 +772,8 @@ module _ {W : Type 0} (next : W → Option (Step W)) (set : Setting) (round : Ro
     steps : (op : Operation) (e : does_by g ≡ Some op) (all : All g op) → StepFits old g op → Stands h (settle h a)
     steps o.Begin e all fits = begins e all fits.0 fits.1
     steps o.Resume e all fits = resumes e all fits.0 fits.1 fits.2
-    steps (o.Split by) e all fits = splits by e all fits
-    steps o.Shrink e all fits = shrinks_so e all fits
+    steps (o.Split by) e all fits = splits by e all fits.0
+    steps o.Shrink e all fits = shrinks_so e all fits.0
     steps o.Farm e all fits = farms e all fits
     steps o.Seq e all fits = sends e all fits
     steps o.End e all fits = ends e all fits

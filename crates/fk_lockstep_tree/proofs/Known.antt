@@ -12,7 +12,7 @@ use Rattle.fk_meaning_operation.specs.declared.operation.Operation.TheVariants a
 use Rattle.fk_tree.specs.declared.node.Kind.{Kind}
 use Rattle.fk_tree.specs.declared.node.Kind.TheVariants.{Lockstep, Waiting, Asynchronous}
 use Rattle.fk_tree.specs.Tree as t
-use Rattle.fk_tree.specs.Tree.{Node, Tree, members, kind, is_member, ready}
+use Rattle.fk_tree.specs.Tree.{Node, Tree, members, parent, kind, is_member, ready}
 use Rattle.fk_tree.specs.Sound.{Has}
 use Rattle.fk_tree.proofs.Shapes.{has_some}
 use Rattle.fk_tree.proofs.Turns.{IsLeaf, leaf_by, leaf_ready, idle-lockstep, idle-asynchronous}
@@ -26,8 +26,8 @@ use Rattle.fk_lockstep_tree.specs.Placed.{where_in, where_at, IsPlaced}
 use Rattle.fk_lockstep_nodes.specs.Steps.{Keeps, Does, KeepsOrDoes, StepsBy, MayStep, stepping}
 use Rattle.fk_lockstep_tree.specs.Steps.{StepFits, AreKnown}
 use Rattle.fk_lockstep_tree.specs.Rounds.{IsRound, RoundsAreKnown}
-use Rattle.fk_lockstep_tree.proofs.Moves.{OfGroups, root_begins, waiters_resume, group_steps, bodies_meet, others_meet, joint_tells, not_alone, joint_is_step, goes_on}
-use Rattle.fk_lockstep_tree.proofs.Paths.{at_root, below_root, at_node, waiting_place, IsAlone, HasBodyThere, lockstep_place, body_place}
+use Rattle.fk_lockstep_tree.proofs.Moves.{OfGroups, root_begins, waiters_resume, group_steps, no_fork, shrinks_deep, bodies_meet, others_meet, joint_tells, not_alone, joint_is_step, goes_on}
+use Rattle.fk_lockstep_tree.proofs.Paths.{at_root, below_root, parent_below, at_node, waiting_place, IsAlone, HasBodyThere, lockstep_place, body_place}
 use Rattle.fk_lockstep_tree.proofs.Acts.{does_at, Acts, acts, counts_as, due_at, fits_at, stepping_length}
 
 -- ---- lists
@@ -97,13 +97,14 @@ changing_found op (Some step) e = by (changes_tree step.operation) refl e
     by false is e' = absurd (cc)
 
 -- of a group in lockstep all steps fit that groups do
-locked_fits : (tree : Tree) (g : ℕ) (op : Operation) → OfGroups op → kind tree g ≡ Some Lockstep → StepFits tree g op
-locked_fits tree g (o.Split by) of e = e
-locked_fits tree g o.Shrink of e = e
-locked_fits tree g o.End of e = e
-locked_fits tree g o.Farm of e = e
-locked_fits tree g o.Seq of e = e
-locked_fits tree g op of e = absurd of
+locked_fits : (tree : Tree) (g d : ℕ) (op : Operation) (to : Where) → OfGroups op → goes (InGroup d) op true ≡ Some to → ((m : ℕ) → d ≡ suc m → parent tree g ≢ 0) → kind tree g ≡ Some Lockstep
+    → StepFits tree g op
+locked_fits tree g d (o.Split by) to of way deep e = (e, no_fork d by true to way)
+locked_fits tree g d o.Shrink to of way deep e = let s = shrinks_deep d true to way in (e, deep s.0 s.1)
+locked_fits tree g d o.End to of way deep e = e
+locked_fits tree g d o.Farm to of way deep e = e
+locked_fits tree g d o.Seq to of way deep e = e
+locked_fits tree g d op to of way deep e = absurd of
 
 module _ {W : Type 0} (next : W → Option (Step W)) (set : Setting) (round : Round) (s : State W) (is : IsRound next set round s) where
   abbrev pub Act : ℕ → Type 0
@@ -280,10 +281,14 @@ module _ {W : Type 0} (next : W → Option (Step W)) (set : Setting) (round : Ro
     by_group : kind s.tree g ≡ Some Lockstep → Done
     by_group e =
         let p = lockstep_place above (is_member h (t.runs Lockstep (members s.tree g))) here.place (place_by Lockstep e) in
-        let of = group_steps p.depth c.step.operation true way.0 c.changes (way_from (InGroup p.depth) p.is) in
+        let goes' = way_from (InGroup p.depth) p.is in
+        let of = group_steps p.depth c.step.operation true way.0 c.changes goes' in
+        let deep : (m : ℕ) → p.depth ≡ suc m → parent s.tree g ≢ 0
+        = λ m two zero_is.
+        parent_below set s.tree (ranges_of s) h (s.tree.places h) c.act.runner.has.level c.act.runner.has.outer m here.levels (p.above_is ∙ ap suc two) (ap (parent s.tree) at ∙ zero_is) in
         record {
           changes = changes_op;
-          fits = subst (λ (x : Operation). StepFits s.tree g x) c.op_is (locked_fits s.tree g c.step.operation of e);
+          fits = subst (λ (x : Operation). StepFits s.tree g x) c.op_is (locked_fits s.tree g p.depth c.step.operation way.0 of goes' deep e);
           one = h;
           member = in_node;
           stand = leaf_stand g (leaf_by set.processors g Lockstep s.tree is.sound idle-lockstep e);

@@ -7,6 +7,7 @@ use Rattle.fk_meaning_operation.specs.declared.kinds.Class.TheVariants as class
 use Rattle.fk_meaning_operation.specs.declared.kinds.Joint.{Joint}
 use Rattle.fk_meaning_operation.specs.declared.kinds.Joint.TheVariants as joint
 use Rattle.fk_meaning_operation.specs.declared.operation.SplitKind.{SplitKind}
+use Rattle.fk_meaning_operation.specs.declared.operation.SplitKind.TheVariants.{Fork}
 use Rattle.fk_meaning_operation.specs.declared.operation.Operation.{Operation}
 use Rattle.fk_meaning_operation.specs.declared.operation.Operation.TheVariants as o
 use Rattle.fk_meaning_operation.specs.declared.operation.Variable.{Variable}
@@ -105,6 +106,15 @@ group_steps n (o.Meet true) onward to changes e = absurd (cc)
 group_steps n (o.Meet false) onward to changes e = absurd (cc)
 group_steps n o.Resume onward to changes e = absurd (cc)
 group_steps n op onward to changes e = absurd (cc)
+
+-- a group doesn't `fork`, and that of a `start` doesn't shrink
+pub no_fork : (n : ℕ) (by : SplitKind) (onward : Bool) (to : Where) → goes (InGroup n) (o.Split by) onward ≡ Some to → by ≢ Fork
+no_fork n by onward to e f =
+    let none : ◌≡◌ {A = Option Where} None (Some to) = subst (λ (k : SplitKind). goes (InGroup n) (o.Split k) onward ≡ Some to) f e in absurd (cc)
+
+pub shrinks_deep : (n : ℕ) (onward : Bool) (to : Where) → goes (InGroup n) o.Shrink onward ≡ Some to → (m : ℕ) × (n ≡ suc m)
+shrinks_deep zero onward to e = absurd (cc)
+shrinks_deep (suc m) onward to e = (m, refl)
 
 pub bodies_meet : (n : ℕ) (op : Operation) (onward : Bool) (to : Where) → changes_tree op ≡ true → goes (InBody n) op onward ≡ Some to → op ≡ o.Meet true
 bodies_meet n o.Begin onward to changes e = absurd (cc)

@@ -26,6 +26,12 @@ module _ (set : Setting) (tree : Tree) (spaces : ℕ → Space) (h n : ℕ) (l :
   below_root [] m has e = absurd (omega (arith, e))
   below_root (o ∷ outer) m has e = has.0
 
+  -- over two levels the node above isn't the root
+  pub parent_below : (outer : List Level) (m : ℕ) → AreLevels set tree spaces h n l outer → length outer ≡ suc (suc m) → parent tree n ≢ 0
+  parent_below [] m has e = absurd (omega (arith, e))
+  parent_below (o ∷ []) m has e = absurd (omega (arith, e))
+  parent_below (o ∷ o' ∷ outer) m has e = has.3.0
+
   pub root_outer : (outer : List Level) → AreLevels set tree spaces h n l outer → n ≡ 0 → length outer ≡ 0
   root_outer [] has e = refl
   root_outer (o ∷ outer) has e = absurd (has.0 e)

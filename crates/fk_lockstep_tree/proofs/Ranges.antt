@@ -181,6 +181,14 @@ module _ {W : Type 0} (next : W → Option (Step W)) (set : Setting) (s : State 
   pub read_there : (g : ℕ) → g ≢ 0 → tree.nodes g ≢ None → ranges_of s g ≡ spaces g
   read_there g ne there = let m = member_of g there in read_off g m.0 ne m.1
 
+  -- the root has the whole group space
+  pub read_root : (h : ℕ) → Has tree 0 h → ranges_of s 0 ≡ range_of (group_space set)
+  read_root h has' =
+      let low = lowest_of 0 h has' in
+      let k = lowest (members tree 0) in
+      let p = has.placed k low.runner low.at in
+      range_is 0 low ∙ ap (λ (l : Level). range_of l.space) (root_found k (tree.places k) low.runner.has.level low.runner.has.outer p.levels)
+
   -- so the state is in the tree also with the words that the members tell
   levels_read : (h n : ℕ) (l : Level) (outer : List Level) → Has tree n h → AreLevels set tree spaces h n l outer → AreLevels set tree (ranges_of s) h n l outer
   levels_read h n l [] has' levels = levels
@@ -444,7 +452,7 @@ module _ {W : Type 0} (next : W → Option (Step W)) (set : Setting) (round : Ro
       subst (λ (q : Processor). has_room (o.Split by) q ≡ true) (sym known) (subst (λ (x : Operation). has_room x a.runner.has ≡ true) op_is d.room)
 
   not_zero : (g : ℕ) (by : SplitKind) → does g ≡ Some (o.Split by) → g ≢ 0
-  not_zero g by e is_zero = let all = all_do g (o.Split by) e in base.sound.free (sym (ap (kind old) is_zero) ∙ all.fits)
+  not_zero g by e is_zero = let all = all_do g (o.Split by) e in base.sound.free (sym (ap (kind old) is_zero) ∙ all.fits.0)
 
   begins_space : (m : ℕ) → old.given ≤ m → BeginsAt m → spaces' m ≡ range_of (group_space set)
   begins_space m ge b =
@@ -654,6 +662,22 @@ rounds_keep_trees W next set round s is =
     has_tree next set (result next set round s) is.behind (after.spaces' next set round s is) (behind_in_tree next set round s is)
 
 pub ranges_stay : (W : Type 0) → RangesStay W
-ranges_stay W next set round s g is ne lt there =
-    read_there next set (result next set round s) is.behind (after.spaces' next set round s is) (behind_in_tree next set round s is) g ne there
-    ∙ after.old_space next set round s is g lt
+ranges_stay W next set round s g is lt there =
+    ⊎_elim
+    (λ zero_is. ap (λ (k : ℕ). ranges_of behind k) zero_is ∙ root_stays (λ none. there (ap behind.tree.nodes zero_is ∙ none)) ∙ ap (λ (k : ℕ). ranges_of s k) (sym zero_is))
+    (λ ne. read_there next set behind is.behind words (behind_in_tree next set round s is) g ne there ∙ after.old_space next set round s is g lt)
+    (cases_eq g 0)
+  where
+    behind : State W
+    behind = result next set round s
+
+    words : ℕ → Space
+    words = after.spaces' next set round s is
+
+    root_stays : behind.tree.nodes 0 ≢ None → ranges_of behind 0 ≡ ranges_of s 0
+    root_stays there' =
+        let m = member_of next set behind is.behind words (behind_in_tree next set round s is) 0 there' in
+        let same : members behind.tree 0 ≡ members s.tree 0 = is.behind.root ∙ sym is.base.sound.root in
+        let was : Has s.tree 0 m.0 = subst (λ (ms : List ℕ). is_member m.0 ms ≡ true) same m.1 in
+        read_root next set behind is.behind words (behind_in_tree next set round s is) m.0 m.1
+        ∙ sym (read_root next set s is.base.sound (ranges_of s) is.base.tree m.0 was)

@@ -58,19 +58,18 @@ loop_leads n =
     behind = (InGroup n, (λ w. refl), (Waits n, (λ w. refl), refl))
 
 group_leads : (n : ℕ) → Leads may_call InRoot None (InGroup n) group (Waits n)
-group_leads n =
-    (
-      InGroup (suc n),
-      InGroup (suc n),
-      Waits (suc n),
-      Waits (suc n),
-      refl,
-      refl,
-      inner_leads n,
-      (Waits (suc n), (λ w. refl), refl),
-      (InGroup n, (λ w. refl), loop_leads n),
-      (InGroup n, (λ w. refl), loop_leads n),
-    )
+group_leads n = (
+  InGroup (suc n),
+  InGroup (suc n),
+  Waits (suc n),
+  Waits (suc n),
+  refl,
+  refl,
+  inner_leads n,
+  (Waits (suc n), (λ w. refl), refl),
+  (InGroup n, (λ w. refl), loop_leads n),
+  (InGroup n, (λ w. refl), loop_leads n),
+)
 
 -- the group of a `start` has no part that shrinks, and nobody forks
 none_there : (onward : Bool) → (goes (InGroup 0) o.Shrink onward ≡ None) × (goes (InGroup 3) (o.Split Fork) onward ≡ None) × (goes InRoot (o.Split IfAlone) onward ≡ None)

@@ -51,12 +51,12 @@ RoundsKeepTrees W =
     (next : W → Option (Step W)) (set : Setting) (round : Round) (s : State W)
     → IsRoundInSpaces next set round s → HasTree next set (result next set round s)
 
--- a group that was there before the round and is there after it has the same words
+-- a node that was there before the round and is there after it has the same words
 abbrev pub RangesStay : (W : Type 0) → Type 0
 RangesStay W =
     (next : W → Option (Step W)) (set : Setting) (round : Round) (s : State W) (g : ℕ)
     → let behind = result next set round s in
-    IsRoundInSpaces next set round s → g ≢ 0 → g < s.tree.given → behind.tree.nodes g ≢ None
+    IsRoundInSpaces next set round s → g < s.tree.given → behind.tree.nodes g ≢ None
     → ranges_of behind g ≡ ranges_of s g
 
 -- these processors have this count in a round

@@ -24,7 +24,7 @@ pub fn rounds_keep_trees<W>()
     ensures { RoundsKeepTrees W }
 {}
 
-/// The words of a group stay the same for as long as it is there.
+/// The words of a node stay the same for as long as it is there.
 pub fn ranges_stay<W>()
     ensures { RangesStay W }
 {}

@@ -1,5 +1,5 @@
 -- A list that suits frames, with a call whose function takes a group frame in its opening, the operations before the jump to it, and gives it back.
-use Rattle.std.proofs.Common.{◌≡◌, ℕ, zero, suc, ◌+◌, ◌≤◌, List, [], ◌∷◌, Bool, Some, None, true, false, ap, subst, ◌∙◌, arith, refl}
+use Rattle.std.proofs.Common.{◌≡◌, ℕ, zero, suc, ◌+◌, ◌≤◌, List, [], ◌∷◌, Bool, Some, None, true, false, ap, subst, ◌∙◌, arith, refl, inl}
 use Rattle.std.specs.Prelude.{◌==◌, ◌&&◌, ◌||◌, slice_get, if◌then◌else◌}
 use Rattle.std.proofs.lemmas.Bool.{and_parts, eqb-true}
 use Rattle.fk_meaning_operation.specs.declared.operation.OwnValue.TheVariants.{Value, FrameAddress}
@@ -13,7 +13,7 @@ use Rattle.fk_core.specs.declared.op.CoreOp.{CoreOp}
 use Rattle.fk_core.specs.Next.{is_jump, follows}
 use Rattle.fk_core.specs.Numbers.{operation_of}
 use Rattle.fk_sim_block.specs.Next.{OpAt}
-use Rattle.fk_sim_block.specs.Stands.{Frames, Places, HasRoom, FrameInMemory, ahead}
+use Rattle.fk_sim_block.specs.Stands.{Frames, Places, HasRoom, FrameInMemory, ahead, group_word}
 use Rattle.fk_sim_block.specs.Suits.{Flows, TakesFrame, Calls, Fits, Suits, nothing, writes}
 
 abbrev pushes : CoreOp
@@ -54,7 +54,7 @@ of_main i = (i == 0) || ((i == 1) || ((i == 6) || (i == 7)))
 abbrev has_argument : ℕ → Bool
 has_argument i = (i == 2) || ((i == 3) || ((i == 4) || ((i == 5) || (i == 8))))
 
--- where the header has the address of the group frame
+-- where the header has the address of the function's group frame
 abbrev has_address : ℕ → Bool
 has_address i = (i == 3) || ((i == 4) || ((i == 5) || ((i == 8) || (i == 9))))
 
@@ -62,7 +62,7 @@ abbrev frames : Frames
 frames = record {
   keeps = λ index word. has_argument index && (word == 0);
   is_main = of_main;
-  group = λ index. if has_address index then Some 0 else None;
+  group = λ index number. has_address index && (number == 0);
   of_file = 0;
 }
 
@@ -140,7 +140,7 @@ pushes_on true = record { main = refl; kept = λ word k free. absurd (cc); group
 pushes_on false = record { main = refl; kept = λ word k free. absurd (cc); group = λ number told. absurd (cc) }
 
 takes_on : TakesFrame core frames 0 2 3
-takes_on = record { main = refl; kept = λ word k. k; group = λ number told. cc }
+takes_on = record { main = refl; kept = λ word k. k; group = λ number told. inl (eqb-true number 0 told) }
 
 addresses_on : (onward : Bool) → Flows core frames (writes (Get (FrameAddress 0 1))) 3 (follows core (Get (FrameAddress 0 1)) 3 0 [] onward).at
 addresses_on true = record { main = refl; kept = λ word k free. k; group = λ number told. told }
@@ -163,7 +163,7 @@ calls : Calls core frames 1 1 1
 calls = record {
   few = omega arith;
   inside = refl;
-  none = refl;
+  none = λ number. refl;
   kept = λ word k. (let first : word ≡ 0 = eqb-true word 0 k in omega (arith, first));
   back = record { main = refl; kept = λ word k free. absurd (cc); group = λ number told. absurd (cc) };
   room = room 6 1 (omega arith);
@@ -187,14 +187,14 @@ jumps_flow (suc (suc (suc (suc (suc (suc (suc (suc (suc (suc i)))))))))) op e f 
 pub suits : Suits core frames 0
 suits = record {
   begins = refl;
-  none = refl;
+  none = λ number. refl;
   few = omega arith;
   jumps = jumps_flow;
   fits =
       each (λ i op operation. Fits core frames i op operation)
       (record { values = omega arith; few = omega arith; room = room 0 0 (omega arith); place = room 0 1 (omega arith); goes_on = pushes_on })
       (record { values = omega arith; few = omega arith; room = room 1 1 (omega arith); place = tt; goes_on = calls })
-      (record { values = omega arith; few = omega arith; room = room 2 0 (omega arith); place = omega arith; goes_on = takes_on })
+      (record { values = omega arith; few = omega arith; room = room 2 0 (omega arith); place = (omega arith, omega arith); goes_on = takes_on })
       (record { values = omega arith; few = omega arith; room = room 3 0 (omega arith); place = ((refl, omega arith), room 3 1 (omega arith)); goes_on = addresses_on })
       (record { values = omega arith; few = omega arith; room = room 4 1 (omega arith); place = tt; goes_on = drops_on })
       (record { values = omega arith; few = omega arith; room = room 6 1 (omega arith); place = tt; goes_on = result_goes })
@@ -219,5 +219,8 @@ in_frame = record {
   home = refl;
   values = tt;
   privates = λ word k. (let first : word ≡ 0 = eqb-true word 0 k in ap (λ w. memory (71 + w)) first);
-  group = λ number told. record { within = omega arith; address = refl };
+  group = λ number told. (
+      let first : number ≡ 0 = eqb-true number 0 told in
+      record { few = omega (arith, first); within = omega arith; address = ap (λ k. memory (group_word 1 k)) first }
+      );
 }

@@ -47,7 +47,7 @@ abbrev pub places : Places
 places = record {
   block = λ i. if i == 0 then 12 else if i == 1 then 14 else 15;
   returns = λ i. None;
-  frames = record { keeps = λ i word. false; is_main = λ i. true; group = λ i. None; of_file = 0 };
+  frames = record { keeps = λ i word. false; is_main = λ i. true; group = λ i number. false; of_file = 0 };
 }
 
 never : {A : Type 0} → false ≡ true → A

@@ -3,8 +3,9 @@
 -- Calls have frames of 64 words on the 16,384 stack words, that of `main` lowest. A frame has a
 -- header of 7 words, then the private words of its call. Its values are at the frame's end, the
 -- first value highest. In the frame of `main` the private variables of file scope lie between the
--- two. The header of a call may have the address of a group frame that the call took. One word of
--- the header of `main` has a note about the global heap, and the others are free for any use.
+-- two. The header of a call may have the addresses of group frames that the call took: its own, and
+-- those of parts. One word of the header of `main` has a note about the global heap, and the others
+-- are free for any use.
 use Rattle.std.specs.Prelude.{◌≡◌, ℕ, zero, suc, ◌+◌, ◌-◌, ◌*◌, ◌^◌, ◌<◌, ◌≤◌, ◌==◌, List, []}
 use Rattle.std.specs.Prelude.{◌∷◌, length, true, false, Bool, Option, Some}
 use Rattle.std.specs.Int.{from_bool}
@@ -22,9 +23,9 @@ pub record Frames : Type 0 where
   pub keeps : (index word : ℕ) → Bool
   -- Whether an index is in `main`.
   pub is_main : (index : ℕ) → Bool
-  -- The group frame, by its number among those of the running call, whose address the header of the
-  -- call has at an index.
-  pub group : (index : ℕ) → Option ℕ
+  -- Whether the header of the call has, at an index, the address of the group frame with a number
+  -- among those of the running call.
+  pub group : (index number : ℕ) → Bool
   -- The number of private variables of file scope.
   pub of_file : ℕ
 
@@ -127,14 +128,17 @@ pub record HasRoom (frames : Frames) (index values : ℕ) : Type 0 where
   pub kept : (word : ℕ) → frames.keeps index word ≡ true
       → ahead frames (frames.is_main index) + 7 + word + values < 64
 
--- The word of the header that has the address of a group frame.
-abbrev pub group_word : (waiting : ℕ) → ℕ
-group_word waiting = frame_end waiting - 61
+-- The word of the header that has the address of the group frame with a number. There are four such
+-- words.
+abbrev pub group_word : (waiting number : ℕ) → ℕ
+group_word waiting number = frame_end waiting - (61 - number)
 
--- The header of a call has the address of a group frame, whose first word has this index.
-pub record HasGroupFrame (memory : Memory) (waiting first : ℕ) : Type 0 where
+-- The header of a call has the address of the group frame with a number, whose first word has this
+-- index.
+pub record HasGroupFrame (memory : Memory) (waiting number first : ℕ) : Type 0 where
+  pub few : number < 4
   pub within : first ≤ 2 ^ 20
-  pub address : memory (group_word waiting) ≡ address_of first
+  pub address : memory (group_word waiting number) ≡ address_of first
 
 module _ (places : Places) where
   -- The word 7 words before the private words of a call for which `waiting` other calls wait. It is
@@ -158,8 +162,8 @@ module _ (places : Places) where
     pub home : places.frames.is_main at ≡ (waiting == 0)
     pub values : HasValues value call.values
     pub privates : (i : ℕ) → places.frames.keeps at i ≡ true → private i ≡ call.privates i
-    pub group : (number : ℕ) → places.frames.group at ≡ Some number
-        → HasGroupFrame memory waiting (call.frames number)
+    pub group : (number : ℕ) → places.frames.group at number ≡ true
+        → HasGroupFrame memory waiting number (call.frames number)
 
   -- The header of a call: the address to which it returns, the frame of the call that waits for it,
   -- and the word where that call takes the result. The waiting call goes on at the index `back`,

@@ -1,7 +1,7 @@
 -- Lists that suit frames: words that are read were kept or written, and values have room beside the
 -- words that are kept.
 use Rattle.std.specs.Prelude.{◌≡◌, ℕ, suc, ◌+◌, ◌-◌, ◌^◌, ◌==◌, ◌<◌, ◌≤◌, List, [], slice_get}
-use Rattle.std.specs.Prelude.{Bool, true, false, Some, None}
+use Rattle.std.specs.Prelude.{Bool, true, false, Some, ◌⊎◌}
 use Rattle.fk_meaning_operation.specs.declared.operation.OwnValue.{OwnValue}
 use Rattle.fk_meaning_operation.specs.declared.operation.OwnValue.TheVariants.{Value, FrameAddress}
 use Rattle.fk_meaning_operation.specs.declared.operation.Operation.{Operation}
@@ -58,14 +58,15 @@ module _ (core : List CoreOp) (frames : Frames) where
     pub main : frames.is_main j ≡ frames.is_main i
     pub kept : (word : ℕ) → frames.keeps j word ≡ true → written word ≡ false
         → frames.keeps i word ≡ true
-    pub group : (number : ℕ) → frames.group j ≡ Some number → frames.group i ≡ Some number
+    pub group : (number : ℕ) → frames.group j number ≡ true → frames.group i number ≡ true
 
   -- The call takes the group frame with a number at index i, and goes on at index j. The header has
-  -- the address of that frame afterwards, and of no other.
+  -- the address of that frame afterwards, and of those of which it had it.
   pub record TakesFrame (number i j : ℕ) : Type 0 where
     pub main : frames.is_main j ≡ frames.is_main i
     pub kept : (word : ℕ) → frames.keeps j word ≡ true → frames.keeps i word ≡ true
-    pub group : (told : ℕ) → frames.group j ≡ Some told → told ≡ number
+    pub group : (told : ℕ) → frames.group j told ≡ true
+        → (told ≡ number) ⊎ (frames.group i told ≡ true)
 
   -- A call begins at the next index. Its frame has room for the private words that are kept there:
   -- its arguments, and others, which begin as 0. The caller goes on after the first jump from there
@@ -73,7 +74,7 @@ module _ (core : List CoreOp) (frames : Frames) where
   pub record Calls (arguments i depth : ℕ) : Type 0 where
     pub few : arguments ≤ 56
     pub inside : frames.is_main (suc i) ≡ false
-    pub none : frames.group (suc i) ≡ None
+    pub none : (number : ℕ) → frames.group (suc i) number ≡ false
     pub kept : (word : ℕ) → frames.keeps (suc i) word ≡ true → word < 56
     pub back : Flows nothing i (behind_jump core (suc i))
     pub room : HasRoom frames (behind_jump core (suc i)) (suc (depth - arguments))
@@ -93,7 +94,7 @@ module _ (core : List CoreOp) (frames : Frames) where
   abbrev pub IsThere : OwnValue → (i : ℕ) → Type 0
   IsThere (Value (Private word)) i = frames.keeps i word ≡ true
   IsThere (Value (OfFile word)) i = word < frames.of_file
-  IsThere (FrameAddress number word) i = (frames.group i ≡ Some number) × (word < 2 ^ 21)
+  IsThere (FrameAddress number word) i = (frames.group i number ≡ true) × (word < 2 ^ 21)
   IsThere known i = Unit {0}
 
   abbrev pub HasPlace : Operation → (i depth : ℕ) → Type 0
@@ -102,8 +103,8 @@ module _ (core : List CoreOp) (frames : Frames) where
   HasPlace (Get known) i depth = IsThere known i × HasRoom frames i (suc depth)
   HasPlace (Set (Private word)) i depth = ahead frames (frames.is_main i) + 7 + word + depth < 64
   HasPlace (Set (OfFile word)) i depth = word < frames.of_file
-  HasPlace (Leave gives true) i depth = frames.group i ≡ Some 0
-  HasPlace (Frame number words) i depth = words < 2 ^ 21
+  HasPlace (Leave gives true) i depth = frames.group i 0 ≡ true
+  HasPlace (Frame number words) i depth = (number < 4) × (words < 2 ^ 21)
   HasPlace operation i depth = Unit {0}
 
   pub record Fits (i : ℕ) (op : CoreOp) (operation : Operation) : Type 0 where
@@ -116,7 +117,7 @@ module _ (core : List CoreOp) (frames : Frames) where
   -- The list suits its frames: all its jumps and operations do, and `main` begins at this index.
   pub record Suits (main : ℕ) : Type 0 where
     pub begins : frames.is_main main ≡ true
-    pub none : frames.group main ≡ None
+    pub none : (number : ℕ) → frames.group main number ≡ false
     pub few : frames.of_file ≤ 56
     pub jumps : (i : ℕ) (op : CoreOp) → slice_get core i ≡ Some op → is_jump op ≡ true
         → Flows nothing i op.target

@@ -360,8 +360,7 @@ module _ (core : List CoreOp) (setting : Setting) (spaces : ℕ → Space) (old 
         let q_is : q ≡ divided by size r.has (Some i) = here (o.Split by) is ∙ ap (divided by size r.has) e in
         let enters' : enters_by d.acting.due r.has ≡ true = entering d.acting.due (subst (λ y. KeepsOrDoes y d.acting.due) is step) e in
         let range = subst (λ y. HasRange (spaces ((tree_after old did).places number)) y.level.space) q_is (told enters') in
-        subst AtHome (sym q_is)
-        (
+        subst AtHome (sym q_is) (
           number_is,
           (
             λ none. omega (arith, none, at, given, from),

@@ -1,6 +1,6 @@
 -- What a machine follows stays so where only spaces of nodes that are not there are others.
 use Rattle.std.proofs.Common.{◌≡◌, ◌≢◌, ℕ, zero, suc, ◌+◌, ◌-◌, ◌<◌, ◌≤◌, List, [], ◌∷◌, length, Option, Some, None, Bool, true, false, sym, ap, subst, ◌∙◌, refl, arith, ◌⊎◌}
-use Rattle.std.specs.Prelude.{◌&&◌, is_some, if◌then◌else◌}
+use Rattle.std.specs.Prelude.{◌==◌, ◌&&◌, ◌||◌, is_some, if◌then◌else◌}
 use Rattle.std.proofs.lemmas.Bool.{ne_eqb, false≢true, and_parts}
 use Rattle.std.proofs.lemmas.List.{length-map}
 use Rattle.fk_num.specs.Word.{Memory}
@@ -10,6 +10,7 @@ use Rattle.fk_tree.specs.Tree as trees
 use Rattle.fk_tree.specs.Tree.{Tree, Node, kind_of, is_from, is_member, is_waiting}
 use Rattle.fk_tree.specs.Sound.{awaits, IsSound}
 use Rattle.fk_tree.proofs.Shapes.{has_some, awaits-some}
+use Rattle.fk_tree.proofs.Begins.{root_some}
 use Rattle.fk_meaning.specs.Processor.{Level, Setting}
 use Rattle.fk_meaning.specs.Round.{Runner}
 use Rattle.fk_core.specs.declared.op.CoreOp.{CoreOp}
@@ -32,7 +33,7 @@ use Rattle.fk_sim_match.proofs.Rounds.{not_none}
 use Rattle.fk_sim_rounds.specs.After.{runners_of, ArePlaces}
 use Rattle.fk_sim_rounds.specs.Next.{HasRange}
 use Rattle.fk_sim_rounds.specs.Homes.{IsLevelOf, AllHome}
-use Rattle.fk_sim_rounds.specs.Transport.{HaveSameSpaces, OtherSpacesDontMatter}
+use Rattle.fk_sim_rounds.specs.Transport.{HaveSameSpaces, OtherSpacesDontMatter, UnitedSpacesDontMatter}
 use Rattle.fk_sim_rounds.proofs.Trees.{some_there}
 use Rattle.fk_sim_rounds.proofs.Groups.{many_length}
 
@@ -96,7 +97,7 @@ module _ (tree : Tree) (spaces spaces' : ℕ → Space) (same : HaveSameSpaces t
       by None e = refl
       by (Some g) e = ap (λ f. is_arrival (i - f)) (first_same g (owner_there tree.given i g e))
 
-  plan_same : (nodes : List ℕ) → plan_of tree spaces nodes ≡ plan_of tree spaces' nodes
+  pub plan_same : (nodes : List ℕ) → plan_of tree spaces nodes ≡ plan_of tree spaces' nodes
   plan_same nodes = λ j.
       record {
         nodes = nodes;
@@ -109,7 +110,7 @@ module _ (tree : Tree) (spaces spaces' : ℕ → Space) (same : HaveSameSpaces t
 
   -- ---- what holds of the tree
 
-  spaced_same : HaveSpaces tree spaces → HaveSpaces tree spaces'
+  pub spaced_same : HaveSpaces tree spaces → HaveSpaces tree spaces'
   spaced_same x = record {
     header = λ g ne is. subst (λ s. s.low + 8 ≤ s.high) (same g is) (x.header g ne is);
     within = λ g ne is. subst (λ s. s.high ≤ (first_of spaces' 0)) (same g is) (x.within g ne is);
@@ -214,29 +215,36 @@ module _ (core : List CoreOp) (image : Image) (places : Places) (nestings : Nest
 
 module _ (core : List CoreOp) (image : Image) (places : Places) (nestings : Nestings) (setting : Setting) (tree : Tree) (spaces spaces' : ℕ → Space) (same : HaveSameSpaces tree spaces spaces')
     (sound : IsSound setting.processors tree) (nodes : List ℕ) (stand : ArePlaces tree 0 nodes) (many : length nodes ≡ setting.processors)
-    (t : MachineSetting) (stages : List Stage) (hs : List Hart) (ps : List Owner) (own : ℕ → Memory) where
-  abbrev plan : Plan
-  plan = plan_of tree spaces' nodes
+    (t : MachineSetting) (stages : List Stage) (hs : List Hart) (ps : List Owner) (own : ℕ → Memory)
+    (lock : ℕ → Bool) (free : (g : ℕ) → is_some (tree.nodes g) ≡ false → lock g ≡ false) where
+  -- the plan in which these nodes are in lockstep
+  abbrev locked : (ℕ → Space) → Plan
+  locked words = record (plan_of tree words nodes) { in_lockstep = lock }
 
-  bound_same : IsBound (core_source core setting) image (plan_of tree spaces nodes) (blocks_of core image places nestings setting (plan_of tree spaces nodes) (first_of spaces)) t stages hs ps own
-      → IsBound (core_source core setting) image (plan_of tree spaces' nodes) (blocks_of core image places nestings setting (plan_of tree spaces' nodes) (first_of spaces')) t stages hs ps own
+  abbrev plan : Plan
+  plan = locked spaces'
+
+  bound_same : IsBound (core_source core setting) image (locked spaces) (blocks_of core image places nestings setting (locked spaces) (first_of spaces)) t stages hs ps own
+      → IsBound (core_source core setting) image (locked spaces') (blocks_of core image places nestings setting (locked spaces') (first_of spaces')) t stages hs ps own
   bound_same x =
-      let y = subst (λ p. IsBound (core_source core setting) image p (blocks_of core image places nestings setting p (first_of spaces)) t stages hs ps own) (plan_same tree spaces spaces' same nodes) x in
+      let y = subst
+      (λ p. IsBound (core_source core setting) image (record p { in_lockstep = lock }) (blocks_of core image places nestings setting (record p { in_lockstep = lock }) (first_of spaces)) t stages hs ps own)
+      (plan_same tree spaces spaces' same nodes) x in
       record { as_many = y.as_many; stages_as_many = y.stages_as_many; binds = λ g. by g (is_some (tree.nodes g)) refl (y.binds g); counts = λ g w. y.counts g w }
     where
       by : (g : ℕ) (b : Bool) → is_some (tree.nodes g) ≡ b
-          → Binds (core_source core setting) image plan (blocks_of core image places nestings setting plan (first_of spaces)) (plan.in_lockstep g) t g (of_node g nodes stages) (of_node g nodes (numbered 0 hs))
+          → Binds (core_source core setting) image plan (blocks_of core image places nestings setting plan (first_of spaces)) (lock g) t g (of_node g nodes stages) (of_node g nodes (numbered 0 hs))
           (of_node g nodes ps) (own g)
-          → Binds (core_source core setting) image plan (blocks_of core image places nestings setting plan (first_of spaces')) (plan.in_lockstep g) t g (of_node g nodes stages) (of_node g nodes (numbered 0 hs))
+          → Binds (core_source core setting) image plan (blocks_of core image places nestings setting plan (first_of spaces')) (lock g) t g (of_node g nodes stages) (of_node g nodes (numbered 0 hs))
           (of_node g nodes ps) (own g)
       by g true is z =
-          binds_same core image places nestings setting plan (first_of spaces) (first_of spaces') t g (first_same tree spaces spaces' same g is) (plan.in_lockstep g) (of_node g nodes stages)
+          binds_same core image places nestings setting plan (first_of spaces) (first_of spaces') t g (first_same tree spaces spaces' same g is) (lock g) (of_node g nodes stages)
           (of_node g nodes (numbered 0 hs)) (of_node g nodes ps) (own g) z
       by g false none z =
           let size : 0 + length nodes ≡ setting.processors = omega (arith, many) in
           subst
           (λ b. Binds (core_source core setting) image plan (blocks_of core image places nestings setting plan (first_of spaces')) b t g (of_node g nodes stages) (of_node g nodes (numbered 0 hs)) (of_node g nodes ps) (own g))
-          (sym (no_lockstep (tree.nodes g) none))
+          (sym (free g none))
           (none_binds core image places nestings setting plan (first_of spaces) (first_of spaces') t g (of_node g nodes stages) (of_node g nodes (numbered 0 hs)) (of_node g nodes ps)
           (none_stand tree spaces spaces' same setting.processors sound g 0 nodes stages none size stand) (none_stand tree spaces spaces' same setting.processors sound g 0 nodes (numbered 0 hs) none size stand)
           (none_stand tree spaces spaces' same setting.processors sound g 0 nodes ps none size stand))
@@ -266,7 +274,53 @@ other_spaces_dont_matter core image places nestings setting spaces spaces' s nod
         beside = f.beside;
         homes = homes_same s.tree spaces spaces' same setting.processors b.sound 0 f.ps (omega (arith, many, long)) f.homes;
         shows = f.shows;
-        bound = bound_same core image places nestings setting s.tree spaces spaces' same b.sound nodes b.stand b.many (setting_of m) stages m.harts f.ps (λ g. (unprinted m.shared).control) f.bound;
+        bound = bound_same core image places nestings setting s.tree spaces spaces' same b.sound nodes b.stand b.many (setting_of m) stages m.harts f.ps (λ g. (unprinted m.shared).control)
+            (λ g. is_lockstep (trees.kind s.tree g)) (λ g none. no_lockstep (s.tree.nodes g) none) f.bound;
+      };
+      stand = goes.stand;
+    }
+
+-- with all in lockstep at the root, which is there
+no_root : (p : ℕ) (tree : Tree) → IsSound p tree → (g : ℕ) → is_some (tree.nodes g) ≡ false → ((g == 0) || is_lockstep (trees.kind tree g)) ≡ false
+no_root p tree sound g none =
+    let ne : g ≢ 0 = λ zero_is. false≢true (sym none ∙ ap (λ k. is_some (tree.nodes k)) zero_is ∙ some_there (tree.nodes 0) (root_some p tree sound)) in
+    ap (λ b. b || is_lockstep (trees.kind tree g)) (ne_eqb g 0 ne) ∙ no_lockstep (tree.nodes g) none
+
+pub united_spaces_dont_matter : UnitedSpacesDontMatter
+united_spaces_dont_matter core image places nestings setting spaces spaces' s nodes printed stages m same goes =
+    let f = goes.followed in
+    let b = f.before in
+    let many = b.many in
+    let long = (many_length nodes m.harts f.ps b.as_many).1 in
+    record {
+      followed = record {
+        ps = f.ps;
+        shared = f.shared;
+        before = record {
+          running = b.running;
+          sound = b.sound;
+          spaced = spaced_same s.tree spaces spaces' same b.spaced;
+          stand = b.stand;
+          many = b.many;
+          as_many = b.as_many;
+          alone = b.alone;
+          kind = b.kind;
+          in_root = b.in_root;
+        };
+        landed = f.landed;
+        i = f.i;
+        op = f.op;
+        stands = f.stands;
+        about = f.about;
+        order = f.order;
+        beside = f.beside;
+        near = f.near;
+        roots = f.roots;
+        homes = homes_same s.tree spaces spaces' same setting.processors b.sound 0 f.ps (omega (arith, many, long)) f.homes;
+        shows = f.shows;
+        bound =
+            bound_same core image places nestings setting s.tree spaces spaces' same b.sound nodes b.stand b.many (setting_of m) stages m.harts f.ps (λ g. (unprinted m.shared).control)
+            (λ g. (g == 0) || is_lockstep (trees.kind s.tree g)) (no_root setting.processors s.tree b.sound) f.bound;
       };
       stand = goes.stand;
     }

@@ -11,7 +11,7 @@ use Rattle.fk_machine.specs.Cycle.{Machine}
 use Rattle.fk_sim_match.specs.Stage.{Stage}
 use Rattle.fk_sim_block.specs.Stands.{Places}
 use Rattle.fk_sim_block.specs.Node.{Nestings}
-use Rattle.fk_sim_rounds.specs.Machines.{GoesWith}
+use Rattle.fk_sim_rounds.specs.Machines.{GoesWith, GoesToStart}
 
 -- All nodes that are there have the same spaces.
 abbrev pub HaveSameSpaces : Tree → (spaces spaces' : ℕ → Space) → Type 0
@@ -28,3 +28,13 @@ OtherSpacesDontMatter =
     → HaveSameSpaces s.tree spaces spaces'
     → GoesWith core image places nestings setting spaces s nodes printed stages m
     → GoesWith core image places nestings setting spaces' s nodes printed stages m
+
+-- So it is with a state whose processors are in lockstep at the beginning of `start`.
+abbrev pub UnitedSpacesDontMatter : Type 0
+UnitedSpacesDontMatter =
+    (core : List CoreOp) (image : Image) (places : Places) (nestings : Nestings) (setting : Setting)
+    (spaces spaces' : ℕ → Space) (s : State Position) (nodes : List ℕ) (printed : List ℕ)
+    (stages : List Stage) (m : Machine)
+    → HaveSameSpaces s.tree spaces spaces'
+    → GoesToStart core image places nestings setting spaces s nodes printed stages m
+    → GoesToStart core image places nestings setting spaces' s nodes printed stages m

@@ -13,7 +13,7 @@ ghost use Rattle.fk_sim_rounds.specs.Beside.{LandedRunsAreRuns};
 ghost use Rattle.fk_sim_rounds.specs.Results.{CyclesAreResults, CutsAreFaults};
 ghost use Rattle.fk_sim_rounds.specs.Homes.{HomesStay, HomesGoOn, HomesBegin};
 ghost use Rattle.fk_sim_rounds.specs.Machines.{MachinesFollowRounds, MachinesFollowStarts};
-ghost use Rattle.fk_sim_rounds.specs.Transport.{OtherSpacesDontMatter};
+ghost use Rattle.fk_sim_rounds.specs.Transport.{OtherSpacesDontMatter, UnitedSpacesDontMatter};
 ghost use Rattle.fk_sim_rounds.specs.RestInRuns.{OpeningsAreReady, CyclesStayReady};
 ghost use Rattle.fk_sim_rounds.specs.RestInRuns.{StartsStayReady};
 ghost use Rattle.fk_sim_rounds.specs.Starts.{CyclesFollowStarts};
@@ -174,6 +174,11 @@ pub fn machines_follow_starts()
 /// as well where other numbers have other spaces.
 pub fn other_spaces_dont_matter()
     ensures { OtherSpacesDontMatter }
+{}
+
+/// The same holds where all processors have met at the beginning of `start`.
+pub fn united_spaces_dont_matter()
+    ensures { UnitedSpacesDontMatter }
 {}
 
 /// At the beginning nobody is at the control words of the group to come.

@@ -43,7 +43,7 @@ all_in_step core nestings g number [] (p ∷ ps) many each = absurd (omega (arit
 all_in_step core nestings g number (n ∷ ns) [] many each = absurd (omega (arith, many))
 
 module _ (core : List CoreOp) (nestings : Nestings) (main : ℕ) (setting : Setting) (s : State Position) (ps : List Owner) (g : ℕ) (list : IsOfTree core nestings main)
-    (is : IsReached core setting s) (runners : s.runners ≡ runners_of ps) (kind : trees.kind s.tree g ≡ Some Lockstep) where
+    (is : IsReached core nestings setting s) (runners : s.runners ≡ runners_of ps) (kind : trees.kind s.tree g ≡ Some Lockstep) where
   not_root : g ≢ 0
   not_root none = is.stands.sound.free (ap (trees.kind s.tree) (sym none) ∙ kind)
 

@@ -1,32 +1,38 @@
 -- The rounds of machines are known ones.
-use Rattle.std.proofs.Common.{◌≡◌, ◌⊎◌, inl, inr, ⊎_elim, ℕ, zero, suc, ◌≤◌, ◌&&◌, ◌==◌, Bool, true, false, List, [], ◌∷◌, map, slice_get, Option, Some, None, refl, sym, ap, ◌∙◌, subst, arith}
-use Rattle.std.specs.Prelude.{is_none, if◌then◌else◌}
-use Rattle.std.proofs.lemmas.Bool.{eqb-true}
+use Rattle.std.proofs.Common.{◌≡◌, ◌≢◌, ◌⊎◌, inl, inr, ⊎_elim, ℕ, zero, suc, ◌+◌, ◌≤◌, ◌<◌, ◌&&◌, ◌==◌, true, List, [], ◌∷◌, map, length, slice_get, Option, Some, None, refl, sym, ap, ◌∙◌, subst, arith, eq-eqb}
+use Rattle.std.specs.Prelude.{is_none}
+use Rattle.std.proofs.lemmas.Bool.{cond-true}
 use Rattle.std.proofs.lemmas.List.{length-map}
+use Rattle.fk_space.specs.Space.{Space}
+use Rattle.fk_meaning_operation.specs.declared.operation.SplitKind.{SplitKind}
+use Rattle.fk_meaning_operation.specs.declared.operation.SplitKind.TheVariants.{Fork}
 use Rattle.fk_meaning_operation.specs.declared.operation.Operation.{Operation}
 use Rattle.fk_meaning_operation.specs.declared.operation.Operation.TheVariants as o
-use Rattle.fk_tree.specs.declared.node.Kind.TheVariants.{Asynchronous}
 use Rattle.fk_tree.specs.Tree as trees
 use Rattle.fk_tree.specs.Tree.{Tree}
-use Rattle.fk_meaning.specs.Processor.{Setting}
-use Rattle.fk_meaning.specs.Round.{Runner, State, Round, Phases, result, is_allowed, is_possible}
+use Rattle.fk_tree.specs.Sound.{IsSound}
+use Rattle.fk_tree.proofs.Lists.{below-has}
+use Rattle.fk_meaning.specs.Processor.{Processor, Setting}
+use Rattle.fk_meaning.specs.Round.{Runner, State, Round, Phases, Acting, lowest, result, is_allowed, is_possible}
 use Rattle.fk_core.specs.declared.op.CoreOp.{CoreOp}
 use Rattle.fk_core.specs.Next.{Position, position, landing, next}
 use Rattle.fk_sim_nodes.specs.Source.{AllPass}
 use Rattle.fk_sim_match.specs.Stage.{Stage, distance, count_for, counts_for}
 use Rattle.fk_lockstep.specs.OneProgram.{AreTogether, HaveOneProgram}
-use Rattle.fk_lockstep_tree.specs.Where.{Where, GoesNext, GoesFor, Goes}
-use Rattle.fk_lockstep_tree.specs.Placed.{IsPlaced, HasOneGroup}
-use Rattle.fk_lockstep_tree.specs.Steps as one
-use Rattle.fk_lockstep_nodes.specs.Steps.{stepping}
-use Rattle.fk_lockstep_tree.specs.Rounds.{IsSingle}
-use Rattle.fk_lockstep_tree.proofs.Known.{rounds_are_known}
 use Rattle.fk_lockstep.proofs.Round.{first_is}
+use Rattle.fk_lockstep_nodes.specs.Steps.{KeepsOrDoes, StepsBy, only, stepping}
+use Rattle.fk_lockstep_tree.specs.Where.{Where, GoesNext, GoesFor, Goes}
+use Rattle.fk_lockstep_tree.specs.Ranges.{range_of, level_of, has_of, ranges_of}
+use Rattle.fk_lockstep_tree.specs.Placed.{IsPlaced, IsInTree, HasTree}
+use Rattle.fk_lockstep_tree.specs.Steps.{StepFits, AreKnown}
+use Rattle.fk_lockstep_tree.specs.Rounds.{IsSingle}
+use Rattle.fk_lockstep_tree.proofs.Acts.{stepping_length}
+use Rattle.fk_lockstep_tree.proofs.Known.{rounds_are_known}
 use Rattle.fk_sim_block.specs.Owner.{Commons, Owner, Doing, core_source}
-use Rattle.fk_lockstep_nodes.specs.Steps.{only}
-use Rattle.fk_sim_rounds.specs.After.{actings, StepsAt}
+use Rattle.fk_sim_block.specs.Parts.{is_implicit}
+use Rattle.fk_sim_rounds.specs.After.{actings}
 use Rattle.fk_sim_rounds.specs.Next.{JumpsLead}
-use Rattle.fk_sim_rounds.specs.Rounds.{StepIsKnown, IsKnownRound}
+use Rattle.fk_sim_rounds.specs.Rounds.{AllStandIn, StepIsKnown, IsKnownRound}
 use Rattle.fk_sim_rounds.specs.Beside.{landed_runner, landed_state, AreInOrder, IsBeside}
 use Rattle.fk_sim_rounds.proofs.Landed.{next_landed, results_land, allowed_land}
 use Rattle.fk_sim_rounds.proofs.Results.{actings_same, all_passed}
@@ -46,44 +52,69 @@ counts_single (s ∷ stages) (suc h) = counts_single stages h
 
 -- ---- those who step, as machines have them
 
-at_only : (g k : ℕ) (x operation : Operation) → only g x k ≡ Some operation → (k ≡ g) × (x ≡ operation)
-at_only g k x operation e = by (k == g) refl e
-  where
-    by : (b : Bool) → (k == g) ≡ b → (if b then Some x else None) ≡ Some operation → (k ≡ g) × (x ≡ operation)
-    by true is e = (eqb-true k g is, cc)
-    by false is e = absurd (cc)
-
--- a round in which one node steps
-one_step : (tree : Tree) (ds : List Doing) (g : ℕ) (op : Operation) → StepsAt tree g 0 op ds → StepIsKnown tree g op → IsKnownRound tree ds
-one_step tree ds g op steps known = record {
-  does = only g op;
-  steps = steps;
-  known = λ k x e. let at = at_only g k op x e in subst (λ j. StepIsKnown tree j x) (sym at.0) (subst (StepIsKnown tree g) at.1 known);
-}
-
 abbrev IsKnown : Tree → List Doing → Type 0
 IsKnown tree ds = IsKnownRound tree ds ⊎ BeginsGroup tree ds
 
-step_so : (tree : Tree) (ds : List Doing) (g : ℕ) (op : Operation) → one.MayStep tree g op → ((h : ℕ) → trees.is_member h (trees.members tree g) ≡ true → tree.places h ≡ g)
-    → StepsAt tree g 0 op ds → IsKnown tree ds
-step_so tree ds g o.Begin may stand steps =
-    let zero_is = may.0 in
-    inr (record {
-      kind = subst (λ n. trees.kind tree n ≡ Some (Asynchronous false)) zero_is may.1;
-      stand = subst (λ n. (h : ℕ) → trees.is_member h (trees.members tree n) ≡ true → tree.places h ≡ n) zero_is stand;
-      steps = subst (λ n. StepsAt tree n 0 o.Begin ds) zero_is steps;
-    })
-step_so tree ds g o.Resume may stand steps = inl (one_step tree ds g o.Resume steps ((may.1.0, 1, may.1.1), stand))
-step_so tree ds g (o.Meet true) may stand steps = inl (one_step tree ds g (o.Meet true) steps ((may.1.0, may.1.1), stand))
-step_so tree ds g o.Farm may stand steps = inl (one_step tree ds g o.Farm steps may)
-step_so tree ds g o.Seq may stand steps = inl (one_step tree ds g o.Seq steps may)
-step_so tree ds g o.End may stand steps = inl (one_step tree ds g o.End steps may)
-step_so tree ds g (o.Meet false) may stand steps = absurd may
-step_so tree ds g op may stand steps = absurd may
+implicit : (by : SplitKind) → by ≢ Fork → is_implicit by ≡ true
+implicit Fork ne = absurd (ne refl)
+implicit by ne = refl
 
-known_so : (tree : Tree) (ds : List Doing) → one.AreKnown tree (actings ds) → IsKnown tree ds
-known_so tree ds known =
-    ⊎_elim (λ keep. inl (record { does = λ g. None; steps = keep; known = λ g op e. absurd (cc) })) (λ s. step_so tree ds s.node s.operation s.may s.stand s.steps) known
+-- each step that fits is known, but the beginning of a group
+known_step : (tree : Tree) (g : ℕ) (op : Operation) → op ≢ o.Begin → StepFits tree g op → AllStandIn tree g → StepIsKnown tree g op
+known_step tree g o.Begin other fits stand = absurd (other refl)
+known_step tree g o.Resume other fits stand = (fits, stand)
+known_step tree g (o.Split by) other fits stand = (fits.0, implicit by fits.1)
+known_step tree g o.Shrink other fits stand = fits
+known_step tree g o.Farm other fits stand = fits
+known_step tree g o.Seq other fits stand = fits
+known_step tree g o.End other fits stand = fits
+known_step tree g (o.Meet true) other fits stand = (fits.1, stand)
+known_step tree g (o.Meet false) other fits stand = absurd fits
+known_step tree g op other fits stand = absurd fits
+
+begins_or_not : (d : Option Operation) → (d ≡ Some o.Begin) ⊎ (d ≢ Some o.Begin)
+begins_or_not (Some o.Begin) = inl refl
+begins_or_not (Some op) = inr (λ e. absurd (cc))
+begins_or_not None = inr (λ e. absurd (cc))
+
+-- where all are at one node, only its step counts
+steps_there : (tree : Tree) (g : ℕ) (op : Operation) (does : ℕ → Option Operation) (number : ℕ) (actings : List (Acting Position)) → does g ≡ Some op
+    → ((h : ℕ) → h < number + length actings → tree.places h ≡ g) → StepsBy tree does number actings → StepsBy tree (only g op) number actings
+steps_there tree g op does number [] is stand steps = tt
+steps_there tree g op does number (a ∷ actings) is stand steps =
+    let at = stand number (omega arith) in
+    let same : does (tree.places number) ≡ only g op (tree.places number)
+    = ap does at ∙ is ∙ sym (cond-true (tree.places number == g) (Some op) None (eq-eqb (tree.places number) g at)) in (
+      steps.0,
+      subst (λ (d : Option Operation). KeepsOrDoes d a.due) same steps.1,
+      steps_there tree g op does (suc number) actings is (λ h lt. stand h (omega (arith, lt))) steps.2,
+    )
+
+module _ (p : ℕ) (tree : Tree) (sound : IsSound p tree) (ds : List Doing) (many : length (actings ds) ≡ p) (known : AreKnown tree (actings ds)) where
+  -- all are in the root
+  in_root : known.does 0 ≡ Some o.Begin → (h : ℕ) → h < 0 + length (actings ds) → tree.places h ≡ 0
+  in_root begins h lt =
+      (known.may 0 o.Begin begins).stand h (subst (λ (ms : List ℕ). trees.is_member h ms ≡ true) (sym sound.root) (below-has p h [] (omega (arith, lt, many))))
+
+  known_so : IsKnown tree ds
+  known_so =
+      ⊎_elim
+      (λ begins. inr (record {
+        kind = (known.fits 0 o.Begin begins).1;
+        stand = (known.may 0 o.Begin begins).stand;
+        steps = steps_there tree 0 o.Begin known.does 0 (actings ds) begins (in_root begins) known.steps;
+      }))
+      (λ other. inl (record {
+        does = known.does;
+        steps = known.steps;
+        known = λ g op e. known_step tree g op (not_begin other g op e) (known.fits g op e) (known.may g op e).stand;
+      }))
+      (begins_or_not (known.does 0))
+    where
+      not_begin : known.does 0 ≢ Some o.Begin → (g : ℕ) (op : Operation) → known.does g ≡ Some op → op ≢ o.Begin
+      not_begin other g op e begins =
+          let does' : known.does g ≡ Some o.Begin = e ∙ ap (λ (x : Operation). Some x) begins in
+          other (ap known.does (sym (known.fits g o.Begin does').0) ∙ does')
 
 -- ---- a state whose processors are at their operations
 
@@ -115,16 +146,31 @@ module _ (core : List CoreOp) (leads : JumpsLead core) (setting : Setting) (s : 
         size = t.size;
       }))
 
-  pub one_group : HasOneGroup (next core) setting s → HasOneGroup (next core) setting (landed_state core s)
-  one_group has = record {
-    many = length-map s.runners (landed_runner core) ∙ has.many;
-    tree = has.tree;
-    placed = λ h r at.
-        let b = landed_at s.runners h r at in
-        let p = has.placed h b.0 b.1 in
-        subst (λ x. IsPlaced (next core) setting s.tree h x) (sym b.2)
-        (record { number_is = p.number_is; place = p.place; there = p.there; goes = goes_landed p.place b.0.left p.goes; levels = p.levels });
-  }
+  -- each processor is what it was
+  has_landed : (rs : List (Runner Position)) (h : ℕ) → has_of (slice_get (map (landed_runner core) rs) h) ≡ has_of (slice_get rs h)
+  has_landed [] h = refl
+  has_landed (r ∷ rs) zero = refl
+  has_landed (r ∷ rs) (suc h) = has_landed rs h
+
+  ranges_landed : (g : ℕ) → ranges_of (landed_state core s) g ≡ ranges_of s g
+  ranges_landed g = ap (λ (p : Processor). range_of (level_of s.tree g p).space) (has_landed s.runners (lowest (trees.members s.tree g)))
+
+  same_ranges : ranges_of (landed_state core s) ≡ ranges_of s
+  same_ranges = λ j. λ g. ranges_landed g j
+
+  pub in_tree : HasTree (next core) setting s → HasTree (next core) setting (landed_state core s)
+  in_tree has =
+      subst (λ (spaces : ℕ → Space). IsInTree (next core) setting spaces (landed_state core s)) (sym same_ranges)
+      (record {
+        many = length-map s.runners (landed_runner core) ∙ has.many;
+        upward = has.upward;
+        placed = λ h r at.
+            let b = landed_at s.runners h r at in
+            let p = has.placed h b.0 b.1 in
+            subst (λ x. IsPlaced (next core) setting (ranges_of s) s.tree h x) (sym b.2)
+            (record { number_is = p.number_is; place = p.place; there = p.there; goes = goes_landed p.place b.0.left p.goes; levels = p.levels });
+        ranges = has.ranges;
+      })
 
   pub possible_landed : (round : Round) → is_possible (next core) setting round s ≡ true → is_possible (next core) setting round (landed_state core s) ≡ true
   possible_landed round e =
@@ -148,8 +194,12 @@ reached_rounds_are_known core nestings main setting stages s ps did shared share
     let known = rounds_are_known Position (next core) setting round (landed_state core s) (record {
       sound = is.stands.sound;
       one_program = one_program core list.jumps setting s is.stands.one_program;
-      one_group = one_group core list.jumps setting s is.stands.tree;
+      tree = in_tree core list.jumps setting s is.stands.tree;
       single = counts_single stages;
       possible = possible_landed core list.jumps setting s round possible;
     }) in
-    known_so s.tree did (subst (λ l. one.AreKnown s.tree l) (steppers core setting stages s ps did shared shared' order beside all) known)
+    let same = steppers core setting stages s ps did shared shared' order beside all in
+    let many : length (actings did) ≡ setting.processors
+    = ap (λ l. length l) (sym same) ∙ stepping_length (next core) setting round (landed_state core s) (counts_single stages) (possible_landed core list.jumps setting s round possible)
+    ∙ length-map s.runners (landed_runner core) ∙ is.stands.tree.many in
+    known_so setting.processors s.tree is.stands.sound did many (subst (λ l. AreKnown s.tree l) same known)

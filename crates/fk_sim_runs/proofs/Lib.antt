@@ -11,6 +11,8 @@ pub mod Groups
 pub mod Reached
 -- rounds
 pub mod Known
+-- the words of nodes in a cycle
+pub mod Over
 -- and the last one of a run
 pub mod ReachedRuns
 -- the words of the group to come

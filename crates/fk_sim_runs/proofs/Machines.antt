@@ -8,6 +8,7 @@ use Rattle.fk_meaning.specs.Round.{Runner, State}
 use Rattle.fk_meaning.specs.Schedule.{Schedule, first_processor, beginners, run, ArePossible}
 use Rattle.fk_core.specs.declared.op.CoreOp.{CoreOp}
 use Rattle.fk_core.specs.Next.{Position, position, next, list_opening}
+use Rattle.fk_lockstep_tree.specs.Ranges.{ranges_of}
 use Rattle.fk_lockstep_tree.specs.Runs.{AreSingle}
 use Rattle.fk_image.specs.declared.Image.{Image}
 use Rattle.fk_sim_block.specs.Stands.{Places}
@@ -18,7 +19,6 @@ use Rattle.fk_sim_block.specs.Node.{Nestings}
 use Rattle.fk_sim_block.specs.Law.{Cycles}
 use Rattle.fk_sim_rounds.specs.Next.{landed, HasNext}
 use Rattle.fk_sim_runs.specs.Reached.{IsReached, RunsReach}
-use Rattle.fk_sim_runs.specs.Facts.{spaces_of}
 use Rattle.fk_sim_runs.proofs.Nexts.{reached_processors_have_next}
 use Rattle.fk_sim_runs.specs.Opening.{OpensWith}
 use Rattle.fk_sim_runs.proofs.Opening.{openings_are_followed}
@@ -48,7 +48,7 @@ module _ (runs_reach : RunsReach) (core : List CoreOp) (main : ℕ) (firsts : Li
   pub given : AreGiven image.globals.items firsts input p
   given = record { few = few; room = is_input.room; globals_are_words = carries.globals_are_words; firsts_are_words = carries.firsts_are_words; input_are_words = is_input.words }
 
-  pub reached : (schedule : Schedule) → ArePossible (next core) setting schedule first → AreSingle schedule → (state schedule).fault ≡ None → IsReached core setting (state schedule)
+  pub reached : (schedule : Schedule) → ArePossible (next core) setting schedule first → AreSingle schedule → (state schedule).fault ≡ None → IsReached core nestings setting (state schedule)
   reached schedule possible single none =
       runs_reach core nestings main carries.tree image.globals.items firsts input p schedule some given possible single none
 
@@ -65,6 +65,6 @@ module _ (runs_reach : RunsReach) (core : List CoreOp) (main : ℕ) (firsts : Li
       reached_processors_have_next core nestings main setting first number r heap carries.tree (reached [] tt tt refl) at
       (λ e. let same : main ≡ length core = ap (λ w. w.at) e in omega (arith, within, same))
 
-  pub opens : OpensWith core image places nestings (spaces_of setting) firsts main input p
+  pub opens : OpensWith core image places nestings (ranges_of first) firsts main input p
   opens =
-      openings_are_followed core image places nestings cycles firsts main (spaces_of setting) input p carries.blocks carries.tree.jumps some few is_input.few is_input.room begins_at
+      openings_are_followed core image places nestings cycles firsts main (ranges_of first) input p carries.blocks carries.tree.jumps some few is_input.few is_input.room begins_at

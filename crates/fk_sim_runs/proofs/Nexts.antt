@@ -91,7 +91,7 @@ root_levels core nestings setting p none levels = record {
   none = none_saved nestings none (landing core p.runner.left.at ∷ p.runner.left.callers);
 }
 
-module _ (core : List CoreOp) (nestings : Nestings) (main : ℕ) (setting : Setting) (s : State Position) (list : IsOfTree core nestings main) (is : IsReached core setting s) where
+module _ (core : List CoreOp) (nestings : Nestings) (main : ℕ) (setting : Setting) (s : State Position) (list : IsOfTree core nestings main) (is : IsReached core nestings setting s) where
   pub below : (h : ℕ) (r : Runner Position) → slice_get s.runners h ≡ Some r → h < setting.processors
   below h r at = let lt = at_below s.runners h r at in let many = is.stands.tree.many in omega (arith, lt, many)
 

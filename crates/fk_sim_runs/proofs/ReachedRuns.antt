@@ -30,5 +30,5 @@ runs_reach_rounds runs_reach core nestings main list words firsts input p schedu
     let all = are_all (next core) setting (schedule ++ round ∷ []) first are_possible none in
     let before = all_are (next core) setting schedule first (possible_before (next core) setting schedule (round ∷ []) first all) in (
       runs_reach core nestings main list words firsts input p schedule some given before single (running (next core) setting round s possible),
-      subst (IsReached core setting) last (runs_reach core nestings main list words firsts input p (schedule ++ round ∷ []) some given are_possible (single_then schedule round single one) none),
+      subst (IsReached core nestings setting) last (runs_reach core nestings main list words firsts input p (schedule ++ round ∷ []) some given are_possible (single_then schedule round single one) none),
     )

@@ -93,7 +93,7 @@ first_due core tree spaces [] (q ∷ rs) r due at = absurd due
 first_due core tree spaces (x ∷ stages) [] r due at = absurd due
 
 module _ (core : List CoreOp) (nestings : Nestings) (main : ℕ) (setting : Setting) (s : State Position) (stages : List Stage) (did : List Doing) (list : IsOfTree core nestings main)
-    (reached : AreReached core setting s stages) (round : IsRoundOf core setting s stages did) (spaces : ℕ → Space) (due : AllDue core s.tree spaces 0 stages (landed_state core s).runners) where
+    (reached : AreReached core setting s stages nestings) (round : IsRoundOf core setting s stages did) (spaces : ℕ → Space) (due : AllDue core s.tree spaces 0 stages (landed_state core s).runners) where
   no_group : BeginsGroup s.tree did → ⊥
   no_group begins =
       let some = reached.before.stands.sound.some in
@@ -142,9 +142,9 @@ module _ (core : List CoreOp) (nestings : Nestings) (main : ℕ) (setting : Sett
       (reached_rounds_are_known core nestings main setting stages s round.ps did round.shared round.shared' list reached.before round.order round.beside round.possible round.passes)
 
 pub reached_stages_go_on : ReachedStagesGoOn
-reached_stages_go_on core nestings main setting s stages afters did spaces list space limit reached round due stay = (
+reached_stages_go_on core nestings main setting s stages afters did spaces list limit reached round due stay = (
   known core nestings main setting s stages did list reached round spaces due,
-  reached_rounds_go_on core nestings main setting s stages afters did list space limit reached round
+  reached_rounds_go_on core nestings main setting s stages afters did list limit reached round
       (had core s.tree spaces list.jumps 0 stages afters s.runners due stay),
 )
 

@@ -38,22 +38,23 @@ abbrev pub ReachedBeginnersAreInRoot : Type 0
 ReachedBeginnersAreInRoot =
     (core : List CoreOp) (nestings : Nestings) (main : ℕ) (setting : Setting) (s : State Position)
     (h : ℕ) (p : Owner)
-    → IsOfTree core nestings main → IsReached core setting s → slice_get s.runners h
+    → IsOfTree core nestings main → IsReached core nestings setting s → slice_get s.runners h
     ≡ Some p.runner → Begins core p.runner → IsInRoot nestings setting (landed core p)
 
 -- Where all processors are about to begin that group, jumps lead all to one index.
 abbrev pub ReachedBeginnersLandAtOneIndex : Type 0
 ReachedBeginnersLandAtOneIndex =
-    (core : List CoreOp) (setting : Setting) (s : State Position)
-    → IsReached core setting s
+    (core : List CoreOp) (nestings : Nestings) (setting : Setting) (s : State Position)
+    → IsReached core nestings setting s
     → ((h : ℕ) (r : Runner Position) → slice_get s.runners h ≡ Some r → Begins core r)
     → (i : ℕ) × AllLandAt core i s.runners
 
 -- A processor that waits for the group is about to go on after it.
 abbrev pub ReachedWaitersResume : Type 0
 ReachedWaitersResume =
-    (core : List CoreOp) (setting : Setting) (s : State Position) (h first parts : ℕ)
-    (r : Runner Position) (step : Step Position)
-    → IsReached core setting s → trees.kind s.tree (s.tree.places h) ≡ Some (Waiting first parts)
+    (core : List CoreOp) (nestings : Nestings) (setting : Setting) (s : State Position)
+    (h first parts : ℕ) (r : Runner Position) (step : Step Position)
+    → IsReached core nestings setting s
+    → trees.kind s.tree (s.tree.places h) ≡ Some (Waiting first parts)
     → slice_get s.runners h ≡ Some r → next core r.left ≡ Some step
     → joint_of step.operation ≡ Resuming

@@ -21,10 +21,10 @@ use Rattle.fk_sim_rounds.specs.Next.{JumpsLead, AllAbout}
 use Rattle.fk_sim_rounds.specs.After.{owners_after, ArePlaces, GroupsGoOn}
 use Rattle.fk_sim_rounds.specs.Rounds.{IsTree, IsKnownRound}
 use Rattle.fk_sim_rounds.specs.Beside.{landed_state, AreInOrder, IsBeside}
-use Rattle.fk_sim_rounds.specs.Homes.{AllNext}
+use Rattle.fk_sim_rounds.specs.Homes.{AllNext, PartsAreTold}
 use Rattle.fk_sim_runs.specs.Lists.{IsOfTree}
 use Rattle.fk_sim_runs.specs.Reached.{IsReached}
-use Rattle.fk_sim_runs.specs.Facts.{spaces_of, HasSpace}
+use Rattle.fk_sim_runs.specs.Facts.{ranges_over}
 
 -- A processor that has committed, or has met those with whom it unites, had something left to do.
 abbrev pub HadNext : List CoreOp → (afters : List (Option Stage)) → List (Runner Position) → Type 0
@@ -56,15 +56,22 @@ module _ (core : List CoreOp) (setting : Setting) (s : State Position) (stages :
     pub passes : AllPass (core_source core setting) (counts_for stages) ps shared did shared'
 
   -- The states before and after the round are reached.
-  pub record AreReached : Type 0 where
-    pub before : IsReached core setting s
-    pub after : IsReached core setting behind
+  pub record AreReached (nestings : Nestings) : Type 0 where
+    pub before : IsReached core nestings setting s
+    pub after : IsReached core nestings setting behind
 
-  -- The tree after the round is sound, and its nodes own words apart. All processors that have
-  -- committed go on, and so do groups all of whose members have committed.
+  -- The words of the nodes in this round.
+  abbrev pub spaces_in_round : ℕ → Space
+  spaces_in_round = ranges_over setting s behind
+
+  -- The tree after the round is sound, and its nodes own words apart: who enters a part has those
+  -- of its node. All processors that have committed go on, and so do groups all of whose members
+  -- have committed.
   pub record GoAhead (nestings : Nestings) (did : List Doing)
       (afters : List (Option Stage)) : Type 0 where
-    pub tree : IsTree setting behind.tree (spaces_of setting)
+    pub tree : IsTree setting behind.tree spaces_in_round
+    pub parts : PartsAreTold behind.tree spaces_in_round 0 did
+        (owners_after s.tree behind.tree did)
     pub ahead : AllNext core nestings setting behind.tree 0 afters did
         (owners_after s.tree behind.tree did)
     pub groups : (nodes : List ℕ) → ArePlaces behind.tree 0 nodes
@@ -77,8 +84,8 @@ abbrev pub ReachedRoundsGoOn : Type 0
 ReachedRoundsGoOn =
     (core : List CoreOp) (nestings : Nestings) (main : ℕ) (setting : Setting) (s : State Position)
     (stages : List Stage) (afters : List (Option Stage)) (did : List Doing)
-    → IsOfTree core nestings main → HasSpace setting → setting.processors ≤ 1024
-    → AreReached core setting s stages → IsRoundOf core setting s stages did
+    → IsOfTree core nestings main → setting.processors ≤ 1024
+    → AreReached core setting s stages nestings → IsRoundOf core setting s stages did
     → HadNext core afters s.runners → GoAhead core setting s stages nestings did afters
 
 -- Where each processor is about to do what its stage tells, and stages stay or are over, nobody
@@ -87,8 +94,8 @@ abbrev pub ReachedStagesGoOn : Type 0
 ReachedStagesGoOn =
     (core : List CoreOp) (nestings : Nestings) (main : ℕ) (setting : Setting) (s : State Position)
     (stages : List Stage) (afters : List (Option Stage)) (did : List Doing)
-    (spaces : ℕ → Space) → IsOfTree core nestings main → HasSpace setting
-    → setting.processors ≤ 1024 → AreReached core setting s stages
+    (spaces : ℕ → Space) → IsOfTree core nestings main
+    → setting.processors ≤ 1024 → AreReached core setting s stages nestings
     → IsRoundOf core setting s stages did → AllDue core s.tree spaces 0 stages
     (landed_state core s).runners → Pairwise Remains stages afters
     → IsKnownRound s.tree did × GoAhead core setting s stages nestings did afters
@@ -105,4 +112,5 @@ RunsReachRounds =
     → ArePossible (next core) setting (schedule ++ counts_for stages ∷ []) first
     → AreSingle schedule
     → is_possible (next core) setting (counts_for stages) s ≡ true
-    → IsReached core setting s × IsReached core setting (behind core setting s stages)
+    → IsReached core nestings setting s
+    × IsReached core nestings setting (behind core setting s stages)

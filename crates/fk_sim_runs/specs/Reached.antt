@@ -15,6 +15,7 @@ use Rattle.fk_sim_block.specs.Lists.{StaysInList}
 use Rattle.fk_sim_rounds.specs.InRange.{AreGiven}
 use Rattle.fk_sim_block.specs.Node.{Nestings}
 use Rattle.fk_sim_runs.specs.Lists.{IsOfTree}
+use Rattle.fk_sim_runs.specs.Levels.{SavesLevels}
 
 -- The position of a processor with nothing left to do.
 abbrev pub the_end : List CoreOp → Position
@@ -25,11 +26,15 @@ abbrev pub HasSpaces : Processor → Type 0
 HasSpaces p = All IsSpace (spaces_of p)
 
 -- What is known of a reached state: processors are where their operations, the tree and their
--- levels tell, and their levels have spaces. Each processor is in the list or at its end, has as
--- many values as its operation expects, may do it, and has words alone.
-pub record IsReached (core : List CoreOp) (setting : Setting) (s : State Position) : Type 0 where
+-- levels tell, their levels have spaces, and their frames save these levels. Each processor is in
+-- the list or at its end, has as many values as its operation expects, may do it, and has words
+-- alone.
+pub record IsReached (core : List CoreOp) (nestings : Nestings) (setting : Setting)
+    (s : State Position) : Type 0 where
   pub stands : StandsInTree (next core) (λ w. landing core w.at) setting s
   pub spaces : (h : ℕ) (r : Runner Position) → slice_get s.runners h ≡ Some r → HasSpaces r.has
+  pub saves : (h : ℕ) (r : Runner Position) → slice_get s.runners h ≡ Some r
+      → SavesLevels core nestings r
   pub within : (h : ℕ) (r : Runner Position) → slice_get s.runners h ≡ Some r
       → StaysInList core r.left ⊎ (r.left ≡ the_end core)
   pub depth : (h : ℕ) (r : Runner Position) (op : CoreOp) → slice_get s.runners h ≡ Some r
@@ -51,4 +56,4 @@ RunsReach =
     let first = list_opening main words firsts input p in
     1 ≤ p → AreGiven words firsts input p → ArePossible (next core) setting schedule first
     → AreSingle schedule → (run (next core) setting schedule first).fault ≡ None
-    → IsReached core setting (run (next core) setting schedule first)
+    → IsReached core nestings setting (run (next core) setting schedule first)

@@ -5,8 +5,9 @@ use Rattle.fk_num.specs.Word.{Memory}
 use Rattle.fk_space.specs.Space.{Space}
 use Rattle.fk_tree.specs.Tree.{Tree}
 use Rattle.fk_meaning.specs.Processor.{Setting, setting_of, group_space}
-use Rattle.fk_meaning.specs.Round.{State, result}
+use Rattle.fk_meaning.specs.Round.{State, result, is_possible}
 use Rattle.fk_meaning.specs.Schedule.{Schedule, run, IsLawful}
+use Rattle.fk_lockstep_tree.specs.Ranges.{ranges_of}
 use Rattle.fk_lockstep_tree.specs.Runs.{AreSingle}
 use Rattle.fk_core.specs.declared.op.CoreOp.{CoreOp}
 use Rattle.fk_core.specs.Next.{Position, next, list_opening}
@@ -19,14 +20,16 @@ use Rattle.fk_sim_block.specs.Stands.{Places}
 use Rattle.fk_sim_block.specs.Node.{Nestings, IsAtRest}
 use Rattle.fk_sim_block.specs.Law.{Cycles, GroupLaw}
 use Rattle.fk_sim_match.specs.Nodes.{first_of, plan_of, united}
-use Rattle.fk_sim_rounds.specs.Next.{JumpsLead}
+use Rattle.fk_sim_rounds.specs.Next.{JumpsLead, HasRange}
 use Rattle.fk_sim_rounds.specs.After.{owners_after, GroupsGoOn}
 use Rattle.fk_sim_rounds.specs.Rounds.{IsTree, IsKnownRound}
-use Rattle.fk_sim_rounds.specs.Homes.{AllNext}
+use Rattle.fk_sim_rounds.specs.Homes.{AllNext, PartsAreTold}
 use Rattle.fk_sim_rounds.specs.RestInRuns.{IsReadyForGroup}
 use Rattle.fk_sim_rounds.specs.Union.{AllLandAt}
 use Rattle.fk_sim_rounds.specs.Machines.{GoesWith, GoesToStart, GoesOn, Unites, Starts}
+use Rattle.fk_sim_rounds.specs.Transport.{HaveSameSpaces}
 use Rattle.fk_sim_rounds.specs.Follows.{Follows}
+use Rattle.fk_sim_runs.specs.Facts.{ranges_over}
 use Rattle.fk_sim_runs.specs.Opening.{OpensWith}
 use Rattle.fk_sim_runs.specs.Pace.{AreInTime, Sight, Turns}
 use Rattle.fk_sim_runs.specs.Able.{WhoWaitsResumes}
@@ -63,7 +66,7 @@ module _ (core : List CoreOp) (image : Image) (places : Places) (nestings : Nest
       (stages : List Stage) (m : Machine) : Type 0 where
     pub goes : GoesBeside uniting s nodes printed stages m
     pub in_time : AreInTime stages
-    pub ready : IsReadyForGroup s.tree (first_of spaces 1) m.shared.control
+    pub ready : IsReadyForGroup s.tree (group_space setting).low m.shared.control
 
   -- The machine's cycle is a possible round.
   abbrev pub IsRound : (uniting : Bool) → State Position → (nodes : List ℕ) → (printed : List ℕ)
@@ -87,33 +90,48 @@ module _ (core : List CoreOp) (image : Image) (places : Places) (nestings : Nest
         (sight_in uniting' (result (next core) setting (counts_for stages) s).tree spaces nodes'
         stages' (cycle m).shared.control (cycle m).begun)
 
-  -- In the run from a state, after any lawful schedule of a machine's rounds, each cycle goes
-  -- further whose round is possible and keeps the schedule lawful; and a processor that waits for
-  -- parts is to go on after them.
-  pub record AlwaysGoesFurther (first : State Position) : Type 0 where
-    pub waits : (schedule : Schedule) → IsLawful (next core) setting schedule first
-        → AreSingle schedule → (run (next core) setting schedule first).fault ≡ None
-        → WhoWaitsResumes core (run (next core) setting schedule first)
-    pub further : (schedule : Schedule) (uniting : Bool) (nodes : List ℕ) (printed : List ℕ)
-        (stages : List Stage) (m : Machine)
-        → IsLawful (next core) setting schedule first → AreSingle schedule
-        → StandsBeside uniting (run (next core) setting schedule first) nodes printed stages m
-        → is_running m.stand ≡ true
-        → IsRound uniting (run (next core) setting schedule first) nodes printed stages m
-        → IsLawful (next core) setting (schedule ++ counts_for stages ∷ []) first
-        → GoesFurther uniting (run (next core) setting schedule first) nodes printed stages m
+-- The words of the nodes in a cycle of a machine beside a state.
+abbrev pub spaces_in_cycle : List CoreOp → Setting → State Position → List Stage → ℕ → Space
+spaces_in_cycle core setting s stages =
+    ranges_over setting s (result (next core) setting (counts_for stages) s)
+
+-- In the run from a state, after any lawful schedule of a machine's rounds, each cycle goes further
+-- whose round is possible and keeps the schedule lawful, and nodes that stay have the same words
+-- after it; and a processor that waits for parts is to go on after them.
+pub record AlwaysGoesFurther (core : List CoreOp) (image : Image) (places : Places)
+    (nestings : Nestings) (setting : Setting) (first : State Position) : Type 0 where
+  pub waits : (schedule : Schedule) → IsLawful (next core) setting schedule first
+      → AreSingle schedule → (run (next core) setting schedule first).fault ≡ None
+      → WhoWaitsResumes core (run (next core) setting schedule first)
+  pub further : (schedule : Schedule) (uniting : Bool) (nodes : List ℕ) (printed : List ℕ)
+      (stages : List Stage) (m : Machine)
+      → let s = run (next core) setting schedule first in
+      let spaces = spaces_in_cycle core setting s stages in
+      IsLawful (next core) setting schedule first → AreSingle schedule
+      → StandsBeside core image places nestings setting spaces uniting s nodes printed stages m
+      → is_running m.stand ≡ true
+      → IsRound core image places nestings setting spaces uniting s nodes printed stages m
+      → IsLawful (next core) setting (schedule ++ counts_for stages ∷ []) first
+      → GoesFurther core image places nestings setting spaces uniting s nodes printed stages m
+  pub stay : (schedule : Schedule) (stages : List Stage)
+      → let s = run (next core) setting schedule first in
+      let behind = result (next core) setting (counts_for stages) s in
+      IsLawful (next core) setting schedule first → AreSingle schedule
+      → is_possible (next core) setting (counts_for stages) s ≡ true
+      → IsLawful (next core) setting (schedule ++ counts_for stages ∷ []) first
+      → HaveSameSpaces behind.tree (spaces_in_cycle core setting s stages) (ranges_of behind)
 
 -- A machine with p harts follows the run, for every input and every number of cycles, if each cycle
 -- goes further.
 abbrev pub MachinesFollowGroupRuns : Type 0
 MachinesFollowGroupRuns =
     (core : List CoreOp) (image : Image) (places : Places) (nestings : Nestings) (cycles : Cycles)
-    (firsts : List ℕ) (main : ℕ) (spaces : ℕ → Space) (input : List ℕ) (p n : ℕ)
-    → GroupLaw core image places nestings cycles firsts main → JumpsLead core → p ≤ 1024
-    → OpensWith core image places nestings spaces firsts main input p
-    → AlwaysGoesFurther core image places nestings (setting_of p image.globals.items input) spaces
-    (list_opening main image.globals.items firsts input p)
-    → Follows (next core) image input p n (list_opening main image.globals.items firsts input p)
+    (firsts : List ℕ) (main : ℕ) (input : List ℕ) (p n : ℕ)
+    → let first = list_opening main image.globals.items firsts input p in
+    GroupLaw core image places nestings cycles firsts main → JumpsLead core → p ≤ 1024
+    → OpensWith core image places nestings (ranges_of first) firsts main input p
+    → AlwaysGoesFurther core image places nestings (setting_of p image.globals.items input) first
+    → Follows (next core) image input p n first
 
 -- ---- what is to be known of the run
 
@@ -127,15 +145,17 @@ module _ (core : List CoreOp) (nestings : Nestings) (setting : Setting) (spaces 
   abbrev pub tree_behind : Tree
   tree_behind = (result (next core) setting (counts_for stages) s).tree
 
-  -- After the round of a cycle the tree is sound, and its nodes own words apart. All processors go
-  -- on, and groups too, and nobody is at the words of the group to come.
+  -- After the round of a cycle the tree is sound, and its nodes own words apart: who enters a part
+  -- has those of its node. All processors go on, and groups too, and nobody is at the words of the
+  -- group to come.
   pub record IsBehind (did : List Doing) (afters : List (Option Stage)) : Type 0 where
     pub tree : IsTree setting tree_behind spaces
+    pub parts : PartsAreTold tree_behind spaces 0 did (owners_after s.tree tree_behind did)
     pub ahead : AllNext core nestings setting tree_behind 0 afters did
         (owners_after s.tree tree_behind did)
     pub groups : GroupsGoOn core nestings tree_behind
         (places_in tree_behind 0 setting.processors) afters (owners_after s.tree tree_behind did)
-    pub ready : IsReadyForGroup tree_behind (first_of spaces 1) (cycle m).shared.control
+    pub ready : IsReadyForGroup tree_behind (group_space setting).low (cycle m).shared.control
 
 -- A machine goes further after a known round, if `IsBehind` holds after it.
 abbrev pub OrderlyRoundsGoFurther : Type 0
@@ -161,8 +181,8 @@ UnionsGoFurther =
     → GoesWith core image places nestings setting spaces s nodes printed stages m
     → setting.processors ≤ 1024
     → AllLandAt core i s.runners
-    → IsReadyForGroup (tree_behind core nestings setting spaces s stages m) (first_of spaces 1)
-    (cycle m).shared.control
+    → IsReadyForGroup (tree_behind core nestings setting spaces s stages m)
+    (group_space setting).low (cycle m).shared.control
     → GoesFurther core image places nestings setting spaces false s nodes printed stages m
 
 -- A machine goes further from there to where the group begins, if that has the whole group space.
@@ -177,5 +197,5 @@ StartsGoFurther =
     → setting.processors ≤ 1024
     → IsBehind core nestings setting spaces s stages m r.did r.afters
     → IsAtRest (first_of spaces s.tree.given) (cycle m).shared.control
-    → (spaces s.tree.given).low ≡ (group_space setting).low
+    → HasRange (spaces s.tree.given) (group_space setting)
     → GoesFurther core image places nestings setting spaces true s nodes printed stages m

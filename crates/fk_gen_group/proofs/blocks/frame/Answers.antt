@@ -7,13 +7,13 @@ use Rattle.fk_gen_group.proofs.blocks.frame.Goals as goal
 
 pub emit_sum-requires-clause-room : goal.emit_sum-requires-clause-room
 emit_sum-requires-clause-room c =
-    let all = length-append (map quiet (add_number (4 * c.args.words) 12)) (frame_lines c.args.site) in
+    let all = length-append (map quiet (add_number (4 * c.args.words) 12)) (frame_lines c.args.nesting c.args.site) in
     let room = c.requires.room in
     omega arith
 
 pub emit_taking-requires-clause-room : goal.emit_taking-requires-clause-room
 emit_taking-requires-clause-room c =
-    let all = length-append (map quiet (add_number (4 * c.args.words) 12)) (frame_lines c.args.site) in
+    let all = length-append (map quiet (add_number (4 * c.args.words) 12)) (frame_lines c.args.nesting c.args.site) in
     let more = many_lines c.args.into.now c.emit_sum.new.into (map quiet (add_number (4 * c.args.words) 12)) _ c.in_ok-emit_sum.ensures.added refl in
     let room = c.requires.room in
     omega arith
@@ -25,16 +25,16 @@ emit_taking-requires-clause-free c =
 pub returns-in_err-emit_sum-clause-begun : goal.returns-in_err-emit_sum-clause-begun
 returns-in_err-emit_sum-clause-begun c =
     on_err c.from_residual.result _
-    (begun_front c.args.into.now c.emit_sum.new.into (map quiet (add_number (4 * c.args.words) 12)) (frame_lines c.args.site) c.in_err-emit_sum.ensures.begun)
+    (begun_front c.args.into.now c.emit_sum.new.into (map quiet (add_number (4 * c.args.words) 12)) (frame_lines c.args.nesting c.args.site) c.in_err-emit_sum.ensures.begun)
 
 pub returns-clause-added : goal.returns-clause-added
 returns-clause-added c =
     on_ok c.emit_taking.result _ _
-    (added_both c.args.into.now c.emit_sum.new.into c.emit_taking.new.into (map quiet (add_number (4 * c.args.words) 12)) (frame_lines c.args.site) c.in_ok-emit_sum.ensures.added)
+    (added_both c.args.into.now c.emit_sum.new.into c.emit_taking.new.into (map quiet (add_number (4 * c.args.words) 12)) (frame_lines c.args.nesting c.args.site) c.in_ok-emit_sum.ensures.added)
     c.emit_taking.ensures.added
 
 pub returns-clause-begun : goal.returns-clause-begun
 returns-clause-begun c =
     when_err c.emit_taking.result _ _
-    (begun_behind c.args.into.now c.emit_sum.new.into c.emit_taking.new.into (map quiet (add_number (4 * c.args.words) 12)) (frame_lines c.args.site) c.in_ok-emit_sum.ensures.added)
+    (begun_behind c.args.into.now c.emit_sum.new.into c.emit_taking.new.into (map quiet (add_number (4 * c.args.words) 12)) (frame_lines c.args.nesting c.args.site) c.in_ok-emit_sum.ensures.added)
     c.emit_taking.ensures.begun
