@@ -1,6 +1,6 @@
 -- The functions and the parts that a processor is in, with the group frames that it took there.
-use Rattle.std.specs.Prelude.{◌≡◌, ℕ, zero, suc, ◌+◌, ◌^◌, ◌==◌, ◌||◌, nat_lt, Bool, true, false, List}
-use Rattle.std.specs.Prelude.{[], ◌∷◌, Option, Some, None, is_some, if◌then◌else◌}
+use Rattle.std.specs.Prelude.{◌≡◌, ℕ, zero, suc, ◌+◌, ◌-◌, ◌^◌, ◌==◌, ◌||◌, nat_lt, Bool, true, false}
+use Rattle.std.specs.Prelude.{List, [], ◌∷◌, Option, Some, None, is_some, if◌then◌else◌}
 use Rattle.fk_meaning_operation.specs.declared.operation.SplitKind.TheVariants.{IfElse}
 use Rattle.fk_meaning_operation.specs.declared.operation.Operation.{Operation}
 use Rattle.fk_meaning_operation.specs.declared.operation.Operation.TheVariants as o
@@ -33,6 +33,12 @@ abbrev pub nesting : List Nest → ℕ
 nesting [] = 0
 nesting (OfFunction frame ∷ nests) = 0
 nesting (OfPart frame ∷ nests) = suc (nesting nests)
+
+-- how many levels the frame of a call has: one for each group around its own that the function made
+-- itself, by a part. Around the group of a `start`, which is in `main`, there is the root, whose level
+-- isn't saved
+abbrev pub levels_of : (main : Bool) → List Nest → ℕ
+levels_of main nests = nesting nests - (if main then 1 else 0)
 
 -- the frame of the nest with a number in the running function
 abbrev pub frame_at : List Nest → (number : ℕ) → Option ℕ

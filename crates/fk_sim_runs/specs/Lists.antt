@@ -4,8 +4,7 @@ use Rattle.fk_meaning_operation.specs.declared.operation.Operation.{Operation}
 use Rattle.fk_core.specs.declared.op.CoreOp.{CoreOp}
 use Rattle.fk_core.specs.Next.{position, landing, is_jump, follows, next}
 use Rattle.fk_core.specs.WellFormed.{IsOperation, IsWellFormed}
-use Rattle.fk_core_nestings.specs.declared.nesting.Nesting.{Nesting}
-use Rattle.fk_core_nestings.specs.Nestings.{NestingsFit}
+use Rattle.fk_lockstep_frames.specs.Nests.{levels_of}
 use Rattle.fk_lockstep_frames.specs.Lists.{HasLocalFrames}
 use Rattle.fk_lockstep_tree.specs.Runs.{AlwaysInTree}
 use Rattle.fk_sim_block.specs.Next.{OpAt}
@@ -23,12 +22,10 @@ pub record IsOfTree (core : List CoreOp) (nestings : Nestings) (main : ℕ) : Ty
   pub within : (i : ℕ) (op : CoreOp) (operation : Operation) → OpAt core i op operation
       → is_end operation ≡ false
       → (onward : Bool) → StaysInList core (follows core operation i op.target [] onward)
-  -- At each index the nests of the call are known, and a frame saves as many levels as the pass
-  -- over the list tells.
+  -- At each index the nests of the call are known, and its frame has the levels that they tell.
   pub frames : HasLocalFrames core main
-  pub nest : (index : ℕ) → Nesting
-  pub nested : NestingsFit core main nest
-  pub levels : (i : ℕ) → nestings.levels i ≡ (nest i).levels
+  pub levels : (i : ℕ) → i < length core
+      → nestings.levels i ≡ levels_of (frames.in_main i) (frames.nests i)
   -- In every such run processors are where their operations, the tree and their levels tell. The
   -- members of a group in lockstep are at one index and have one space, and those who begin a group
   -- are at one index.
