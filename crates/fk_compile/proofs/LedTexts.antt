@@ -24,7 +24,7 @@ use Rattle.fk_lockstep_structure.specs.InPlace.{Splits, Calls, InPlace, OptionIn
 use Rattle.fk_lockstep_structure.proofs.Behind.{either_no}
 use Rattle.fk_lockstep_tree.specs.Leads.{Comes, Leads}
 use Rattle.fk_compile_text.specs.Plain.{is_plain}
-use Rattle.fk_lower_laws.specs.Unsplit.{AllOf}
+use Rattle.fk_lower_laws.specs.AllOf.{AllOf}
 use Rattle.fk_compile.proofs.Wants as wants
 use Rattle.fk_compile.proofs.Wants.{Base, Main, Group, Body, place_of, in_group, who_of, inner_is, group_is, keeps_at, Want, arm}
 

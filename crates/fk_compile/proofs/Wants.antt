@@ -29,7 +29,7 @@ use Rattle.fk_lockstep_structure.specs.InPlace.{Splits, Calls, InPlace, NoneShar
 use Rattle.fk_lockstep_structure.proofs.Behind.{either_no}
 use Rattle.fk_lockstep_tree.specs.Leads.{is_in_group, Comes, Leads}
 use Rattle.fk_compile_text.specs.Plain.{is_plain}
-use Rattle.fk_lower_laws.specs.Unsplit.{AllOf}
+use Rattle.fk_lower_laws.specs.AllOf.{AllOf}
 
 -- who runs code: processors by themselves in `main`; a group; processors by themselves in a function that is called in the root,
 -- or in the body of a group
