@@ -1,6 +1,6 @@
 pub mod Along
-mod Unsplit
-mod Shallow
+pub mod Waiting
+mod Nested
 mod TypedOk
 mod Acting
 mod TypedForms
