@@ -12,7 +12,7 @@ All = List Levels
 -- ---- one
 
 abbrev later : Levels → (words : ℕ) → Levels
-later l words = record { count = l.count; behind = words }
+later l words = record l { behind = words }
 
 one_low : (l : Levels) (words : ℕ) → words ≤ l.behind → raised_one l words ≡ l
 one_low l words le = ap (λ b. if b then later l words else l) (le-ltb l.behind words le)
@@ -48,6 +48,13 @@ one_below l words most low le = by (cases_lt l.behind words)
     by (inl lt) = let e = ap (λ (r : Levels). r.behind) (one_new l words lt) in omega (arith, e, le)
     by (inr more) = let e = ap (λ (r : Levels). r.behind) (one_low l words more) in omega (arith, e, low)
 
+one_nest : (l : Levels) (words : ℕ) → (raised_one l words).nest ≡ l.nest
+one_nest l words = by (nat_lt l.behind words)
+  where
+    by : (b : Bool) → (let r : Levels = if b then later l words else l in r.nest) ≡ l.nest
+    by true = refl
+    by false = refl
+
 -- ---- at an index
 
 pub raised_long : (saved : All) (i words : ℕ) → length (raised saved i words) ≡ length saved
@@ -59,6 +66,11 @@ pub raised_count : (saved : All) (i words : ℕ) → map (λ (l : Levels). l.cou
 raised_count [] i words = refl
 raised_count (l ∷ saved) zero words = ap (λ n. n ∷ map (λ (l : Levels). l.count) saved) (one_count l words)
 raised_count (l ∷ saved) (suc i) words = ap (λ ns. l.count ∷ ns) (raised_count saved i words)
+
+pub raised_nest : (saved : All) (i words : ℕ) → map (λ (l : Levels). l.nest) (raised saved i words) ≡ map (λ (l : Levels). l.nest) saved
+raised_nest [] i words = refl
+raised_nest (l ∷ saved) zero words = ap (λ n. n ∷ map (λ (l : Levels). l.nest) saved) (one_nest l words)
+raised_nest (l ∷ saved) (suc i) words = ap (λ ns. l.nest ∷ ns) (raised_nest saved i words)
 
 pub raised_above : (saved : All) (i words k : ℕ) → behind_in saved k ≤ behind_in (raised saved i words) k
 raised_above [] i words k = omega arith
@@ -87,16 +99,16 @@ raised_low (l ∷ saved) zero words le = ap (λ x. x ∷ saved) (one_low l words
 raised_low (l ∷ saved) (suc i) words le = ap (λ xs. l ∷ xs) (raised_low saved i words le)
 
 pub raised_new : (saved : All) (i words : ℕ) → i < length saved → behind_in saved i < words
-    → slice_set saved i (record { count = (levels_in saved i).count; behind = words }) ≡ raised saved i words
+    → slice_set saved i (record (levels_in saved i) { behind = words }) ≡ raised saved i words
 raised_new [] i words lt less = absurd (let z : ⊥ = omega arith in z)
 raised_new (l ∷ saved) zero words lt less = ap (λ x. x ∷ saved) (sym (one_new l words less))
 raised_new (l ∷ saved) (suc i) words lt less = ap (λ xs. l ∷ xs) (raised_new saved i words (omega arith) less)
 
-pub raised_fewer : (saved : All) (i words count : ℕ) → i < length saved → behind_in saved i < words → words ≤ 64
-    → left_over (slice_set saved i (record { count = count; behind = words })) < left_over saved
-raised_fewer [] i words count lt less few = absurd (let z : ⊥ = omega arith in z)
-raised_fewer (l ∷ saved) zero words count lt less few = omega arith
-raised_fewer (l ∷ saved) (suc i) words count lt less few = let fewer = raised_fewer saved i words count (omega arith) less few in omega (arith, fewer)
+pub raised_fewer : (saved : All) (i words count nest : ℕ) → i < length saved → behind_in saved i < words → words ≤ 64
+    → left_over (slice_set saved i (record { count = count; behind = words; nest = nest })) < left_over saved
+raised_fewer [] i words count nest lt less few = absurd (let z : ⊥ = omega arith in z)
+raised_fewer (l ∷ saved) zero words count nest lt less few = omega arith
+raised_fewer (l ∷ saved) (suc i) words count nest lt less few = let fewer = raised_fewer saved i words count nest (omega arith) less few in omega (arith, fewer)
 
 -- ---- at two indices
 

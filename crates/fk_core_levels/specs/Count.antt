@@ -5,7 +5,7 @@ use Rattle.std.specs.Prelude.{ℕ, suc, ◌-◌, Bool, true, false, List, [], �
 use Rattle.std.specs.Prelude.{if◌then◌else◌}
 use Rattle.fk_meaning_operation.specs.declared.operation.Operation.{Operation}
 use Rattle.fk_meaning_operation.specs.declared.operation.Operation.TheVariants.{Split, Resume}
-use Rattle.fk_meaning_operation.specs.declared.operation.Operation.TheVariants.{Enter}
+use Rattle.fk_meaning_operation.specs.declared.operation.Operation.TheVariants.{Enter, Begin}
 use Rattle.fk_core.specs.declared.op.CoreOp.{CoreOp}
 use Rattle.fk_core.specs.Numbers.{operation_of}
 use Rattle.fk_core.specs.Next.{is_jump}
@@ -39,3 +39,20 @@ counts_from parts opening (op ∷ ops) =
 
 abbrev pub counts : List CoreOp → List ℕ
 counts ops = counts_from 0 false ops
+
+-- In how many parts the call is at an operation, and after it. The group of `start` is one of them,
+-- and is around all others of `main`.
+abbrev pub inside : (parts : ℕ) → Option Operation → ℕ
+inside parts (Some Begin) = suc parts
+inside parts (Some (Split by)) = suc parts
+inside parts operation = parts
+
+abbrev pub nests_from : (parts : ℕ) → (opening : Bool) → List CoreOp → List ℕ
+nests_from parts opening [] = []
+nests_from parts opening (op ∷ ops) =
+    let nest = here parts (read op) in
+    (if opening then 0 else nest)
+    ∷ nests_from (inside nest (read op)) (opens opening op) ops
+
+abbrev pub nests : List CoreOp → List ℕ
+nests ops = nests_from 0 false ops

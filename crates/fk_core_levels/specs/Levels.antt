@@ -4,7 +4,7 @@ use Rattle.std.specs.Prelude.{[], ◌∷◌, map, length, slice_get, Some, if◌
 use Rattle.fk_core.specs.declared.op.CoreOp.{CoreOp}
 use Rattle.fk_gen.specs.declared.placed.Levels.{Levels}
 use Rattle.fk_gen.specs.Levels.{levels_in}
-use Rattle.fk_core_levels.specs.Count.{read, here, after, opens, counts}
+use Rattle.fk_core_levels.specs.Count.{read, here, after, inside, opens, counts, nests}
 use Rattle.fk_core_levels.specs.Behind.{named, leads, IsBound, IsLeast}
 
 -- The words after which the levels of the frame begin, at each index.
@@ -16,22 +16,28 @@ behind_in saved index = (levels_in saved index).behind
 pub record AreLevels (core : List CoreOp) (saved : List Levels) : Type 0 where
   pub long : length saved ≡ length core
   pub count : map (λ (l : Levels). l.count) saved ≡ counts core
+  pub nest : map (λ (l : Levels). l.nest) saved ≡ nests core
   pub bound : IsBound core (behind_in saved)
   pub least : IsLeast core (behind_in saved)
 
 -- ---- how they are found
 
 -- What is told of each operation by itself.
-abbrev pub told_from : (parts : ℕ) → (opening : Bool) → List CoreOp → List Levels
-told_from parts opening [] = []
-told_from parts opening (op ∷ ops) =
+abbrev pub told_from : (parts around : ℕ) → (opening : Bool) → List CoreOp → List Levels
+told_from parts around opening [] = []
+told_from parts around opening (op ∷ ops) =
     let count = here parts (read op) in
-    record { count = if opening then 0 else count; behind = named (read op) }
-    ∷ told_from (after count (read op)) (opens opening op) ops
+    let nest = here around (read op) in
+    record {
+      count = if opening then 0 else count;
+      behind = named (read op);
+      nest = if opening then 0 else nest;
+    }
+    ∷ told_from (after count (read op)) (inside nest (read op)) (opens opening op) ops
 
 -- The levels at an index begin after as many words at least.
 abbrev pub raised_one : Levels → (words : ℕ) → Levels
-raised_one l words = if nat_lt l.behind words then record { count = l.count; behind = words } else l
+raised_one l words = if nat_lt l.behind words then record l { behind = words } else l
 
 abbrev pub raised : List Levels → (index words : ℕ) → List Levels
 raised [] i words = []
@@ -51,6 +57,7 @@ left_over (l ∷ saved) = (64 - l.behind) + left_over saved
 pub record IsSettling (core : List CoreOp) (saved : List Levels) : Type 0 where
   pub long : length saved ≡ length core
   pub count : map (λ (l : Levels). l.count) saved ≡ counts core
+  pub nest : map (λ (l : Levels). l.nest) saved ≡ nests core
   pub holds : (i : ℕ) (op : CoreOp) → slice_get core i ≡ Some op
       → named (read op) ≤ behind_in saved i
   pub least : IsLeast core (behind_in saved)

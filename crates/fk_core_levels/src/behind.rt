@@ -72,6 +72,7 @@ fn levels_at(saved: &[Levels], index: usize) -> Levels
         None => Levels {
             count: 0,
             behind: 0,
+            nest: 0,
         },
     }
 }
@@ -89,8 +90,8 @@ fn raise(saved: &mut [Levels], index: usize, words: u32) -> bool
         return false;
     }
     saved[index] = Levels {
-        count: old.count,
         behind: words,
+        ..old
     };
     true
 }

@@ -28,6 +28,17 @@ pub(crate) fn after(parts: u32, op: CoreOp) -> u32
     }
 }
 
+/// In how many parts the call is after an operation at which it is in so many.
+pub(crate) fn inside(parts: u32, op: CoreOp) -> u32
+    requires few { suc parts < 2 ^ 32 }
+    ensures { result ≡ c.inside parts (operation_of op.kind op.number) }
+{
+    match op.operation() {
+        Some(Operation::Begin | Operation::Split(_)) => parts + 1,
+        _ => parts,
+    }
+}
+
 /// Whether the call that begins runs after an operation.
 pub(crate) fn opens(opening: bool, op: CoreOp) -> bool
     ensures { result ≡ c.opens opening op }

@@ -4,7 +4,7 @@ ghost use Rattle.std.specs.Prelude.{◌≡◌, ◌<◌, ◌^◌, false, IfOk, le
 ghost use Rattle.fk_core_levels.specs.Levels as l;
 
 use crate::behind::{named, settle};
-use crate::count::{after, here, opens};
+use crate::count::{after, here, inside, opens};
 use fk_core::CoreOp;
 use fk_gen::Levels;
 use std::alloc::{AllocError, Global};
@@ -12,18 +12,22 @@ use std::alloc::{AllocError, Global};
 // What is told of each operation by itself.
 fn told(alloc: Global, ops: &[CoreOp]) -> Result<Vec<Levels>, AllocError>
     requires small { length ops.now < 2 ^ 31 }
-    ensures { IfOk result (λ saved. saved.items ≡ l.told_from 0 false ops.now) }
+    ensures { IfOk result (λ saved. saved.items ≡ l.told_from 0 0 false ops.now) }
 {
     let mut saved = Vec::new(alloc);
     let mut parts = 0;
+    let mut around = 0;
     let mut opening = false;
     for op in ops {
         let count = here(parts, *op);
+        let nest = here(around, *op);
         saved.push(Levels {
             count: if opening { 0 } else { count },
             behind: named(*op),
+            nest: if opening { 0 } else { nest },
         })?;
         parts = after(count, *op);
+        around = inside(nest, *op);
         opening = opens(opening, *op);
     }
     Ok(saved)

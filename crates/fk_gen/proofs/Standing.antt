@@ -340,6 +340,34 @@ module _ (core : List CoreOp) (places : Places) where
       waiting_kept places m (put m w v) (b ∷ backs) (c ∷ calls) few (λ j le lt. other_word m w v j (λ f. omega arith)) (λ j le lt. other_word m w v j (λ f. omega arith)) held
   waiting_kept_by m w v number backs calls few known e held = absurd (assumption held)
 
+  -- the group frames of which the header has the addresses, once it gets that of one more
+  module _ (m frames : Memory) (n number first : ℕ) (known : number < 4) (small : first ≤ 2 ^ 20) where
+    abbrev HasTaken : (told : ℕ) → Type 0
+    HasTaken told = HasGroupFrame (put m (group_word n number) (address_of first)) n told (put frames number first told)
+
+    taken : (told : ℕ) → told ≡ number → HasTaken told
+    taken told same =
+        let there : put frames number first told ≡ first = ap (put frames number first) same ∙ same_word frames number first in
+        record {
+          few = subst (λ x. x < 4) (sym same) known;
+          within = subst (λ x. x ≤ 2 ^ 20) (sym there) small;
+          address = ap (λ k. put m (group_word n number) (address_of first) (group_word n k)) same ∙ same_word m (group_word n number) (address_of first) ∙ ap address_of (sym there);
+        }
+
+    by_told : (told : ℕ) (Before : Type 0) → (Before → HasGroupFrame m n told (frames told)) → (told ≡ number) ⊎ Before → (same : Bool) → (told == number) ≡ same → HasTaken told
+    by_told told Before old either true e = taken told (eqb-true told number e)
+    by_told told Before old (inl same) false e = taken told same
+    by_told told Before old (inr before) false e =
+        let has = old before in
+        let low = has.few in
+        let apart : told ≡ number → ⊥ = λ f. eqb-false told number e f in
+        let kept : put frames number first told ≡ frames told = other_word frames number first told apart in
+        record {
+          few = low;
+          within = subst (λ x. x ≤ 2 ^ 20) (sym kept) has.within;
+          address = other_word m (group_word n number) (address_of first) (group_word n told) (λ same. apart (omega (arith, same, low, known))) ∙ has.address ∙ ap address_of (sym kept);
+        }
+
   pub frame_written : (m : Memory) (p : Owner) (i i' number first count : ℕ) → places.frames.of_file ≤ 56 → length p.runner.has.callers < 256
       → p.runner.left.at ≡ i → HasRoom places.frames i count → length (values p.runner.has) ≤ count → number < 4 → TakesFrame core places.frames number i i' → first ≤ 2 ^ 20
       → InMemory places m p
@@ -359,7 +387,7 @@ module _ (core : List CoreOp) (places : Places) where
           privates = λ y e.
               let above = above_group n known in
               other_word m w v (frame_start places n + 7 + y) (λ f. omega arith) ∙ running.privates y (takes.kept y e);
-          group = λ told e. by_told told (running.group told) (takes.group told e) (told == number) refl;
+          group = λ told e. by_told m p.runner.has.call.frames n number first known small told (places.frames.group i told ≡ true) (running.group told) (takes.group told e) (told == number) refl;
         };
         waiting = waiting_kept_by m w v number p.runner.left.callers p.runner.has.callers few known refl held.waiting;
         own = λ y lt. other_word m w v (7 + y) (λ e. omega arith) ∙ held.own y lt;
@@ -367,41 +395,9 @@ module _ (core : List CoreOp) (places : Places) where
         full = other_word m w v 2 (λ e. omega arith) ∙ held.full;
       }
     where
-      there : (told : ℕ) → told ≡ number → put p.runner.has.call.frames number first told ≡ first
-      there told same = ap (put p.runner.has.call.frames number first) same ∙ same_word p.runner.has.call.frames number first
-
       above_group : (n : ℕ) → number < 4 → group_word n number < frame_start places n + 7
       above_group zero low = omega arith
       above_group (suc n) low = omega arith
-
-      abbrev HasTaken : (told : ℕ) → Type 0
-      HasTaken told =
-          HasGroupFrame (put m (group_word (length p.runner.has.callers) number) (address_of first)) (length p.runner.has.callers) told (put p.runner.has.call.frames number first told)
-
-      taken : (told : ℕ) → told ≡ number → HasTaken told
-      taken told same =
-          let n = length p.runner.has.callers in
-          record {
-            few = subst (λ x. x < 4) (sym same) known;
-            within = subst (λ x. x ≤ 2 ^ 20) (sym (there told same)) small;
-            address = ap (λ k. put m (group_word n number) (address_of first) (group_word n k)) same ∙ same_word m (group_word n number) (address_of first) ∙ ap address_of (sym (there told same));
-          }
-
-      by_told : (told : ℕ) → (places.frames.group i told ≡ true → HasGroupFrame m (length p.runner.has.callers) told (p.runner.has.call.frames told))
-          → (told ≡ number) ⊎ (places.frames.group i told ≡ true) → (same : Bool) → (told == number) ≡ same → HasTaken told
-      by_told told old either true e = taken told (eqb-true told number e)
-      by_told told old (inl same) false e = taken told same
-      by_told told old (inr before) false e =
-          let n = length p.runner.has.callers in
-          let has = old before in
-          let low : told < 4 = has.few in
-          let apart : told ≡ number → ⊥ = eqb-false told number e in
-          let kept : put p.runner.has.call.frames number first told ≡ p.runner.has.call.frames told = other_word p.runner.has.call.frames number first told apart in
-          record {
-            few = low;
-            within = subst (λ x. x ≤ 2 ^ 20) (sym kept) has.within;
-            address = other_word m (group_word n number) (address_of first) (group_word n told) (λ same. apart (omega (arith, same, low, known))) ∙ has.address ∙ ap address_of (sym kept);
-          }
 
   -- a word of the private heap is written
   pub heap_written : (m : Memory) (p : Owner) (i x v count : ℕ) → places.frames.of_file ≤ 56 → length p.runner.has.callers < 256

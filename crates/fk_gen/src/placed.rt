@@ -9,6 +9,8 @@ pub struct Levels {
     pub count: u32,
     /// The word after the frame's header at which the first of them begins.
     pub behind: u32,
+    /// In how many parts the call is, with the group of `start` among them.
+    pub nest: u32,
 }
 
 /// An operation or jump of a flat list, in an image.

@@ -17,21 +17,21 @@ use Rattle.fk_gen_group.proofs.Calls.{has_entered, enters_in_node, has_left, lea
 stays : (core : List CoreOp) (image : Image) (places : Places) (nestings : Nestings) (cycles : Cycles) (i : ℕ) (op : CoreOp) (operation : Operation)
     → OpAt core i op operation → is_alone operation ≡ true → LevelsFit core places nestings i op operation
     → BlockKeeps core image places (cycles.before i) (cycles.behind i) i op operation → BlockDoesInNode core image places nestings cycles i op operation
-stays core image places nestings cycles i op (Enter n) stands alone levels keeps setting t runs first m p en member =
+stays core image places nestings cycles i op (Enter n) stands alone levels keeps setting t runs first m p en member finds =
     in_cycles_of core image places nestings cycles setting t i (Enter n) runs first m p alone member
     (does_in_node core image places nestings setting p t runs (cycles.before i) (cycles.behind i true) m (KeepsBelow (frame_end (length p.runner.has.callers)) (space_frames m.hart) m.hart) (keeps setting t p m.hart en)
     (λ h' d s s' e done kept.
     enters_in_node core image places nestings i op n stands levels setting p t runs first m h' d en member done kept
     (has_entered core image places nestings i op n stands levels setting p d s s' en.index e)))
-stays core image places nestings cycles i op (Leave gives framed) stands alone levels keeps setting t runs first m p en member =
+stays core image places nestings cycles i op (Leave gives framed) stands alone levels keeps setting t runs first m p en member finds =
     in_cycles_of core image places nestings cycles setting t i (Leave gives framed) runs first m p alone member
     (does_in_node core image places nestings setting p t runs (cycles.before i) (cycles.behind i true) m
     (KeepsBelow (result_word p.runner.has.callers) (frames_behind framed p.runner.has m.hart) m.hart) (keeps setting t p m.hart en)
     (λ h' d s s' e done kept.
     leaves_in_node core image places nestings i op gives framed stands levels setting p t runs first m h' d en member kept
     (has_left core image places nestings i op gives framed stands levels setting p d s s' en.index e)))
-stays core image places nestings cycles i op operation stands alone levels keeps setting t runs first m p en member =
-    same_call_in_node core image places nestings cycles i op operation stands alone refl levels keeps setting t runs first m p en member
+stays core image places nestings cycles i op operation stands alone levels keeps setting t runs first m p en member finds =
+    same_call_in_node core image places nestings cycles i op operation stands alone refl levels keeps setting t runs first m p en member finds
 
 pub lone_blocks_stay_in_node : LoneBlocksStayInNode
 lone_blocks_stay_in_node core image places nestings cycles i op operation stands alone levels keeps =

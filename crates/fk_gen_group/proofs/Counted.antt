@@ -29,10 +29,10 @@ pub record Comes (image : Image) (t : MachineSetting) (steps k : ℕ) (Ready : M
   pub ready : Ready (record m { hart = hart }) p
 
 module _ (image : Image) (t : MachineSetting) (steps k : ℕ) (Ready : Member → Owner → Type 0) where
-  pub came_harts : (ms : List Member) (ps : List Owner) → Both (Comes image t steps k Ready) ms ps → List Hart
+  abbrev came_harts : (ms : List Member) (ps : List Owner) → Both (Comes image t steps k Ready) ms ps → List Hart
   came_harts [] [] all = []
   came_harts (m ∷ ms) (p ∷ ps) all = all.0.hart ∷ came_harts ms ps all.1
-  came_harts ms ps all = absurd (assumption all)
+  came_harts ms ps all = []
 
   all_run : (ms : List Member) (ps : List Owner) → (all : Both (Comes image t steps k Ready) ms ps) → AllRunPrivately image t steps ms (came_harts ms ps all)
   all_run [] [] all = tt
@@ -51,7 +51,7 @@ module _ (image : Image) (t : MachineSetting) (steps k : ℕ) (Ready : Member �
 
 -- ---- they count
 
-module _ (core : List CoreOp) (image : Image) (bound : ℕ → ℕ) (setting : Setting) (mine : Words) (register : ℕ) (other : 6 ≢ 5) (word count : Owner → ℕ) (Ready : Member → Owner → Type 0)
+module _ (core : List CoreOp) (image : Image) (bound : ℕ → ℕ) (setting : Setting) (mine : Words) (register : ℕ) (other : ◌≢◌ {A = ℕ} 6 5) (word count : Owner → ℕ) (Ready : Member → Owner → Type 0)
     (to_count : (m : Member) (p : Owner) → Ready m p → IsToCount mine 6 register word count m p) (k : ℕ) (lines : LinesAt image bound k (counting_lines register)) (ps : List Owner) (ds : List Doing)
     (apart : AreApart mine (core_source core setting).common) (Then : List Member → Memory → Type 0) where
   abbrev GivesOf : Member → Owner → Type 0
@@ -99,36 +99,36 @@ module _ (core : List CoreOp) (image : Image) (bound : ℕ → ℕ) (setting : S
     commit_step : (own1 own2 summed : Memory) (ms : List Member) → ClearedBy 1 own own1 → ClearedBy 0 own1 own2 → AddedBy own2 summed → AllAreAt (suc (suc (suc (suc k)))) ms
         → Both (KnowsOf summed) ms ps → AtCommit ms summed
     commit_step own1 own2 summed ms one two sum stand all =
-        let t4 = in_cycles 4 t in
+        let cycle4 = in_cycles 4 t in
         let k4 = suc (suc (suc (suc k))) in
-        cycle_commits (core_source core setting) image mine t4 1 ms ps ds summed Then apart (due summed ms all)
-        (cycle_map image mine t4 1 ms summed (λ ms' own'. AllAreAt (suc k4) ms' × Both (KnowsOf summed) ms' ps × ClearedBy 0 summed own') Then
+        cycle_commits (core_source core setting) image mine cycle4 1 ms ps ds summed Then apart (due summed ms all)
+        (cycle_map image mine cycle4 1 ms summed (λ ms' own'. AllAreAt (suc k4) ms' × Both (KnowsOf summed) ms' ps × ClearedBy 0 summed own') Then
         (λ ms' own' x. ends own1 own2 summed own' ms' one two sum x.2 x.0 x.1)
-        (last_cycle image mine 6 register other word count Ready to_count summed t4 k4 ms ps summed (holds_in_cycles image 4 t holds) lines.1.1.1.1.0 stand all))
+        (last_cycle image mine 6 register other word count Ready to_count summed cycle4 k4 ms ps summed (holds_in_cycles image 4 t holds) lines.1.1.1.1.0 stand all))
 
     load_step : (own1 own2 summed : Memory) (ms : List Member) → ClearedBy 1 own own1 → ClearedBy 0 own1 own2 → AddedBy own2 summed → AllAreAt (suc (suc (suc k))) ms
         → Both GivesOf ms ps → AtLoad ms summed
     load_step own1 own2 summed ms one two sum stand all =
-        let t3 = in_cycles 3 t in
+        let cycle3 = in_cycles 3 t in
         let k3 = suc (suc (suc k)) in
-        cycle_map image mine t3 0 ms summed (λ ms' own'. AllAreAt (suc k3) ms' × Both (KnowsOf summed) ms' ps × (own' ≡ summed)) (λ ms' own'. AtCommit ms' own')
+        cycle_map image mine cycle3 0 ms summed (λ ms' own'. AllAreAt (suc k3) ms' × Both (KnowsOf summed) ms' ps × (own' ≡ summed)) (λ ms' own'. AtCommit ms' own')
         (λ ms' own' x. subst (AtCommit ms') (sym x.2) (commit_step own1 own2 summed ms' one two sum x.0 x.1))
-        (load_cycle image mine 6 register other word count Ready to_count t3 k3 ms ps summed (holds_in_cycles image 3 t holds) lines.1.1.1.0 stand all)
+        (load_cycle image mine 6 register other word count Ready to_count cycle3 k3 ms ps summed (holds_in_cycles image 3 t holds) lines.1.1.1.0 stand all)
 
     add_step : (own1 own2 : Memory) (ms : List Member) → ClearedBy 1 own own1 → ClearedBy 0 own1 own2 → AllAreAt (suc (suc k)) ms → Both GivesOf ms ps → AtAdd ms own2
     add_step own1 own2 ms one two stand all =
-        let t2 = in_cycles 2 t in
+        let cycle2 = in_cycles 2 t in
         let k2 = suc (suc k) in
-        cycle_map image mine t2 0 ms own2 (λ ms' own'. AllAreAt (suc k2) ms' × Both GivesOf ms' ps × AddedBy own2 own') (λ ms' own'. AtLoad ms' own')
+        cycle_map image mine cycle2 0 ms own2 (λ ms' own'. AllAreAt (suc k2) ms' × Both GivesOf ms' ps × AddedBy own2 own') (λ ms' own'. AtLoad ms' own')
         (λ ms' own' x. load_step own1 own2 own' ms' one two x.2 x.0 x.1)
-        (add_cycle image mine 6 register other word count Ready to_count t2 k2 ms ps own2 (holds_in_cycles image 2 t holds) lines.1.1.0 stand all)
+        (add_cycle image mine 6 register other word count Ready to_count cycle2 k2 ms ps own2 (holds_in_cycles image 2 t holds) lines.1.1.0 stand all)
 
     clear_step : (own1 : Memory) (ms : List Member) → ClearedBy 1 own own1 → AllAreAt (suc k) ms → Both GivesOf ms ps → AtClear ms own1
     clear_step own1 ms one stand all =
-        let t1 = in_cycles 1 t in
-        cycle_map image mine t1 0 ms own1 (λ ms' own'. AllAreAt (suc (suc k)) ms' × Both GivesOf ms' ps × ClearedBy 0 own1 own') (λ ms' own'. AtAdd ms' own')
+        let cycle1 = in_cycles 1 t in
+        cycle_map image mine cycle1 0 ms own1 (λ ms' own'. AllAreAt (suc (suc k)) ms' × Both GivesOf ms' ps × ClearedBy 0 own1 own') (λ ms' own'. AtAdd ms' own')
         (λ ms' own' x. add_step own1 own' ms' one x.2 x.0 x.1)
-        (clear_cycle image mine 6 register other word count Ready to_count t1 (suc k) 0 ms ps own1 (omega arith) (holds_in_cycles image 1 t holds) lines.1.0 stand all)
+        (clear_cycle image mine 6 register other word count Ready to_count cycle1 (suc k) 0 ms ps own1 (omega arith) (holds_in_cycles image 1 t holds) lines.1.0 stand all)
 
     pub count_together : (ms : List Member) → AllAreAt k ms → Both Ready ms ps → Together (core_source core setting) image mine t 1 4 ms ps own Goal
     count_together ms stand all =

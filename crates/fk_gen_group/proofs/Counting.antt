@@ -15,6 +15,8 @@ use Rattle.fk_sim_nodes.proofs.Runs.{cycle_map}
 use Rattle.fk_sim_nodes.proofs.OnePlace.{private_of_all, loads_of_all, stores_of_all, adds_of_all}
 use Rattle.fk_sim_block.specs.Owner.{Owner}
 use Rattle.fk_sim_block.specs.Node.{control_address, root_words}
+use Rattle.fk_sim_block.specs.Stands.{zero_register}
+use Rattle.fk_gen.specs.Registers.{t0}
 use Rattle.fk_gen_group.proofs.Members.{Both, each_on, stand_on, all_alone}
 use Rattle.fk_gen_group.proofs.Shares.{shares, shares_are, nothing_each}
 
@@ -28,7 +30,7 @@ pub record IsToCount (mine : Words) (ra rv : ℕ) (word count : Owner → ℕ) (
   pub within : word p + 8 ≤ root_words + 64
   pub own : (offset : ℕ) → offset < 8 → mine (word p + offset) ≡ true
   pub value : m.hart.registers rv ≡ count p
-  pub nought : m.hart.registers 0 ≡ 0
+  pub nought : m.hart.registers zero_register ≡ 0
 
 -- all members run an instruction that touches nothing but the hart
 pub alone_cycle : (image : Image) (mine : Words) (t : MachineSetting) (k : ℕ) (ins : Instruction) (g : Member → Hart) (P Q : Member → Owner → Type 0) (ms : List Member) (ps : List Owner) (own : Memory)
@@ -61,7 +63,7 @@ module _ (image : Image) (mine : Words) (ra rv : ℕ) (other : ra ≢ 5) (word c
 
   pub record Knows (own : Memory) (m : Member) (p : Owner) : Type 0 where
     pub near : Near m p
-    pub sum : m.hart.registers 5 ≡ own (word p)
+    pub sum : m.hart.registers t0 ≡ own (word p)
 
   near_on : (m : Member) (p : Owner) (h : Hart) → h.local ≡ m.hart.local → h.ended ≡ m.hart.ended → ((r : ℕ) → r ≢ 5 → h.registers r ≡ m.hart.registers r) → Near m p
       → Near (record m { hart = h }) p
@@ -85,7 +87,7 @@ module _ (image : Image) (mine : Words) (ra rv : ℕ) (other : ra ≢ 5) (word c
   address_is : (m : Member) (p : Owner) → Near m p → m.hart.registers ra ≡ control_address (word p)
   address_is m p near = near.others ra other ∙ (counts m p near).address
 
-  nought_is : (m : Member) (p : Owner) → Near m p → m.hart.registers 0 ≡ 0
+  nought_is : (m : Member) (p : Owner) → Near m p → m.hart.registers zero_register ≡ 0
   nought_is m p near = near.others 0 (λ e. omega arith) ∙ (counts m p near).nought
 
   -- the word of a member, as its register tells

@@ -14,17 +14,19 @@ use Rattle.fk_meaning.specs.Processor.{Setting, values, last}
 use Rattle.fk_meaning.specs.Group.{part, has_parts}
 use Rattle.fk_core.specs.declared.op.CoreOp.{CoreOp}
 use Rattle.fk_image.specs.declared.Image.{Image}
-use Rattle.fk_isa.specs.declared.instruction.Instruction.TheVariants.{Jal, Lw, Sw, Addi, Sltiu, Sltu}
+use Rattle.fk_isa.specs.declared.instruction.Instruction.TheVariants.{Jal, Addi, Sltiu, Sltu}
 use Rattle.fk_asm.specs.Block.{MarkedLine}
 use Rattle.fk_machine.specs.Hart.{Hart, Setting as MachineSetting}
 use Rattle.fk_sim_nodes.specs.Node.{Member}
 use Rattle.fk_sim_nodes.specs.Alone.{RunsPrivately, in_cycles}
 use Rattle.fk_sim_block.specs.Owner.{Owner}
-use Rattle.fk_sim_block.specs.Stands.{Places}
+use Rattle.fk_sim_block.specs.Stands.{Places, zero_register, frame_register}
 use Rattle.fk_sim_block.specs.Block.{Enters}
 use Rattle.fk_sim_block.specs.Node.{Nestings}
 use Rattle.fk_sim_block.specs.Parts.{is_implicit}
-use Rattle.fk_gen.specs.Lines.{goes_to, at_value, at_private, label_of}
+use Rattle.fk_gen.specs.Registers.{ra, t0, t2, t3}
+use Rattle.fk_gen.specs.Lines.{goes_to, at_private, label_of}
+use Rattle.fk_gen.specs.Operands.{operand, result}
 use Rattle.fk_gen.specs.InPlace.{LinesAt}
 use Rattle.fk_gen.proofs.Walk.{Quiets, Plain, LocalAt, CanWalk, quiet_lines, walk, told_of, walked, lines_split, runs_join}
 use Rattle.fk_gen.proofs.Jumps.{jumps, jal_private}
@@ -110,7 +112,7 @@ nought_is (suc v) = ap from_bool (le-ltb (suc v) 1 (omega arith)) ∙ sym (ap fr
 
 -- who waits at an `||` has 1 in place of its value
 abbrev pub memory_by : SplitKind → (depth : ℕ) → Hart → Memory
-memory_by OrElse depth h = put h.local (value_word depth h) (applied num.LtU (h.registers 0) (h.local (value_word depth h)))
+memory_by OrElse depth h = put h.local (value_word depth h) (applied num.LtU (h.registers zero_register) (h.local (value_word depth h)))
 memory_by by depth h = h.local
 
 module _ (core : List CoreOp) (image : Image) (bound : ℕ → ℕ) (places : Places) (nestings : Nestings) (i : ℕ) (op : CoreOp) (by : SplitKind)
@@ -126,25 +128,25 @@ module _ (core : List CoreOp) (image : Image) (bound : ℕ → ℕ) (places : Pl
     pub runs : RunsPrivately image t m.number (length (part_lines by op.depth) + 2) m.hart hart
     pub at : hart.pc ≡ 4 * bound (parts_label by)
     pub live : hart.ended ≡ false
-    pub flag : hart.registers 28 ≡ flag_by by (values p.runner.has)
-    pub slot : hart.registers 7 ≡ word_sum (m.hart.registers 8) (at_private (nestings.behind i + 4 * nestings.levels i))
-    pub link : hart.registers 1 ≡ 4 * link_at
+    pub flag : hart.registers t3 ≡ flag_by by (values p.runner.has)
+    pub slot : hart.registers t2 ≡ word_sum (m.hart.registers frame_register) (at_private (nestings.behind i + 4 * nestings.levels i))
+    pub link : hart.registers ra ≡ 4 * link_at
     pub local : hart.local ≡ memory_by by op.depth m.hart
     pub others : (r : ℕ) → r ≢ 1 → r ≢ 5 → r ≢ 7 → r ≢ 28 → hart.registers r ≡ m.hart.registers r
-    pub back : LinesAt image bound link_at (goes_to (Jal 0 0) (label_of op.target) ∷ no_room op.site)
+    pub back : LinesAt image bound link_at (goes_to (Jal zero_register 0) (label_of op.target) ∷ no_room op.site)
     pub next : places.block (suc i) ≡ link_at + 4
 
   abbrev w : ℕ
   w = value_word op.depth m.hart
 
   abbrev rest : List MarkedLine
-  rest = goes_to (Jal 1 0) (parts_label by) ∷ goes_to (Jal 0 0) (label_of op.target) ∷ no_room op.site
+  rest = goes_to (Jal ra 0) (parts_label by) ∷ goes_to (Jal zero_register 0) (label_of op.target) ∷ no_room op.site
 
   -- after the lines of the part
   fronted_with : (quiets : Quiets) → length quiets ≡ length (part_lines by op.depth) + 1 → LinesAt image bound (places.block i) (quiet_lines quiets ++ rest)
       → CanWalk (told_of t m.number) quiets m.hart → places.block (suc i) ≡ places.block i + length (part_lines by op.depth) + 6
-      → (walk (told_of t m.number) quiets m.hart).registers 28 ≡ flag_by by (values p.runner.has)
-      → (walk (told_of t m.number) quiets m.hart).registers 7 ≡ word_sum (m.hart.registers 8) (at_private (nestings.behind i + 4 * nestings.levels i))
+      → (walk (told_of t m.number) quiets m.hart).registers t3 ≡ flag_by by (values p.runner.has)
+      → (walk (told_of t m.number) quiets m.hart).registers t2 ≡ word_sum (m.hart.registers frame_register) (at_private (nestings.behind i + 4 * nestings.levels i))
       → (walk (told_of t m.number) quiets m.hart).local ≡ memory_by by op.depth m.hart
       → ((r : ℕ) → r ≢ 5 → r ≢ 7 → r ≢ 28 → (walk (told_of t m.number) quiets m.hart).registers r ≡ m.hart.registers r) → Fronted
   fronted_with quiets many lines can next flag slot local others =
@@ -178,7 +180,7 @@ module _ (core : List CoreOp) (image : Image) (bound : ℕ → ℕ) (places : Pl
         link = omega arith;
         local = local;
         others = λ r a b c d. rw (ne_eqb r 1 a) (others r b c d);
-        back = subst (λ j. LinesAt image bound j (goes_to (Jal 0 0) (label_of op.target) ∷ no_room op.site)) back behind.1;
+        back = subst (λ j. LinesAt image bound j (goes_to (Jal zero_register 0) (label_of op.target) ∷ no_room op.site)) back behind.1;
         next = omega arith;
       }
 
@@ -195,7 +197,7 @@ fronted core image bound places nestings i op IfAlone place setting t m p en is 
     let d = op.depth in
     let w = value_word d m.hart in
     let quiets : Quiets =
-    (Lw 28 9 (at_value d), LocalAt w) ∷ (Sltu 28 0 28, Plain) ∷ (Addi 7 8 (at_private (nestings.behind i + 4 * nestings.levels i)), Plain) ∷ [] in
+    (operand t3 d, LocalAt w) ∷ (Sltu t3 zero_register t3, Plain) ∷ (Addi t2 frame_register (at_private (nestings.behind i + 4 * nestings.levels i)), Plain) ∷ [] in
     let next = place.block.next in
     fronted_with core image bound places nestings i op IfAlone place setting t m p en quiets refl place.block.lines ((v.within, v.address), (tt, (tt, tt))) (omega arith)
     (ap (λ z. from_bool (nat_lt z (m.hart.local w))) en.at.stands.nought ∙ ap (λ x. from_bool (nat_lt 0 x)) value ∙ not_nought (last (values p.runner.has)))
@@ -208,7 +210,7 @@ fronted core image bound places nestings i op AndThen place setting t m p en is 
     let d = op.depth in
     let w = value_word d m.hart in
     let quiets : Quiets =
-    (Lw 28 9 (at_value d), LocalAt w) ∷ (Sltu 28 0 28, Plain) ∷ (Addi 7 8 (at_private (nestings.behind i + 4 * nestings.levels i)), Plain) ∷ [] in
+    (operand t3 d, LocalAt w) ∷ (Sltu t3 zero_register t3, Plain) ∷ (Addi t2 frame_register (at_private (nestings.behind i + 4 * nestings.levels i)), Plain) ∷ [] in
     let next = place.block.next in
     fronted_with core image bound places nestings i op AndThen place setting t m p en quiets refl place.block.lines ((v.within, v.address), (tt, (tt, tt))) (omega arith)
     (ap (λ z. from_bool (nat_lt z (m.hart.local w))) en.at.stands.nought ∙ ap (λ x. from_bool (nat_lt 0 x)) value ∙ not_nought (last (values p.runner.has)))
@@ -221,7 +223,7 @@ fronted core image bound places nestings i op IfElse place setting t m p en is =
     let d = op.depth in
     let w = value_word d m.hart in
     let quiets : Quiets =
-    (Lw 28 9 (at_value d), LocalAt w) ∷ (Sltiu 28 28 1, Plain) ∷ (Addi 7 8 (at_private (nestings.behind i + 4 * nestings.levels i)), Plain) ∷ [] in
+    (operand t3 d, LocalAt w) ∷ (Sltiu t3 t3 1, Plain) ∷ (Addi t2 frame_register (at_private (nestings.behind i + 4 * nestings.levels i)), Plain) ∷ [] in
     let next = place.block.next in
     fronted_with core image bound places nestings i op IfElse place setting t m p en quiets refl place.block.lines ((v.within, v.address), (tt, (tt, tt))) (omega arith)
     (ap (λ x. from_bool (nat_lt x 1)) value ∙ nought_is (last (values p.runner.has)))
@@ -234,15 +236,15 @@ fronted core image bound places nestings i op OrElse place setting t m p en is =
     let d = op.depth in
     let w = value_word d m.hart in
     let quiets : Quiets =
-    (Lw 28 9 (at_value d), LocalAt w) ∷ (Sltu 5 0 28, Plain) ∷ (Sw 9 5 (at_value d), LocalAt w) ∷ (Sltiu 28 28 1, Plain)
-    ∷ (Addi 7 8 (at_private (nestings.behind i + 4 * nestings.levels i)), Plain) ∷ [] in
+    (operand t3 d, LocalAt w) ∷ (Sltu t0 zero_register t3, Plain) ∷ (result t0 d, LocalAt w) ∷ (Sltiu t3 t3 1, Plain)
+    ∷ (Addi t2 frame_register (at_private (nestings.behind i + 4 * nestings.levels i)), Plain) ∷ [] in
     let next = place.block.next in
     fronted_with core image bound places nestings i op OrElse place setting t m p en quiets refl place.block.lines
     ((v.within, v.address), (tt, ((v.within, v.address), (tt, (tt, tt))))) (omega arith)
     (ap (λ x. from_bool (nat_lt x 1)) value ∙ nought_or (last (values p.runner.has)))
     refl refl (λ r a b c. rw (ne_eqb r 28 c, ne_eqb r 7 b, ne_eqb r 5 a))
 fronted core image bound places nestings i op Loop place setting t m p en is =
-    let quiets : Quiets = (Addi 28 0 1, Plain) ∷ (Addi 7 8 (at_private (nestings.behind i + 4 * nestings.levels i)), Plain) ∷ [] in
+    let quiets : Quiets = (Addi t3 zero_register 1, Plain) ∷ (Addi t2 frame_register (at_private (nestings.behind i + 4 * nestings.levels i)), Plain) ∷ [] in
     let next = place.block.next in
     fronted_with core image bound places nestings i op Loop place setting t m p en quiets refl place.block.lines (tt, (tt, tt)) (omega arith)
     (ap (λ z. word_sum z 1) en.at.stands.nought)

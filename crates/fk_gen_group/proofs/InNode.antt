@@ -286,7 +286,7 @@ in_cycles_of core image places nestings cycles setting t i operation runs first 
 pub same_call_in_node : (core : List CoreOp) (image : Image) (places : Places) (nestings : Nestings) (cycles : Cycles) (i : ℕ) (op : CoreOp) (operation : Operation)
     → OpAt core i op operation → is_alone operation ≡ true → stays_in_call operation ≡ true → HasLevels core places nestings i op operation
     → BlockDoesBy core image places (cycles.before i) (cycles.behind i) i op operation → BlockDoesInNode core image places nestings cycles i op operation
-same_call_in_node core image places nestings cycles i op operation stands alone stays levels does setting t runs first m p en member =
+same_call_in_node core image places nestings cycles i op operation stands alone stays levels does setting t runs first m p en member finds =
     in_cycles_of core image places nestings cycles setting t i operation runs first m p alone member
     (does_in_node core image places nestings setting p t runs (cycles.before i) (cycles.behind i (is_onward operation p.runner.has)) m
     (Keeps places (length p.runner.has.callers) (peak operation op.depth) (writes operation) m.hart) (does setting t p m.hart en)

@@ -27,11 +27,12 @@ use Rattle.fk_sim_nodes.proofs.InPlace.{step_at}
 use Rattle.fk_sim_nodes.proofs.Members.{together_map}
 use Rattle.fk_sim_nodes.proofs.OneHart.{each_does}
 use Rattle.fk_sim_block.specs.Owner.{Owner, Doing, core_source}
-use Rattle.fk_sim_block.specs.Stands.{Places}
+use Rattle.fk_sim_block.specs.Stands.{Places, zero_register, device_register}
 use Rattle.fk_sim_block.specs.Block.{Enters, most_before}
-use Rattle.fk_sim_block.specs.Node.{Nestings, OwnsHeader, KnowsSpace, control_address}
+use Rattle.fk_sim_block.specs.Node.{Nestings, OwnsHeader, KnowsSpace, control_address, frames_register, blocks_register}
 use Rattle.fk_sim_block.specs.Lockstep.{IsMember, AllEnter}
 use Rattle.fk_sim_block.specs.Parts.{IsToDivide, AllAreToDivide, is_implicit}
+use Rattle.fk_gen.specs.Registers.{ra, t0, t1}
 use Rattle.fk_gen.specs.Lines.{high_part, low_part}
 use Rattle.fk_gen.proofs.Difference.{difference}
 use Rattle.fk_gen.proofs.Values.{number_of_parts}
@@ -61,31 +62,30 @@ module _ (core : List CoreOp) (image : Image) (bound : ℕ → ℕ) (places : Pl
   Faulting before = OneDoes (core_source core setting) image cycle0 1 before 0 m p (λ h d. ⊥)
 
   -- where its group's free words begin and end
-  known : (h1.registers 12 ≡ control_address space.frames) × (h1.registers 13 ≡ control_address space.blocks)
+  known : (h1.registers frames_register ≡ control_address space.frames) × (h1.registers blocks_register ≡ control_address space.blocks)
   known =
-      let k = subst (λ o. KnowsSpace p.runner.has.level o m.hart) divides.group.outer member.node.space in
-      (
+      let k = subst (λ o. KnowsSpace p.runner.has.level o m.hart) divides.group.outer member.node.space in (
         front.others 12 (λ e. omega arith) (λ e. omega arith) (λ e. omega arith) (λ e. omega arith) ∙ k.0 ∙ ap (λ (s : Space). control_address s.frames) divides.space_is,
         front.others 13 (λ e. omega arith) (λ e. omega arith) (λ e. omega arith) (λ e. omega arith) ∙ k.1 ∙ ap (λ (s : Space). control_address s.blocks) divides.space_is,
       )
 
   -- ---- the lines that fault
 
-  faults_from : (c : ℕ) (h4 : Hart) → RunsPrivately image cycle0 m.number c m.hart h4 → h4.pc ≡ 4 * suc link → h4.ended ≡ false → h4.registers 26 ≡ 0x30000000 → Faulting (c + 2)
+  faults_from : (c : ℕ) (h4 : Hart) → RunsPrivately image cycle0 m.number c m.hart h4 → h4.pc ≡ 4 * suc link → h4.ended ≡ false → h4.registers device_register ≡ 0x30000000 → Faulting (c + 2)
   faults_from c h4 runs e4 live device =
       let k = suc link in
       let holds = en.running.code in
-      let t4 = in_cycles c cycle0 in
-      let t5 = later t4 in
-      let t6 = in_cycles (c + 2) cycle0 in
+      let cycle4 = in_cycles c cycle0 in
+      let cycle5 = later cycle4 in
+      let cycle6 = in_cycles (c + 2) cycle0 in
       let l4 = front.back.1.0 in
       let l5 = front.back.1.1.0 in
       let l6 = front.back.1.1.1.0 in
       let near = l6.within in
       let v4 = high_part op.site * 4096 in
       let v5 = word_sum v4 (low_part op.site) in
-      let h5 = writes h4 6 v4 in
-      let h6 = writes h5 6 v5 in
+      let h5 = writes h4 t1 v4 in
+      let h6 = writes h5 t1 v5 in
       let holds4 = holds_in_cycles image c cycle0 holds in
       let e5 : h5.pc ≡ 4 * suc k = omega arith in
       let e6 : h6.pc ≡ 4 * suc (suc k) = omega arith in
@@ -95,8 +95,8 @@ module _ (core : List CoreOp) (image : Image) (bound : ℕ → ℕ) (places : Pl
         committing = h6;
         runs = runs_join image cycle0 m.number c 2 m.hart h4 h6 runs (
           h5,
-          private image t4 m.number k (Lui 6 (high_part op.site)) h4 h5 holds4 l4 e4 live (λ s. (s.reserved, refl)),
-          (h6, private image t5 m.number (suc k) (Addi 6 6 (low_part op.site)) h5 h6 holds4 l5 e5 live (λ s. (s.reserved, refl)), refl),
+          private image cycle4 m.number k (Lui t1 (high_part op.site)) h4 h5 holds4 l4 e4 live (λ s. (s.reserved, refl)),
+          (h6, private image cycle5 m.number (suc k) (Addi t1 t1 (low_part op.site)) h5 h6 holds4 l5 e5 live (λ s. (s.reserved, refl)), refl),
         );
         commits = record {
           live = live;
@@ -105,14 +105,14 @@ module _ (core : List CoreOp) (image : Image) (bound : ℕ → ℕ) (places : Pl
             site = op.site;
             part = fault_part core setting i op (Split by) s p place.stands refl no_room en.index;
             stops = λ earlier sh shows.
-                step_at image (suc (suc k)) 1 (Sw 26 6 8) l6 t6 (holds_in_cycles image (c + 2) cycle0 holds) m.number h6 sh e6
-                ∙ sw-fault t6 m.number 26 6 8 h6 sh (omega (arith, device)) (ap (λ a. place_of (word_sum a 8)) device ∙ place_of-fault)
+                step_at image (suc (suc k)) 1 (Sw device_register t1 8) l6 cycle6 (holds_in_cycles image (c + 2) cycle0 holds) m.number h6 sh e6
+                ∙ sw-fault cycle6 m.number 26 6 8 h6 sh (omega (arith, device)) (ap (λ a. place_of (word_sum a 8)) device ∙ place_of-fault)
                 ∙ ap (λ v. Stops (Faulted v m.number)) (number_of_parts op.site ∙ site_is);
           });
         };
       }
 
-  device_is : h1.registers 26 ≡ 0x30000000
+  device_is : h1.registers device_register ≡ 0x30000000
   device_is = front.others 26 (λ e. omega arith) (λ e. omega arith) (λ e. omega arith) (λ e. omega arith) ∙ en.at.stands.devices
 
   -- ---- one part
@@ -127,31 +127,31 @@ module _ (core : List CoreOp) (image : Image) (bound : ℕ → ℕ) (places : Pl
       let top = is_space.shared in
       let frames = known.0 in
       let blocks = known.1 in
-      let t1 = in_cycles n cycle0 in
-      let t2 = later t1 in
-      let t3 = later t2 in
+      let cycle1 = in_cycles n cycle0 in
+      let cycle2 = later cycle1 in
+      let cycle3 = later cycle2 in
       let l1 = shared.one.0 in
       let l2 = shared.one.1.0 in
       let l3 = shared.one.1.1.0 in
       let near = l3.within in
       let near' = front.back.1.0.within in
       let e1 : h1.pc ≡ 4 * k = front.at ∙ ap (λ l. 4 * bound l) label in
-      let h2 = writes h1 6 (word_sum (h1.registers 12) 80) in
+      let h2 = writes h1 t1 (word_sum (h1.registers frames_register) 80) in
       let e2 : h2.pc ≡ 4 * suc k = omega arith in
       let h3 = goes_to_pc h2 (word_sum h2.pc 4) in
       let e3 : h3.pc ≡ 4 * suc (suc k) = omega arith in
       let h4 = jumps h3 0 (4 * suc link) in
       let linked = front.link in
-      let target : word_sum (h1.registers 1) 4 / 2 * 2 ≡ 4 * suc link = omega arith in
+      let target : word_sum (h1.registers ra) 4 / 2 * 2 ≡ 4 * suc link = omega arith in
       let aligned : 4 * suc link % 4 ≡ 0 = omega arith in
       faults_from (n + 3) h4
       (runs_join image cycle0 m.number n 3 m.hart h1 h4 front.runs (
         h2,
-        private image t1 m.number k (Addi 6 12 80) h1 h2 holds l1 e1 front.live (λ s. (s.reserved, refl)),
+        private image cycle1 m.number k (Addi t1 frames_register 80) h1 h2 holds l1 e1 front.live (λ s. (s.reserved, refl)),
         (
           h3,
-          bgeu_on image t2 m.number (suc k) 13 6 8 h2 holds l2 e2 front.live (lt-leb (h2.registers 6) (h2.registers 13) (omega arith)),
-          (h4, private image t3 m.number (suc (suc k)) (Jalr 0 1 4) h3 h4 holds l3 e3 front.live (λ s. (s.reserved, jalr_goes t3 m.number 0 1 4 (4 * suc link) h3 s target aligned)), refl),
+          bgeu_on image cycle2 m.number (suc k) 13 6 8 h2 holds l2 e2 front.live (lt-leb (h2.registers t1) (h2.registers blocks_register) (omega arith)),
+          (h4, private image cycle3 m.number (suc (suc k)) (Jalr zero_register ra 4) h3 h4 holds l3 e3 front.live (λ s. (s.reserved, jalr_goes cycle3 m.number 0 1 4 (4 * suc link) h3 s target aligned)), refl),
         ),
       ))
       refl front.live device_is
@@ -168,41 +168,41 @@ module _ (core : List CoreOp) (image : Image) (bound : ℕ → ℕ) (places : Pl
       let top = is_space.shared in
       let frames = known.0 in
       let blocks = known.1 in
-      let t1 = in_cycles n cycle0 in
-      let t2 = later t1 in
-      let t3 = later t2 in
-      let t4 = later t3 in
+      let cycle1 = in_cycles n cycle0 in
+      let cycle2 = later cycle1 in
+      let cycle3 = later cycle2 in
+      let cycle4 = later cycle3 in
       let l1 = shared.two.0 in
       let l2 = shared.two.1.0 in
       let l3 = shared.two.1.1.0 in
       let l4 = shared.two.1.1.1.0 in
       let near = l4.within in
       let near' = front.back.1.0.within in
-      let zero_is : h1.registers 0 ≡ 0 = front.others 0 (λ e. omega arith) (λ e. omega arith) (λ e. omega arith) (λ e. omega arith) ∙ en.at.stands.nought in
+      let zero_is : h1.registers zero_register ≡ 0 = front.others 0 (λ e. omega arith) (λ e. omega arith) (λ e. omega arith) (λ e. omega arith) ∙ en.at.stands.nought in
       let e1 : h1.pc ≡ 4 * k = front.at ∙ ap (λ l. 4 * bound l) label in
-      let left = applied num.Sub (h1.registers 13) (h1.registers 12) in
-      let left_is = difference (h1.registers 13) (h1.registers 12) (omega arith) in
-      let h2 = writes h1 5 left in
+      let left = applied num.Sub (h1.registers blocks_register) (h1.registers frames_register) in
+      let left_is = difference (h1.registers blocks_register) (h1.registers frames_register) (omega arith) in
+      let h2 = writes h1 t0 left in
       let e2 : h2.pc ≡ 4 * suc k = omega arith in
-      let h3 = writes h2 6 (word_sum (h1.registers 0) 160) in
+      let h3 = writes h2 t1 (word_sum (h1.registers zero_register) 160) in
       let e3 : h3.pc ≡ 4 * suc (suc k) = omega arith in
       let h4 = goes_to_pc h3 (word_sum h3.pc 4) in
       let e4 : h4.pc ≡ 4 * suc (suc (suc k)) = omega arith in
       let h5 = jumps h4 0 (4 * suc link) in
       let linked = front.link in
-      let target : word_sum (h1.registers 1) 4 / 2 * 2 ≡ 4 * suc link = omega arith in
+      let target : word_sum (h1.registers ra) 4 / 2 * 2 ≡ 4 * suc link = omega arith in
       let aligned : 4 * suc link % 4 ≡ 0 = omega arith in
       faults_from (n + 4) h5
       (runs_join image cycle0 m.number n 4 m.hart h1 h5 front.runs (
         h2,
-        private image t1 m.number k (Sub 5 13 12) h1 h2 holds l1 e1 front.live (λ s. (s.reserved, refl)),
+        private image cycle1 m.number k (Sub t0 blocks_register frames_register) h1 h2 holds l1 e1 front.live (λ s. (s.reserved, refl)),
         (
           h3,
-          private image t2 m.number (suc k) (Addi 6 0 160) h2 h3 holds l2 e2 front.live (λ s. (s.reserved, refl)),
+          private image cycle2 m.number (suc k) (Addi t1 zero_register 160) h2 h3 holds l2 e2 front.live (λ s. (s.reserved, refl)),
           (
             h4,
-            bgeu_on image t3 m.number (suc (suc k)) 5 6 8 h3 holds l3 e3 front.live (lt-leb (h3.registers 6) (h3.registers 5) (omega arith)),
-            (h5, private image t4 m.number (suc (suc (suc k))) (Jalr 0 1 4) h4 h5 holds l4 e4 front.live (λ s. (s.reserved, jalr_goes t4 m.number 0 1 4 (4 * suc link) h4 s target aligned)), refl),
+            bgeu_on image cycle3 m.number (suc (suc k)) 5 6 8 h3 holds l3 e3 front.live (lt-leb (h3.registers t1) (h3.registers t0) (omega arith)),
+            (h5, private image cycle4 m.number (suc (suc (suc k))) (Jalr zero_register ra 4) h4 h5 holds l4 e4 front.live (λ s. (s.reserved, jalr_goes cycle4 m.number 0 1 4 (4 * suc link) h4 s target aligned)), refl),
           ),
         ),
       ))

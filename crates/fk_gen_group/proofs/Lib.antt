@@ -52,8 +52,16 @@ pub mod Parting
 pub mod Counted
 -- what the control words of parts have behind a split
 pub mod PartSizes
--- members come to count at a split into one part
+-- what a member has at its commit
+pub mod Committed
+-- all members that have counted
+pub mod Divided
+-- a group that divides into one part
 pub mod OnePart
+-- a group that divides into two
+pub mod TwoParts
+-- a group that divides
+pub mod Divides
 -- the size of the group of `start`
 pub mod Sizes
 -- the beginning of `start`

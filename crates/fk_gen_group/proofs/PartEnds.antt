@@ -19,7 +19,7 @@ use Rattle.fk_sim_nodes.proofs.Runs.{cycle_map}
 use Rattle.fk_sim_nodes.proofs.Members.{cycle_commits, together_map}
 use Rattle.fk_sim_nodes.proofs.OnePlace.{private_of_all}
 use Rattle.fk_sim_block.specs.Owner.{Owner, core_source}
-use Rattle.fk_sim_block.specs.Stands.{Places}
+use Rattle.fk_sim_block.specs.Stands.{Places, frame_register, size_register}
 use Rattle.fk_sim_block.specs.Block.{Enters}
 use Rattle.fk_sim_block.specs.Node.{Nestings, OwnsHeader, first_word}
 use Rattle.fk_sim_block.specs.Lockstep.{IsMember, AllEnter, AllComeByWay, LevelOpens, highest_value, is_due}
@@ -113,11 +113,11 @@ module _ (core : List CoreOp) (image : Image) (bound : ℕ → ℕ) (places : Pl
   due_here m p came = (refl, came.enters.index)
 
   -- the first line loads from the frame
-  loads : (m : Member) (p : Owner) → Came m p → (s : Shared) → GoesAlone (perform cycle0 m.number (Lw 20 8 (at_private word)) m.hart s) (committed m.hart) s
+  loads : (m : Member) (p : Owner) → Came m p → (s : Shared) → GoesAlone (perform cycle0 m.number (Lw size_register frame_register (at_private word)) m.hart s) (committed m.hart) s
   loads m p came s =
       let en = came.enters in
       let slot = first_slot core image bound places nestings i op End place (place.fits.goes_on true) opens setting cycle0 first m p en came.member came.part m.hart (same_hart m.hart) refl refl en.at.live in
-      can_run_goes (Lw 20 8 (at_private word)) (LocalAt (slot_of word m.hart)) m.hart (slot.within, slot.address) cycle0 m.number s
+      can_run_goes (Lw size_register frame_register (at_private word)) (LocalAt (slot_of word m.hart)) m.hart (slot.within, slot.address) cycle0 m.number s
 
   together : (highest : ℕ) (size : Owner → ℕ) (ms : List Member) (ps : List Owner) (own : Memory) → Holds image cycle0 → Both Came ms ps
       → Together (core_source core setting) image mine cycle0 1 0 ms ps own
@@ -131,8 +131,8 @@ module _ (core : List CoreOp) (image : Image) (bound : ℕ → ℕ) (places : Pl
       (cycle_map image mine cycle0 1 ms own (λ ms' own'. (ms' ≡ on_each f ms) × (own' ≡ own)) (λ ms' own'. Gone highest size ms' ps × (own' ≡ own))
       (λ ms' own' x.
       (all_gone highest size ms' ps holds (subst (λ l. Both Ended l ps) (sym x.0) (each_standing (places.block i) Came Ended f ms ps ended stand all)), x.1))
-      (private_of_all image mine cycle0 (places.block i) 1 (Lw 20 8 (at_private word)) f ms own holds block.lines.0 stand
-      (all_alone Came cycle0 (Lw 20 8 (at_private word)) f ms ps loads all)))
+      (private_of_all image mine cycle0 (places.block i) 1 (Lw size_register frame_register (at_private word)) f ms own holds block.lines.0 stand
+      (all_alone Came cycle0 (Lw size_register frame_register (at_private word)) f ms ps loads all)))
 
 pub parts_end : PartsEnd
 parts_end core image bound places nestings i op place leads setting t mine first [] [] own owns all part = record { counted = tt; chain = (refl, tt, refl) }

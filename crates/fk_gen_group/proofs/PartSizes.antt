@@ -146,14 +146,14 @@ nought_enters : (v : ℕ) → Within 1 (if v == 0 then Some 0 else None)
 nought_enters zero = omega arith
 nought_enters (suc v) = subst (λ b. Within 1 (if b then Some 0 else None)) (sym (ne_eqb (suc v) 0 (λ e. omega arith))) tt
 
-abbrev either : Bool → Option ℕ
+abbrev pub either : Bool → Option ℕ
 either b = if b then Some 1 else Some 0
 
 either_enters : (b : Bool) → Within 2 (either b)
 either_enters true = omega arith
 either_enters false = omega arith
 
-none_waits : (b : Bool) → either b ≡ None → ⊥
+pub none_waits : (b : Bool) → either b ≡ None → ⊥
 none_waits true e = absurd (cc)
 none_waits false e = absurd (cc)
 

@@ -20,15 +20,15 @@ use Rattle.fk_machine.proofs.Performs.{writes}
 use Rattle.fk_sim_nodes.specs.Node.{Member}
 use Rattle.fk_sim_nodes.specs.Alone.{Holds, RunsPrivately, later, in_cycles}
 use Rattle.fk_sim_block.specs.Owner.{Owner, number_of}
-use Rattle.fk_sim_block.specs.Stands.{Places, HasValues, FrameInMemory, local_address, frame_start, frame_end, group_word, value_of}
+use Rattle.fk_sim_block.specs.Stands.{Places, HasValues, FrameInMemory, local_address, frame_start, frame_end, group_word, value_of, zero_register, size_register}
 use Rattle.fk_sim_block.specs.Suits.{Flows, nothing}
 use Rattle.fk_sim_block.specs.Block.{Enters}
-use Rattle.fk_sim_block.specs.Node.{Nestings, HasLevel, HasLevelRoom, HasSaved, HasOuter, KnowsSpace, saved_at, first_word, past_levels, control_address}
+use Rattle.fk_sim_block.specs.Node.{Nestings, HasLevel, HasLevelRoom, HasSaved, HasOuter, KnowsSpace, saved_at, first_word, past_levels, control_address, node_register, frames_register, blocks_register}
 use Rattle.fk_sim_block.specs.Lockstep.{IsMember, IsInGroup, LevelOpens}
 use Rattle.fk_sim_block.specs.Parts.{IsToDivide}
 use Rattle.fk_gen.proofs.Difference.{difference}
 use Rattle.fk_gen.proofs.Values.{same_word, other_word, values_kept, values_before, length_before}
-use Rattle.fk_gen.specs.Registers.{t0, t3}
+use Rattle.fk_gen.specs.Registers.{t0, t3, ra, t1, t2, t4}
 use Rattle.fk_gen.specs.Lines.{goes_to, label_of}
 use Rattle.fk_gen.specs.InPlace.{LinesAt, HasLabels}
 use Rattle.fk_gen.proofs.Walk.{Quiets, Plain, LocalAt, CanWalk, Told, walk, told_of, walked, lines_split, private, runs_join}
@@ -57,15 +57,14 @@ module _ (core : List CoreOp) (image : Image) (bound : ℕ → ℕ) (places : Pl
   kept : (r : ℕ) → r ≢ 1 → r ≢ 5 → r ≢ 7 → r ≢ 28 → h1.registers r ≡ m.hart.registers r
   kept = front.others
 
-  known : (h1.registers 12 ≡ control_address space.frames) × (h1.registers 13 ≡ control_address space.blocks)
+  known : (h1.registers frames_register ≡ control_address space.frames) × (h1.registers blocks_register ≡ control_address space.blocks)
   known =
-      let k = subst (λ o. KnowsSpace p.runner.has.level o m.hart) divides.group.outer member.node.space in
-      (
+      let k = subst (λ o. KnowsSpace p.runner.has.level o m.hart) divides.group.outer member.node.space in (
         kept 12 (λ e. omega arith) (λ e. omega arith) (λ e. omega arith) (λ e. omega arith) ∙ k.0 ∙ ap (λ (s : Space). control_address s.frames) divides.space_is,
         kept 13 (λ e. omega arith) (λ e. omega arith) (λ e. omega arith) (λ e. omega arith) ∙ k.1 ∙ ap (λ (s : Space). control_address s.blocks) divides.space_is,
       )
 
-  node_is : h1.registers 10 ≡ control_address first
+  node_is : h1.registers node_register ≡ control_address first
   node_is = kept 10 (λ e. omega arith) (λ e. omega arith) (λ e. omega arith) (λ e. omega arith) ∙ member.node.node ∙ ap control_address member.words
 
   -- its group's space begins at its node's words
@@ -78,20 +77,20 @@ module _ (core : List CoreOp) (image : Image) (bound : ℕ → ℕ) (places : Pl
     pub runs : RunsPrivately image cycle0 m.number steps m.hart hart
     pub at : hart.pc ≡ 4 * (bound label + offset)
     pub live : hart.ended ≡ false
-    pub word_is : hart.registers 6 ≡ control_address word
+    pub word_is : hart.registers t1 ≡ control_address word
     pub local : hart.local ≡ h1.local
     pub others : (r : ℕ) → r ≢ 5 → r ≢ 6 → r ≢ 29 → hart.registers r ≡ h1.registers r
 
   -- ---- one part
 
-  one_lines : Quiets
-  one_lines = (Addi 6 6 (2 ^ 32 - 64), Plain) ∷ (Sub 6 6 10, Plain) ∷ (Mul 6 6 28, Plain) ∷ (Add 6 6 10, Plain) ∷ []
+  abbrev one_lines : Quiets
+  one_lines = (Addi t1 t1 (2 ^ 32 - 64), Plain) ∷ (Sub t1 t1 node_register, Plain) ∷ (Mul t1 t1 t3, Plain) ∷ (Add t1 t1 node_register, Plain) ∷ []
 
   -- what the lines come to, by whether it enters
-  pub one_word : ℕ → ℕ
-  one_word flag = word_sum (applied num.Mul (applied num.Sub (word_sum (word_sum (h1.registers 12) 80) (2 ^ 32 - 64)) (h1.registers 10)) flag) (h1.registers 10)
+  abbrev pub one_word : ℕ → ℕ
+  one_word flag = word_sum (applied num.Mul (applied num.Sub (word_sum (word_sum (h1.registers frames_register) 80) (2 ^ 32 - 64)) (h1.registers node_register)) flag) (h1.registers node_register)
 
-  distance_is : applied num.Sub (word_sum (word_sum (h1.registers 12) 80) (2 ^ 32 - 64)) (h1.registers 10) ≡ 4 * (space.frames + 4 - first)
+  distance_is : applied num.Sub (word_sum (word_sum (h1.registers frames_register) 80) (2 ^ 32 - 64)) (h1.registers node_register) ≡ 4 * (space.frames + 4 - first)
   distance_is =
       let frames = known.0 in
       let node = node_is in
@@ -100,7 +99,7 @@ module _ (core : List CoreOp) (image : Image) (bound : ℕ → ℕ) (places : Pl
       let ordered = is_space.ordered in
       let within = is_space.within in
       let top = is_space.shared in
-      difference (word_sum (word_sum (h1.registers 12) 80) (2 ^ 32 - 64)) (h1.registers 10) (omega arith) ∙ omega arith
+      difference (word_sum (word_sum (h1.registers frames_register) 80) (2 ^ 32 - 64)) (h1.registers node_register) (omega arith) ∙ omega arith
 
   pub enters_word : one_word 1 ≡ control_address (space.frames + 4)
   enters_word =
@@ -110,7 +109,7 @@ module _ (core : List CoreOp) (image : Image) (bound : ℕ → ℕ) (places : Pl
       let ordered = is_space.ordered in
       let within = is_space.within in
       let top = is_space.shared in
-      ap (λ d. word_sum (applied num.Mul d 1) (h1.registers 10)) distance_is ∙ omega arith
+      ap (λ d. word_sum (applied num.Mul d 1) (h1.registers node_register)) distance_is ∙ omega arith
 
   pub waits_word : one_word 0 ≡ control_address first
   waits_word =
@@ -120,9 +119,9 @@ module _ (core : List CoreOp) (image : Image) (bound : ℕ → ℕ) (places : Pl
       let ordered = is_space.ordered in
       let within = is_space.within in
       let top = is_space.shared in
-      ap (λ d. word_sum (applied num.Mul d 0) (h1.registers 10)) distance_is ∙ omega arith
+      ap (λ d. word_sum (applied num.Mul d 0) (h1.registers node_register)) distance_is ∙ omega arith
 
-  pub placed_one : (flag word : ℕ) → parts_label by ≡ one_part_label → 20 ≤ free space → h1.registers 28 ≡ flag → one_word flag ≡ control_address word → IsPlaced one_part_label 7 (n + 6) word
+  pub placed_one : (flag word : ℕ) → parts_label by ≡ one_part_label → 20 ≤ free space → h1.registers t3 ≡ flag → one_word flag ≡ control_address word → IsPlaced one_part_label 7 (n + 6) word
   placed_one flag word label many e is =
       let k = bound one_part_label in
       let holds = holds_in_cycles image n cycle0 en.running.code in
@@ -131,31 +130,31 @@ module _ (core : List CoreOp) (image : Image) (bound : ℕ → ℕ) (places : Pl
       let ordered = is_space.ordered in
       let within = is_space.within in
       let top = is_space.shared in
-      let t1 = in_cycles n cycle0 in
-      let t2 = later t1 in
-      let t3 = later t2 in
+      let cycle1 = in_cycles n cycle0 in
+      let cycle2 = later cycle1 in
+      let cycle3 = later cycle2 in
       let l1 = shared.one.0 in
       let l2 = shared.one.1.0 in
       let rest = shared.one.1.1.1 in
       let last = rest.1.1.1.0 in
       let near = last.within in
       let e1 : h1.pc ≡ 4 * k = front.at ∙ ap (λ l. 4 * bound l) label in
-      let h2 = writes h1 6 (word_sum (h1.registers 12) 80) in
+      let h2 = writes h1 t1 (word_sum (h1.registers frames_register) 80) in
       let e2 : h2.pc ≡ 4 * suc k = omega arith in
       let h3 = goes_to_pc h2 (word_sum h2.pc 8) in
       let e3 : h3.pc ≡ 4 * (k + 3) = omega arith in
       let there : suc (suc (suc k)) ≡ k + 3 = omega arith in
-      let w = walked image bound t3 m.number holds one_lines (suc (suc (suc k))) h3 (rest.0, (rest.1.0, (rest.1.1.0, (rest.1.1.1.0, tt)))) (e3 ∙ ap (λ j. 4 * j) (sym there)) front.live (tt, (tt, (tt, (tt, tt)))) in
-      let h7 = walk (told_of t3 m.number) one_lines h3 in
+      let w = walked image bound cycle3 m.number holds one_lines (suc (suc (suc k))) h3 (rest.0, (rest.1.0, (rest.1.1.0, (rest.1.1.1.0, tt)))) (e3 ∙ ap (λ j. 4 * j) (sym there)) front.live (tt, (tt, (tt, (tt, tt)))) in
+      let h7 = walk (told_of cycle3 m.number) one_lines h3 in
       let pc = w.pc in
       record {
         hart = h7;
         runs = runs_join image cycle0 m.number n 6 m.hart h1 h7 front.runs (
           h2,
-          private image t1 m.number k (Addi 6 12 80) h1 h2 holds l1 e1 front.live (λ s. (s.reserved, refl)),
+          private image cycle1 m.number k (Addi t1 frames_register 80) h1 h2 holds l1 e1 front.live (λ s. (s.reserved, refl)),
           (
             h3,
-            bgeu_taken image t2 m.number (suc k) 13 6 8 h2 holds l2 e2 front.live (le-leb (h2.registers 6) (h2.registers 13) (omega arith)) (omega arith),
+            bgeu_taken image cycle2 m.number (suc k) 13 6 8 h2 holds l2 e2 front.live (le-leb (h2.registers t1) (h2.registers blocks_register) (omega arith)) (omega arith),
             w.runs,
           ),
         );
@@ -168,18 +167,18 @@ module _ (core : List CoreOp) (image : Image) (bound : ℕ → ℕ) (places : Pl
 
   -- ---- two parts
 
-  two_lines : Quiets
+  abbrev two_lines : Quiets
   two_lines =
-      (Srli 5 5 3, Plain) ∷ (Slli 5 5 2, Plain) ∷ (Addi 29 5 (2 ^ 32 - 16), Plain) ∷ (Mul 6 28 29, Plain) ∷ (Add 6 6 12, Plain) ∷ (Addi 6 6 32, Plain) ∷ (Addi 5 0 1, Plain) ∷ []
+      (Srli t0 t0 3, Plain) ∷ (Slli t0 t0 2, Plain) ∷ (Addi t4 t0 (2 ^ 32 - 16), Plain) ∷ (Mul t1 t3 t4, Plain) ∷ (Add t1 t1 frames_register, Plain) ∷ (Addi t1 t1 32, Plain) ∷ (Addi t0 zero_register 1, Plain) ∷ []
 
   abbrev left : ℕ
-  left = applied num.Sub (h1.registers 13) (h1.registers 12)
+  left = applied num.Sub (h1.registers blocks_register) (h1.registers frames_register)
 
-  share_word : ℕ
+  abbrev share_word : ℕ
   share_word = word_sum (applied num.Shl (applied num.ShrU left 3) 2) (2 ^ 32 - 16)
 
-  pub two_word : ℕ → ℕ
-  two_word flag = word_sum (word_sum (applied num.Mul flag share_word) (h1.registers 12)) 32
+  abbrev pub two_word : ℕ → ℕ
+  two_word flag = word_sum (word_sum (applied num.Mul flag share_word) (h1.registers frames_register)) 32
 
   left_is : left ≡ 4 * free space
   left_is =
@@ -188,7 +187,7 @@ module _ (core : List CoreOp) (image : Image) (bound : ℕ → ℕ) (places : Pl
       let ordered = is_space.ordered in
       let within = is_space.within in
       let top = is_space.shared in
-      difference (h1.registers 13) (h1.registers 12) (omega arith) ∙ omega arith
+      difference (h1.registers blocks_register) (h1.registers frames_register) (omega arith) ∙ omega arith
 
   share_is : 40 ≤ free space → share_word ≡ 4 * equal_part space 2
   share_is many =
@@ -202,7 +201,7 @@ module _ (core : List CoreOp) (image : Image) (bound : ℕ → ℕ) (places : Pl
       let ordered = is_space.ordered in
       let within = is_space.within in
       let top = is_space.shared in
-      ap (λ x. word_sum (word_sum (applied num.Mul 0 x) (h1.registers 12)) 32) (share_is many) ∙ omega arith
+      ap (λ x. word_sum (word_sum (applied num.Mul 0 x) (h1.registers frames_register)) 32) (share_is many) ∙ omega arith
 
   pub second_word_is : 40 ≤ free space → two_word 1 ≡ control_address (space.frames + 8 + equal_part space 2)
   second_word_is many =
@@ -210,55 +209,55 @@ module _ (core : List CoreOp) (image : Image) (bound : ℕ → ℕ) (places : Pl
       let ordered = is_space.ordered in
       let within = is_space.within in
       let top = is_space.shared in
-      ap (λ x. word_sum (word_sum (applied num.Mul 1 x) (h1.registers 12)) 32) (share_is many) ∙ omega arith
+      ap (λ x. word_sum (word_sum (applied num.Mul 1 x) (h1.registers frames_register)) 32) (share_is many) ∙ omega arith
 
   -- with the bytes of each part in t4, and 1 in t0
   pub record IsHalved (word : ℕ) : Type 0 where
     pub placed : IsPlaced two_parts_label 11 (n + 10) word
-    pub one : placed.hart.registers 5 ≡ 1
-    pub share : placed.hart.registers 29 ≡ 4 * equal_part space 2
+    pub one : placed.hart.registers t0 ≡ 1
+    pub share : placed.hart.registers t4 ≡ 4 * equal_part space 2
 
-  pub placed_two : (flag word : ℕ) → parts_label by ≡ two_parts_label → 40 ≤ free space → h1.registers 28 ≡ flag → two_word flag ≡ control_address word → IsHalved word
+  pub placed_two : (flag word : ℕ) → parts_label by ≡ two_parts_label → 40 ≤ free space → h1.registers t3 ≡ flag → two_word flag ≡ control_address word → IsHalved word
   placed_two flag word label many e is =
       let k = bound two_parts_label in
       let holds = holds_in_cycles image n cycle0 en.running.code in
       let within = is_space.within in
       let top = is_space.shared in
       let free_is = left_is in
-      let t1 = in_cycles n cycle0 in
-      let t2 = later t1 in
-      let t3 = later t2 in
-      let t4 = later t3 in
+      let cycle1 = in_cycles n cycle0 in
+      let cycle2 = later cycle1 in
+      let cycle3 = later cycle2 in
+      let cycle4 = later cycle3 in
       let l1 = shared.two.0 in
       let l2 = shared.two.1.0 in
       let l3 = shared.two.1.1.0 in
       let rest = shared.two.1.1.1.1 in
       let last = rest.1.1.1.1.1.1.0 in
       let near = last.within in
-      let zero_is : h1.registers 0 ≡ 0 = kept 0 (λ e. omega arith) (λ e. omega arith) (λ e. omega arith) (λ e. omega arith) ∙ en.at.stands.nought in
+      let zero_is : h1.registers zero_register ≡ 0 = kept 0 (λ e. omega arith) (λ e. omega arith) (λ e. omega arith) (λ e. omega arith) ∙ en.at.stands.nought in
       let e1 : h1.pc ≡ 4 * k = front.at ∙ ap (λ l. 4 * bound l) label in
-      let h2 = writes h1 5 left in
+      let h2 = writes h1 t0 left in
       let e2 : h2.pc ≡ 4 * suc k = omega arith in
-      let h3 = writes h2 6 (word_sum (h1.registers 0) 160) in
+      let h3 = writes h2 t1 (word_sum (h1.registers zero_register) 160) in
       let e3 : h3.pc ≡ 4 * suc (suc k) = omega arith in
       let h4 = goes_to_pc h3 (word_sum h3.pc 8) in
       let e4 : h4.pc ≡ 4 * suc (suc (suc (suc k))) = omega arith in
-      let w = walked image bound t4 m.number holds two_lines (suc (suc (suc (suc k)))) h4
+      let w = walked image bound cycle4 m.number holds two_lines (suc (suc (suc (suc k)))) h4
       (rest.0, (rest.1.0, (rest.1.1.0, (rest.1.1.1.0, (rest.1.1.1.1.0, (rest.1.1.1.1.1.0, (rest.1.1.1.1.1.1.0, tt))))))) e4 front.live (tt, (tt, (tt, (tt, (tt, (tt, (tt, tt))))))) in
-      let h11 = walk (told_of t4 m.number) two_lines h4 in
+      let h11 = walk (told_of cycle4 m.number) two_lines h4 in
       let pc = w.pc in
       record {
         placed = record {
           hart = h11;
           runs = runs_join image cycle0 m.number n 10 m.hart h1 h11 front.runs (
             h2,
-            private image t1 m.number k (Sub 5 13 12) h1 h2 holds l1 e1 front.live (λ s. (s.reserved, refl)),
+            private image cycle1 m.number k (Sub t0 blocks_register frames_register) h1 h2 holds l1 e1 front.live (λ s. (s.reserved, refl)),
             (
               h3,
-              private image t2 m.number (suc k) (Addi 6 0 160) h2 h3 holds l2 e2 front.live (λ s. (s.reserved, refl)),
+              private image cycle2 m.number (suc k) (Addi t1 zero_register 160) h2 h3 holds l2 e2 front.live (λ s. (s.reserved, refl)),
               (
                 h4,
-                bgeu_taken image t3 m.number (suc (suc k)) 5 6 8 h3 holds l3 e3 front.live (le-leb (h3.registers 6) (h3.registers 5) (omega arith)) (omega arith),
+                bgeu_taken image cycle3 m.number (suc (suc k)) 5 6 8 h3 holds l3 e3 front.live (le-leb (h3.registers t1) (h3.registers t0) (omega arith)) (omega arith),
                 w.runs,
               ),
             ),
@@ -292,28 +291,28 @@ part_in_memory core places m m' p i i' low vs few waiting at flows held start wo
     let n = length p.runner.has.callers in
     let running = subst (λ a. FrameInMemory places m n a p.runner.has.call) at held.running in
     let begins = starts_in places n in
-    let group = group_at n in
     record {
       running = record {
         home = flows.main ∙ running.home;
         values = values';
         privates = λ x e. below (frame_start places n + 7 + x) (words x e) ∙ running.privates x (flows.kept x e refl);
         group = λ number told.
-            frame_stays m m' n (p.runner.has.call.frames number) (below (group_word n) (omega arith)) (running.group number (flows.group number told));
+            frame_stays m m' n number (p.runner.has.call.frames number) (λ known. let g = group_at n number known in below (group_word n number) (omega (arith, g)))
+            (running.group number (flows.group number told));
       };
-      waiting = waiting_kept places m m' p.runner.left.callers p.runner.has.callers few (below 3 (omega arith)) (λ j le lt. below j (omega arith)) held.waiting;
+      waiting = waiting_kept places m m' p.runner.left.callers p.runner.has.callers few (λ j le lt. below j (omega arith)) (λ j le lt. below j (omega arith)) held.waiting;
       own = λ x lt. below (7 + x) (omega arith) ∙ held.own x lt;
       heap = λ x lt. above (16384 + x) (omega arith) ∙ held.heap x lt;
       full = below 2 (omega arith) ∙ held.full;
     }
   where
-    group_at : (n : ℕ) → group_word n < frame_start places n + 7
-    group_at zero = omega arith
-    group_at (suc n) = omega arith
+    group_at : (n number : ℕ) → number < 4 → group_word n number < frame_start places n + 7
+    group_at zero number known = omega arith
+    group_at (suc n) number known = omega arith
 
 -- who waits at an `||` has another value, and else nothing is written
 pub memory_other : (by : SplitKind) (depth : ℕ) (h : Hart) (j : ℕ) → (taken_by by ≡ 1 → j ≡ value_word depth h → ⊥) → memory_by by depth h j ≡ h.local j
-memory_other OrElse depth h j ne = other_word h.local (value_word depth h) (applied num.LtU (h.registers 0) (h.local (value_word depth h))) j (ne refl)
+memory_other OrElse depth h j ne = other_word h.local (value_word depth h) (applied num.LtU (h.registers zero_register) (h.local (value_word depth h))) j (ne refl)
 memory_other by depth h j ne = refl
 
 -- four words from one on
@@ -378,11 +377,11 @@ module _ (core : List CoreOp) (image : Image) (bound : ℕ → ℕ) (places : Pl
     pub live : h.ended ≡ false
     pub at : h.pc ≡ 4 * places.block j
     pub local : h.local
-        ≡ with_level (memory_by by op.depth m.hart) saved_word (m.hart.registers 20) (m.hart.registers 10) (m.hart.registers 13) (m.hart.registers 12)
-    pub node : h.registers 10 ≡ control_address level.space.low
-    pub size : h.registers 20 ≡ level.size
-    pub frames : h.registers 12 ≡ control_address level.space.frames
-    pub blocks : h.registers 13 ≡ control_address level.space.blocks
+        ≡ with_level (memory_by by op.depth m.hart) saved_word (m.hart.registers size_register) (m.hart.registers node_register) (m.hart.registers blocks_register) (m.hart.registers frames_register)
+    pub node : h.registers node_register ≡ control_address level.space.low
+    pub size : h.registers size_register ≡ level.size
+    pub frames : h.registers frames_register ≡ control_address level.space.frames
+    pub blocks : h.registers blocks_register ≡ control_address level.space.blocks
     pub number : level.number ≡ p.runner.has.level.number
     pub rank : level.rank ≡ p.runner.has.level.rank
     pub others : (r : ℕ) → r ≢ 1 → r ≢ 5 → r ≢ 6 → r ≢ 7 → r ≢ 10 → r ≢ 12 → r ≢ 13 → r ≢ 20 → r ≢ 28 → r ≢ 29 → h.registers r ≡ m.hart.registers r
@@ -398,7 +397,7 @@ module _ (core : List CoreOp) (image : Image) (bound : ℕ → ℕ) (places : Pl
       let n = waiting in
       let vs = left_values in
       let m' = h.local in
-      let written = is_written (memory_by by op.depth m.hart) saved_word (m.hart.registers 20) (m.hart.registers 10) (m.hart.registers 13) (m.hart.registers 12) in
+      let written = is_written (memory_by by op.depth m.hart) saved_word (m.hart.registers size_register) (m.hart.registers node_register) (m.hart.registers blocks_register) (m.hart.registers frames_register) in
       let home : places.frames.is_main j ≡ (n == 0) = flows.main ∙ ap places.frames.is_main (sym en.index) ∙ stands.running.home in
       let below : below_values places nestings n j (op.depth - taken_by by) = lies_below places nestings n j (op.depth - taken_by by) home room in
       let levels = opens.levels in
@@ -501,17 +500,17 @@ module _ (core : List CoreOp) (image : Image) (bound : ℕ → ℕ) (places : Pl
 
 abbrev pub saving : (at : ℕ) → Quiets
 saving s =
-    (Sw 7 20 0, LocalAt s) ∷ (Sw 7 10 4, LocalAt (s + 1)) ∷ (Sw 7 13 8, LocalAt (s + 2)) ∷ (Sw 7 12 12, LocalAt (s + 3)) ∷
-    (Addi 10 6 0, Plain) ∷ (Addi 20 5 0, Plain) ∷ (Addi 12 6 32, Plain) ∷ []
+    (Sw t2 size_register 0, LocalAt s) ∷ (Sw t2 node_register 4, LocalAt (s + 1)) ∷ (Sw t2 blocks_register 8, LocalAt (s + 2)) ∷ (Sw t2 frames_register 12, LocalAt (s + 3)) ∷
+    (Addi node_register t1 0, Plain) ∷ (Addi size_register t0 0, Plain) ∷ (Addi frames_register t1 32, Plain) ∷ []
 
 -- what a member has behind its commit
 pub record IsBehind (first h : Hart) (memory : Memory) (saved word size : ℕ) : Type 0 where
   pub live : h.ended ≡ false
-  pub slot : h.registers 7 ≡ local_address saved
+  pub slot : h.registers t2 ≡ local_address saved
   pub inside : saved + 4 ≤ 32768
-  pub word_is : h.registers 6 ≡ control_address word
+  pub word_is : h.registers t1 ≡ control_address word
   pub within : word + 8 ≤ 2 ^ 20
-  pub size_is : h.registers 5 ≡ size
+  pub size_is : h.registers t0 ≡ size
   pub small : size < 2 ^ 32
   pub local : h.local ≡ memory
   pub others : (r : ℕ) → r ≢ 1 → r ≢ 5 → r ≢ 6 → r ≢ 7 → r ≢ 28 → r ≢ 29 → h.registers r ≡ first.registers r
@@ -524,11 +523,11 @@ can_save told first h memory s word size b =
 
 -- the hart behind these lines
 pub record HasSavedLevel (first h : Hart) (memory : Memory) (saved word size : ℕ) : Type 0 where
-  pub local : h.local ≡ with_level memory saved (first.registers 20) (first.registers 10) (first.registers 13) (first.registers 12)
-  pub node : h.registers 10 ≡ control_address word
-  pub size_is : h.registers 20 ≡ size
-  pub frames : h.registers 12 ≡ control_address (word + 8)
-  pub blocks : h.registers 13 ≡ first.registers 13
+  pub local : h.local ≡ with_level memory saved (first.registers size_register) (first.registers node_register) (first.registers blocks_register) (first.registers frames_register)
+  pub node : h.registers node_register ≡ control_address word
+  pub size_is : h.registers size_register ≡ size
+  pub frames : h.registers frames_register ≡ control_address (word + 8)
+  pub blocks : h.registers blocks_register ≡ first.registers blocks_register
   pub others : (r : ℕ) → r ≢ 1 → r ≢ 5 → r ≢ 6 → r ≢ 7 → r ≢ 10 → r ≢ 12 → r ≢ 20 → r ≢ 28 → r ≢ 29 → h.registers r ≡ first.registers r
 
 pub saves : (told : Told) (first h : Hart) (memory : Memory) (s word size : ℕ) → IsBehind first h memory s word size
@@ -544,11 +543,11 @@ saves told first h memory s word size b =
     let frames = b.others 12 (λ e. omega arith) (λ e. omega arith) (λ e. omega arith) (λ e. omega arith) (λ e. omega arith) (λ e. omega arith) in
     record {
       local =
-          ap (λ (l : Memory). with_level l s (h.registers 20) (h.registers 10) (h.registers 13) (h.registers 12)) b.local
-          ∙ ap (λ v. with_level memory s v (h.registers 10) (h.registers 13) (h.registers 12)) size20
-          ∙ ap (λ v. with_level memory s (first.registers 20) v (h.registers 13) (h.registers 12)) node
-          ∙ ap (λ v. with_level memory s (first.registers 20) (first.registers 10) v (h.registers 12)) blocks
-          ∙ ap (with_level memory s (first.registers 20) (first.registers 10) (first.registers 13)) frames;
+          ap (λ (l : Memory). with_level l s (h.registers size_register) (h.registers node_register) (h.registers blocks_register) (h.registers frames_register)) b.local
+          ∙ ap (λ v. with_level memory s v (h.registers node_register) (h.registers blocks_register) (h.registers frames_register)) size20
+          ∙ ap (λ v. with_level memory s (first.registers size_register) v (h.registers blocks_register) (h.registers frames_register)) node
+          ∙ ap (λ v. with_level memory s (first.registers size_register) (first.registers node_register) v (h.registers frames_register)) blocks
+          ∙ ap (with_level memory s (first.registers size_register) (first.registers node_register) (first.registers blocks_register)) frames;
       node = omega arith;
       size_is = omega arith;
       frames = omega arith;
@@ -558,52 +557,59 @@ saves told first h memory s word size b =
 
 -- ---- the ways behind the commit
 
+module _ (image : Image) (bound : ℕ → ℕ) (shared : HasParts image bound) where
+  behind_one : LinesAt image bound (bound one_part_label + 7 + 5) (waiting_lines ++ (saving_lines ++ into_one_part))
+  behind_one =
+      let k = bound one_part_label in
+      let a = lines_split image bound k one_part_place (counting_lines t3 ++ (waiting_lines ++ (saving_lines ++ into_one_part))) shared.one in
+      (lines_split image bound (k + 7) (counting_lines t3) (waiting_lines ++ (saving_lines ++ into_one_part)) a.1).1
+
+  behind_two : LinesAt image bound (bound two_parts_label + 11 + 5) (saving_lines ++ into_two_parts)
+  behind_two =
+      let k = bound two_parts_label in
+      let a = lines_split image bound k two_parts_place (counting_lines t0 ++ (saving_lines ++ into_two_parts)) shared.two in
+      (lines_split image bound (k + 11) (counting_lines t0) (saving_lines ++ into_two_parts) a.1).1
+
+-- who waits goes to where those wait
+module _ (image : Image) (bound : ℕ → ℕ) (places : Places) (shared : HasParts image bound) (t : MachineSetting) (number link target site : ℕ)
+    (holds : Holds image t) (labels : HasLabels bound places) (back : LinesAt image bound link (goes_to (Jal zero_register 0) (label_of target) ∷ no_room site))
+    (h : Hart) (live : h.ended ≡ false) (linked : h.registers ra ≡ 4 * link) (zero_is : h.registers zero_register ≡ 0) where
+  abbrev pub wait_hart : Hart
+  wait_hart = jumps (jumps (goes_to_pc h (word_sum h.pc 4)) 0 (4 * link)) 0 (4 * bound (label_of target))
+
+  pub wait_runs : h.pc ≡ 4 * (bound one_part_label + 7 + 5) → h.registers t3 ≡ 0 → RunsPrivately image t number 3 h wait_hart
+  wait_runs pc flag =
+      let cycle1 = later t in
+      let cycle2 = later cycle1 in
+      let k = bound one_part_label + 7 + 5 in
+      let lines = behind_one image bound shared in
+      let bne = lines.0 in
+      let jalr = lines.1.0 in
+      let near = jalr.within in
+      let near' = back.0.within in
+      let ha = goes_to_pc h (word_sum h.pc 4) in
+      let hb = jumps ha 0 (4 * link) in
+      let to : word_sum (h.registers ra) 0 / 2 * 2 ≡ 4 * link = omega arith in
+      let aligned : 4 * link % 4 ≡ 0 = omega arith in (
+        ha,
+        bne_on image t number k 28 0 8 h holds bne pc live (eq-eqb (h.registers t3) (h.registers zero_register) (flag ∙ sym zero_is)),
+        (
+          hb,
+          private image cycle1 number (suc k) (Jalr zero_register ra 0) ha hb holds jalr (omega arith) live (λ x. (x.reserved, jalr_goes cycle1 number 0 1 0 (4 * link) ha x to aligned)),
+          (wait_hart, jal_private image bound cycle2 number link 0 (label_of target) hb holds back.0 (labels.within (label_of target)) refl live, refl),
+        ),
+      )
+
+-- who enters a part
 module _ (image : Image) (bound : ℕ → ℕ) (places : Places) (shared : HasParts image bound) (t : MachineSetting) (number link target next : ℕ) (site : ℕ)
-    (holds : Holds image t) (labels : HasLabels bound places) (back : LinesAt image bound link (goes_to (Jal 0 0) (label_of target) ∷ no_room site)) (here : next ≡ link + 4)
-    (first h : Hart) (memory : Memory) (s word size : ℕ) (behind : IsBehind first h memory s word size) (linked : h.registers 1 ≡ 4 * link)
-    (zero_is : h.registers 0 ≡ 0) where
+    (holds : Holds image t) (labels : HasLabels bound places) (back : LinesAt image bound link (goes_to (Jal zero_register 0) (label_of target) ∷ no_room site)) (here : next ≡ link + 4)
+    (first h : Hart) (memory : Memory) (s word size : ℕ) (behind : IsBehind first h memory s word size) (linked : h.registers ra ≡ 4 * link)
+    (zero_is : h.registers zero_register ≡ 0) where
   abbrev k1 : ℕ
   k1 = bound one_part_label
 
   abbrev k2 : ℕ
   k2 = bound two_parts_label
-
-  behind_one : LinesAt image bound (k1 + 7 + 5) (waiting_lines ++ (saving_lines ++ into_one_part))
-  behind_one =
-      let a = lines_split image bound k1 one_part_place (counting_lines t3 ++ (waiting_lines ++ (saving_lines ++ into_one_part))) shared.one in
-      (lines_split image bound (k1 + 7) (counting_lines t3) (waiting_lines ++ (saving_lines ++ into_one_part)) a.1).1
-
-  behind_two : LinesAt image bound (k2 + 11 + 5) (saving_lines ++ into_two_parts)
-  behind_two =
-      let a = lines_split image bound k2 two_parts_place (counting_lines t0 ++ (saving_lines ++ into_two_parts)) shared.two in
-      (lines_split image bound (k2 + 11) (counting_lines t0) (saving_lines ++ into_two_parts) a.1).1
-
-  -- who waits goes to where those wait
-  abbrev pub wait_hart : Hart
-  wait_hart = jumps (jumps (goes_to_pc h (word_sum h.pc 4)) 0 (4 * link)) 0 (4 * bound (label_of target))
-
-  pub wait_runs : h.pc ≡ 4 * (k1 + 7 + 5) → h.registers 28 ≡ 0 → RunsPrivately image t number 3 h wait_hart
-  wait_runs pc flag =
-      let t1 = later t in
-      let t2 = later t1 in
-      let k = k1 + 7 + 5 in
-      let bne = behind_one.0 in
-      let jalr = behind_one.1.0 in
-      let near = jalr.within in
-      let near' = back.0.within in
-      let ha = goes_to_pc h (word_sum h.pc 4) in
-      let hb = jumps ha 0 (4 * link) in
-      let live = behind.live in
-      let to : word_sum (h.registers 1) 0 / 2 * 2 ≡ 4 * link = omega arith in
-      let aligned : 4 * link % 4 ≡ 0 = omega arith in (
-        ha,
-        bne_on image t number k 28 0 8 h holds bne pc live (eq-eqb (h.registers 28) (h.registers 0) (flag ∙ sym zero_is)),
-        (
-          hb,
-          private image t1 number (suc k) (Jalr 0 1 0) ha hb holds jalr (omega arith) live (λ x. (x.reserved, jalr_goes t1 number 0 1 0 (4 * link) ha x to aligned)),
-          (wait_hart, jal_private image bound t2 number link 0 (label_of target) hb holds back.0 (labels.within (label_of target)) refl live, refl),
-        ),
-      )
 
   -- who enters the one part
   abbrev pub one_hart : Hart
@@ -622,30 +628,31 @@ module _ (image : Image) (bound : ℕ → ℕ) (places : Places) (shared : HasPa
     others = λ r a b c d e f. same r ∙ behind.others r a b c d e f;
   }
 
-  pub one_runs : h.pc ≡ 4 * (k1 + 7 + 5) → h.registers 28 ≡ 1 → RunsPrivately image t number 9 h one_hart
+  pub one_runs : h.pc ≡ 4 * (k1 + 7 + 5) → h.registers t3 ≡ 1 → RunsPrivately image t number 9 h one_hart
   one_runs pc flag =
       let k = k1 + 7 + 5 in
-      let t1 = later t in
-      let bne = behind_one.0 in
-      let rest = lines_split image bound (suc (suc k)) saving_lines into_one_part behind_one.1.1 in
+      let cycle1 = later t in
+      let lines = behind_one image bound shared in
+      let bne = lines.0 in
+      let rest = lines_split image bound (suc (suc k)) saving_lines into_one_part lines.1.1 in
       let jalr = rest.1.0 in
       let near = jalr.within in
       let near' = back.0.within in
       let ha = goes_to_pc h (word_sum h.pc 8) in
       let b = moved_behind ha refl refl (λ r. refl) in
-      let w = walked image bound t1 number holds (saving s) (suc (suc k)) ha rest.0 (omega arith) b.live (can_save (told_of t1 number) first ha memory s word size b) in
-      let hb = walk (told_of t1 number) (saving s) ha in
+      let w = walked image bound cycle1 number holds (saving s) (suc (suc k)) ha rest.0 (omega arith) b.live (can_save (told_of cycle1 number) first ha memory s word size b) in
+      let hb = walk (told_of cycle1 number) (saving s) ha in
       let there = w.pc in
-      let linked' : hb.registers 1 ≡ 4 * link = linked in
-      let to : word_sum (hb.registers 1) 16 / 2 * 2 ≡ 4 * next = omega arith in
+      let linked' : hb.registers ra ≡ 4 * link = linked in
+      let to : word_sum (hb.registers ra) 16 / 2 * 2 ≡ 4 * next = omega arith in
       let aligned : 4 * next % 4 ≡ 0 = omega arith in
-      let differ : (h.registers 28 == h.registers 0) ≡ false = ne_eqb (h.registers 28) (h.registers 0) (λ f. omega (arith, f, flag, zero_is)) in (
+      let differ : (h.registers t3 == h.registers zero_register) ≡ false = ne_eqb (h.registers t3) (h.registers zero_register) (λ f. omega (arith, f, flag, zero_is)) in (
         ha,
         bne_taken image t number k 28 0 8 h holds bne pc behind.live differ (omega arith),
-        runs_join image t1 number 7 1 ha hb one_hart w.runs (
+        runs_join image cycle1 number 7 1 ha hb one_hart w.runs (
           one_hart,
-          private image (in_cycles 7 t1) number (suc (suc k) + 7) (Jalr 0 1 16) hb one_hart holds jalr there w.live
-              (λ x. (x.reserved, jalr_goes (in_cycles 7 t1) number 0 1 16 (4 * next) hb x to aligned)),
+          private image (in_cycles 7 cycle1) number (suc (suc k) + 7) (Jalr zero_register ra 16) hb one_hart holds jalr there w.live
+              (λ x. (x.reserved, jalr_goes (in_cycles 7 cycle1) number 0 1 16 (4 * next) hb x to aligned)),
           refl,
         ),
       )
@@ -660,7 +667,7 @@ module _ (image : Image) (bound : ℕ → ℕ) (places : Places) (shared : HasPa
   abbrev pub both_hart : Hart
   both_hart =
       let hb = walk (told_of t number) (saving s) h in
-      writes hb 13 (word_sum (hb.registers 6) (hb.registers 29))
+      writes hb blocks_register (word_sum (hb.registers t1) (hb.registers t4))
 
   abbrev pub first_hart : Hart
   first_hart = jumps (goes_to_pc both_hart (word_sum both_hart.pc 4)) 0 (4 * next)
@@ -671,7 +678,7 @@ module _ (image : Image) (bound : ℕ → ℕ) (places : Places) (shared : HasPa
   both_runs : h.pc ≡ 4 * (k2 + 11 + 5) → RunsPrivately image t number 8 h both_hart × (both_hart.pc ≡ 4 * (k2 + 11 + 5 + 8)) × (both_hart.ended ≡ false)
   both_runs pc =
       let k = k2 + 11 + 5 in
-      let rest = lines_split image bound k saving_lines into_two_parts behind_two in
+      let rest = lines_split image bound k saving_lines into_two_parts (behind_two image bound shared) in
       let add = rest.1.0 in
       let near = add.within in
       let w = walked image bound t number holds (saving s) k h rest.0 pc behind.live (can_save (told_of t number) first h memory s word size behind) in
@@ -679,18 +686,18 @@ module _ (image : Image) (bound : ℕ → ℕ) (places : Places) (shared : HasPa
       let there = w.pc in (
         runs_join image t number 7 1 h hb both_hart w.runs (
           both_hart,
-          private image (in_cycles 7 t) number (k + 7) (Add 13 6 29) hb both_hart holds add there w.live (λ x. (x.reserved, refl)),
+          private image (in_cycles 7 t) number (k + 7) (Add blocks_register t1 t4) hb both_hart holds add there w.live (λ x. (x.reserved, refl)),
           refl,
         ),
         omega arith,
         w.live,
       )
 
-  pub first_runs : h.pc ≡ 4 * (k2 + 11 + 5) → h.registers 28 ≡ 0 → RunsPrivately image t number 10 h first_hart
+  pub first_runs : h.pc ≡ 4 * (k2 + 11 + 5) → h.registers t3 ≡ 0 → RunsPrivately image t number 10 h first_hart
   first_runs pc flag =
       let k = k2 + 11 + 5 in
-      let t8 = in_cycles 8 t in
-      let rest = lines_split image bound k saving_lines into_two_parts behind_two in
+      let cycle8 = in_cycles 8 t in
+      let rest = lines_split image bound k saving_lines into_two_parts (behind_two image bound shared) in
       let bne = rest.1.1.0 in
       let jalr = rest.1.1.1.0 in
       let near = jalr.within in
@@ -698,24 +705,24 @@ module _ (image : Image) (bound : ℕ → ℕ) (places : Places) (shared : HasPa
       let b = both_runs pc in
       let there = b.1 in
       let hc = goes_to_pc both_hart (word_sum both_hart.pc 4) in
-      let to : word_sum (h.registers 1) 16 / 2 * 2 ≡ 4 * next = omega arith in
+      let to : word_sum (h.registers ra) 16 / 2 * 2 ≡ 4 * next = omega arith in
       let aligned : 4 * next % 4 ≡ 0 = omega arith in
       runs_join image t number 8 2 h both_hart first_hart b.0 (
         hc,
-        bne_on image t8 number (k + 7 + 1) 28 0 8 both_hart (holds_in_cycles image 8 t holds) bne (omega arith) b.2 (eq-eqb (h.registers 28) (h.registers 0) (flag ∙ sym zero_is)),
+        bne_on image cycle8 number (k + 7 + 1) 28 0 8 both_hart (holds_in_cycles image 8 t holds) bne (omega arith) b.2 (eq-eqb (h.registers t3) (h.registers zero_register) (flag ∙ sym zero_is)),
         (
           first_hart,
-          private image (later t8) number (k + 7 + 2) (Jalr 0 1 16) hc first_hart (holds_in_cycles image 9 t holds) jalr (omega arith) b.2
-              (λ x. (x.reserved, jalr_goes (later t8) number 0 1 16 (4 * next) hc x to aligned)),
+          private image (later cycle8) number (k + 7 + 2) (Jalr zero_register ra 16) hc first_hart (holds_in_cycles image 9 t holds) jalr (omega arith) b.2
+              (λ x. (x.reserved, jalr_goes (later cycle8) number 0 1 16 (4 * next) hc x to aligned)),
           refl,
         ),
       )
 
-  pub second_runs : h.pc ≡ 4 * (k2 + 11 + 5) → h.registers 28 ≡ 1 → RunsPrivately image t number 11 h second_hart
+  pub second_runs : h.pc ≡ 4 * (k2 + 11 + 5) → h.registers t3 ≡ 1 → RunsPrivately image t number 11 h second_hart
   second_runs pc flag =
       let k = k2 + 11 + 5 in
-      let t8 = in_cycles 8 t in
-      let rest = lines_split image bound k saving_lines into_two_parts behind_two in
+      let cycle8 = in_cycles 8 t in
+      let rest = lines_split image bound k saving_lines into_two_parts (behind_two image bound shared) in
       let bne = rest.1.1.0 in
       let jalr = rest.1.1.1.1.0 in
       let near = jalr.within in
@@ -724,17 +731,17 @@ module _ (image : Image) (bound : ℕ → ℕ) (places : Places) (shared : HasPa
       let there = b.1 in
       let hc = goes_to_pc both_hart (word_sum both_hart.pc 8) in
       let hd = jumps hc 0 (4 * link) in
-      let to : word_sum (h.registers 1) 0 / 2 * 2 ≡ 4 * link = omega arith in
+      let to : word_sum (h.registers ra) 0 / 2 * 2 ≡ 4 * link = omega arith in
       let aligned : 4 * link % 4 ≡ 0 = omega arith in
-      let differ : (h.registers 28 == h.registers 0) ≡ false = ne_eqb (h.registers 28) (h.registers 0) (λ f. omega (arith, f, flag, zero_is)) in
+      let differ : (h.registers t3 == h.registers zero_register) ≡ false = ne_eqb (h.registers t3) (h.registers zero_register) (λ f. omega (arith, f, flag, zero_is)) in
       runs_join image t number 8 3 h both_hart second_hart b.0 (
         hc,
-        bne_taken image t8 number (k + 7 + 1) 28 0 8 both_hart (holds_in_cycles image 8 t holds) bne (omega arith) b.2 differ (omega arith),
+        bne_taken image cycle8 number (k + 7 + 1) 28 0 8 both_hart (holds_in_cycles image 8 t holds) bne (omega arith) b.2 differ (omega arith),
         (
           hd,
-          private image (later t8) number (k + 7 + 3) (Jalr 0 1 0) hc hd (holds_in_cycles image 9 t holds) jalr (omega arith) b.2
-              (λ x. (x.reserved, jalr_goes (later t8) number 0 1 0 (4 * link) hc x to aligned)),
-          (second_hart, jal_private image bound (later (later t8)) number link 0 (label_of target) hd (holds_in_cycles image 10 t holds) back.0 (labels.within (label_of target)) refl b.2, refl),
+          private image (later cycle8) number (k + 7 + 3) (Jalr zero_register ra 0) hc hd (holds_in_cycles image 9 t holds) jalr (omega arith) b.2
+              (λ x. (x.reserved, jalr_goes (later cycle8) number 0 1 0 (4 * link) hc x to aligned)),
+          (second_hart, jal_private image bound (later (later cycle8)) number link 0 (label_of target) hd (holds_in_cycles image 10 t holds) back.0 (labels.within (label_of target)) refl b.2, refl),
         ),
       )
 

@@ -23,14 +23,16 @@ use Rattle.fk_sim_nodes.specs.OnePlace.{AllAreAt, last_or, sum_from}
 use Rattle.fk_sim_nodes.proofs.Runs.{cycle_map}
 use Rattle.fk_sim_nodes.proofs.Members.{cycle_commits, together_map}
 use Rattle.fk_sim_block.specs.Owner.{Owner, Doing, core_source}
-use Rattle.fk_sim_block.specs.Stands.{Places, HasValues, value_in}
+use Rattle.fk_sim_block.specs.Stands.{Places, HasValues, value_in, zero_register, frame_register, size_register}
 use Rattle.fk_sim_block.specs.Suits.{Flows, nothing}
 use Rattle.fk_sim_block.specs.Block.{Enters}
 use Rattle.fk_sim_block.specs.Node.{Nestings, OwnsHeader, IsAtRest, KnowsSpace, first_word, control_address}
 use Rattle.fk_sim_block.specs.Lockstep.{IsMember, AllEnter, AllComeByWay, ComesByWay, LevelsStay, LevelOpens, highest_value, is_due}
 use Rattle.fk_sim_block.specs.Parts.{IsInPart, AreInPart, AllMove, size_behind, size_of_stay}
 use Rattle.fk_sim_block.proofs.Spaces.{space_kept}
-use Rattle.fk_gen.specs.Lines.{at_value, at_private}
+use Rattle.fk_gen.specs.Registers.{t0, t3}
+use Rattle.fk_gen.specs.Lines.{at_private}
+use Rattle.fk_gen.specs.Operands.{operand}
 use Rattle.fk_gen.proofs.Values.{values_before}
 use Rattle.fk_gen.proofs.Walk.{LocalAt, private, runs_join, told_of, can_run_goes}
 use Rattle.fk_gen.proofs.Jumps.{goes_to_pc, bne_taken, bne_on}
@@ -82,10 +84,10 @@ module _ (core : List CoreOp) (image : Image) (bound : ℕ → ℕ) (places : Pl
   -- ---- the value is loaded, and becomes 0 or 1
 
   abbrev load_hart : Hart → Hart
-  load_hart h = writes h 28 (h.local (value_word op.depth h))
+  load_hart h = writes h t3 (h.local (value_word op.depth h))
 
   abbrev flag_hart : Hart → Hart
-  flag_hart h = writes (load_hart h) 28 (applied num.LtU (h.registers 0) (h.local (value_word op.depth h)))
+  flag_hart h = writes (load_hart h) t3 (applied num.LtU (h.registers zero_register) (h.local (value_word op.depth h)))
 
   record Loaded (m : Member) (p : Owner) : Type 0 where
     pub hart : Hart
@@ -97,22 +99,22 @@ module _ (core : List CoreOp) (image : Image) (bound : ℕ → ℕ) (places : Pl
     pub came : Came (record m { hart = hart }) p
     pub is : m.hart ≡ flag_hart hart
 
-  loads : (t : MachineSetting) (m : Member) (p : Owner) → Came m p → (s : Shared) → GoesAlone (perform t m.number (Lw 28 9 (at_value op.depth)) m.hart s) (load_hart m.hart) s
+  loads : (t : MachineSetting) (m : Member) (p : Owner) → Came m p → (s : Shared) → GoesAlone (perform t m.number (operand t3 op.depth) m.hart s) (load_hart m.hart) s
   loads t m p came s =
       let v = is_value core image bound places nestings i op Shrink place setting cycle0 p m.hart m.hart some came.enters refl in
-      can_run_goes (Lw 28 9 (at_value op.depth)) (LocalAt (value_word op.depth m.hart)) m.hart (v.within, v.address) t m.number s
+      can_run_goes (operand t3 op.depth) (LocalAt (value_word op.depth m.hart)) m.hart (v.within, v.address) t m.number s
 
   loaded : (m : Member) (p : Owner) → Came m p → Loaded (record m { hart = load_hart m.hart }) p
   loaded m p came = record { hart = m.hart; came = came; is = refl }
 
   abbrev flagged : Member → Hart
-  flagged m = writes m.hart 28 (applied num.LtU (m.hart.registers 0) (m.hart.registers 28))
+  flagged m = writes m.hart t3 (applied num.LtU (m.hart.registers zero_register) (m.hart.registers t3))
 
   ready : (m : Member) (p : Owner) → Loaded m p → Ready (record m { hart = flagged m }) p
   ready m p l = record {
     hart = l.hart;
     came = l.came;
-    is = ap (λ (h : Hart). writes h 28 (applied num.LtU (h.registers 0) (h.registers 28))) l.is;
+    is = ap (λ (h : Hart). writes h t3 (applied num.LtU (h.registers zero_register) (h.registers t3))) l.is;
   }
 
   -- ---- those who stay are counted
@@ -166,10 +168,10 @@ module _ (core : List CoreOp) (image : Image) (bound : ℕ → ℕ) (places : Pl
   live_is : (m : Member) (p : Owner) → (near : IsNear m p) → m.hart.ended ≡ false
   live_is m p near = near.live ∙ ap (λ (h : Hart). h.ended) near.ready.is ∙ near.ready.came.enters.at.live
 
-  flag_is : (m : Member) (p : Owner) → (near : IsNear m p) → m.hart.registers 28 ≡ count p
+  flag_is : (m : Member) (p : Owner) → (near : IsNear m p) → m.hart.registers t3 ≡ count p
   flag_is m p near = near.others 28 (λ e. omega arith) ∙ (to_count (record m { hart = near.hart }) p near.ready).value
 
-  nought_is : (m : Member) (p : Owner) → (near : IsNear m p) → m.hart.registers 0 ≡ 0
+  nought_is : (m : Member) (p : Owner) → (near : IsNear m p) → m.hart.registers zero_register ≡ 0
   nought_is m p near = others_are m p near 0 (λ e. omega arith) (λ e. omega arith) ∙ near.ready.came.enters.at.stands.nought
 
   -- ---- each by its way
@@ -203,7 +205,7 @@ module _ (core : List CoreOp) (image : Image) (bound : ℕ → ℕ) (places : Pl
 
     -- one that stays
     abbrev stay_hart : Hart
-    stay_hart = writes (goes_to_pc m.hart (word_sum m.hart.pc 24)) 20 (word_sum (m.hart.registers 5) 0)
+    stay_hart = writes (goes_to_pc m.hart (word_sum m.hart.pc 24)) size_register (word_sum (m.hart.registers t0) 0)
 
     stay_runs : stays p.runner.has ≡ true → RunsPrivately image t m.number 2 m.hart stay_hart
     stay_runs e =
@@ -212,16 +214,16 @@ module _ (core : List CoreOp) (image : Image) (bound : ℕ → ℕ) (places : Pl
         let last_line = lines.1.1.1.1.1.1.1.1.1.1.1.0 in
         let within = last_line.within in
         let h1 = goes_to_pc m.hart (word_sum m.hart.pc 24) in
-        let flag : m.hart.registers 28 ≡ 1 = flag_is m p near ∙ ap from_bool e in
+        let flag : m.hart.registers t3 ≡ 1 = flag_is m p near ∙ ap from_bool e in
         let zero_is = nought_is m p near in
         let live = live_is m p near in
         let k5 = suc (suc (suc (suc (suc k)))) in
-        let differ : (m.hart.registers 28 == m.hart.registers 0) ≡ false = ne_eqb (m.hart.registers 28) (m.hart.registers 0) (λ f. omega (arith, f, flag, zero_is)) in (
+        let differ : (m.hart.registers t3 == m.hart.registers zero_register) ≡ false = ne_eqb (m.hart.registers t3) (m.hart.registers zero_register) (λ f. omega (arith, f, flag, zero_is)) in (
           h1,
           bne_taken image t m.number k5 28 0 24 m.hart holds bne pc live differ (omega arith),
           (
             stay_hart,
-            private image (later t) m.number (suc (suc (suc (suc (suc (suc k5)))))) (Addi 20 5 0) h1 stay_hart holds last_line (omega arith) live
+            private image (later t) m.number (suc (suc (suc (suc (suc (suc k5)))))) (Addi size_register t0 0) h1 stay_hart holds last_line (omega arith) live
                 (λ s. (s.reserved, addi (later t) m.number 20 5 0 h1 s)),
             refl,
           ),
@@ -298,7 +300,7 @@ module _ (core : List CoreOp) (image : Image) (bound : ℕ → ℕ) (places : Pl
         let size_line = lines.1.1.1.1.1.1.0 in
         let rest = lines.1.1.1.1.1.1.1 in
         let within = size_line.within in
-        let flag : m.hart.registers 28 ≡ 0 = flag_is m p near ∙ ap from_bool e in
+        let flag : m.hart.registers t3 ≡ 0 = flag_is m p near ∙ ap from_bool e in
         let zero_is = nought_is m p near in
         let live = live_is m p near in
         let k5 = suc (suc (suc (suc (suc k)))) in
@@ -311,11 +313,11 @@ module _ (core : List CoreOp) (image : Image) (bound : ℕ → ℕ) (places : Pl
         let size_hart = sized core image bound places nestings i op Shrink place flows opens out_front in
         let pc6 : out_front.pc ≡ 4 * suc k5 = omega arith in (
           out_front,
-          bne_on image t m.number k5 28 0 24 m.hart holds bne pc live (eq-eqb (m.hart.registers 28) (m.hart.registers 0) (flag ∙ sym zero_is)),
+          bne_on image t m.number k5 28 0 24 m.hart holds bne pc live (eq-eqb (m.hart.registers t3) (m.hart.registers zero_register) (flag ∙ sym zero_is)),
           (
             size_hart,
-            private image (later t) m.number (suc k5) (Lw 20 8 (at_private word_out)) out_front size_hart holds size_line pc6 live
-                (λ s. can_run_goes (Lw 20 8 (at_private word_out)) (LocalAt (slot_of word_out out_front)) out_front (slot.within, slot.address) (later t) m.number s),
+            private image (later t) m.number (suc k5) (Lw size_register frame_register (at_private word_out)) out_front size_hart holds size_line pc6 live
+                (λ s. can_run_goes (Lw size_register frame_register (at_private word_out)) (LocalAt (slot_of word_out out_front)) out_front (slot.within, slot.address) (later t) m.number s),
             out_runs core image bound places nestings i op Shrink place flows opens setting cycle0 first (record m { hart = h0 }) p came.enters came.member came.part out_front same top local live
                 (later (later t)) (suc (suc k5)) holds place.block.labels (rest.0, (rest.1.0, (rest.1.1.0, (rest.1.1.1.0, tt)))) (omega arith),
           ),
@@ -426,24 +428,24 @@ module _ (core : List CoreOp) (image : Image) (bound : ℕ → ℕ) (places : Pl
       → AllAreAt (suc (suc (suc (suc k)))) ms → Both (Counted summed) ms (p ∷ others) → AtCommit (p ∷ others) ms summed
   commit_step p others ms own summed holds rest few sum stand all =
       let ps = p ∷ others in
-      let t4 = in_cycles 4 cycle0 in
+      let cycle4 = in_cycles 4 cycle0 in
       let k4 = suc (suc (suc (suc k))) in
       let nought : own first ≡ 0 = ap own same_word ∙ rest.barrier in
       let size_is : summed first ≡ size_of_stay ps = sum first ∙ ap (λ v. sum_from v (shares word count first ps)) nought ∙ counted_size ps few in
       let pass = few_pass (λ q. stays q.runner.has) ps in
       let small : size_of_stay ps < 2 ^ 32 = omega arith in
-      cycle_commits (core_source core setting) image mine t4 1 ms ps (map (is_due core i op Shrink) ps) summed
-      (λ ms' own'. Gone (later t4) (highest_value ps) (size_behind Shrink ps) ms' ps × IsAtRest first own')
+      cycle_commits (core_source core setting) image mine cycle4 1 ms ps (map (is_due core i op Shrink) ps) summed
+      (λ ms' own'. Gone (later cycle4) (highest_value ps) (size_behind Shrink ps) ms' ps × IsAtRest first own')
       owns.apart
       (all_due core setting i op Shrink (Counted summed) ms ps place.stands refl (due_here summed) all)
-      (cycle_map image mine t4 1 ms summed
+      (cycle_map image mine cycle4 1 ms summed
       (λ ms' own'. AllAreAt (suc k4) ms' × Both (Counted summed) ms' ps × ((w : ℕ) → own' w ≡ last_or (summed w) (shares (λ q. word q + 0) nothing_each w ps)))
-      (λ ms' own'. Gone (later t4) (highest_value ps) (size_behind Shrink ps) ms' ps × IsAtRest first own')
+      (λ ms' own'. Gone (later cycle4) (highest_value ps) (size_behind Shrink ps) ms' ps × IsAtRest first own')
       (λ ms' own' x. (
-        all_gone (later t4) summed (highest_value ps) (size_behind Shrink ps) ms' ps holds (λ q. size_is) (λ q. small) x.0 x.1,
+        all_gone (later cycle4) summed (highest_value ps) (size_behind Shrink ps) ms' ps holds (λ q. size_is) (λ q. small) x.0 x.1,
         rests p others own summed own' rest sum x.2,
       ))
-      (last_cycle image mine 10 28 other word count Ready to_count summed t4 k4 ms ps summed holds place.block.lines.1.1.1.1.0 stand all))
+      (last_cycle image mine 10 28 other word count Ready to_count summed cycle4 k4 ms ps summed holds place.block.lines.1.1.1.1.0 stand all))
     where
       same_word : first ≡ first + 0
       same_word = omega arith
@@ -470,10 +472,10 @@ module _ (core : List CoreOp) (image : Image) (bound : ℕ → ℕ) (places : Pl
       → AllAreAt (suc k) ms → Both Loaded ms (p ∷ others) → AtFlag (p ∷ others) ms own
   flag_step p others ms own holds rest few stand all =
       let ps = p ∷ others in
-      let t1 = in_cycles 1 cycle0 in
-      cycle_map image mine t1 0 ms own (λ ms' own'. AllAreAt (suc (suc k)) ms' × Both Ready ms' ps × (own' ≡ own)) (λ ms' own'. AtAdd ps ms' own')
+      let cycle1 = in_cycles 1 cycle0 in
+      cycle_map image mine cycle1 0 ms own (λ ms' own'. AllAreAt (suc (suc k)) ms' × Both Ready ms' ps × (own' ≡ own)) (λ ms' own'. AtAdd ps ms' own')
       (λ ms' own' x. subst (AtAdd ps ms') (sym x.2) (add_step p others ms' own holds rest few x.0 (given_all ms' ps x.1)))
-      (alone_cycle image mine t1 (suc k) (Sltu 28 0 28) flagged Loaded Ready ms ps own holds place.block.lines.1.0 (λ m. (refl, refl)) (λ m q l s. (s.reserved, refl)) ready stand all)
+      (alone_cycle image mine cycle1 (suc k) (Sltu t3 zero_register t3) flagged Loaded Ready ms ps own holds place.block.lines.1.0 (λ m. (refl, refl)) (λ m q l s. (s.reserved, refl)) ready stand all)
 
   together : (p : Owner) (others : List Owner) (ms : List Member) (own : Memory) → Holds image cycle0 → IsAtRest first own → length (p ∷ others) ≤ 1024 → Both Came ms (p ∷ others)
       → Together (core_source core setting) image mine cycle0 1 4 ms (p ∷ others) own (Goal (p ∷ others))
@@ -482,7 +484,7 @@ module _ (core : List CoreOp) (image : Image) (bound : ℕ → ℕ) (places : Pl
       let load : Member → Hart = λ m. load_hart m.hart in
       cycle_map image mine cycle0 0 ms own (λ ms' own'. AllAreAt (suc k) ms' × Both Loaded ms' ps × (own' ≡ own)) (λ ms' own'. AtFlag ps ms' own')
       (λ ms' own' x. subst (AtFlag ps ms') (sym x.2) (flag_step p others ms' own holds rest few x.0 x.1))
-      (alone_cycle image mine cycle0 k (Lw 28 9 (at_value op.depth)) load Came Loaded ms ps own holds place.block.lines.0 (λ m. (refl, refl)) (loads cycle0) loaded
+      (alone_cycle image mine cycle0 k (operand t3 op.depth) load Came Loaded ms ps own holds place.block.lines.0 (λ m. (refl, refl)) (loads cycle0) loaded
       (all_stand k Came ms ps (λ m q came. at_block core image places nestings i op Shrink setting cycle0 first m q came.enters) all) all)
 
 pub parts_shrink : PartsShrink

@@ -12,10 +12,10 @@ use Rattle.fk_machine.proofs.Performs.{writes}
 use Rattle.fk_sim_nodes.specs.Node.{Member}
 use Rattle.fk_sim_nodes.specs.Alone.{Holds, RunsPrivately}
 use Rattle.fk_sim_block.specs.Owner.{Owner, number_of}
-use Rattle.fk_sim_block.specs.Stands.{Places, HasValues, StandsFor, local_address, frame_start, value_in}
+use Rattle.fk_sim_block.specs.Stands.{Places, HasValues, StandsFor, local_address, frame_start, value_in, zero_register, frame_register, size_register, top_register}
 use Rattle.fk_sim_block.specs.Suits.{Flows, nothing}
 use Rattle.fk_sim_block.specs.Block.{Enters}
-use Rattle.fk_sim_block.specs.Node.{Nestings, HasLevel, HasSaved, HasOuter, KnowsSpace, past_levels, saved_at, first_word, control_address}
+use Rattle.fk_sim_block.specs.Node.{Nestings, HasLevel, HasSaved, HasOuter, KnowsSpace, past_levels, saved_at, first_word, control_address, node_register, frames_register, blocks_register}
 use Rattle.fk_sim_block.specs.Lockstep.{IsMember, LevelOpens}
 use Rattle.fk_sim_block.specs.Parts.{IsInPart}
 use Rattle.fk_gen.specs.Lines.{goes_to, at_private, label_of}
@@ -31,23 +31,23 @@ use Rattle.fk_gen_group.proofs.Levels.{many_callers}
 -- ---- where a word after the header is
 
 abbrev pub slot_of : (word : ℕ) → Hart → ℕ
-slot_of word h = local_index (word_sum (h.registers 8) (at_private word))
+slot_of word h = local_index (word_sum (h.registers frame_register) (at_private word))
 
 pub record IsSlot (places : Places) (waiting word : ℕ) (h : Hart) : Type 0 where
   pub within : slot_of word h < 32768
-  pub address : word_sum (h.registers 8) (at_private word) ≡ local_address (slot_of word h)
+  pub address : word_sum (h.registers frame_register) (at_private word) ≡ local_address (slot_of word h)
   pub index : slot_of word h ≡ frame_start places waiting + 7 + word
 
-pub is_slot : (places : Places) (n word : ℕ) (h : Hart) → places.frames.of_file ≤ 56 → n < 256 → word < 64 → h.registers 8 ≡ local_address (frame_start places n) → IsSlot places n word h
+pub is_slot : (places : Places) (n word : ℕ) (h : Hart) → places.frames.of_file ≤ 56 → n < 256 → word < 64 → h.registers frame_register ≡ local_address (frame_start places n) → IsSlot places n word h
 is_slot places n word h few calls lt e =
-    let at = private_place places (h.registers 8) n word e calls few lt in
+    let at = private_place places (h.registers frame_register) n word e calls few lt in
     let within = at.0 in
     let address = at.1 in
     let index : slot_of word h ≡ frame_start places n + 7 + word = omega arith in
     record { within = omega arith; address = address ∙ ap local_address (sym index); index = index }
 
 -- a hart that has these addresses knows the space of its group
-pub knows : (l : Level) (outer : List Level) (h : Hart) → h.registers 12 ≡ control_address l.space.frames → h.registers 13 ≡ control_address l.space.blocks → KnowsSpace l outer h
+pub knows : (l : Level) (outer : List Level) (h : Hart) → h.registers frames_register ≡ control_address l.space.frames → h.registers blocks_register ≡ control_address l.space.blocks → KnowsSpace l outer h
 knows l [] h a b = tt
 knows l (o ∷ outer) h a b = (a, b)
 
@@ -76,13 +76,13 @@ module _ (core : List CoreOp) (image : Image) (bound : ℕ → ℕ) (places : Pl
 
   -- the hart that has loaded the size, and the lines after that
   abbrev pub sized : Hart → Hart
-  sized h = writes h 20 (h.local (slot_of out_word h))
+  sized h = writes h size_register (h.local (slot_of out_word h))
 
   abbrev pub out_lines : Hart → Quiets
   out_lines h =
-      (Lw 10 8 (at_private (out_word + 1)), LocalAt (slot_of (out_word + 1) h)) ∷
-      (Lw 13 8 (at_private (out_word + 2)), LocalAt (slot_of (out_word + 2) h)) ∷
-      (Lw 12 8 (at_private (out_word + 3)), LocalAt (slot_of (out_word + 3) h)) ∷ []
+      (Lw node_register frame_register (at_private (out_word + 1)), LocalAt (slot_of (out_word + 1) h)) ∷
+      (Lw blocks_register frame_register (at_private (out_word + 2)), LocalAt (slot_of (out_word + 2) h)) ∷
+      (Lw frames_register frame_register (at_private (out_word + 3)), LocalAt (slot_of (out_word + 3) h)) ∷ []
 
   abbrev pub out_hart : Told → Hart → Hart
   out_hart told h = jumps (walk told (out_lines h) (sized h)) 0 (4 * bound (label_of op.target))
@@ -96,7 +96,7 @@ module _ (core : List CoreOp) (image : Image) (bound : ℕ → ℕ) (places : Pl
 
   -- a hart that has all of a member's but what is free in blocks
   module _ (setting : Setting) (cycle0 : MachineSetting) (first : ℕ) (m : Member) (p : Owner) (en : Enters core image places setting cycle0 i op operation p m.hart)
-      (member : IsMember places nestings setting None first m p) (part : IsInPart nestings p) (h : Hart) (same : SameRegisters m.hart h) (top : h.registers 21 ≡ m.hart.registers 21)
+      (member : IsMember places nestings setting None first m p) (part : IsInPart nestings p) (h : Hart) (same : SameRegisters m.hart h) (top : h.registers top_register ≡ m.hart.registers top_register)
       (local : h.local ≡ m.hart.local) (live : h.ended ≡ false) where
     abbrev n : ℕ
     n = length p.runner.has.callers
@@ -117,10 +117,10 @@ module _ (core : List CoreOp) (image : Image) (bound : ℕ → ℕ) (places : Pl
         is_slot places n out_word h place.few en.ready.in_range.waiting (omega arith) (same.1 ∙ en.at.stands.frame)
 
     pub out_runs : (t : MachineSetting) (k : ℕ) → Holds image t → HasLabels bound places
-        → LinesAt image bound k (quiet_lines (out_lines h) ++ goes_to (Jal 0 0) (label_of op.target) ∷ []) → (sized h).pc ≡ 4 * k
+        → LinesAt image bound k (quiet_lines (out_lines h) ++ goes_to (Jal zero_register 0) (label_of op.target) ∷ []) → (sized h).pc ≡ 4 * k
         → RunsPrivately image t m.number 4 (sized h) (out_hart (told_of t m.number) h)
     out_runs t k holds labels lines pc =
-        let split = lines_split image bound k (quiet_lines (out_lines h)) (goes_to (Jal 0 0) (label_of op.target) ∷ []) lines in
+        let split = lines_split image bound k (quiet_lines (out_lines h)) (goes_to (Jal zero_register 0) (label_of op.target) ∷ []) lines in
         let one = slot_at 1 (omega arith) in
         let two = slot_at 2 (omega arith) in
         let three = slot_at 3 (omega arith) in

@@ -32,7 +32,8 @@ use Rattle.fk_sim_block.specs.Start.{BlockStarts}
 
 -- The levels in the frame of a call at an index.
 abbrev pub levels_at : Nestings → (index : ℕ) → Levels
-levels_at nestings i = record { count = nestings.levels i; behind = nestings.behind i }
+levels_at nestings i =
+    record { count = nestings.levels i; behind = nestings.behind i; nest = nestings.nest i }
 
 -- A step goes on at the next index with the same levels, a split with one more. The next index is
 -- not that of an end.

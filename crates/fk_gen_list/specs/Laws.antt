@@ -179,6 +179,7 @@ abbrev pub nestings_of : List Levels → (start : Gathering) → Nestings
 nestings_of saved start = record {
   levels = λ index. (levels_in saved index).count;
   behind = λ index. (levels_in saved index).behind;
+  nest = λ index. (levels_in saved index).nest;
   start = start;
 }
 

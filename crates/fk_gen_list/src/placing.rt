@@ -47,6 +47,7 @@ fn levels(saved: &[Levels], index: usize) -> Levels
         None => Levels {
             count: 0,
             behind: 0,
+            nest: 0,
         },
     }
 }

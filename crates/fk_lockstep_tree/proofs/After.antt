@@ -1,5 +1,5 @@
 -- Behind a round each processor stands where its operations have led it, with the levels that the new tree has there.
-use Rattle.std.proofs.Common.{◌≡◌, ◌≢◌, ⊎_elim, ℕ, zero, suc, ◌+◌, ◌-◌, ◌<◌, ◌≤◌, ◌==◌, ◌||◌, Bool, true, false, List, [], ◌∷◌, length, filter, Option, Some, None, refl, sym, ap, ap₂, ◌∙◌, subst, arith, if◌then◌else◌}
+use Rattle.std.proofs.Common.{◌≡◌, ◌≢◌, ⊎_elim, ℕ, zero, suc, ◌+◌, ◌-◌, ◌<◌, ◌≤◌, ◌==◌, ◌||◌, Bool, true, false, List, [], ◌∷◌, length, filter, Option, Some, None, refl, sym, ap, ◌∙◌, subst, arith, if◌then◌else◌}
 use Rattle.std.specs.Prelude.{nat_lt, min, slice_get}
 use Rattle.std.proofs.lemmas.Bool.{cases_lt, cond-true, cond-false, lt-ltb, le-ltb, false≢true}
 use Rattle.fk_space.specs.Space.{Space, child}
@@ -16,7 +16,7 @@ use Rattle.fk_tree.proofs.Lists.{length-below}
 use Rattle.fk_tree.proofs.Shapes.{with_same, members-turned, parent-turned, kind-turned, kind-node_of, parent-node_of, from_within, from_below, has_some}
 use Rattle.fk_meaning.specs.Processor.{Level, Processor, Setting, values, last, drop_last, enter_level, to_outer, leave_level, group_space}
 use Rattle.fk_meaning.specs.Schedule.{first_level}
-use Rattle.fk_meaning.specs.Group.{not_negative, is_taken, start_level, parts, part, part_level, divided, with_size, stays, taken_by, enters, does, goes_onward}
+use Rattle.fk_meaning.specs.Group.{not_negative, is_taken, start_level, parts, part, part_level, divided, with_size, stays, enters, does, goes_onward}
 use Rattle.fk_meaning.specs.Round.{Step, Runner, State, Round, Acting, lowest, agreed, settled_by, settled, body_of, result}
 use Rattle.fk_lockstep.specs.Untouched.{changes_tree}
 use Rattle.fk_lockstep.proofs.Rounds.{gone, settled_as, settled_at}
@@ -25,13 +25,13 @@ use Rattle.fk_lockstep.proofs.Round.{first_is, lowest_member, at_below, settled_
 use Rattle.fk_lockstep_nodes.specs.Steps.{Keeps, Does, KeepsOrDoes}
 use Rattle.fk_lockstep_tree.specs.Where.{Where, InRoot, Waits, InGroup, InBody, BehindBody, behind_waiting, divides, shrinks, goes, Goes}
 use Rattle.fk_lockstep_tree.specs.Ranges.{range_of, ranges_of}
-use Rattle.fk_lockstep_tree.specs.Placed.{where_in, where_at, IsOfNode, HasNumbersOf, AreLevels, IsPlaced}
+use Rattle.fk_lockstep_tree.specs.Placed.{where_in, where_at, HasNumbersOf, AreLevels, IsPlaced}
 use Rattle.fk_lockstep_tree.specs.Steps.{StepFits}
 use Rattle.fk_lockstep_tree.specs.Rounds.{IsRound, IsRoundInSpaces}
-use Rattle.fk_lockstep_tree.proofs.Moves.{TakenLevel, SameLevel, SameLevels, as_taken, keeps_place, keeps_tree, does_same, goes_on}
+use Rattle.fk_lockstep_tree.proofs.Moves.{SameLevel, SameLevels, as_taken, keeps_place, keeps_tree, does_same, goes_on}
 use Rattle.fk_lockstep_tree.proofs.Acts.{IsDue, result_is}
 use Rattle.fk_lockstep_tree.proofs.Known.{Act, act, many, placed, member_at, each_steps}
-use Rattle.fk_lockstep_tree.proofs.Paths.{root_outer, root_first, at_root, at_node, waiting_place, InLockstep, lockstep_place, body_place, in_body, IsAlone, HasBodyThere, SameBelow, above, changed}
+use Rattle.fk_lockstep_tree.proofs.Paths.{root_outer, root_first, at_root, at_node, waiting_place, InLockstep, lockstep_place, body_place, in_body, HasBodyThere, SameBelow, above, changed}
 use Rattle.fk_lockstep_tree.proofs.Stepped as trees
 
 -- ---- places

@@ -22,7 +22,7 @@ use Rattle.fk_lockstep.specs.Untouched.{changes_tree}
 use Rattle.fk_lockstep.proofs.Round.{first_is, all_at, at_below, lowest_member}
 use Rattle.fk_lockstep_tree.specs.Where.{Where, InRoot, Waits, InGroup, InBody, BehindBody, goes}
 use Rattle.fk_lockstep_tree.specs.Ranges.{ranges_of}
-use Rattle.fk_lockstep_tree.specs.Placed.{where_in, where_at, IsPlaced}
+use Rattle.fk_lockstep_tree.specs.Placed.{where_in, IsPlaced}
 use Rattle.fk_lockstep_nodes.specs.Steps.{Keeps, Does, KeepsOrDoes, StepsBy, MayStep, stepping}
 use Rattle.fk_lockstep_tree.specs.Steps.{StepFits, AreKnown}
 use Rattle.fk_lockstep_tree.specs.Rounds.{IsRound, RoundsAreKnown}

@@ -1,5 +1,5 @@
 -- Runs of a list stay in trees, where those of the program that stands in it do.
-use Rattle.std.proofs.Common.{◌≡◌, ◌≢◌, ◌⊎◌, inl, inr, ℕ, zero, suc, ◌≤◌, Bool, true, false, List, [], ◌∷◌, ◌++◌, length, map, Option, Some, None, ap, ◌∙◌, sym, refl, subst, arith}
+use Rattle.std.proofs.Common.{◌≡◌, ℕ, zero, suc, ◌≤◌, Bool, true, false, List, [], ◌∷◌, ◌++◌, length, map, Option, Some, None, ap, ◌∙◌, sym, refl, subst, arith}
 use Rattle.std.specs.Prelude.{option_map, slice_get, slice_index}
 use Rattle.std.proofs.lemmas.List.{length-map}
 use Rattle.fk_space.specs.Space.{Space, IsSpace}
@@ -22,12 +22,11 @@ use Rattle.fk_core.specs.declared.op.CoreOp.{CoreOp}
 use Rattle.fk_core.specs.Next.{Position, position, landing, next}
 use Rattle.fk_core.specs.CodeAt.{CodeAt}
 use Rattle.fk_core.specs.WellFormed.{LeadsOn}
-use Rattle.fk_core.proofs.Running.{IsEndOf, IsAt, AllStand, same_next, body_at, as_many_callers, outs_stand}
+use Rattle.fk_core.proofs.Running.{IsAt, AllStand, same_next, body_at, as_many_callers, outs_stand}
 use Rattle.fk_lockstep.specs.Course.{Waits, ByItself, Does, DoesNext, FollowsFor, Follows}
 use Rattle.fk_lockstep.specs.Frames.{IsFramed}
 use Rattle.fk_lockstep.specs.OneProgram.{AreTogether, HaveOneProgram, KeepOneProgram}
 use Rattle.fk_lockstep.specs.OneSpace.{HaveSameLevels, spaces_of, KeepOneSpace}
-use Rattle.fk_lockstep.proofs.Round.{first_is}
 use Rattle.fk_lockstep_frames.specs.Lists.{HasLocalFrames}
 use Rattle.fk_lockstep_frames.proofs.Lists.{lists_tell_frames}
 use Rattle.fk_lockstep_structure.specs.Ahead.{outermost, starts_in, starts, all_outs}

@@ -34,7 +34,7 @@ beginners_length : {W : Type 0} (set : Setting) (firsts : Memory) (program : W) 
 beginners_length set firsts program h zero = refl
 beginners_length set firsts program h (suc count) = ap (λ (n : ℕ). suc n) (beginners_length set firsts program (suc h) count)
 
-root_kind : (p : ℕ) → 1 ≤ p → kind (root p) 0 ≡ Some (Asynchronous false)
+pub root_kind : (p : ℕ) → 1 ≤ p → kind (root p) 0 ≡ Some (Asynchronous false)
 root_kind p some =
     let sound = root_sound p some in
     let there = has_some (root p) 0 0 (sound.placed 0 (omega (arith, some))).member in

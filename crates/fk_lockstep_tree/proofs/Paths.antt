@@ -13,7 +13,7 @@ use Rattle.fk_meaning.specs.Round.{body_of}
 use Rattle.fk_lockstep.proofs.Round.{first_is}
 use Rattle.fk_lockstep_tree.specs.Where.{Where, InRoot, Waits, InGroup, InBody, BehindBody}
 use Rattle.fk_lockstep_tree.specs.Ranges.{range_of}
-use Rattle.fk_lockstep_tree.specs.Placed.{where_in, where_at, IsOfNode, HasNumbersOf, AreLevels}
+use Rattle.fk_lockstep_tree.specs.Placed.{where_in, where_at, IsOfNode, AreLevels}
 
 -- ---- the node and what is above it
 

@@ -1,5 +1,5 @@
 -- The words of nodes behind a round, and those that the lowest members tell.
-use Rattle.std.proofs.Common.{◌≡◌, ◌≢◌, ◌⊎◌, inl, inr, ⊎_elim, ℕ, zero, suc, ◌+◌, ◌-◌, ◌*◌, ◌^◌, ◌<◌, ◌≤◌, ◌==◌, ◌||◌, Bool, true, false, List, [], ◌∷◌, length, filter, Option, Some, None, IsSome, refl, sym, ap, ◌∙◌, subst, arith, eq-eqb, if◌then◌else◌}
+use Rattle.std.proofs.Common.{◌≡◌, ◌≢◌, ◌⊎◌, inl, inr, ⊎_elim, ℕ, zero, suc, ◌+◌, ◌-◌, ◌*◌, ◌^◌, ◌<◌, ◌≤◌, ◌==◌, ◌||◌, Bool, true, false, List, [], ◌∷◌, length, filter, Option, Some, None, refl, sym, ap, ◌∙◌, subst, arith, eq-eqb}
 use Rattle.std.specs.Prelude.{slice_get, is_some, min}
 use Rattle.std.proofs.Math.Nat.{mul-le-mul_right}
 use Rattle.std.proofs.lemmas.Bool.{cases_Bool, cases_eq, cases_lt, cond-true, cond-false, ne_eqb, false≢true}
@@ -11,7 +11,7 @@ use Rattle.fk_meaning_operation.specs.declared.operation.Operation.TheVariants a
 use Rattle.fk_tree.specs.declared.node.Kind.{Kind}
 use Rattle.fk_tree.specs.declared.node.Kind.TheVariants.{Lockstep, Waiting, Asynchronous}
 use Rattle.fk_tree.specs.Tree as t
-use Rattle.fk_tree.specs.Tree.{Node, Tree, members, parent, kind, is_member, node_of, is_in, left_by, kind_after, first_part}
+use Rattle.fk_tree.specs.Tree.{Tree, members, parent, kind, is_member, node_of, is_in, left_by, kind_after, first_part}
 use Rattle.fk_tree.specs.Sound.{Has, IsSound}
 use Rattle.fk_tree.proofs.Shapes.{with_same, parent-turned, parent-node_of, from_within, from_below, has_some, some-given, awaits-some}
 use Rattle.fk_meaning.specs.Processor.{Level, Processor, Setting, values, group_space}

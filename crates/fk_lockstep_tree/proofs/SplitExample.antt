@@ -1,10 +1,10 @@
 -- Code of a group that splits:
 -- if ($) { if ($) ; } else ; while (1) ; in a `start`.
-use Rattle.std.proofs.Common.{◌≡◌, ℕ, zero, suc, Bool, true, false, Some, None, refl}
+use Rattle.std.proofs.Common.{◌≡◌, ℕ, suc, Bool, false, None, refl}
 use Rattle.fk_meaning_operation.specs.declared.operation.SplitKind.TheVariants.{IfAlone, IfElse, Loop, Fork}
 use Rattle.fk_meaning_operation.specs.declared.operation.Operation.TheVariants as o
 use Rattle.fk_meaning_forms.specs.Code.{Code, done, perform, choose, while, quit}
-use Rattle.fk_lockstep_tree.specs.Where.{Where, InRoot, Waits, InGroup, goes}
+use Rattle.fk_lockstep_tree.specs.Where.{InRoot, Waits, InGroup, goes}
 use Rattle.fk_lockstep_tree.specs.Leads.{Leads}
 
 abbrev may_call : (in_group : Bool) → (function : ℕ) → Bool

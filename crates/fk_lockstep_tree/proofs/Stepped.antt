@@ -1,9 +1,8 @@
 -- What a round makes of the node of a processor, and of the nodes above it.
-use Rattle.std.proofs.Common.{◌≡◌, ◌≢◌, ◌⊎◌, inl, inr, ⊎_elim, ℕ, zero, suc, ◌+◌, ◌<◌, ◌≤◌, Bool, true, false, List, [], ◌∷◌, length, Option, Some, None, refl, sym, ap, ◌∙◌, subst, arith}
+use Rattle.std.proofs.Common.{◌≡◌, ◌≢◌, ◌⊎◌, inl, inr, ⊎_elim, ℕ, zero, suc, ◌<◌, ◌≤◌, List, Option, Some, None, refl, sym, ap, ◌∙◌, subst, arith}
 use Rattle.std.proofs.lemmas.Bool.{cases_eq, cases_lt}
 use Rattle.fk_meaning_operation.specs.declared.operation.Operation.{Operation}
-use Rattle.fk_tree.specs.Tree as t
-use Rattle.fk_tree.specs.Tree.{Node, Tree, members, parent}
+use Rattle.fk_tree.specs.Tree.{Tree, members}
 use Rattle.fk_tree.specs.Sound.{Has}
 use Rattle.fk_tree.proofs.Shapes.{has_some, some-given}
 use Rattle.fk_meaning.specs.Processor.{Processor, Setting}

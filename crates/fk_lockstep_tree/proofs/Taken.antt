@@ -1,8 +1,8 @@
 -- Of a group in lockstep behind a round all members were in the round, or none.
-use Rattle.std.proofs.Common.{◌≡◌, ◌≢◌, ◌⊎◌, inl, inr, ⊎_elim, ℕ, zero, suc, ◌+◌, ◌-◌, ◌<◌, ◌≤◌, ◌==◌, Bool, true, false, List, length, filter, Option, Some, None, refl, sym, ap, ◌∙◌, subst, arith}
+use Rattle.std.proofs.Common.{◌≡◌, ◌⊎◌, inl, inr, ⊎_elim, ℕ, zero, suc, ◌-◌, ◌<◌, ◌≤◌, ◌==◌, Bool, true, false, List, length, filter, Option, Some, None, refl, sym, ap, ◌∙◌, subst, arith}
 use Rattle.std.specs.Prelude.{slice_index, min}
 use Rattle.std.specs.List.{list_all}
-use Rattle.std.proofs.lemmas.Bool.{cases_lt, eqb-true, false≢true}
+use Rattle.std.proofs.lemmas.Bool.{cases_lt, eqb-true}
 use Rattle.fk_meaning_operation.specs.declared.operation.Operation.{Operation}
 use Rattle.fk_meaning_operation.specs.declared.operation.Operation.TheVariants as o
 use Rattle.fk_tree.specs.declared.node.Kind.{Kind}
@@ -11,7 +11,7 @@ use Rattle.fk_tree.specs.Tree as t
 use Rattle.fk_tree.specs.Tree.{Node, Tree, members, kind, is_member, node_of, is_in, left_by, kind_after, first_part}
 use Rattle.fk_tree.specs.Sound.{Has}
 use Rattle.fk_tree.proofs.Lists.{kept_member}
-use Rattle.fk_tree.proofs.Shapes.{with_same, members-node_of, members-turned, from_within, from_below, some-given}
+use Rattle.fk_tree.proofs.Shapes.{with_same, members-node_of, members-turned, from_within, from_below}
 use Rattle.fk_tree.proofs.Turns.{leaf_by, there_by, idle-lockstep}
 use Rattle.fk_meaning.specs.Processor.{Processor, Setting, values}
 use Rattle.fk_meaning.specs.Group.{not_negative, parts, part, stays}

@@ -2,13 +2,13 @@
 use Rattle.std.specs.Prelude.{◌≡◌, ◌≢◌, ℕ, zero, suc, ◌<◌, ◌≤◌, Bool, true, false, List, [], ◌∷◌}
 use Rattle.std.specs.Prelude.{length, Option, Some, None, slice_get}
 use Rattle.fk_num.specs.Word.{Memory}
-use Rattle.fk_space.specs.Space.{Space, IsSpace}
+use Rattle.fk_space.specs.Space.{Space}
 use Rattle.fk_tree.specs.declared.node.Kind.{Kind}
 use Rattle.fk_tree.specs.declared.node.Kind.TheVariants.{Lockstep, Waiting, Asynchronous}
 use Rattle.fk_meaning_operation.specs.declared.operation.Operation.TheVariants.{Resume}
 use Rattle.fk_tree.specs.Tree as t
 use Rattle.fk_tree.specs.Tree.{Tree, is_member}
-use Rattle.fk_meaning.specs.Processor.{Level, Setting, setting_of, group_space}
+use Rattle.fk_meaning.specs.Processor.{Level, Setting, setting_of}
 use Rattle.fk_meaning.specs.Round.{Step, Runner, State, body_of}
 use Rattle.fk_meaning.specs.Schedule.{first_level, opening}
 use Rattle.fk_lockstep_tree.specs.Where.{Where, InRoot, Waits, InGroup, InBody, BehindBody, Goes}

@@ -52,6 +52,7 @@ abbrev nestings : Nestings
 nestings = record {
   levels = λ i. 0;
   behind = λ i. 0;
+  nest = λ i. 0;
   start = record { there = λ i. record { at = 0; changes = λ r. false }; coming = λ i h. h };
 }
 
@@ -164,7 +165,7 @@ values_before at [] held = tt
 values_before at (v ∷ vs) held = held.1
 
 drop_does : (image : Image) → HasCode image → OpAt core 0 drops DropLast → BlockDoesInNode core image places nestings cycles 0 drops DropLast
-drop_does image code at setting t runs first m p en member =
+drop_does image code at setting t runs first m p en member finds =
     let h = m.hart in
     let stands = en.at.stands in
     let pc : h.pc ≡ 4 * 14 = en.at.at ∙ ap (λ j. 4 * places.block j) en.index in

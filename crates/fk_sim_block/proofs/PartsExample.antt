@@ -97,6 +97,7 @@ abbrev nestings : Nestings
 nestings = record {
   levels = λ i. 1;
   behind = λ i. 0;
+  nest = λ i. 2;
   start = record { there = λ i. record { at = 0; changes = λ r. false }; coming = λ i h. h };
 }
 

@@ -23,13 +23,13 @@ module _ (core : List CoreOp) (image : Image) (places : Places) (nestings : Nest
   abbrev Goal : ℕ → Owner → Hart → Doing → Type 0
   Goal number p h d = HasDoneInNode core image places nestings setting runs d h
 
-  each : (ms : List Member) (ps : List Owner) → AllEnter core image places nestings i op operation setting t runs first ms ps → AllGo operation onward ps
+  each : (ms : List Member) (ps : List Owner) → AllEnter core image places nestings i op operation setting t runs first ms ps → AllGo nestings operation onward ps
       → EachDoes (core_source core setting) image t 1 (cycles.before i) (cycles.behind i onward) Goal ms ps
   each [] [] all go = tt
   each (m ∷ ms) (p ∷ ps) all go = (
     subst (λ way. OneDoes (core_source core setting) image t 1 (cycles.before i) (cycles.behind i way) m p (Goal m.number p)) go.0
-        (law.alone i op operation stands alone setting t runs first m p all.0 all.1),
-    each ms ps all.2 go.1,
+        (law.alone i op operation stands alone setting t runs first m p all.0 all.1 go.1),
+    each ms ps all.2 go.2,
   )
   each ms ps all go = absurd (assumption all)
 

@@ -26,6 +26,7 @@ use Rattle.fk_sim_block.specs.Ready.{is_alone}
 use Rattle.fk_sim_block.specs.Block.{most_before, most_behind, IsRunning, Enters, HasDone}
 use Rattle.fk_sim_block.specs.Block.{BlockHalts, Begins, beginner, gone_to}
 use Rattle.fk_sim_block.specs.Node.{Nestings, StandsInNode}
+use Rattle.fk_sim_block.specs.Found.{FindsFrame}
 use Rattle.fk_sim_block.specs.Lockstep.{IsMember, StepTogether, PartTogether, EndTogether}
 use Rattle.fk_sim_block.specs.Lockstep.{AreInGroup, AreOfSize, IsLowest, one_runs}
 use Rattle.fk_sim_block.specs.Joint.{most_to_meet, is_meeting, BlockMeets}
@@ -117,13 +118,15 @@ module _ (core : List CoreOp) (image : Image) (places : Places) (nestings : Nest
     pub node : StandsInNode places nestings setting (Some setting.processors) p begins.hart
 
   module _ (cycles : Cycles) where
-    -- The block of a local operation or a request, for a member of a node.
+    -- The block of a local operation or a request, for a member of a node. Where it gets the address
+    -- of a word in the frame of a part, that frame has to be found.
     abbrev pub BlockDoesInNode : (i : ℕ) → CoreOp → Operation → Type 0
     BlockDoesInNode i op operation =
         (setting : Setting) (t : MachineSetting) (runs : Option ℕ) (first : ℕ)
         (m : Member) (p : Owner)
         → Enters core image places setting t i op operation p m.hart
         → IsMember places nestings setting runs first m p
+        → FindsFrame nestings operation p.runner
         → OneDoes (core_source core setting) image t 1 (cycles.before i)
         (cycles.behind i (way_of operation p.runner.has)) m p
         (λ h d. HasDoneInNode setting runs d h)

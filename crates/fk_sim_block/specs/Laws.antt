@@ -15,14 +15,15 @@ use Rattle.fk_sim_block.specs.Stands.{Places}
 use Rattle.fk_sim_block.specs.Next.{OpAt}
 use Rattle.fk_sim_block.specs.Ready.{is_alone}
 use Rattle.fk_sim_block.specs.Node.{Nestings, OwnsHeader}
+use Rattle.fk_sim_block.specs.Found.{FindsFrame}
 use Rattle.fk_sim_block.specs.Lockstep.{AllEnter}
 use Rattle.fk_sim_block.specs.Law.{Cycles, GroupLaw, way_of, HasDoneInNode}
 
--- All processors take the same branch.
-abbrev pub AllGo : Operation → (onward : Bool) → List Owner → Type 0
-AllGo operation onward [] = Unit {0}
-AllGo operation onward (p ∷ ps) = (way_of operation p.runner.has ≡ onward)
-    × AllGo operation onward ps
+-- All processors take the same branch, and find the frame that they ask for.
+abbrev pub AllGo : Nestings → Operation → (onward : Bool) → List Owner → Type 0
+AllGo nestings operation onward [] = Unit {0}
+AllGo nestings operation onward (p ∷ ps) = (way_of operation p.runner.has ≡ onward)
+    × FindsFrame nestings operation p.runner × AllGo nestings operation onward ps
 
 -- Members in lockstep who come to a local operation or a request in one cycle, and take the same
 -- branch, commit in one cycle and come to the next block in one cycle. Their node's words stay as
@@ -37,7 +38,7 @@ MembersDoTogether =
     → GroupLaw core image places nestings cycles firsts main → OpAt core i op operation
     → is_alone operation ≡ true → OwnsHeader mine first
     → AllEnter core image places nestings i op operation setting t runs first ms ps
-    → AllGo operation onward ps
+    → AllGo nestings operation onward ps
     → Together (core_source core setting) image mine t 1 (cycles.before i) ms ps own
     (λ ms' ds own'.
     NodeRun image mine (later (in_cycles (cycles.before i) t)) (cycles.behind i onward) ms' own'

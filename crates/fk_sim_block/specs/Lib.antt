@@ -6,6 +6,7 @@ pub mod Suits
 pub mod Block
 pub mod Lists
 pub mod Node
+pub mod Found
 pub mod Lockstep
 pub mod Joint
 pub mod Parts

@@ -87,6 +87,8 @@ pub record Nestings : Type 0 where
   pub levels : (index : ℕ) → ℕ
   -- The word after the header of that frame at which the first of these levels begins.
   pub behind : (index : ℕ) → ℕ
+  -- In how many parts the call is, with the group of `start` among them.
+  pub nest : (index : ℕ) → ℕ
   -- Where processors meet that begin the group of `start`.
   pub start : Gathering
 

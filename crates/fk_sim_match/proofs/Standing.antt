@@ -58,14 +58,14 @@ one_does_map source image t c before after m p Then Then' f x = record {
 }
 
 pub members_stand_at_stages : MembersStandAtStages
-members_stand_at_stages core image places nestings cycles firsts main setting plan first t g i op operation m p law stands alone en member =
+members_stand_at_stages core image places nestings cycles firsts main setting plan first t g i op operation m p law stands alone en member finds =
     let runs = runs_of plan (first g) m.number in
     let behind = cycles.behind i (way_of operation p.runner.has) in (
       behind,
       one_does_map (core_source core setting) image t 1 (cycles.before i) behind m p (λ h d. HasDoneInNode core image places nestings setting runs d h)
           (λ h d. IsBehind core image places nestings setting runs behind (record m { hart = h }) p d)
           (λ h d done. inl (law.few_behind i (way_of operation p.runner.has), record { done = done }))
-          (law.alone i op operation stands alone setting t runs (first g) m p en member),
+          (law.alone i op operation stands alone setting t runs (first g) m p en member finds),
     )
 
 -- the end of `main` leaves what all share, and its processor is to end
@@ -219,7 +219,7 @@ module _ (core : List CoreOp) (image : Image) (places : Places) (nestings : Nest
 
   module _ (cycles : Cycles) (firsts : List ℕ) (main : ℕ) (t : MachineSetting) (g i : ℕ) (op : CoreOp) (law : GroupLaw core image places nestings cycles firsts main) where
     pub act_together : (operation : Operation) (onward : Bool) (ms : List Member) (ps : List Owner) (own : Memory) → OpAt core i op operation → is_alone operation ≡ true
-        → OwnsHeader (plan.words g) (first g) → AllEnter core image places nestings i op operation setting t None (first g) ms ps → AllGo operation onward ps → IsAtRest (first g) own
+        → OwnsHeader (plan.words g) (first g) → AllEnter core image places nestings i op operation setting t None (first g) ms ps → AllGo nestings operation onward ps → IsAtRest (first g) own
         → Together (core_source core setting) image (plan.words g) t 1 (cycles.before i) ms ps own (Behind (later (in_cycles (cycles.before i) t)) g)
     act_together operation onward ms ps own stands alone owns all go rest =
         let b = cycles.before i in

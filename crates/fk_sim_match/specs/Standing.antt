@@ -22,6 +22,7 @@ use Rattle.fk_sim_block.specs.Ready.{is_alone}
 use Rattle.fk_sim_block.specs.Block.{most_before, IsRunning, Enters}
 use Rattle.fk_sim_block.specs.Node.{Nestings, OwnsHeader, OwnsSpace, IsAtRest, root_words}
 use Rattle.fk_sim_block.specs.Node.{closing_word}
+use Rattle.fk_sim_block.specs.Found.{FindsFrame}
 use Rattle.fk_sim_block.specs.Lockstep.{IsMember, AllEnter}
 use Rattle.fk_sim_block.specs.Parts.{is_implicit, AreToDivide, AreInPart}
 use Rattle.fk_sim_block.specs.Joint.{most_to_meet, is_meeting, word_of, AreSoMany}
@@ -44,6 +45,7 @@ MembersStandAtStages =
     → is_alone operation ≡ true
     → Enters core image places setting t i op operation p m.hart
     → IsMember places nestings setting (runs_of plan (first g) m.number) (first g) m p
+    → FindsFrame nestings operation p.runner
     → StandsAt (core_source core setting) image plan
     (blocks_of core image places nestings setting plan first) t g (Acts (cycles.before i)) m p
 
@@ -103,7 +105,7 @@ GroupsActTogether =
     → GroupLaw core image places nestings cycles firsts main → OpAt core i op operation
     → is_alone operation ≡ true → OwnsHeader (plan.words g) (first g)
     → AllEnter core image places nestings i op operation setting t None (first g) ms ps
-    → AllGo operation onward ps → IsAtRest (first g) own
+    → AllGo nestings operation onward ps → IsAtRest (first g) own
     → InLockstep (core_source core setting) image plan
     (blocks_of core image places nestings setting plan first) t g
     (all_act (cycles.before i) ms) ms ps own

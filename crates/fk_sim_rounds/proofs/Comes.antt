@@ -45,7 +45,7 @@ use Rattle.fk_sim_match.specs.Behind.{runs_of, blocks_of}
 use Rattle.fk_sim_match.proofs.Nodes.{tells, own_apart}
 use Rattle.fk_sim_match.proofs.Standing.{members_stand_at_stages, members_halt_at_stages, meeters_set_out, starters_set_out, act_together, step_together, end_together, shrink_together, divide_together, to_split, few_to_split}
 use Rattle.fk_sim_match.specs.Rounds.{closing_joint, joint_at_word, ending_of}
-use Rattle.fk_sim_rounds.specs.Next.{JumpsLead, landed, all_landed, HasRange, IsHome, MayMeet, MayStart, HasNext, AllAt, AllAbout, ActsAlike, StepsAlike, MayMove, HaveNext}
+use Rattle.fk_sim_rounds.specs.Next.{JumpsLead, landed, all_landed, HasRange, IsHome, MayAlone, MayMeet, MayStart, HasNext, AllAt, AllAbout, ActsAlike, StepsAlike, MayMove, HaveNext}
 use Rattle.fk_sim_rounds.specs.Comes.{AllHave, IsGroup, AllBelow, IsNode, ComesTo, ComeTo, MembersComeToStages, GroupsComeToCommits}
 use Rattle.fk_sim_rounds.proofs.Cycles.{finished_in, in_cycles_join, runs_join, runs_later}
 use Rattle.fk_sim_rounds.proofs.Way.{IsWay, way}
@@ -286,8 +286,8 @@ module _ (core : List CoreOp) (image : Image) (places : Places) (nestings : Nest
     is_next : next core p.runner.left ≡ Some (step_at core p.runner.left.at op operation p.runner.left.callers)
     is_next = next_here core p.runner.left.at op operation p.runner.left.callers stands
 
-    comes_alone : is_alone operation ≡ true → Comes
-    comes_alone alone =
+    comes_alone : MayAlone nestings operation p → Comes
+    comes_alone may =
         let i = p.runner.left.at in
         let d = cycles.before i in
         let few = the_law.few_before i in
@@ -296,8 +296,8 @@ module _ (core : List CoreOp) (image : Image) (places : Places) (nestings : Nest
           stage = Acts (a.to_block + d);
           fresh = tt;
           stands = acts_earlier t g a.to_block d m a.hart p a.private
-              (members_stand_at_stages core image places nestings cycles firsts main setting plan (first_of spaces) u g i op operation here p the_law stands alone enters member);
-          due = record { step = step_at core i op operation p.runner.left.callers; next_is = is_next; joint = λ free. alone_joint operation alone };
+              (members_stand_at_stages core image places nestings cycles firsts main setting plan (first_of spaces) u g i op operation here p the_law stands may.alone enters member may.frame);
+          due = record { step = step_at core i op operation p.runner.left.callers; next_is = is_next; joint = λ free. alone_joint operation may.alone };
           soon = omega (arith, few, le);
         }
 
@@ -540,7 +540,7 @@ module _ (core : List CoreOp) (image : Image) (places : Places) (nestings : Nest
               (λ ms' own'. Together (core_source core setting) image (plan.words g) there 1 d ms' (all_landed core ps) own' (blocks.AfterAll (later (in_cycles d there)) g)) f a.run));
         }
 
-    come_acting : ActsAlike has.operation (all_landed core ps) → ComeTo core image places nestings setting tree spaces nodes t g ms (all_landed core ps) own
+    come_acting : ActsAlike nestings has.operation (all_landed core ps) → ComeTo core image places nestings setting tree spaces nodes t g ms (all_landed core ps) own
     come_acting may =
         come (cycles.before index) (the_law.few_before index)
         (λ ms' own' x. act_together core image places nestings setting plan (first_of spaces) cycles firsts main there g index has.op the_law has.operation may.onward ms' (all_landed core ps) own' has.stands

@@ -31,6 +31,7 @@ use Rattle.fk_sim_block.specs.Node.{Nestings}
 use Rattle.fk_sim_block.specs.Lockstep.{IsInStart, AreInStart, AreOfSize, IsInGroup, AreInGroup, NoneIs, IsLowest}
 use Rattle.fk_sim_block.specs.Parts.{is_implicit, parts_of, IsToDivide, AllAreToDivide, IsInPart, AreInPart}
 use Rattle.fk_sim_block.specs.Law.{is_shared_step, IsAskedOf, way_by, way_of}
+use Rattle.fk_sim_block.specs.Found.{FindsFrame}
 use Rattle.fk_sim_block.specs.Laws.{AllGo}
 use Rattle.fk_sim_rounds.specs.Next.{landed, all_landed, AllAt, AllAbout, MayMove, MayInGroup, HaveNext}
 use Rattle.fk_sim_rounds.specs.After.{ArePlaces, runners_of}
@@ -137,9 +138,23 @@ all_about : (core : List CoreOp) (i : ℕ) (op : CoreOp) (operation : Operation)
 all_about core i op operation [] each = tt
 all_about core i op operation (p ∷ ps) each = (each.0.0, each.0.1, all_about core i op operation ps each.1)
 
-all_go : (core : List CoreOp) (operation : Operation) (onward : Bool) (ps : List Owner) → Each (λ p. way_of operation p.runner.has ≡ onward) ps → AllGo operation onward (all_landed core ps)
-all_go core operation onward [] each = tt
-all_go core operation onward (p ∷ ps) each = (each.0, all_go core operation onward ps each.1)
+all_go : (core : List CoreOp) (nestings : Nestings) (operation : Operation) (onward : Bool) (ps : List Owner)
+    → Each (λ p. (way_of operation p.runner.has ≡ onward) × FindsFrame nestings operation (landed core p).runner) ps → AllGo nestings operation onward (all_landed core ps)
+all_go core nestings operation onward [] each = tt
+all_go core nestings operation onward (p ∷ ps) each = (each.0.0, each.0.1, all_go core nestings operation onward ps each.1)
+
+-- a step of a group is done by nobody alone
+no_step_alone : (nestings : Nestings) (operation : Operation) (p : Owner) → (is_shared_step operation ≡ true) ⊎ MayMoveInStep nestings operation p → is_alone operation ≡ true → ⊥
+no_step_alone nestings o.Farm p step alone = cc
+no_step_alone nestings o.Seq p step alone = cc
+no_step_alone nestings o.Agree p step alone = cc
+no_step_alone nestings (o.Frame number words) p step alone = cc
+no_step_alone nestings o.Block p step alone = cc
+no_step_alone nestings (o.Split by) p step alone = cc
+no_step_alone nestings o.Shrink p step alone = cc
+no_step_alone nestings o.End p step alone = cc
+no_step_alone nestings operation p (inl shared) alone = cc
+no_step_alone nestings operation p (inr moves) alone = moves
 
 all_sized : (core : List CoreOp) (size : ℕ) (ps : List Owner) → Each (λ p. p.runner.has.level.size ≡ size) ps → AreOfSize size (all_landed core ps)
 all_sized core size [] each = tt
@@ -254,7 +269,7 @@ module _ (core : List CoreOp) (nestings : Nestings) (processors : ℕ) (s : Stat
       let same = ap (landing core) (same_at i p at is) in
       let op = one_op core (landing core p0.runner.left.at) (landing core p.runner.left.at) step0.op x.op step0.operation x.operation (sym same) step0.stands x.stands in
       let operation = one_operation step0.op x.op step0.operation x.operation op step0.stands.is_read x.stands.is_read ∙ e in
-      ⊎_elim (λ alone. absurd (false≢true (sym not_alone ∙ sym (ap is_alone operation) ∙ alone)))
+      ⊎_elim (λ may. absurd (false≢true (sym not_alone ∙ sym (ap is_alone operation) ∙ may.alone)))
       (λ other.
       ⊎_elim (λ shared. absurd (false≢true (sym not_shared ∙ sym (ap is_shared_step operation) ∙ shared))) (λ moves. subst (λ y. MayMoveInStep nestings y (landed core p)) operation moves) other)
       x.may
@@ -291,6 +306,17 @@ module _ (core : List CoreOp) (nestings : Nestings) (processors : ℕ) (s : Stat
       way_same step0.operation p.runner.has p0.runner.has
       (λ onward e.
       x.branch (step_at core (landing core p0.runner.left.at) step0.op step0.operation p0.runner.left.callers) onward (ap (next core) x.left ∙ next_at) e)
+
+  -- each finds the frame that all ask for
+  finds : is_alone step0.operation ≡ true → (i : ℕ) (p : Owner) → slice_get nodes i ≡ Some g → slice_get ps i ≡ Some p → FindsFrame nestings step0.operation (landed core p).runner
+  finds alone i p at is =
+      let x = in_step i p at is in
+      let same = ap (landing core) (same_at i p at is) in
+      let op = one_op core (landing core p0.runner.left.at) (landing core p.runner.left.at) step0.op x.op step0.operation x.operation (sym same) step0.stands x.stands in
+      let operation = one_operation step0.op x.op step0.operation x.operation op step0.stands.is_read x.stands.is_read in
+      ⊎_elim (λ may. subst (λ y. FindsFrame nestings y (landed core p).runner) operation may.frame)
+      (λ other. absurd (no_step_alone nestings x.operation (landed core p) other (ap is_alone operation ∙ alone)))
+      x.may
 
   abbrev group : List Owner
   group = of_node g nodes ps
@@ -362,10 +388,13 @@ module _ (core : List CoreOp) (nestings : Nestings) (processors : ℕ) (s : Stat
   may : MayInGroup nestings step0.operation (all_landed core (of_node g nodes ps))
   may =
       ⊎_elim
-      (λ alone. inl (record {
-        alone = alone;
+      (λ first_may. inl (record {
+        alone = first_may.alone;
         onward = way_of step0.operation p0.runner.has;
-        go = all_go core step0.operation (way_of step0.operation p0.runner.has) group (each_of (λ p. way_of step0.operation p.runner.has ≡ way_of step0.operation p0.runner.has) g nodes ps goes);
+        go =
+            all_go core nestings step0.operation (way_of step0.operation p0.runner.has) group
+            (each_of (λ p. (way_of step0.operation p.runner.has ≡ way_of step0.operation p0.runner.has) × FindsFrame nestings step0.operation (landed core p).runner) g nodes ps
+            (λ i p at is. (goes i p at is, finds first_may.alone i p at is)));
       }))
       (λ other.
       ⊎_elim

@@ -18,6 +18,7 @@ use Rattle.fk_sim_block.specs.Next.{OpAt}
 use Rattle.fk_sim_block.specs.Ready.{is_alone, IsReady}
 use Rattle.fk_sim_block.specs.Block.{gone_to}
 use Rattle.fk_sim_block.specs.Node.{Nestings, first_word}
+use Rattle.fk_sim_block.specs.Found.{FindsFrame}
 use Rattle.fk_sim_block.specs.Parts.{is_implicit, AreToDivide, AreInPart}
 use Rattle.fk_sim_block.specs.Joint.{is_meeting, word_of}
 use Rattle.fk_sim_block.specs.Start.{IsInRoot}
@@ -70,11 +71,16 @@ pub record MayStart (nestings : Nestings) (setting : Setting) (tree : Tree) (g n
   pub member : is_member number (trees.members tree 0) ≡ true
   pub in_root : IsInRoot nestings setting p
 
+-- A processor may do an operation alone, and finds the frame that it asks for.
+pub record MayAlone (nestings : Nestings) (operation : Operation) (p : Owner) : Type 0 where
+  pub alone : is_alone operation ≡ true
+  pub frame : FindsFrame nestings operation p.runner
+
 -- What a processor may do by itself: an operation alone, a halt, a meeting in its node, or the
 -- beginning of the group of `start`.
 abbrev pub MayByItself : Nestings → Setting → Tree → (g number : ℕ) → Operation → Owner → Type 0
 MayByItself nestings setting tree g number operation p =
-    (is_alone operation ≡ true) ⊎ ((operation ≡ Halt)
+    MayAlone nestings operation p ⊎ ((operation ≡ Halt)
     ⊎ (MayMeet tree g number operation ⊎ MayStart nestings setting tree g number operation p))
 
 -- A processor is about to do an operation. If its node isn't in lockstep, it may do that by itself.
@@ -103,10 +109,10 @@ AllAbout i op operation (p ∷ ps) = (p.runner.left.at ≡ i) × IsReady op oper
 -- What a group in lockstep may do: a local operation or a request by which all take the same
 -- branch, a step of the tree in which they keep their node, a split, a turn of a loop that some may
 -- leave, or the end of the group.
-pub record ActsAlike (operation : Operation) (ps : List Owner) : Type 0 where
+pub record ActsAlike (nestings : Nestings) (operation : Operation) (ps : List Owner) : Type 0 where
   pub alone : is_alone operation ≡ true
   pub onward : Bool
-  pub go : AllGo operation onward ps
+  pub go : AllGo nestings operation onward ps
 
 pub record StepsAlike (operation : Operation) (ps : List Owner) : Type 0 where
   pub shared : is_shared_step operation ≡ true
@@ -122,7 +128,7 @@ MayMove nestings End ps = IsAskedToMove nestings End 0 ps
 MayMove nestings operation ps = ⊥
 
 abbrev pub MayInGroup : Nestings → Operation → List Owner → Type 0
-MayInGroup nestings operation ps = ActsAlike operation ps
+MayInGroup nestings operation ps = ActsAlike nestings operation ps
     ⊎ (StepsAlike operation ps ⊎ MayMove nestings operation ps)
 
 -- The members of a group, all of which have come to one index, are about to do one operation.

@@ -15,12 +15,12 @@ use Rattle.fk_lockstep.specs.OneProgram.{HaveOneProgram}
 use Rattle.fk_lockstep.specs.OneSpace.{MembersHaveOneSpace}
 use Rattle.fk_sim_block.specs.Owner.{Owner, number_of}
 use Rattle.fk_sim_block.specs.Next.{OpAt}
-use Rattle.fk_sim_block.specs.Ready.{is_alone, IsReady}
+use Rattle.fk_sim_block.specs.Ready.{IsReady}
 use Rattle.fk_sim_block.specs.Node.{Nestings}
 use Rattle.fk_sim_block.specs.Lockstep.{IsInStart, IsInGroup}
 use Rattle.fk_sim_block.specs.Parts.{is_implicit, IsInPart}
 use Rattle.fk_sim_block.specs.Law.{is_shared_step}
-use Rattle.fk_sim_rounds.specs.Next.{landed, HaveNext}
+use Rattle.fk_sim_rounds.specs.Next.{landed, MayAlone, HaveNext}
 use Rattle.fk_sim_rounds.specs.After.{ArePlaces, runners_of}
 
 -- What a member of a group in lockstep may do by which it comes to another node, or others do.
@@ -33,7 +33,7 @@ MayMoveInStep nestings operation p = ⊥
 
 -- What a member of a group in lockstep may do.
 abbrev pub MayInStep : Nestings → Operation → Owner → Type 0
-MayInStep nestings operation p = (is_alone operation ≡ true)
+MayInStep nestings operation p = MayAlone nestings operation p
     ⊎ ((is_shared_step operation ≡ true) ⊎ MayMoveInStep nestings operation p)
 
 -- A member of a group in lockstep is about to do an operation that it may do.

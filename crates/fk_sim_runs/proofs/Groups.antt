@@ -1,31 +1,38 @@
--- What the group of such a state does next.
-use Rattle.std.proofs.Common.{◌≡◌, ◌≢◌, inl, inr, ⊎_elim, ℕ, suc, ◌+◌, List, [], ◌∷◌, length, Some, refl, sym, ap, ◌∙◌, subst, arith}
-use Rattle.std.specs.Prelude.{slice_get}
+-- What each group does next, in a state that a run has come to.
+use Rattle.std.proofs.Common.{◌≡◌, ◌≢◌, ◌⊎◌, inl, inr, ⊎_elim, ℕ, zero, suc, ◌+◌, true, List, [], ◌∷◌, length, map, Some, refl, sym, ap, ◌∙◌, subst, arith}
+use Rattle.std.specs.Prelude.{All, slice_get}
+use Rattle.std.proofs.lemmas.List.Elements.{All-head, All-tail}
+use Rattle.fk_space.specs.Space.{IsSpace}
+use Rattle.fk_meaning_operation.specs.declared.operation.Operation.{Operation}
+use Rattle.fk_meaning_operation.specs.declared.operation.Operation.TheVariants as o
 use Rattle.fk_tree.specs.declared.node.Kind.TheVariants.{Lockstep}
 use Rattle.fk_tree.specs.Tree as trees
-use Rattle.fk_meaning.specs.Processor.{Setting}
-use Rattle.fk_meaning.specs.Schedule.{first_level}
-use Rattle.fk_meaning.specs.Round.{State}
+use Rattle.fk_meaning.specs.Processor.{Level, Setting}
+use Rattle.fk_meaning.specs.Round.{State, body_of}
 use Rattle.fk_core.specs.declared.op.CoreOp.{CoreOp}
-use Rattle.fk_core.specs.Next.{Position, landing, next}
+use Rattle.fk_core.specs.Next.{Position, next}
 use Rattle.fk_lockstep.proofs.Round.{first_is, at_below}
 use Rattle.fk_lockstep_tree.specs.Where.{Where, InRoot, InGroup}
-use Rattle.fk_lockstep_tree.specs.Placed.{HasLevels}
-use Rattle.fk_lockstep_tree.proofs.Known.{at_group}
+use Rattle.fk_lockstep_tree.specs.Ranges.{ranges_of}
+use Rattle.fk_lockstep_tree.specs.Placed.{AreLevels}
+use Rattle.fk_lockstep_tree.proofs.Paths.{at_node, lockstep_place}
 use Rattle.fk_lockstep_tree.proofs.Moves.{ends_in_root}
 use Rattle.fk_sim_block.specs.Owner.{Owner}
 use Rattle.fk_sim_block.specs.Node.{Nestings}
+use Rattle.fk_sim_block.specs.Lockstep.{IsInStart}
+use Rattle.fk_sim_block.specs.Parts.{IsInPart}
 use Rattle.fk_sim_rounds.specs.Next.{landed}
 use Rattle.fk_sim_rounds.specs.After.{runners_of}
-use Rattle.fk_sim_rounds.specs.Program.{IsInStep, AllInStep}
+use Rattle.fk_sim_rounds.specs.Program.{MayMoveInStep, IsInStep, AllInStep}
 use Rattle.fk_sim_rounds.proofs.Agreed.{place_at}
 use Rattle.fk_sim_rounds.proofs.Program.{runner_at, groups_have_next}
 use Rattle.fk_sim_rounds.proofs.Way.{ended_next}
 use Rattle.fk_sim_runs.specs.Lists.{IsOfTree}
 use Rattle.fk_sim_runs.specs.Reached.{the_end, IsReached}
 use Rattle.fk_sim_runs.specs.Facts.{ReachedGroupsHaveNext}
-use Rattle.fk_sim_runs.proofs.Ways.{StepOf}
-use Rattle.fk_sim_runs.proofs.Nexts.{none_saved, leads_to, ready, does}
+use Rattle.fk_sim_runs.specs.Levels.{leaves_part}
+use Rattle.fk_sim_runs.proofs.Ways.{MovesAt, StepOf, Leading}
+use Rattle.fk_sim_runs.proofs.Nexts.{leads_to, ready, does}
 
 pub runners_length : (ps : List Owner) → length (runners_of ps) ≡ length ps
 runners_length [] = refl
@@ -42,52 +49,106 @@ all_in_step core nestings g number (n ∷ ns) (p ∷ ps) many each = (
 all_in_step core nestings g number [] (p ∷ ps) many each = absurd (omega (arith, many))
 all_in_step core nestings g number (n ∷ ns) [] many each = absurd (omega (arith, many))
 
+-- some levels around
+around_of : (outer : List Level) (n : ℕ) → length outer ≡ suc n → (around : Level) × (further : List Level) × (outer ≡ around ∷ further)
+around_of [] n e = absurd (omega (arith, e))
+around_of (l ∷ outer) n e = (l, outer, refl)
+
+beyond_of : (outer : List Level) (n : ℕ) → length outer ≡ suc (suc n) → (around : Level) × (beyond : Level) × (further : List Level) × (outer ≡ around ∷ beyond ∷ further)
+beyond_of [] n e = absurd (omega (arith, e))
+beyond_of (l ∷ []) n e = absurd (omega (arith, e))
+beyond_of (l ∷ m ∷ outer) n e = (l, m, outer, refl)
+
+one_of : (outer : List Level) → length outer ≡ 1 → (around : Level) × (outer ≡ around ∷ [])
+one_of [] e = absurd (omega (arith, e))
+one_of (l ∷ []) e = (l, refl)
+one_of (l ∷ m ∷ outer) e = absurd (omega (arith, e))
+
 module _ (core : List CoreOp) (nestings : Nestings) (main : ℕ) (setting : Setting) (s : State Position) (ps : List Owner) (g : ℕ) (list : IsOfTree core nestings main)
     (is : IsReached core nestings setting s) (runners : s.runners ≡ runners_of ps) (kind : trees.kind s.tree g ≡ Some Lockstep) where
-  not_root : g ≢ 0
-  not_root none = is.stands.sound.free (ap (trees.kind s.tree) (sym none) ∙ kind)
+  module _ (h : ℕ) (p : Owner) (at : slice_get s.runners h ≡ Some p.runner) (leads : Leading core p.runner.left) where
+    spaces_are : All IsSpace (map (λ (l : Level). l.space) (p.runner.has.level ∷ p.runner.has.outer))
+    spaces_are = is.spaces h p.runner at
+
+    -- in a part, which it is about to leave
+    in_part : (around beyond : Level) (further : List Level) → p.runner.has.outer ≡ around ∷ beyond ∷ further → leaves_part leads.operation ≡ true → IsInPart nestings (landed core p)
+    in_part around beyond further e leaves =
+        let placed = is.stands.tree.placed h p.runner at in
+        let levels = subst (λ (ls : List Level). AreLevels setting s.tree (ranges_of s) h (s.tree.places h) p.runner.has.level ls) e placed.levels in
+        let numbers = levels.2 in
+        let spaces = subst (λ (ls : List Level). All IsSpace (map (λ (l : Level). l.space) (p.runner.has.level ∷ ls))) e spaces_are in
+        let long : length p.runner.has.outer ≡ suc (suc (length further)) = ap (λ (ls : List Level). length ls) e in
+        record {
+          around = around;
+          beyond = beyond;
+          further = further;
+          outer = e;
+          number = sym numbers.number;
+          rank = sym numbers.rank;
+          is_space =
+              All-head IsSpace around.space (map (λ (l : Level). l.space) (beyond ∷ further))
+              (All-tail IsSpace p.runner.has.level.space (map (λ (l : Level). l.space) (around ∷ beyond ∷ further)) spaces);
+          saved = (is.saves h p.runner at).some leads.op leads.operation leads.at (omega (arith, long)) leaves;
+        }
+
+    part_at : (n : ℕ) → length p.runner.has.outer ≡ suc (suc n) → leaves_part leads.operation ≡ true → IsInPart nestings (landed core p)
+    part_at n e leaves = let b = beyond_of p.runner.has.outer n e in in_part b.0 b.1 b.2 b.3 leaves
+
+    -- in the group of a `start`
+    start_at : length p.runner.has.outer ≡ 1 → IsInStart nestings (landed core p)
+    start_at e =
+        let o' = one_of p.runner.has.outer e in
+        record { root = o'.0; outer = o'.1; none = (is.saves h p.runner at).none leads.op leads.operation leads.at (omega (arith, e)) }
+
+    shrinks_at : (n : ℕ) → n ≢ 0 → length p.runner.has.outer ≡ suc n → leaves_part leads.operation ≡ true → IsInPart nestings (landed core p)
+    shrinks_at zero deep e leaves = absurd (deep refl)
+    shrinks_at (suc n) deep e leaves = part_at n e leaves
+
+    ends_at : (n : ℕ) → length p.runner.has.outer ≡ suc n → leaves_part leads.operation ≡ true → IsInStart nestings (landed core p) ⊎ IsInPart nestings (landed core p)
+    ends_at zero e leaves = inl (start_at e)
+    ends_at (suc n) e leaves = inr (part_at n e leaves)
+
+    may_move : (n : ℕ) → length p.runner.has.outer ≡ suc n → (op : Operation) → leads.operation ≡ op → MovesAt n op → MayMoveInStep nestings op (landed core p)
+    may_move n e (o.Split by) same moves = (moves, All-head IsSpace p.runner.has.level.space (map (λ (l : Level). l.space) p.runner.has.outer) spaces_are)
+    may_move n e o.Shrink same moves = shrinks_at n moves e (ap leaves_part same)
+    may_move n e o.End same moves = ends_at n e (ap leaves_part same)
+    may_move n e op same moves = absurd moves
 
   one_in_step : (h : ℕ) (p : Owner) → slice_get ps h ≡ Some p → s.tree.places h ≡ g → IsInStep core nestings h (landed core p)
   one_in_step h p there place =
       let at : slice_get s.runners h ≡ Some p.runner = ap (λ l. slice_get l h) runners ∙ runner_at ps h p there in
       let placed = is.stands.tree.placed h p.runner at in
-      let in_group : placed.place ≡ InGroup = at_group s.tree h placed.place g not_root place kind placed.there in
+      let above = length p.runner.has.outer in
+      let runs = trees.is_member h (body_of (Some Lockstep) (trees.members s.tree g)) in
+      let lock = lockstep_place above runs placed.place (sym (at_node s.tree h above g Lockstep place kind) ∙ placed.there) in
       let going : p.runner.left ≢ the_end core
       = λ e.
       let ended = ends_in_root (next core) placed.place p.runner.left placed.goes (ap (next core) e ∙ ended_next core []) in
-      let clash : InGroup ≡ InRoot = sym in_group ∙ ended in
+      let clash : InGroup lock.depth ≡ InRoot = sym lock.is ∙ ended in
       absurd (cc) in
       let leads = leads_to core nestings main setting s list is h p.runner at going in
-      let levels : HasLevels setting InGroup p.runner.has = subst (λ (q : Where). HasLevels setting q p.runner.has) in_group placed.levels in
+      let around = around_of p.runner.has.outer lock.depth lock.above_is in
       record {
         number_is = placed.number_is;
         op = leads.op;
         operation = leads.operation;
         stands = leads.at;
-        group = record { around = first_level setting p.runner.has.number; further = []; outer = levels.0 };
         ready = ready core nestings main setting s list is h p.runner p.heap at leads;
         may =
             ⊎_elim
             (λ plain. inl plain)
             (λ step.
-            ⊎_elim (λ shared. inr (inl shared))
-            (λ ends. inr (inr (
-              ends,
-              record {
-                root = first_level setting p.runner.has.number;
-                outer = levels.0;
-                none = none_saved nestings list.levels (landing core p.runner.left.at ∷ p.runner.left.callers);
-              },
-            )))
-            (subst (λ (q : Where). StepOf q leads.operation) in_group step))
+            ⊎_elim (λ shared. inr (inl shared)) (λ moves. inr (inr (may_move h p at leads lock.depth lock.above_is leads.operation refl moves)))
+            (subst (λ (q : Where). StepOf q leads.operation) lock.is step))
             (does core nestings main setting s list is h p.runner p.heap at leads);
+        group = record { around = around.0; further = around.1; outer = around.2 };
       }
 
 pub reached_groups_have_next : ReachedGroupsHaveNext
 reached_groups_have_next core nestings main setting s nodes ps g list is few places many runners kind =
     let as_many : length s.runners ≡ setting.processors = is.stands.tree.many in
     let long : length ps ≡ setting.processors = sym (runners_length ps) ∙ ap (λ l. length l) (sym runners) ∙ as_many in
-    groups_have_next core nestings setting.processors s nodes ps g few is.stands.sound places many runners is.stands.one_program kind
+    groups_have_next core nestings setting.processors s nodes ps g few is.stands.sound places many runners is.stands.one_program is.stands.one_space.members kind
     (all_in_step core nestings g 0 nodes ps (many ∙ sym long)
     (λ i n p at there e.
     let lt = at_below nodes i n at in

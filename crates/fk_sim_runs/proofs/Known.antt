@@ -188,6 +188,15 @@ steppers core setting stages s ps did shared shared' order beside all =
     let p = all_passed core setting stages s ps did shared shared' order beside all in
     ap (λ (x : Phases Position). x.acting) p.all ∙ actings_same did
 
+-- there are as many as the state has processors
+pub actings_many : (core : List CoreOp) (leads : JumpsLead core) (setting : Setting) (stages : List Stage) (s : State Position) (ps : List Owner) (did : List Doing) (shared shared' : Commons)
+    → AreInOrder 0 s.runners → IsBeside core setting s ps shared → is_possible (next core) setting (counts_for stages) s ≡ true → AllPass (core_source core setting) (counts_for stages) ps shared did shared'
+    → length (actings did) ≡ length s.runners
+actings_many core leads setting stages s ps did shared shared' order beside possible all =
+    ap (λ l. length l) (sym (steppers core setting stages s ps did shared shared' order beside all))
+    ∙ stepping_length (next core) setting (counts_for stages) (landed_state core s) (counts_single stages) (possible_landed core leads setting s (counts_for stages) possible)
+    ∙ length-map s.runners (landed_runner core)
+
 pub reached_rounds_are_known : ReachedRoundsAreKnown
 reached_rounds_are_known core nestings main setting stages s ps did shared shared' list is order beside possible all =
     let round = counts_for stages in
@@ -199,7 +208,5 @@ reached_rounds_are_known core nestings main setting stages s ps did shared share
       possible = possible_landed core list.jumps setting s round possible;
     }) in
     let same = steppers core setting stages s ps did shared shared' order beside all in
-    let many : length (actings did) ≡ setting.processors
-    = ap (λ l. length l) (sym same) ∙ stepping_length (next core) setting round (landed_state core s) (counts_single stages) (possible_landed core list.jumps setting s round possible)
-    ∙ length-map s.runners (landed_runner core) ∙ is.stands.tree.many in
+    let many = actings_many core list.jumps setting stages s ps did shared shared' order beside possible all ∙ is.stands.tree.many in
     known_so setting.processors s.tree is.stands.sound did many (subst (λ l. AreKnown s.tree l) same known)

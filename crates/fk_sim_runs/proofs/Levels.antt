@@ -1,97 +1,269 @@
 -- The levels that calls save are those of the parts that they are in.
-use Rattle.std.proofs.Common.{◌≡◌, ◌≢◌, ◌⊎◌, inl, inr, ⊎_elim, ℕ, zero, suc, ◌+◌, ◌-◌, ◌^◌, ◌<◌, Bool, true, false, List, [], ◌∷◌, length, Option, Some, None, refl, sym, ap, ◌∙◌, subst, arith}
-use Rattle.std.specs.Prelude.{slice_get, slice_index, min}
+use Rattle.std.proofs.Common.{◌≡◌, ⊎_elim, ℕ, zero, suc, ◌+◌, ◌-◌, ◌==◌, ◌<◌, ◌≤◌, Bool, true, false, true≢false, if◌then◌else◌, List, [], ◌∷◌, length, Option, Some, None, refl, sym, ap, ◌∙◌, subst, arith}
+use Rattle.std.specs.Prelude.{All, slice_get, slice_index}
+use Rattle.std.proofs.lemmas.Bool.{cases_eq}
+use Rattle.std.proofs.lemmas.List.Elements.{All-cons, All-head, All-tail}
 use Rattle.fk_num.specs.Word.{Memory}
 use Rattle.fk_meaning_store.specs.Store.{Store}
 use Rattle.fk_meaning_store.specs.Serve.{Served, serve}
 use Rattle.fk_meaning_operation.specs.Kinds.{class_of}
 use Rattle.fk_meaning_operation.specs.declared.kinds.Class.TheVariants.{Local, Request, Tree}
+use Rattle.fk_meaning_operation.specs.declared.operation.SplitKind.{SplitKind}
+use Rattle.fk_meaning_operation.specs.declared.operation.SplitKind.TheVariants as s
 use Rattle.fk_meaning_operation.specs.declared.operation.SplitKind.TheVariants.{IfElse}
 use Rattle.fk_meaning_operation.specs.declared.operation.Operation.{Operation}
 use Rattle.fk_meaning_operation.specs.declared.operation.Operation.TheVariants as o
-use Rattle.fk_meaning.specs.Processor.{Processor, Setting, setting_of}
+use Rattle.fk_meaning.specs.Processor.{Level, Processor, Setting, setting_of, values, last, drop_last, enter_level, to_outer, leave_level}
 use Rattle.fk_meaning.specs.Behind.{tail}
 use Rattle.fk_meaning.specs.Local.{is_onward, local as local_of}
 use Rattle.fk_meaning.specs.Request.{request, with_answer}
-use Rattle.fk_meaning.specs.Group.{does, goes_onward, has_room}
+use Rattle.fk_meaning.specs.Group.{part, divided, start_level, is_taken, with_size, stays, does, enters, goes_onward, has_room}
 use Rattle.fk_meaning.specs.Round.{Step, Runner}
-use Rattle.fk_meaning.specs.Schedule.{beginners, first_processor}
+use Rattle.fk_meaning.specs.Schedule.{beginners}
 use Rattle.fk_core.specs.declared.op.CoreOp.{CoreOp}
-use Rattle.fk_core.specs.Numbers.{operation_of}
 use Rattle.fk_core.specs.Next.{Position, position, is_jump, through, led_by, landing_by, landing, behind_jump, returned, follows, next, list_opening}
-use Rattle.fk_core_nestings.specs.declared.nesting.Nesting.{Nesting}
-use Rattle.fk_core_nestings.specs.Nestings.{outermost, with_frame, around, after, AfterOperation, AfterOp, AfterEntry, NestingsFit}
+use Rattle.fk_lockstep.specs.Untouched.{changes_tree}
 use Rattle.fk_lockstep.proofs.Round.{first_is, at_below}
-use Rattle.fk_lockstep_frames.specs.Nests.{Nest, OfFunction, OfPart, take_frame, behind, IsInPart, May}
+use Rattle.fk_lockstep_frames.specs.Nests.{Nest, OfFunction, OfPart, nesting, levels_of, take_frame, behind, IsInPart}
 use Rattle.fk_lockstep_frames.specs.Lists.{HasLocalFrames, Leads, Calls, Asks, GoesOn}
 use Rattle.fk_lockstep_frames.proofs.Found.{found}
 use Rattle.fk_lockstep_frames.proofs.Rounds.{AllAre, RunnerFits, all_at, runs}
-use Rattle.fk_sim_rounds.proofs.Way.{no_jump}
-use Rattle.fk_sim_runs.specs.Levels.{IsFunction, StandsIn, StandsAt, AllStandAt, LevelsAreTold}
+use Rattle.fk_lockstep_tree.specs.Where.{Where, InRoot, Waits, InGroup, InBody, BehindBody, behind_waiting, divides, shrinks, goes, Goes}
+use Rattle.fk_lockstep_tree.proofs.Moves.{keeps_place, keeps_tree, local_same, answer_same, does_same, goes_on}
+use Rattle.fk_sim_block.specs.Node.{Nestings}
+use Rattle.fk_sim_block.specs.Lockstep.{NoneSaved}
+use Rattle.fk_sim_runs.specs.Levels.{StandsIn, parts_in, StandsAt, AllStandAt, HasToldLevels, LevelsAreTold, leaves_part, SavesLevels}
 
-module _ (core : List CoreOp) (main : ℕ) (local : HasLocalFrames core main) (nest : ℕ → Nesting) (fit : NestingsFit core main nest) where
-  abbrev In : Bool → Nesting → List Nest → Type 0
-  In b n nests = StandsIn nest b n nests
+-- ---- the number of groups that a processor is in
 
-  abbrev At : ℕ → Type 0
-  At i = StandsAt nest core main local i
+-- by its place
+abbrev groups_at : Where → ℕ
+groups_at InRoot = 0
+groups_at (Waits n) = n
+groups_at (InGroup n) = suc n
+groups_at (InBody n) = suc n
+groups_at (BehindBody n) = suc n
+
+-- and behind an operation, of one that was in n groups
+abbrev groups_behind : Operation → (onward : Bool) → (n : ℕ) → ℕ
+groups_behind o.Begin true n = suc n
+groups_behind (o.Split IfElse) onward n = suc n
+groups_behind (o.Split by) true n = suc n
+groups_behind o.Shrink false n = n - 1
+groups_behind o.End onward n = n - 1
+groups_behind op onward n = n
+
+comes_to : (place to : Where) → Some place ≡ Some to → groups_at to ≡ groups_at place
+comes_to place to e = ap groups_at (sym (first_is place to e))
+
+waiting_groups : (n : ℕ) → groups_at (behind_waiting n) ≡ n
+waiting_groups zero = refl
+waiting_groups (suc n) = refl
+
+divided_groups : (by : SplitKind) (n : ℕ) (onward : Bool) (to : Where) → divides by n onward ≡ Some to → groups_at to ≡ groups_behind (o.Split by) onward (suc n)
+divided_groups s.Fork n onward to e = absurd (cc)
+divided_groups s.IfElse n onward to e = comes_to (InGroup (suc n)) to e
+divided_groups s.IfAlone n true to e = comes_to (InGroup (suc n)) to e
+divided_groups s.IfAlone n false to e = comes_to (Waits (suc n)) to e
+divided_groups s.AndThen n true to e = comes_to (InGroup (suc n)) to e
+divided_groups s.AndThen n false to e = comes_to (Waits (suc n)) to e
+divided_groups s.OrElse n true to e = comes_to (InGroup (suc n)) to e
+divided_groups s.OrElse n false to e = comes_to (Waits (suc n)) to e
+divided_groups s.Loop n true to e = comes_to (InGroup (suc n)) to e
+divided_groups s.Loop n false to e = comes_to (Waits (suc n)) to e
+
+shrunk_groups : (n : ℕ) (onward : Bool) (to : Where) → shrinks n onward ≡ Some to → groups_at to ≡ groups_behind o.Shrink onward (suc n)
+shrunk_groups zero onward to e = absurd (cc)
+shrunk_groups (suc n) true to e = comes_to (InGroup (suc n)) to e
+shrunk_groups (suc n) false to e = let at = comes_to (Waits (suc n)) to e in omega (arith, at)
+
+ended_groups : (n : ℕ) (to : Where) → Some (Waits n) ≡ Some to → groups_at to ≡ suc n - 1
+ended_groups n to e = let at = comes_to (Waits n) to e in omega (arith, at)
+
+body_groups : (n : ℕ) (onward : Bool) (to : Where) → Some (if onward then InBody n else BehindBody n) ≡ Some to → groups_at to ≡ suc n
+body_groups n true to e = comes_to (InBody n) to e
+body_groups n false to e = comes_to (BehindBody n) to e
+
+groups_go : (place : Where) (op : Operation) (onward : Bool) (to : Where) → goes place op onward ≡ Some to → groups_at to ≡ groups_behind op onward (groups_at place)
+groups_go InRoot (o.Leave gives true) onward to e = absurd (cc)
+groups_go InRoot o.Begin true to e = comes_to (InGroup 0) to e
+groups_go InRoot o.Begin false to e = comes_to (Waits 0) to e
+groups_go InRoot (o.Split by) onward to e = absurd (cc)
+groups_go InRoot o.Shrink onward to e = absurd (cc)
+groups_go InRoot o.End onward to e = absurd (cc)
+groups_go InRoot o.Farm onward to e = absurd (cc)
+groups_go InRoot o.Seq onward to e = absurd (cc)
+groups_go InRoot (o.Meet true) onward to e = absurd (cc)
+groups_go InRoot o.Resume onward to e = absurd (cc)
+groups_go InRoot op onward to e = ap groups_at (keeps_place InRoot op onward to refl e)
+groups_go (Waits n) o.Resume onward to e = comes_to (behind_waiting n) to e ∙ waiting_groups n
+groups_go (Waits n) op onward to e = absurd (cc)
+groups_go (InGroup n) o.Begin onward to e = absurd (cc)
+groups_go (InGroup n) (o.Split by) onward to e = divided_groups by n onward to e
+groups_go (InGroup n) o.Shrink onward to e = shrunk_groups n onward to e
+groups_go (InGroup n) o.End onward to e = ended_groups n to e
+groups_go (InGroup n) o.Farm onward to e = body_groups n onward to e
+groups_go (InGroup n) o.Seq onward to e = body_groups n onward to e
+groups_go (InGroup n) (o.Meet true) onward to e = absurd (cc)
+groups_go (InGroup n) o.Resume onward to e = absurd (cc)
+groups_go (InGroup n) op onward to e = ap groups_at (keeps_place (InGroup n) op onward to refl e)
+groups_go (InBody n) (o.Leave gives true) onward to e = absurd (cc)
+groups_go (InBody n) o.Begin onward to e = absurd (cc)
+groups_go (InBody n) (o.Split by) onward to e = absurd (cc)
+groups_go (InBody n) o.Shrink onward to e = absurd (cc)
+groups_go (InBody n) o.End onward to e = absurd (cc)
+groups_go (InBody n) o.Farm onward to e = absurd (cc)
+groups_go (InBody n) o.Seq onward to e = absurd (cc)
+groups_go (InBody n) (o.Meet true) onward to e = comes_to (InGroup n) to e
+groups_go (InBody n) o.Resume onward to e = absurd (cc)
+groups_go (InBody n) op onward to e = ap groups_at (keeps_place (InBody n) op onward to refl e)
+groups_go (BehindBody n) (o.Meet true) onward to e = comes_to (InGroup n) to e
+groups_go (BehindBody n) op onward to e = absurd (cc)
+
+-- a group alone splits
+splits_inside : (place : Where) (by : SplitKind) (onward : Bool) (to : Where) → goes place (o.Split by) onward ≡ Some to → 1 ≤ groups_at place
+splits_inside InRoot by onward to e = absurd (cc)
+splits_inside (Waits n) by onward to e = absurd (cc)
+splits_inside (InGroup n) by onward to e = omega arith
+splits_inside (InBody n) by onward to e = absurd (cc)
+splits_inside (BehindBody n) by onward to e = absurd (cc)
+
+-- ---- the levels around its own
+
+-- it has one for each group
+abbrev IsAround : Where → Processor → Type 0
+IsAround place p = length p.outer ≡ groups_at place
+
+same_outer : (place to : Where) (op : Operation) (onward : Bool) (p q : Processor) → changes_tree op ≡ false → goes place op onward ≡ Some to → q.outer ≡ p.outer → IsAround place p → IsAround to q
+same_outer place to op onward p q keep e same is = ap (λ (ls : List Level). length ls) same ∙ is ∙ sym (ap groups_at (keeps_place place op onward to keep e))
+
+around_local : (set : Setting) (place to : Where) (op : Operation) (onward : Bool) (p : Processor) → class_of op ≡ Local → goes place op onward ≡ Some to → IsAround place p → IsAround to (local_of set op p)
+around_local set place to op onward p c e is =
+    same_outer place to op onward p (local_of set op p) (keeps_tree op (λ tree. let clash : Local ≡ Tree = sym c ∙ tree in cc)) e (local_same set place op onward to p e).0.1 is
+
+around_request : (v : ℕ) (place to : Where) (op : Operation) (onward : Bool) (p : Processor) → class_of op ≡ Request → goes place op onward ≡ Some to → IsAround place p → IsAround to (with_answer op v p)
+around_request v place to op onward p c e is =
+    same_outer place to op onward p (with_answer op v p) (keeps_tree op (λ tree. let clash : Request ≡ Tree = sym c ∙ tree in cc)) e (answer_same place op v p).0.1 is
+
+-- behind a step of the tree
+left_outer : (q : Processor) (outer : List Level) → q.outer ≡ outer → length (to_outer q outer).outer ≡ length outer - 1
+left_outer q [] e = ap (λ (ls : List Level). length ls) e
+left_outer q (l ∷ ls) e = omega arith
+
+left_level : (p : Processor) → length (leave_level p).outer ≡ length p.outer - 1
+left_level p = left_outer p p.outer refl
+
+begun_outer : (size : ℕ) (p : Processor) (onward : Bool)
+    → length (if onward then enter_level (start_level p size) (drop_last 1 p) else drop_last 1 p).outer ≡ groups_behind o.Begin onward (length p.outer)
+begun_outer size p true = refl
+begun_outer size p false = refl
+
+-- who enters a part has one more; in one of two all do
+no_waiter : (first : Bool) → (if first then Some 1 else Some 0) ≡ None → ⊥
+no_waiter true e = absurd (cc)
+no_waiter false e = absurd (cc)
+
+divided_outer : (by : SplitKind) (size : ℕ) (p : Processor) (chosen : Option ℕ) → part by (values p) ≡ chosen → length (divided by size p chosen).outer ≡ groups_behind (o.Split by) (enters by chosen) (length p.outer)
+divided_outer s.IfElse size p None e = absurd (no_waiter (last (values p) == 0) e)
+divided_outer s.IfElse size p (Some i) e = refl
+divided_outer s.IfAlone size p None e = refl
+divided_outer s.IfAlone size p (Some i) e = refl
+divided_outer s.AndThen size p None e = refl
+divided_outer s.AndThen size p (Some i) e = refl
+divided_outer s.OrElse size p None e = refl
+divided_outer s.OrElse size p (Some i) e = refl
+divided_outer s.Loop size p None e = refl
+divided_outer s.Loop size p (Some i) e = refl
+divided_outer s.Fork size p None e = refl
+divided_outer s.Fork size p (Some i) e = refl
+
+shrunk_outer : (size : ℕ) (p : Processor) (onward : Bool)
+    → length (if onward then with_size size (drop_last 1 p) else leave_level (drop_last 1 p)).outer ≡ groups_behind o.Shrink onward (length p.outer)
+shrunk_outer size p true = refl
+shrunk_outer size p false = left_level (drop_last 1 p)
+
+stepped_outer : (op : Operation) (highest lowest size : ℕ) (p : Processor) → changes_tree op ≡ true
+    → length (does op highest size p).outer ≡ groups_behind op (goes_onward op highest lowest p) (length p.outer)
+stepped_outer o.Begin highest lowest size p e = begun_outer size p (is_taken highest p)
+stepped_outer (o.Split by) highest lowest size p e = divided_outer by size p (part by (values p)) refl
+stepped_outer o.Shrink highest lowest size p e = shrunk_outer size p (stays p)
+stepped_outer o.End highest lowest size p e = left_level p
+stepped_outer o.Farm highest lowest size p e = refl
+stepped_outer o.Seq highest lowest size p e = refl
+stepped_outer (o.Meet true) highest lowest size p e = refl
+stepped_outer o.Resume highest lowest size p e = refl
+stepped_outer op highest lowest size p e = absurd (cc)
+
+around_step : (highest lowest size : ℕ) (place to : Where) (op : Operation) (p : Processor) → goes place op (goes_onward op highest lowest p) ≡ Some to → IsAround place p → IsAround to (does op highest size p)
+around_step highest lowest size place to op p e is = by (changes_tree op) refl
+  where
+    by : (b : Bool) → changes_tree op ≡ b → IsAround to (does op highest size p)
+    by true changes =
+        stepped_outer op highest lowest size p changes ∙ ap (groups_behind op (goes_onward op highest lowest p)) is
+        ∙ sym (groups_go place op (goes_onward op highest lowest p) to e)
+    by false keep =
+        same_outer place to op (goes_onward op highest lowest p) p (does op highest size p) keep e (does_same place op (goes_onward op highest lowest p) to highest size p keep e).0.1 is
+
+-- ---- the parts of a call
+
+nesting_framed : (words : ℕ) (ns : List Nest) → nesting (take_frame words ns) ≡ nesting ns
+nesting_framed words [] = refl
+nesting_framed words (OfFunction frame ∷ ns) = refl
+nesting_framed words (OfPart frame ∷ ns) = refl
+
+nesting_left : (ns : List Nest) (outside : ℕ) → IsInPart ns → nesting (tail ns) + outside ≡ (nesting ns + outside) - 1
+nesting_left [] outside part = absurd part
+nesting_left (OfFunction frame ∷ ns) outside part = absurd part
+nesting_left (OfPart frame ∷ ns) outside part = omega arith
+
+some_part : (ns : List Nest) → IsInPart ns → 1 ≤ nesting ns
+some_part [] part = absurd part
+some_part (OfFunction frame ∷ ns) part = absurd part
+some_part (OfPart frame ∷ ns) part = omega arith
+
+module _ (core : List CoreOp) (main : ℕ) (local : HasLocalFrames core main) where
+  abbrev At : (outside index : ℕ) → Type 0
+  At outside i = StandsAt core main local outside i
 
   abbrev AllAt : List ℕ → Type 0
-  AllAt indices = AllStandAt nest core main local indices
+  AllAt indices = AllStandAt core main local indices
 
-  -- at an index that is known by its nests and how it stands
-  at_index : (i j : ℕ) (n : Nesting) (nests : List Nest) → In (local.in_main i) n nests → nest j ≡ n → local.nests j ≡ nests → local.in_main j ≡ local.in_main i → At j
-  at_index i j n nests stands nest_is nests_are same lt =
-      subst (λ (b : Bool). In b (nest j) (local.nests j)) (sym same)
-      (subst (λ (m : Nesting). In (local.in_main i) m (local.nests j)) (sym nest_is) (subst (λ (ns : List Nest). In (local.in_main i) n ns) (sym nests_are) stands))
+  abbrev inside : List ℕ → ℕ
+  inside indices = parts_in core main local indices
+
+  -- at an index that is known by its nests
+  at_index : (outside i j : ℕ) (nests : List Nest) → StandsIn (local.in_main i) outside nests → local.in_main j ≡ local.in_main i → local.nests j ≡ nests → At outside j
+  at_index outside i j nests stands main_is nests_are =
+      subst (λ (b : Bool). StandsIn b outside (local.nests j)) (sym main_is) (subst (λ (ns : List Nest). StandsIn (local.in_main i) outside ns) (sym nests_are) stands)
+
+  inside_at : (i : ℕ) (nests : List Nest) (callers : List ℕ) → local.nests i ≡ nests → inside (i ∷ callers) ≡ nesting nests + inside callers
+  inside_at i nests callers e = ap (λ (ns : List Nest). nesting ns + inside callers) e
 
   -- ---- jumps
 
-  jumped : (i : ℕ) (op : CoreOp) → slice_get core i ≡ Some op → is_jump op ≡ true → At i → At op.target
-  jumped i op at jump here =
-      let there = local.jumps i op at jump in
-      let entry = fit.on i in
-      let told : nest op.target ≡ nest i
-      = subst (λ (b : Bool). AfterOp nest core (λ j m. nest j ≡ m) b op i) jump (subst (λ (x : Option CoreOp). AfterEntry nest core (λ j m. nest j ≡ m) x i) at entry) in
-      at_index i op.target (nest i) (local.nests i) (here (at_below core i op at)) told there.nested there.main
+  record Lands (i j : ℕ) : Type 0 where
+    main_is : local.in_main j ≡ local.in_main i
+    same : local.nests j ≡ local.nests i
 
-  landed_by : (jumps i : ℕ) → At i → At (landing_by core jumps i)
-  landed_by zero i here = here
-  landed_by (suc jumps) i here = by (λ j there. landed_by jumps j there) (slice_get core i) refl
+  landed_by : (jumps i : ℕ) → Lands i (landing_by core jumps i)
+  landed_by zero i = record { main_is = refl; same = refl }
+  landed_by (suc jumps) i = by (λ j. landed_by jumps j) (slice_get core i) refl
     where
-      through_so : ((j : ℕ) → At j → At (landing_by core jumps j)) → (op : CoreOp) → slice_get core i ≡ Some op → (b : Bool) → is_jump op ≡ b → At (if b then landing_by core jumps op.target else i)
-      through_so further op at true jump = further op.target (jumped i op at jump here)
-      through_so further op at false jump = here
+      through_so : ((j : ℕ) → Lands j (landing_by core jumps j)) → (op : CoreOp) → slice_get core i ≡ Some op → (b : Bool) → is_jump op ≡ b → Lands i (through b (landing_by core jumps) i op.target)
+      through_so further op at true jump =
+          let leads = local.jumps i op at jump in
+          let rest = further op.target in
+          record { main_is = rest.main_is ∙ leads.main; same = rest.same ∙ leads.nested }
+      through_so further op at false jump = record { main_is = refl; same = refl }
 
-      by : ((j : ℕ) → At j → At (landing_by core jumps j)) → (x : Option CoreOp) → slice_get core i ≡ x → At (led_by x (landing_by core jumps) i)
-      by further None e = here
-      by further (Some op) e = subst At (sym (choice (is_jump op))) (through_so further op e (is_jump op) refl)
-        where
-          choice : (b : Bool) → through b (landing_by core jumps) i op.target ≡ (if b then landing_by core jumps op.target else i)
-          choice true = refl
-          choice false = refl
+      by : ((j : ℕ) → Lands j (landing_by core jumps j)) → (x : Option CoreOp) → slice_get core i ≡ x → Lands i (led_by x (landing_by core jumps) i)
+      by further None e = record { main_is = refl; same = refl }
+      by further (Some op) e = through_so further op e (is_jump op) refl
 
-  landed : (i : ℕ) → At i → At (landing core i)
-  landed i here = landed_by (length core) i here
+  landed : (i : ℕ) → Lands i (landing core i)
+  landed i = landed_by (length core) i
 
   -- ---- one operation
-
-  framed : (b : Bool) (n : Nesting) (words : ℕ) (nests : List Nest) → In b n nests → In b (with_frame words n) (take_frame words nests)
-  framed b n words [] stands = stands
-  framed b n words (OfFunction frame ∷ nests) stands = stands
-  framed b n words (OfPart frame ∷ nests) stands = stands
-
-  function_stands : (b : Bool) (nests : List Nest) → IsFunction nests → In b outermost nests
-  function_stands b nests is = subst (λ (ns : List Nest). In b outermost ns) (sym is.1) refl
-
-  -- behind the innermost part
-  left : (b : Bool) (i : ℕ) (nests : List Nest) → IsInPart nests → In b (nest i) nests → In b (around nest (nest i).opened) (tail nests)
-  left b i [] part stands = absurd part
-  left b i (OfFunction frame ∷ nests) part stands = absurd part
-  left b i (OfPart frame ∷ nests) part (inl start) =
-      subst (λ (opened : Option ℕ). In b (around nest opened) nests) (sym start.1) (function_stands b nests start.3)
-  left b i (OfPart frame ∷ nests) part (inr split) =
-      subst (λ (opened : Option ℕ). In b (around nest opened) nests) (sym split.1) split.3
 
   abbrev AsksAt : Operation → ℕ → Type 0
   AsksAt op i = Asks core local.in_main local.nests op i
@@ -100,93 +272,243 @@ module _ (core : List CoreOp) (main : ℕ) (local : HasLocalFrames core main) (n
   abbrev IsOrdinary : Operation → Type 0
   IsOrdinary (o.Enter arguments) = ⊥
   IsOrdinary (o.Leave gives frees) = ⊥
+  IsOrdinary o.Halt = ⊥
   IsOrdinary op = Unit {0}
 
-  behind_stands : (op : Operation) (i : ℕ) → IsOrdinary op → AsksAt op i → In (local.in_main i) (nest i) (local.nests i) → (onward : Bool)
-      → In (local.in_main i) (after nest op i onward) (behind op onward (local.nests i))
-  behind_stands o.Begin i plain asks stands true = inl (asks.main, refl, refl, (None, asks.nested))
-  behind_stands o.Begin i plain asks stands false = function_stands (local.in_main i) (local.nests i) (None, asks.nested)
-  behind_stands (o.Split IfElse) i plain asks stands onward = inr (i, refl, refl, stands)
-  behind_stands (o.Split by) i plain asks stands true = inr (i, refl, refl, stands)
-  behind_stands (o.Split by) i plain asks stands false = stands
-  behind_stands o.Shrink i plain asks stands true = stands
-  behind_stands o.Shrink i plain asks stands false = left (local.in_main i) i (local.nests i) asks stands
-  behind_stands o.End i plain asks stands onward = left (local.in_main i) i (local.nests i) asks stands
-  behind_stands (o.Frame number words) i plain asks stands onward = framed (local.in_main i) (nest i) words (local.nests i) stands
-  behind_stands (o.Enter arguments) i plain asks stands onward = absurd plain
-  behind_stands (o.Leave gives frees) i plain asks stands onward = absurd plain
-  behind_stands op i plain asks stands onward = stands
+  -- a group alone splits
+  abbrev IsInGroup : Operation → (groups : ℕ) → Type 0
+  IsInGroup (o.Split by) groups = 1 ≤ groups
+  IsInGroup op groups = Unit {0}
 
-  module _ (i : ℕ) (stands : In (local.in_main i) (nest i) (local.nests i)) (target : ℕ) (callers : List ℕ) (calls : AllAt callers) where
-    goes_to : (j : ℕ) (op : Operation) (onward : Bool) → IsOrdinary op → AsksAt op i → nest j ≡ after nest op i onward → Leads core local.in_main local.nests (behind op onward (local.nests i)) i j → At j
-    goes_to j op onward plain asks told there = at_index i j (after nest op i onward) (behind op onward (local.nests i)) (behind_stands op i plain asks stands onward) told there.nested there.main
+  in_group_at : (place : Where) (op : Operation) (onward : Bool) (to : Where) (groups : ℕ) → goes place op onward ≡ Some to → groups ≡ groups_at place → IsInGroup op groups
+  in_group_at place (o.Split by) onward to groups e is = let some = splits_inside place by onward to e in omega (arith, some, is)
+  in_group_at place op onward to groups e is = tt
 
-    returns : (cs : List ℕ) → AllAt cs → AllAt ((returned core cs).at ∷ (returned core cs).callers)
-    returns [] all = ((λ lt. absurd (omega (arith, lt))), tt)
-    returns (j ∷ cs) all = (all.0, all.1)
+  behind_called : (op : Operation) (i outside : ℕ) → IsOrdinary op → AsksAt op i → IsInGroup op (nesting (local.nests i) + outside) → At outside i → (onward : Bool)
+      → local.in_main i ≡ false → outside ≡ 0 → nesting (behind op onward (local.nests i)) ≡ 0
+  behind_called o.Begin i outside plain asks group stands onward other none = absurd (true≢false (sym asks.main ∙ other))
+  behind_called (o.Split by) i outside plain asks group stands onward other none = let few = stands.called other none in absurd (omega (arith, few, none, group))
+  behind_called o.Shrink i outside plain asks group stands onward other none =
+      let few = stands.called other none in
+      let some = some_part (local.nests i) asks in
+      absurd (omega (arith, few, some))
+  behind_called o.End i outside plain asks group stands onward other none =
+      let few = stands.called other none in
+      let some = some_part (local.nests i) asks in
+      absurd (omega (arith, few, some))
+  behind_called (o.Frame number words) i outside plain asks group stands onward other none = nesting_framed words (local.nests i) ∙ stands.called other none
+  behind_called (o.Enter arguments) i outside plain asks group stands onward other none = absurd plain
+  behind_called (o.Leave gives frees) i outside plain asks group stands onward other none = absurd plain
+  behind_called o.Halt i outside plain asks group stands onward other none = absurd plain
+  behind_called op i outside plain asks group stands onward other none = stands.called other none
 
-    enters : (told : nest (suc i) ≡ outermost) (told' : nest (behind_jump core (suc i)) ≡ nest i) → Calls core local.in_main local.nests i → AllAt (suc i ∷ behind_jump core (suc i) ∷ callers)
-    enters told told' c = (
-      (λ lt. subst (λ (ns : List Nest). In (local.in_main (suc i)) (nest (suc i)) ns) (sym c.begins) (ap (λ (n : Nesting). n.levels) told)),
-      at_index i (behind_jump core (suc i)) (nest i) (local.nests i) stands told' c.back.nested c.back.main,
-      calls,
-    )
+  behind_parts : (op : Operation) (i outside : ℕ) → IsOrdinary op → AsksAt op i → (onward : Bool)
+      → nesting (behind op onward (local.nests i)) + outside ≡ groups_behind op onward (nesting (local.nests i) + outside)
+  behind_parts o.Begin i outside plain asks true = omega arith
+  behind_parts o.Begin i outside plain asks false = refl
+  behind_parts (o.Split IfElse) i outside plain asks onward = omega arith
+  behind_parts (o.Split by) i outside plain asks true = omega arith
+  behind_parts (o.Split by) i outside plain asks false = refl
+  behind_parts o.Shrink i outside plain asks true = refl
+  behind_parts o.Shrink i outside plain asks false = nesting_left (local.nests i) outside asks
+  behind_parts o.End i outside plain asks onward = nesting_left (local.nests i) outside asks
+  behind_parts (o.Frame number words) i outside plain asks onward = ap (λ (n : ℕ). n + outside) (nesting_framed words (local.nests i))
+  behind_parts (o.Enter arguments) i outside plain asks onward = absurd plain
+  behind_parts (o.Leave gives frees) i outside plain asks onward = absurd plain
+  behind_parts o.Halt i outside plain asks onward = absurd plain
+  behind_parts op i outside plain asks onward = refl
 
-    follows_stand : (op : Operation) → AsksAt op i → GoesOn core local.in_main local.nests op i target → AfterOperation nest core (λ j m. nest j ≡ m) (Some op) i target → (onward : Bool)
-        → AllAt ((follows core op i target callers onward).at ∷ (follows core op i target callers onward).callers)
-    follows_stand (o.Leave gives framed') asks goes told onward = returns callers calls
-    follows_stand o.Halt asks goes told onward = returns callers calls
-    follows_stand (o.Enter n) asks goes told onward = enters told.0 told.1 goes
-    follows_stand o.End asks goes told onward = (goes_to target o.End true tt asks told.0 (goes true), calls)
-    follows_stand op asks goes told true = (goes_to (suc i) op true tt asks told.0 (goes true), calls)
-    follows_stand op asks goes told false = (goes_to (follows core op i target [] false).at op false tt asks told.1 (goes false), calls)
+  -- how calls stand, of a processor at a place
+  record Stand (place : Where) (i : ℕ) (callers : List ℕ) : Type 0 where
+    groups : inside (i ∷ callers) ≡ groups_at place
+    all : AllAt (i ∷ callers)
+
+  abbrev StandsFrom : Where → Position → Type 0
+  StandsFrom place w = Stand place w.at w.callers
+
+  module _ (place : Where) (i target : ℕ) (callers : List ℕ) (stand : Stand place i callers) where
+    goes_to : (j : ℕ) (op : Operation) (onward : Bool) (to : Where) → goes place op onward ≡ Some to → IsOrdinary op → AsksAt op i
+        → Leads core local.in_main local.nests (behind op onward (local.nests i)) i j → Stand to j callers
+    goes_to j op onward to e plain asks leads =
+        let here = stand.all.0 in
+        let group = in_group_at place op onward to (inside (i ∷ callers)) e stand.groups in
+        record {
+          groups =
+              inside_at j (behind op onward (local.nests i)) callers leads.nested ∙ behind_parts op i (inside callers) plain asks onward ∙ ap (groups_behind op onward) stand.groups
+              ∙ sym (groups_go place op onward to e);
+          all = (
+            at_index (inside callers) i j (behind op onward (local.nests i))
+                (record { outermost = here.outermost; called = behind_called op i (inside callers) plain asks group here onward }) leads.main leads.nested,
+            stand.all.1,
+          );
+        }
+
+    -- the call that waits, or the end of the list
+    returned_parts : (cs : List ℕ) → inside ((returned core cs).at ∷ (returned core cs).callers) ≡ inside cs
+    returned_parts [] = let ends = local.ends in inside_at (length core) (OfFunction None ∷ []) [] ends.nested
+    returned_parts (c ∷ cs) = refl
+
+    returned_stand : (cs : List ℕ) → AllAt cs → AllAt ((returned core cs).at ∷ (returned core cs).callers)
+    returned_stand [] all = (record { outermost = λ e. refl; called = λ e none. (let ends = local.ends in ap nesting ends.nested) }, tt)
+    returned_stand (c ∷ cs) all = all
+
+    returns : (frame : Option ℕ) (to : Where) → local.nests i ≡ OfFunction frame ∷ [] → groups_at to ≡ groups_at place → StandsFrom to (returned core callers)
+    returns frame to function same =
+        let none : nesting (local.nests i) ≡ 0 = ap nesting function in
+        let total = stand.groups in
+        let back = returned_parts callers in
+        record { groups = omega (arith, none, total, back, same); all = returned_stand callers stand.all.1 }
+
+    enters_call : (to : Where) → groups_at to ≡ groups_at place → Calls core local.in_main local.nests i → Stand to (suc i) (behind_jump core (suc i) ∷ callers)
+    enters_call to same c =
+        let back = c.back in
+        let none : nesting (local.nests (suc i)) ≡ 0 = ap nesting c.begins in
+        let there : nesting (local.nests (behind_jump core (suc i))) ≡ nesting (local.nests i) = ap nesting back.nested in
+        let total = stand.groups in
+        record {
+          groups = omega (arith, none, there, total, same);
+          all = (
+            record { outermost = λ e. absurd (true≢false (sym e ∙ c.main)); called = λ e few. none },
+            at_index (inside callers) i (behind_jump core (suc i)) (local.nests i) stand.all.0 back.main back.nested,
+            stand.all.1,
+          );
+        }
+
+    follows_stand : (op : Operation) → AsksAt op i → GoesOn core local.in_main local.nests op i target → (onward : Bool) (to : Where)
+        → goes place op onward ≡ Some to → StandsFrom to (follows core op i target callers onward)
+    follows_stand (o.Leave gives framed') asks on onward to e = returns on.frame to on.nested (groups_go place (o.Leave gives framed') onward to e)
+    follows_stand o.Halt asks on onward to e = returns None to on.nested (groups_go place o.Halt onward to e)
+    follows_stand (o.Enter n) asks on onward to e = enters_call to (groups_go place (o.Enter n) onward to e) on
+    follows_stand o.End asks on onward to e = goes_to target o.End onward to e tt asks (on onward)
+    follows_stand op asks on true to e = goes_to (suc i) op true to e tt asks (on true)
+    follows_stand op asks on false to e = goes_to (follows core op i target [] false).at op false to e tt asks (on false)
 
   -- ---- runs
 
-  abbrev FitsAt : Position → Processor → Type 0
-  FitsAt w p = AllAt (w.at ∷ w.callers)
+  -- a processor at a place, to which its operations have led it
+  record Fits (w : Position) (p : Processor) : Type 0 where
+    place : Where
+    leads : Goes (next core) place w
+    around : IsAround place p
+    stand : StandsFrom place w
 
-  goes : (w : Position) (step : Step Position) → AllAt (w.at ∷ w.callers) → next core w ≡ Some step → (onward : Bool) → AllAt ((step.rest onward).at ∷ (step.rest onward).callers)
-  goes w step all due onward =
+  -- at its operation
+  at_landing : (place : Where) (w : Position) → StandsFrom place w → Stand place (landing core w.at) w.callers
+  at_landing place w stand =
+      let lands = landed w.at in
+      record {
+        groups = inside_at (landing core w.at) (local.nests w.at) w.callers lands.same ∙ stand.groups;
+        all = (at_index (inside w.callers) w.at (landing core w.at) (local.nests w.at) stand.all.0 lands.main_is lands.same, stand.all.1);
+      }
+
+  stands_on : (place : Where) (w : Position) (step : Step Position) → StandsFrom place w → next core w ≡ Some step → (onward : Bool) (to : Where) → goes place step.operation onward ≡ Some to
+      → StandsFrom to (step.rest onward)
+  stands_on place w step stand due onward to e =
       let x = found core w step due in
       let i = landing core w.at in
       let fits = local.fits i x.op x.operation x.stands x.reads in
-      let entry = subst (λ (y : Option CoreOp). AfterEntry nest core (λ j m. nest j ≡ m) y i) x.stands (fit.on i) in
-      let no_jump' : is_jump x.op ≡ false = no_jump x.op x.operation x.reads in
-      let told = subst (λ (y : Option Operation). AfterOperation nest core (λ j m. nest j ≡ m) y i x.op.target) x.reads
-      (subst (λ (b : Bool). AfterOp nest core (λ j m. nest j ≡ m) b x.op i) no_jump' entry) in
-      let stands = landed w.at all.0 (at_below core i x.op x.stands) in
-      subst (λ (s : Step Position). AllAt ((s.rest onward).at ∷ (s.rest onward).callers)) (sym x.is) (follows_stand i stands x.op.target w.callers all.1 x.operation fits.asks fits.goes_on told onward)
+      let e' : goes place x.operation onward ≡ Some to = subst (λ (y : Step Position). goes place y.operation onward ≡ Some to) x.is e in
+      subst (λ (y : Step Position). StandsFrom to (y.rest onward)) (sym x.is)
+      (follows_stand place i x.op.target w.callers (at_landing place w stand) x.operation fits.asks fits.goes_on onward to e')
 
-  locally : (set : Setting) (w : Position) (p : Processor) (step : Step Position) → FitsAt w p → next core w ≡ Some step
-      → class_of step.operation ≡ Local → FitsAt (step.rest (is_onward step.operation p)) (local_of set step.operation p)
-  locally set w p step fits due e = goes w step fits due (is_onward step.operation p)
+  -- behind an operation, on the way that it takes
+  fits_on : (w : Position) (p q : Processor) (step : Step Position) (onward : Bool) → Fits w p → next core w ≡ Some step
+      → ((place to : Where) → goes place step.operation onward ≡ Some to → IsAround place p → IsAround to q) → Fits (step.rest onward) q
+  fits_on w p q step onward fits due outer =
+      let on = goes_on (next core) fits.place w step fits.leads due onward in
+      record {
+        place = on.0;
+        leads = on.2;
+        around = outer fits.place on.0 on.1 fits.around;
+        stand = stands_on fits.place w step fits.stand due onward on.0 on.1;
+      }
 
-  requests : (s s' : Store) (v : ℕ) (w : Position) (p : Processor) (step : Step Position) → FitsAt w p → next core w ≡ Some step
-      → class_of step.operation ≡ Request → serve (request step.operation p) s p.number ≡ Served s' v → FitsAt (step.rest true) (with_answer step.operation v p)
-  requests s s' v w p step fits due e served = goes w step fits due true
+  locally : (set : Setting) (w : Position) (p : Processor) (step : Step Position) → Fits w p → next core w ≡ Some step
+      → class_of step.operation ≡ Local → Fits (step.rest (is_onward step.operation p)) (local_of set step.operation p)
+  locally set w p step fits due e =
+      fits_on w p (local_of set step.operation p) step (is_onward step.operation p) fits due
+      (λ place to way is. around_local set place to step.operation (is_onward step.operation p) p e way is)
 
-  steps : (highest lowest size : ℕ) (w : Position) (p : Processor) (step : Step Position) → FitsAt w p → next core w ≡ Some step
-      → class_of step.operation ≡ Tree → has_room step.operation p ≡ true → FitsAt (step.rest (goes_onward step.operation highest lowest p)) (does step.operation highest size p)
-  steps highest lowest size w p step fits due e room = goes w step fits due (goes_onward step.operation highest lowest p)
+  requests : (s s' : Store) (v : ℕ) (w : Position) (p : Processor) (step : Step Position) → Fits w p → next core w ≡ Some step
+      → class_of step.operation ≡ Request → serve (request step.operation p) s p.number ≡ Served s' v → Fits (step.rest true) (with_answer step.operation v p)
+  requests s s' v w p step fits due e served =
+      fits_on w p (with_answer step.operation v p) step true fits due (λ place to way is. around_request v place to step.operation true p e way is)
 
-  abbrev Stands : Runner Position → Type 0
-  Stands r = RunnerFits (next core) FitsAt locally requests steps r
+  steps : (highest lowest size : ℕ) (w : Position) (p : Processor) (step : Step Position) → Fits w p → next core w ≡ Some step
+      → class_of step.operation ≡ Tree → has_room step.operation p ≡ true → Fits (step.rest (goes_onward step.operation highest lowest p)) (does step.operation highest size p)
+  steps highest lowest size w p step fits due e room =
+      fits_on w p (does step.operation highest size p) step (goes_onward step.operation highest lowest p) fits due
+      (λ place to way is. around_step highest lowest size place to step.operation p way is)
+
+  abbrev AllFit : List (Runner Position) → Type 0
+  AllFit rs = AllAre (RunnerFits (next core) Fits locally requests steps) rs
 
   -- the beginning
-  first_stands : At main
-  first_stands lt =
+  first_stand : StandsFrom InRoot (position main [])
+  first_stand =
       let begins = local.begins in
-      subst (λ (ns : List Nest). In (local.in_main main) (nest main) ns) (sym begins.nested) (ap (λ (n : Nesting). n.levels) fit.begins)
+      record {
+        groups = inside_at main (OfFunction None ∷ []) [] begins.nested;
+        all = (record { outermost = λ e. refl; called = λ e none. ap nesting begins.nested }, tt);
+      }
 
-  all_first : (set : Setting) (firsts : Memory) (h count : ℕ) → AllAre Stands (beginners set firsts (position main []) h count)
-  all_first set firsts h zero = tt
-  all_first set firsts h (suc count) = ((first_stands, tt), all_first set firsts (suc h) count)
+  all_first : Goes (next core) InRoot (position main []) → (set : Setting) (firsts : Memory) (h count : ℕ) → AllFit (beginners set firsts (position main []) h count)
+  all_first leads set firsts h zero = tt
+  all_first leads set firsts h (suc count) = (record { place = InRoot; leads = leads; around = refl; stand = first_stand }, all_first leads set firsts (suc h) count)
+
+  told_levels : (r : Runner Position) → Fits r.left r.has → HasToldLevels core main local r
+  told_levels r fits =
+      let here = at_landing fits.place r.left fits.stand in
+      record { groups = fits.around ∙ sym here.groups; calls = here.all }
+
+  -- ---- as machines need it
+
+  none_of : (outside i : ℕ) → At outside i → nesting (local.nests i) + outside ≤ 1 → levels_of (local.in_main i) (local.nests i) ≡ 0
+  none_of outside i stands few = by (local.in_main i) refl
+    where
+      by : (b : Bool) → local.in_main i ≡ b → levels_of b (local.nests i) ≡ 0
+      by true e = omega (arith, few)
+      by false e =
+          ⊎_elim (λ none. let z = stands.called e none in omega (arith, z)) (λ some. omega (arith, some, few)) (cases_eq outside 0)
+
+  some_of : (outside i : ℕ) → At outside i → IsInPart (local.nests i) → 2 ≤ nesting (local.nests i) + outside → 0 < levels_of (local.in_main i) (local.nests i)
+  some_of outside i stands part many = by (local.in_main i) refl
+    where
+      by : (b : Bool) → local.in_main i ≡ b → 0 < levels_of b (local.nests i)
+      by true e = let none = stands.outermost e in omega (arith, none, many)
+      by false e = let some = some_part (local.nests i) part in omega (arith, some)
+
+  part_asked : (op : Operation) (i : ℕ) → leaves_part op ≡ true → AsksAt op i → IsInPart (local.nests i)
+  part_asked o.Shrink i leaves asks = asks
+  part_asked o.End i leaves asks = asks
+  part_asked op i leaves asks = absurd (cc)
+
+  module _ (nestings : Nestings) (levels : (i : ℕ) → i < length core → nestings.levels i ≡ levels_of (local.in_main i) (local.nests i)) where
+    none_saved : (indices : List ℕ) → AllAt indices → All (λ i. i < length core) indices → inside indices ≤ 1 → NoneSaved nestings indices
+    none_saved [] all below few = tt
+    none_saved (i ∷ indices) all below few = (
+      levels i (All-head (λ j. j < length core) i indices below) ∙ none_of (inside indices) i all.0 few,
+      none_saved indices all.1 (All-tail (λ j. j < length core) i indices below) (omega (arith, few)),
+    )
+
+    pub saves_levels : (r : Runner Position) → HasToldLevels core main local r → All (λ i. i < length core) r.left.callers → SavesLevels core nestings r
+    saves_levels r told below = record {
+      none = λ op operation at few.
+          let i = landing core r.left.at in
+          none_saved (i ∷ r.left.callers) told.calls (All-cons (λ j. j < length core) i r.left.callers (at_below core i op at.stands) below)
+          (let groups = told.groups in omega (arith, groups, few));
+      some = λ op operation at many leaves.
+          let i = landing core r.left.at in
+          let groups = told.groups in
+          let fits = local.fits i op operation at.stands at.is_read in
+          let some = some_of (inside r.left.callers) i told.calls.0 (part_asked operation i leaves fits.asks) (omega (arith, groups, many)) in
+          subst (λ (n : ℕ). 0 < n) (sym (levels i (at_below core i op at.stands))) some;
+    }
 
 pub levels_are_told : LevelsAreTold
-levels_are_told core main local nest fit words firsts input p schedule h r at =
+levels_are_told core main local leads words firsts input p schedule h r at =
     let set = setting_of p words input in
-    let all = runs (next core) (FitsAt core main local nest fit) (locally core main local nest fit) (requests core main local nest fit) (steps core main local nest fit) set schedule
-    (list_opening main words firsts input p) (all_first core main local nest fit set (slice_index firsts) 0 p) in
-    let fits = all_at (Stands core main local nest fit) _ h r all at in
-    (landed core main local nest fit r.left.at fits.0, fits.1)
+    let all = runs (next core) (Fits core main local) (locally core main local) (requests core main local) (steps core main local) set schedule
+    (list_opening main words firsts input p) (all_first core main local leads set (slice_index firsts) 0 p) in
+    told_levels core main local r
+    (all_at (RunnerFits (next core) (Fits core main local) (locally core main local) (requests core main local) (steps core main local)) _ h r all at)

@@ -3,6 +3,8 @@ pub mod Trees
 pub mod Levels
 -- where operations stand, and where they go on
 pub mod Ways
+-- those in the root
+pub mod Root
 -- what each processor does next
 pub mod Nexts
 -- and each group

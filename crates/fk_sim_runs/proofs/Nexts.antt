@@ -1,5 +1,5 @@
--- What each processor of a state does next that a run of a list with one group at a time has come to.
-use Rattle.std.proofs.Common.{◌≡◌, ◌≢◌, ◌⊎◌, inl, inr, ⊎_elim, ℕ, zero, suc, ◌<◌, Bool, true, false, List, [], ◌∷◌, Option, Some, refl, sym, ap, ◌∙◌, subst, arith}
+-- What each processor does next, in a state that a run has come to.
+use Rattle.std.proofs.Common.{◌≡◌, ◌≢◌, ◌⊎◌, inl, inr, ⊎_elim, ℕ, zero, suc, ◌<◌, Bool, true, false, List, length, Option, Some, refl, sym, ap, ◌∙◌, subst, arith}
 use Rattle.std.specs.Prelude.{slice_get}
 use Rattle.std.proofs.lemmas.Bool.{false≢true}
 use Rattle.fk_meaning_operation.specs.Kinds.{class_of, joint_of}
@@ -10,28 +10,29 @@ use Rattle.fk_tree.specs.declared.node.Kind.TheVariants.{Waiting, Asynchronous}
 use Rattle.fk_tree.specs.Tree as trees
 use Rattle.fk_tree.specs.Tree.{Tree, is_member}
 use Rattle.fk_tree.specs.Sound.{Has}
-use Rattle.fk_meaning.specs.Processor.{Level, Setting}
+use Rattle.fk_meaning.specs.Processor.{Setting}
 use Rattle.fk_meaning.specs.Round.{Runner, State, body_of}
 use Rattle.fk_core.specs.declared.op.CoreOp.{CoreOp}
 use Rattle.fk_core.specs.Next.{Position, position, landing, next}
 use Rattle.fk_lockstep.proofs.Round.{at_below}
 use Rattle.fk_lockstep_tree.specs.Where.{Where, InRoot, Waits, InGroup, InBody, BehindBody, goes, Goes}
-use Rattle.fk_lockstep_tree.specs.Placed.{where_at, HasLevels, IsPlaced}
+use Rattle.fk_lockstep_tree.specs.Ranges.{ranges_of}
+use Rattle.fk_lockstep_tree.specs.Placed.{IsPlaced}
 use Rattle.fk_lockstep_tree.proofs.Moves.{goes_on}
+use Rattle.fk_lockstep_tree.proofs.Paths.{at_root, below_root}
 use Rattle.fk_sim_block.specs.Owner.{Heaps, Owner}
 use Rattle.fk_sim_block.specs.Next.{step_at}
 use Rattle.fk_sim_block.specs.Ready.{is_no_step, MayDo, IsReady}
 use Rattle.fk_sim_block.specs.Node.{Nestings}
-use Rattle.fk_sim_block.specs.Lockstep.{NoneSaved}
 use Rattle.fk_sim_block.specs.Joint.{word_of}
-use Rattle.fk_sim_block.specs.Start.{IsInRoot}
 use Rattle.fk_sim_match.specs.Nodes.{is_lockstep, body_at}
 use Rattle.fk_sim_match.specs.Rounds.{joint_at_word}
 use Rattle.fk_sim_rounds.specs.Next.{landed, MayMeet, MayByItself, HasNext}
 use Rattle.fk_sim_runs.specs.Lists.{IsOfTree}
 use Rattle.fk_sim_runs.specs.Reached.{the_end, IsReached}
 use Rattle.fk_sim_runs.specs.Facts.{ReachedProcessorsHaveNext}
-use Rattle.fk_sim_runs.proofs.Ways.{StepOf, step_of_place, in_root, in_waiting, in_group, in_body, behind_body, Leading, leading}
+use Rattle.fk_sim_runs.proofs.Ways.{StepOf, step_of_place, NodeOf, node_of, Leading, leading}
+use Rattle.fk_sim_runs.proofs.Root.{in_root}
 
 -- ---- meetings
 
@@ -75,22 +76,6 @@ pub may_same : (operation : Operation) (r : Runner Position) (i : ℕ) → MayDo
 may_same o.Read r i x = x
 may_same operation r i x = x
 
-pub none_saved : (nestings : Nestings) → ((i : ℕ) → nestings.levels i ≡ 0) → (indices : List ℕ) → NoneSaved nestings indices
-none_saved nestings none [] = tt
-none_saved nestings none (i ∷ indices) = (none i, none_saved nestings none indices)
-
-pub root_levels : (core : List CoreOp) (nestings : Nestings) (setting : Setting) (p : Owner) → ((i : ℕ) → nestings.levels i ≡ 0) → HasLevels setting InRoot p.runner.has → IsInRoot nestings setting (landed core p)
-root_levels core nestings setting p none levels = record {
-  outer = levels.0;
-  level = record {
-    number = ap (λ (l : Level). l.number) levels.1;
-    rank = ap (λ (l : Level). l.rank) levels.1;
-    size = ap (λ (l : Level). l.size) levels.1;
-  };
-  space = ap (λ (l : Level). l.space) levels.1;
-  none = none_saved nestings none (landing core p.runner.left.at ∷ p.runner.left.callers);
-}
-
 module _ (core : List CoreOp) (nestings : Nestings) (main : ℕ) (setting : Setting) (s : State Position) (list : IsOfTree core nestings main) (is : IsReached core nestings setting s) where
   pub below : (h : ℕ) (r : Runner Position) → slice_get s.runners h ≡ Some r → h < setting.processors
   below h r at = let lt = at_below s.runners h r at in let many = is.stands.tree.many in omega (arith, lt, many)
@@ -108,7 +93,7 @@ module _ (core : List CoreOp) (nestings : Nestings) (main : ℕ) (setting : Sett
     abbrev operation : Operation
     operation = leads.operation
 
-    abbrev pub placed : IsPlaced (next core) setting s.tree h r
+    abbrev pub placed : IsPlaced (next core) setting (ranges_of s) s.tree h r
     placed = is.stands.tree.placed h r at
 
     pub ready : IsReady leads.op operation (landed core p).runner
@@ -139,58 +124,52 @@ module _ (core : List CoreOp) (nestings : Nestings) (main : ℕ) (setting : Sett
     meets : (op : Operation) → operation ≡ op → MayMeet s.tree g h op → Next
     meets op e may = by_itself (inr (inr (inl (subst (MayMeet s.tree g h) (sym e) may))))
 
-    -- what the root is when nobody waits there
-    root_kind : (alone : Bool) → trees.kind s.tree 0 ≡ Some (Asynchronous alone) → trees.kind s.tree 0 ≡ Some (Asynchronous false)
-    root_kind alone e =
-        ⊎_elim (λ none. none.root) (λ one. let clash : Some (Asynchronous alone) ≡ Some (Waiting one.0 1) = sym e ∙ one.1.root in absurd (cc)) is.stands.tree.tree
-
-    at_start : operation ≡ o.Begin → g ≡ 0 → trees.kind s.tree 0 ≡ Some (Asynchronous false) → HasLevels setting InRoot r.has → Next
-    at_start e none kind levels =
+    -- about to begin the group of a `start`, in the root
+    at_start : operation ≡ o.Begin → g ≡ 0 → trees.kind s.tree g ≡ Some (Asynchronous false) → Next
+    at_start e none kind =
         by_itself (inr (inr (inr (record {
           begins = e;
           root = none;
-          kind = kind;
+          kind = subst (λ (n : ℕ). trees.kind s.tree n ≡ Some (Asynchronous false)) none kind;
           member = subst (λ (n : ℕ). Has s.tree n h) none has;
-          in_root = root_levels core nestings setting p list.levels levels;
+          in_root = in_root core nestings setting s h p is at leads.op operation leads.at none;
         }))))
 
-    by_place : (place : Where) → where_at s.tree h ≡ Some place → HasLevels setting place r.has → StepOf place operation → Next
-    by_place InRoot there levels step =
-        let node = in_root g (trees.kind s.tree g) runs there in
-        let alone = node.1.0 in
-        let kind0 : trees.kind s.tree 0 ≡ Some (Asynchronous alone) = subst (λ (n : ℕ). trees.kind s.tree n ≡ Some (Asynchronous alone)) node.0 node.1.1 in
-        let kind = root_kind alone kind0 in
+    abbrev above : ℕ
+    above = length r.has.outer
+
+    abbrev NodeAt : Where → Type 0
+    NodeAt place = NodeOf place (length r.has.outer) (trees.kind s.tree g) runs
+
+    apart : (n : ℕ) → above ≡ suc n → g ≢ 0
+    apart n e = below_root setting s.tree (ranges_of s) h g r.has.level r.has.outer n placed.levels e
+
+    by_place : (place : Where) → NodeAt place → StepOf place operation → Next
+    by_place InRoot node step =
+        let none = at_root setting s.tree (ranges_of s) h g r.has.level r.has.outer placed.levels node.0 in
         ⊎_elim
-        (λ e. at_start e node.0 kind levels)
+        (λ e. at_start e none node.1)
         (λ more. ⊎_elim
         (λ e.
-        let here : trees.kind s.tree g ≡ Some (Asynchronous false) = ap (trees.kind s.tree) node.0 ∙ kind in
-        let runs_is : runs ≡ true = ap (λ (k : Option Kind). is_member h (body_of k (trees.members s.tree g))) here ∙ has in
-        meets (o.Meet false) e (meets_at_barrier s.tree h false here runs_is))
+        let runs_is : runs ≡ true = ap (λ (k : Option Kind). is_member h (body_of k (trees.members s.tree g))) node.1 ∙ has in
+        meets (o.Meet false) e (meets_at_barrier s.tree h false node.1 runs_is))
         (λ e. by_itself (inr (inl e))) more)
         step
-    by_place Waits there levels step =
-        let node = in_waiting g (trees.kind s.tree g) runs there in
-        meets o.Resume step (meets_to_resume s.tree h node.1.0 node.1.1 node.1.2 has)
-    by_place InGroup there levels step =
-        let kind = in_group g (trees.kind s.tree g) runs there in
-        record {
-          op = leads.op;
-          operation = operation;
-          stands = leads.at;
-          ready = ready;
-          may = λ unlocked. absurd (false≢true (sym unlocked ∙ ap is_lockstep kind));
-        }
-    by_place InBody there levels step =
-        let node = in_body g (trees.kind s.tree g) runs there in
-        ⊎_elim (λ e. meets (o.Meet true) e (meets_at_end s.tree h node.2.0 node.0 node.2.1 has)) (λ e. meets (o.Meet false) e (meets_at_barrier s.tree h node.2.0 node.2.1 node.1)) step
-    by_place BehindBody there levels step =
-        let node = behind_body g (trees.kind s.tree g) runs there in
-        meets (o.Meet true) step (meets_at_end s.tree h node.1.0 node.0 node.1.1 has)
+    by_place (Waits n) node step = meets o.Resume step (meets_to_resume s.tree h node.1.0 node.1.1 node.1.2 has)
+    by_place (InGroup n) node step = record {
+      op = leads.op;
+      operation = operation;
+      stands = leads.at;
+      ready = ready;
+      may = λ unlocked. absurd (false≢true (sym unlocked ∙ ap is_lockstep node.1));
+    }
+    by_place (InBody n) node step =
+        ⊎_elim (λ e. meets (o.Meet true) e (meets_at_end s.tree h node.2.0 (apart n node.0) node.2.1 has)) (λ e. meets (o.Meet false) e (meets_at_barrier s.tree h node.2.0 node.2.1 node.1)) step
+    by_place (BehindBody n) node step = meets (o.Meet true) step (meets_at_end s.tree h node.1.0 (apart n node.0) node.1.1 has)
 
     pub next_is : Next
     next_is =
-        ⊎_elim (λ plain. by_itself (inl plain)) (λ step. by_place placed.place placed.there placed.levels step) does
+        ⊎_elim (λ plain. by_itself (inl plain)) (λ step. by_place placed.place (node_of above (trees.kind s.tree g) runs placed.place placed.there) step) does
 
 pub reached_processors_have_next : ReachedProcessorsHaveNext
 reached_processors_have_next core nestings main setting s h r heap list is at going =

@@ -193,7 +193,7 @@ module _ (core : List CoreOp) (image : Image) (places : Places) (nestings : Nest
       let one = beginner setting (slice_index firsts) main number in
       members_come_to_stages core image places nestings cycles firsts main setting (root p) spaces (replicate p 0) t b.begins.cycles (at_first number) b.begins.hart one the_law leads node (free 0)
       running lt b.begins.few b.begins.runs b.begins.at (subst (λ r. StandsInNode places nestings setting r one b.begins.hart) (sym (runs_are number lt)) b.node)
-      (record { number_is = refl; words = refl; size = size_is }) (has_next number lt)
+      (record { number_is = refl; words = refl; size = size_is; range = λ ne. absurd (ne refl) }) (has_next number lt)
 
   -- ---- all of them
 

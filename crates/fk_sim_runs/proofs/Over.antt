@@ -1,6 +1,6 @@
 -- The words of nodes in one cycle, from a state to the one behind it.
-use Rattle.std.proofs.Common.{◌≡◌, ◌⊎◌, ⊎_elim, ℕ, ◌<◌, List, ◌∷◌, Some, sym, ap, ◌∙◌, subst}
-use Rattle.std.specs.Prelude.{◌×◌, map, nat_lt, slice_get, is_some, true, if◌then◌else◌}
+use Rattle.std.proofs.Common.{◌≡◌, ◌⊎◌, ⊎_elim, ℕ, ◌<◌, List, Some, sym, ap, ◌∙◌, subst}
+use Rattle.std.specs.Prelude.{map, nat_lt, slice_get, is_some, true, if◌then◌else◌}
 use Rattle.std.proofs.lemmas.Bool.{cases_eq, cases_lt, cond-true, cond-false, lt-ltb, le-ltb}
 use Rattle.std.proofs.lemmas.List.Elements.{All-head}
 use Rattle.fk_space.specs.Space.{Space, IsSpace}
@@ -11,6 +11,7 @@ use Rattle.fk_meaning.specs.Round.{Runner, State, result, is_possible}
 use Rattle.fk_core.specs.declared.op.CoreOp.{CoreOp}
 use Rattle.fk_core.specs.Next.{Position, next}
 use Rattle.fk_lockstep_tree.specs.Ranges.{range_of, ranges_of}
+use Rattle.fk_lockstep_tree.specs.Rounds.{IsRound}
 use Rattle.fk_lockstep_tree.proofs.Paths.{root_first, node_range}
 use Rattle.fk_lockstep_tree.proofs.Ranges.{read_root, ranges_stay}
 use Rattle.fk_sim_match.specs.Stage.{Stage, counts_for}
@@ -52,17 +53,22 @@ own_space : (core : List CoreOp) (nestings : Nestings) (setting : Setting) (s : 
     → IsSpace r.has.level.space
 own_space core nestings setting s h r is at = All-head IsSpace r.has.level.space (map (λ (l : Level). l.space) r.has.outer) (is.spaces h r at)
 
+-- a possible round of such a state
+pub is_round : (core : List CoreOp) (nestings : Nestings) (setting : Setting) (stages : List Stage) (s : State Position) → IsReached core nestings setting s
+    → is_possible (next core) setting (counts_for stages) s ≡ true → IsRound (next core) setting (counts_for stages) s
+is_round core nestings setting stages s is possible = record {
+  sound = is.stands.sound;
+  one_program = is.stands.one_program;
+  tree = is.stands.tree;
+  single = counts_single stages;
+  possible = possible;
+}
+
 pub reached_ranges_stay : ReachedRangesStay
 reached_ranges_stay core nestings main setting stages s g list is is' possible lt there =
     ranges_stay Position (next core) setting (counts_for stages) s g
     (record {
-      base = record {
-        sound = is.stands.sound;
-        one_program = is.stands.one_program;
-        tree = is.stands.tree;
-        single = counts_single stages;
-        possible = possible;
-      };
+      base = is_round core nestings setting stages s is possible;
       one_space = is.stands.one_space.members;
       spaces = λ h r at. own_space core nestings setting s h r is at;
       behind = is'.stands.sound;

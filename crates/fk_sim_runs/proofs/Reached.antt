@@ -1,5 +1,5 @@
 -- What is known of the states that runs of lists come to.
-use Rattle.std.proofs.Common.{◌≡◌, ◌⊎◌, inl, ⊎_elim, ℕ, ◌<◌, Bool, true, List, [], ◌∷◌, length, Option, Some, None, sym, ap, ◌∙◌, subst, arith}
+use Rattle.std.proofs.Common.{◌≡◌, ◌⊎◌, inl, inr, ⊎_elim, ℕ, ◌<◌, ◌≤◌, Bool, true, false, List, [], ◌∷◌, length, Option, Some, None, refl, sym, ap, ◌∙◌, subst, arith}
 use Rattle.std.specs.Prelude.{slice_get, slice_index}
 use Rattle.std.specs.Prelude.{All}
 use Rattle.std.proofs.lemmas.List.Elements.{All-nil, All-cons}
@@ -7,21 +7,25 @@ use Rattle.fk_space.specs.Space.{Space, IsSpace}
 use Rattle.fk_lockstep_frames.specs.Nests.{Nest, outward}
 use Rattle.fk_lockstep_frames.specs.Taken.{spaces_of, AreTaken}
 use Rattle.fk_tree.specs.Tree as t
-use Rattle.fk_tree.specs.Tree.{Tree}
-use Rattle.fk_meaning.specs.Processor.{Setting, setting_of}
+use Rattle.fk_tree.specs.Tree.{Tree, is_member, root}
+use Rattle.fk_tree.specs.declared.node.Kind.TheVariants.{Asynchronous}
+use Rattle.fk_meaning.specs.Processor.{Processor, Setting, setting_of, group_space}
 use Rattle.fk_meaning.specs.Group.{goes_onward}
-use Rattle.fk_meaning.specs.Round.{Step, Runner, State, Round, Acting, agreed, lowest, all_changes, settled_by, settled, result, is_possible}
+use Rattle.fk_meaning.specs.Round.{Step, Runner, State, Round, Acting, body_of, agreed, lowest, all_changes, settled_by, settled, result, is_possible}
 use Rattle.fk_meaning.specs.Schedule.{Schedule, run, ArePossible}
 use Rattle.fk_lockstep.proofs.Rounds.{settled_at}
 use Rattle.fk_core.specs.declared.op.CoreOp.{CoreOp}
 use Rattle.fk_core.specs.Next.{Position, position, landing, next, list_opening}
-use Rattle.fk_lockstep.proofs.Round.{first_is, at_below, settled_length}
+use Rattle.fk_lockstep.proofs.Round.{first_is, at_below, some_at, settled_length}
 use Rattle.fk_lockstep_frames.proofs.Lists.{lists_tell_frames}
 use Rattle.fk_lockstep_nodes.specs.Steps.{stepping}
 use Rattle.fk_lockstep_tree.specs.Rounds.{IsSingle}
 use Rattle.fk_lockstep_tree.specs.Runs.{AreSingle}
 use Rattle.fk_lockstep_tree.proofs.Acts.{Acts, acts, stepping_length, result_is}
-use Rattle.fk_lockstep_tree.proofs.Opening.{begins_at}
+use Rattle.fk_lockstep_tree.specs.Where.{Where, InRoot, Goes}
+use Rattle.fk_lockstep_tree.specs.Placed.{where_in}
+use Rattle.fk_lockstep_tree.proofs.Opening.{begins_at, root_kind}
+use Rattle.fk_lockstep_tree.proofs.Paths.{at_node}
 use Rattle.fk_lockstep_tree.proofs.Runs.{are_all, round_by_round}
 use Rattle.fk_sim_block.specs.Next.{step_at}
 use Rattle.fk_sim_block.specs.Lists.{StaysInList}
@@ -32,6 +36,7 @@ use Rattle.fk_sim_runs.specs.Lists.{IsOfTree}
 use Rattle.fk_sim_runs.specs.Facts.{HasSpace, ReachedStatesHaveNests}
 use Rattle.fk_sim_runs.specs.Reached.{the_end, RunsReach}
 use Rattle.fk_sim_runs.proofs.Trees.{is_space}
+use Rattle.fk_sim_runs.proofs.Levels.{levels_are_told, saves_levels}
 use Rattle.fk_sim_runs.proofs.Ways.{leading, goes_within}
 
 abbrev IsThere : List CoreOp → Position → Type 0
@@ -115,6 +120,26 @@ pub reached_states_have_nests : ReachedStatesHaveNests
 reached_states_have_nests core main frames words firsts input p schedule room h r at =
     lists_tell_frames core main frames words firsts input p schedule (is_space (setting_of p words input) room) h r at
 
+-- `main` is gone through from the root on
+main_goes : (core : List CoreOp) (nestings : Nestings) (main : ℕ) → IsOfTree core nestings main → (words firsts input : List ℕ) (p : ℕ) → 1 ≤ p → IsSpace (group_space (setting_of p words input))
+    → Goes (next core) InRoot (position main [])
+main_goes core nestings main list words firsts input p some space =
+    let stands = list.in_tree p words firsts input [] some space tt tt refl in
+    let many = stands.tree.many in
+    let r = some_at (list_opening main words firsts input p).runners 0 (omega (arith, some, many)) in
+    let b = begins_at (setting_of p words input) (slice_index firsts) (position main []) 0 p 0 r.0 r.1 in
+    let placed = stands.tree.placed 0 r.0 r.1 in
+    let runs = is_member 0 (body_of (Some (Asynchronous false)) (t.members (root p) 0)) in
+    let there : where_in (length r.0.has.outer) (Some (Asynchronous false)) runs ≡ Some placed.place
+    = sym (at_node (root p) 0 (length r.0.has.outer) 0 (Asynchronous false) refl (root_kind p some)) ∙ placed.there in
+    let in_root : InRoot ≡ placed.place
+    = first_is InRoot placed.place (subst (λ (q : Processor). where_in (length q.outer) (Some (Asynchronous false)) runs ≡ Some placed.place) b.has there) in
+    subst (Goes (next core) InRoot) b.left (subst (λ (q : Where). Goes (next core) q r.0.left) (sym in_root) placed.goes)
+
+callers_within : (core : List CoreOp) (w : Position) → IsThere core w → All (λ i. i < length core) w.callers
+callers_within core w (inl within) = within.callers
+callers_within core w (inr ended) = subst (λ (v : Position). All (λ i. i < length core) v.callers) (sym ended) (All-nil (λ i. i < length core))
+
 -- the spaces of the nests of a processor
 all_spaces : (nests : List Nest) (spaces : List Space) → AreTaken nests spaces → All IsSpace spaces
 all_spaces nests [] taken = All-nil IsSpace
@@ -129,6 +154,10 @@ runs_reach stay core nestings main list words firsts input p schedule some given
       spaces = λ h r at.
           let told = lists_tell_frames core main list.frames words firsts input p schedule space h r at in
           all_spaces _ (spaces_of r.has) told.nests.spaces;
+      saves = λ h r at.
+          let leads = main_goes core nestings main list words firsts input p some space in
+          let there = all_there core nestings main list words firsts input p given.room schedule possible single none h r at in
+          saves_levels core main list.frames nestings list.levels r (levels_are_told core main list.frames leads words firsts input p schedule h r at) (callers_within core r.left there);
       within = all_there core nestings main list words firsts input p given.room schedule possible single none;
       depth = λ h r op at stands. list.well_formed.depths words firsts input p schedule possible none h r op at stands;
       may = λ h r op operation at stands is_read. list.may words firsts input p schedule space h r op operation at stands is_read;

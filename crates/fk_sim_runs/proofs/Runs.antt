@@ -3,11 +3,14 @@ use Rattle.std.proofs.Common.{◌≡◌, ℕ, zero, suc, ◌+◌, ◌≤◌, ◌
 use Rattle.std.specs.Prelude.{◌&&◌, map, replicate, is_none}
 use Rattle.std.proofs.lemmas.List.{append-nil}
 use Rattle.fk_space.specs.Space.{Space}
+use Rattle.fk_num.specs.Word.{Memory}
 use Rattle.fk_tree.specs.Tree.{Tree}
-use Rattle.fk_meaning.specs.Processor.{Setting, setting_of}
+use Rattle.fk_tree.specs.Sound.{IsSound}
+use Rattle.fk_meaning.specs.Processor.{Setting, setting_of, group_space}
 use Rattle.fk_meaning_operation.specs.declared.operation.Operation.TheVariants.{Begin}
 use Rattle.fk_meaning.specs.Round.{Runner, State, result, is_possible, IsStopped}
 use Rattle.fk_meaning.specs.Schedule.{Schedule, SourceRunning, SourceFinished, SourceFaulted, run, CouldAct, IsLawful, all_done, stand_by}
+use Rattle.fk_lockstep_tree.specs.Ranges.{ranges_of}
 use Rattle.fk_lockstep_tree.specs.Runs.{AreSingle}
 use Rattle.fk_core.specs.declared.op.CoreOp.{CoreOp}
 use Rattle.fk_core.specs.Next.{Position, position, landing, next, list_opening}
@@ -18,6 +21,7 @@ use Rattle.fk_machine.specs.Cycle.{Machine, turns_of, all_ended, unprinted, is_r
 use Rattle.fk_machine.specs.Cycle as machines
 use Rattle.fk_machine.specs.Run.{machine, output_of, round_of, rounds}
 use Rattle.fk_sim_match.specs.Stage.{Stage, counts_for}
+use Rattle.fk_sim_match.specs.Plan.{Plan}
 use Rattle.fk_sim_match.specs.Cycle.{AllHaveCommitted}
 use Rattle.fk_sim_nodes.specs.Node.{AreAsMany}
 use Rattle.fk_sim_nodes.specs.Source.{Shows}
@@ -35,6 +39,8 @@ use Rattle.fk_sim_rounds.specs.After.{runners_of, owners_after, ArePlaces}
 use Rattle.fk_sim_rounds.proofs.Groups.{many_length}
 use Rattle.fk_sim_rounds.specs.Beside.{landed_runner, IsBeside}
 use Rattle.fk_sim_rounds.specs.Follow.{FollowsFault}
+use Rattle.fk_sim_rounds.specs.Transport.{HaveSameSpaces}
+use Rattle.fk_sim_rounds.proofs.Transport.{plan_same, other_spaces_dont_matter, united_spaces_dont_matter}
 use Rattle.fk_sim_rounds.proofs.Landed.{next_landed}
 use Rattle.fk_sim_rounds.proofs.Follow.{cycles_follow_rounds}
 use Rattle.fk_sim_rounds.proofs.StartsInRuns.{cycles_follow_starts}
@@ -44,7 +50,8 @@ use Rattle.fk_sim_rounds.specs.Follows.{StandsAgree, Agrees}
 use Rattle.fk_sim_runs.specs.Pace.{AreInTime, Sight, Turns, ActsWithin}
 use Rattle.fk_sim_runs.specs.Turning.{AreFreshInTime}
 use Rattle.fk_sim_runs.specs.Able.{WhoWaitsResumes, sight_of, united_sight_of}
-use Rattle.fk_sim_runs.specs.Runs.{sight_in, GoesBeside, StandsBeside, IsRound, AlwaysGoesFurther, MachinesFollowGroupRuns, places_in, tree_behind, OrderlyRoundsGoFurther, UnionsGoFurther, StartsGoFurther}
+use Rattle.fk_sim_runs.specs.Runs.{plan_in, sight_in, GoesBeside, StandsBeside, IsRound, spaces_in_cycle, AlwaysGoesFurther, MachinesFollowGroupRuns, places_in, tree_behind, OrderlyRoundsGoFurther, UnionsGoFurther, StartsGoFurther}
+use Rattle.fk_sim_runs.proofs.Over.{over_before}
 use Rattle.fk_sim_runs.proofs.Soon.{are_soon_in_time, all_soon_in_time, near_begin_in_time}
 use Rattle.fk_sim_runs.proofs.Turning.{turns as turned, nobody_has_united}
 use Rattle.fk_sim_runs.proofs.United.{unions_turn, united_turn}
@@ -56,16 +63,6 @@ few_harts setting nodes m ps few as_many many = let harts = (many_length nodes m
 
 module _ (core : List CoreOp) (image : Image) (places : Places) (nestings : Nestings) (cycles : Cycles) (firsts : List ℕ) (main : ℕ) (setting : Setting) (spaces : ℕ → Space)
     (the_law : GroupLaw core image places nestings cycles firsts main) (leads : JumpsLead core) (few : setting.processors ≤ 1024) where
-  -- a machine beside a state, all of whose harts are in time
-  record Stands (s : State Position) (printed : List ℕ) (m : Machine) : Type 0 where
-    uniting : Bool
-    nodes : List ℕ
-    stages : List Stage
-    beside : StandsBeside core image places nestings setting spaces uniting s nodes printed stages m
-
-  abbrev sight : (s : State Position) (printed : List ℕ) (m : Machine) → Stands s printed m → Sight
-  sight s printed m x = sight_in x.uniting s.tree spaces x.nodes x.stages m.shared.control m.begun
-
   going_with : (s : State Position) (printed : List ℕ) (m : Machine) (ps : List Owner) (shared : Commons) → IsBeside core setting s ps shared → Shows (core_source core setting) printed (unprinted m.shared) shared
       → m.stand ≡ cond (all_done (next core) setting s.runners) Finished Running → IsGoing core setting s printed m
   going_with s printed m ps shared beside shows stand =
@@ -99,9 +96,6 @@ module _ (core : List CoreOp) (image : Image) (places : Places) (nestings : Nest
       let as_many = (many_length nodes m.harts f.ps before.as_many).1 in
       going_with s printed m f.ps f.shared f.beside f.shows
       (goes.stand ∙ ap (λ b. cond b Finished Running) (sym (not_done f.i f.op f.ps s.runners f.stands f.about f.beside.runners (omega (arith, some, size, as_many)))))
-
-  is_going : (s : State Position) (printed : List ℕ) (m : Machine) → Stands s printed m → IsGoing core setting s printed m
-  is_going s printed m x = is_going_by x.uniting s x.nodes printed x.stages m x.beside.goes
 
   -- the round of its cycle is stopped
   breaks : (s : State Position) (nodes : List ℕ) (printed : List ℕ) (stages : List Stage) (m : Machine) → is_running m.stand ≡ true
@@ -172,31 +166,90 @@ module _ (core : List CoreOp) (image : Image) (places : Places) (nestings : Nest
   will_by true s nodes printed stages m goes in_time waits h could =
       who_has_united_will core image places nestings setting spaces s nodes (machines.setting_of m) printed stages m.harts (unprinted m.shared) h goes.followed could
 
-  module _ (first : State Position) (always : AlwaysGoesFurther core image places nestings setting spaces first) where
+-- ---- with other words of nodes that aren't there
+
+module _ (core : List CoreOp) (image : Image) (places : Places) (nestings : Nestings) (setting : Setting) where
+  sound_of : (spaces : ℕ → Space) (uniting : Bool) (s : State Position) (nodes : List ℕ) (printed : List ℕ) (stages : List Stage) (m : Machine)
+      → GoesBeside core image places nestings setting spaces uniting s nodes printed stages m → IsSound setting.processors s.tree
+  sound_of spaces false s nodes printed stages m goes = goes.followed.before.sound
+  sound_of spaces true s nodes printed stages m goes = goes.followed.before.sound
+
+  goes_same : (spaces spaces' : ℕ → Space) (uniting : Bool) (s : State Position) (nodes : List ℕ) (printed : List ℕ) (stages : List Stage) (m : Machine) → HaveSameSpaces s.tree spaces spaces'
+      → GoesBeside core image places nestings setting spaces uniting s nodes printed stages m → GoesBeside core image places nestings setting spaces' uniting s nodes printed stages m
+  goes_same spaces spaces' false s nodes printed stages m same goes = other_spaces_dont_matter core image places nestings setting spaces spaces' s nodes printed stages m same goes
+  goes_same spaces spaces' true s nodes printed stages m same goes = united_spaces_dont_matter core image places nestings setting spaces spaces' s nodes printed stages m same goes
+
+  stands_same : (spaces spaces' : ℕ → Space) (uniting : Bool) (s : State Position) (nodes : List ℕ) (printed : List ℕ) (stages : List Stage) (m : Machine) → HaveSameSpaces s.tree spaces spaces'
+      → StandsBeside core image places nestings setting spaces uniting s nodes printed stages m → StandsBeside core image places nestings setting spaces' uniting s nodes printed stages m
+  stands_same spaces spaces' uniting s nodes printed stages m same x =
+      record { goes = goes_same spaces spaces' uniting s nodes printed stages m same x.goes; in_time = x.in_time; ready = x.ready }
+
+  sight_same : (tree : Tree) (spaces spaces' : ℕ → Space) (uniting : Bool) (nodes : List ℕ) (stages : List Stage) (control : Memory) (finished : ℕ) → HaveSameSpaces tree spaces spaces'
+      → sight_in uniting tree spaces nodes stages control finished ≡ sight_in uniting tree spaces' nodes stages control finished
+  sight_same tree spaces spaces' uniting nodes stages control finished same =
+      ap (λ (plan : Plan). let v : Sight = record { plan = plan_in uniting plan; stages = stages; control = control; finished = finished } in v) (plan_same tree spaces spaces' same nodes)
+
+-- ---- whole runs
+
+module _ (core : List CoreOp) (image : Image) (places : Places) (nestings : Nestings) (cycles : Cycles) (firsts : List ℕ) (main : ℕ) (setting : Setting)
+    (the_law : GroupLaw core image places nestings cycles firsts main) (leads : JumpsLead core) (few : setting.processors ≤ 1024) where
+  -- a machine beside a state, all of whose harts are in time
+  record Stands (s : State Position) (printed : List ℕ) (m : Machine) : Type 0 where
+    uniting : Bool
+    nodes : List ℕ
+    stages : List Stage
+    beside : StandsBeside core image places nestings setting (ranges_of s) uniting s nodes printed stages m
+
+  abbrev sight : (s : State Position) (printed : List ℕ) (m : Machine) → Stands s printed m → Sight
+  sight s printed m x = sight_in x.uniting s.tree (ranges_of s) x.nodes x.stages m.shared.control m.begun
+
+  is_going : (s : State Position) (printed : List ℕ) (m : Machine) → Stands s printed m → IsGoing core setting s printed m
+  is_going s printed m x =
+      is_going_by core image places nestings cycles firsts main setting (ranges_of s) the_law leads few x.uniting s x.nodes printed x.stages m x.beside.goes
+
+  module _ (first : State Position) (always : AlwaysGoesFurther core image places nestings setting first) where
     turns : (schedule : Schedule) (printed : List ℕ) (m : Machine) (x : Stands (run (next core) setting schedule first) printed m) → IsLawful (next core) setting schedule first
         → AreSingle schedule → is_running m.stand ≡ true
         → IsWhole core setting image first Stands sight schedule printed m x ⊎ IsBroken core setting image (run (next core) setting schedule first) printed m
     turns schedule printed m x lawful single running =
         let s = run (next core) setting schedule first in
+        let behind = result (next core) setting (counts_for x.stages) s in
+        let spaces = spaces_in_cycle core setting s x.stages in
+        let before = over_before setting s behind (sound_of core image places nestings setting (ranges_of s) x.uniting s x.nodes printed x.stages m x.beside.goes) in
+        let beside = stands_same core image places nestings setting (ranges_of s) spaces x.uniting s x.nodes printed x.stages m before x.beside in
         ⊎_elim
         (λ g.
-        let round = round_is x.uniting s x.nodes printed x.stages m g in
+        let round = round_is core image places nestings cycles firsts main setting spaces the_law leads few x.uniting s x.nodes printed x.stages m g in
         inl
         (record {
           round = round.0;
           possible = round.1;
           further = λ lawful'.
-              let y = always.further schedule x.uniting x.nodes printed x.stages m lawful single x.beside running g lawful' in
-              (record { uniting = y.uniting'; nodes = y.nodes'; stages = y.stages'; beside = y.stands }, y.turns);
+              let y = always.further schedule x.uniting x.nodes printed x.stages m lawful single beside running g lawful' in
+              let after = always.stay schedule x.stages lawful single round.1 lawful' in
+              let control' = (cycle m).shared.control in
+              let begun' = (cycle m).begun in (
+                record {
+                  uniting = y.uniting';
+                  nodes = y.nodes';
+                  stages = y.stages';
+                  beside = stands_same core image places nestings setting spaces (ranges_of behind) y.uniting' behind y.nodes' (printed ++ (cycle m).shared.output) y.stages' (cycle m) after y.stands;
+                },
+                subst (λ v. Turns v (sight_in y.uniting' behind.tree (ranges_of behind) y.nodes' y.stages' control' begun'))
+                    (sym (sight_same core image places nestings setting s.tree (ranges_of s) spaces x.uniting x.nodes x.stages m.shared.control m.begun before))
+                    (subst (λ v. Turns (sight_in x.uniting s.tree spaces x.nodes x.stages m.shared.control m.begun) v)
+                    (sight_same core image places nestings setting behind.tree spaces (ranges_of behind) y.uniting' y.nodes' y.stages' control' begun' after) y.turns),
+              );
         }))
         (λ broken. inr broken)
-        (cycle_is x.uniting s x.nodes printed x.stages m x.beside.goes running)
+        (cycle_is core image places nestings cycles firsts main setting spaces the_law leads few x.uniting s x.nodes printed x.stages m beside.goes running)
 
     will : (schedule : Schedule) (printed : List ℕ) (m : Machine) (x : Stands (run (next core) setting schedule first) printed m) → IsLawful (next core) setting schedule first
         → AreSingle schedule → (h : ℕ) → CouldAct (next core) setting h (run (next core) setting schedule first) → ActsWithin (sight (run (next core) setting schedule first) printed m x) h most_between
     will schedule printed m x lawful single h could =
         let s = run (next core) setting schedule first in
-        will_by x.uniting s x.nodes printed x.stages m x.beside.goes x.beside.in_time (always.waits schedule lawful single (is_going s printed m x).going) h could
+        will_by core image places nestings cycles firsts main setting (ranges_of s) the_law leads few x.uniting s x.nodes printed x.stages m x.beside.goes x.beside.in_time
+        (always.waits schedule lawful single (is_going s printed m x).going) h could
 
     follows : (input : List ℕ) (p : ℕ) (x : Stands first [] (machine image input p 0)) (n : ℕ)
         → IsLawful (next core) setting (rounds image input p n) first
@@ -232,15 +285,15 @@ agrees core image input p n last (inr over) = record {
 }
 
 pub machines_follow_group_runs : MachinesFollowGroupRuns
-machines_follow_group_runs core image places nestings cycles firsts main spaces input p n the_law leads few opens always =
+machines_follow_group_runs core image places nestings cycles firsts main input p n the_law leads few opens always =
     let setting = setting_of p image.globals.items input in
     let first = list_opening main image.globals.items firsts input p in
-    let r = follows core image places nestings cycles firsts main setting spaces the_law leads few first always input p
+    let r = follows core image places nestings cycles firsts main setting the_law leads few first always input p
     (record {
       uniting = false;
       nodes = replicate p 0;
       stages = opens.stages;
-      beside = record { goes = opens.goes; in_time = are_soon_in_time opens.stages opens.soon; ready = openings_are_ready image input p first.tree (first_of spaces 1) };
+      beside = record { goes = opens.goes; in_time = are_soon_in_time opens.stages opens.soon; ready = openings_are_ready image input p first.tree (group_space setting).low };
     }) n in
     record { lawful = r.0; agrees = agrees core image input p n (run (next core) setting (rounds image input p n) first) r.1 }
 
@@ -265,7 +318,7 @@ orderly_rounds_go_further core image places nestings setting spaces s nodes prin
     let there = stand_in tree 0 setting.processors in
     let before = goes.followed.before in
     let many : length nodes' ≡ length nodes = many_in tree 0 setting.processors ∙ sym before.many in
-    let x = r.again nodes' known behind.tree there many behind.ahead behind.groups in
+    let x = r.again nodes' known behind.tree there many behind.parts behind.ahead behind.groups in
     let few = few_harts setting nodes m goes.followed.ps before.running.few before.as_many before.many in
     let source = core_source core setting in
     let plan = plan_of s.tree spaces nodes in
@@ -309,7 +362,7 @@ all_in_time (a ∷ afters) (s ∷ stages) gone fresh = (fresh.0 gone.0, all_in_t
 all_in_time afters stages gone fresh = absurd (assumption fresh)
 
 pub starts_go_further : StartsGoFurther
-starts_go_further core image places nestings setting spaces s nodes printed stages m r running goes few behind rest low =
+starts_go_further core image places nestings setting spaces s nodes printed stages m r running goes few behind rest range =
     let tree = tree_behind core nestings setting spaces s stages m in
     let f = goes.followed in
     let before = f.before in
@@ -328,7 +381,7 @@ starts_go_further core image places nestings setting spaces s nodes printed stag
     (λ begins.
     let nodes' = places_in tree 0 setting.processors in
     let many : length nodes' ≡ length nodes = many_in tree 0 setting.processors ∙ sym before.many in
-    let x = begins.1 nodes' behind.tree (stand_in tree 0 setting.processors) many rest low behind.ahead behind.groups in
+    let x = begins.1 nodes' behind.tree (stand_in tree 0 setting.processors) many rest range behind.ahead behind.groups in
     let y = united_turn (united (plan_of s.tree spaces nodes)) (plan_of tree spaces nodes') stages x.0 m.shared.control (cycle m).shared.control m.begun short f.near x.1 in
     record {
       uniting' = false;

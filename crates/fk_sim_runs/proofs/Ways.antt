@@ -1,10 +1,12 @@
 -- Which operations stand where, and where they go on in the list.
-use Rattle.std.proofs.Common.{◌≡◌, ◌≢◌, ◌⊎◌, inl, inr, ℕ, zero, suc, ◌<◌, Bool, true, false, List, [], ◌∷◌, length, Option, Some, None, refl, ap, ◌∙◌, arith}
+use Rattle.std.proofs.Common.{◌≡◌, ◌≢◌, ◌⊎◌, inl, inr, ℕ, zero, suc, ◌<◌, Bool, true, false, List, [], ◌∷◌, length, Option, Some, None, refl, ap, ◌∙◌, subst, arith}
 use Rattle.std.specs.Prelude.{All}
 use Rattle.std.proofs.lemmas.List.Elements.{All-cons, All-head, All-tail}
 use Rattle.fk_meaning_operation.specs.Kinds.{class_of}
 use Rattle.fk_meaning_operation.specs.declared.kinds.Class.{Class}
 use Rattle.fk_meaning_operation.specs.declared.kinds.Class.TheVariants as class
+use Rattle.fk_meaning_operation.specs.declared.operation.SplitKind.{SplitKind}
+use Rattle.fk_meaning_operation.specs.declared.operation.SplitKind.TheVariants.{Fork}
 use Rattle.fk_meaning_operation.specs.declared.operation.Operation.{Operation}
 use Rattle.fk_meaning_operation.specs.declared.operation.Operation.TheVariants as o
 use Rattle.fk_tree.specs.declared.node.Kind.{Kind}
@@ -13,30 +15,47 @@ use Rattle.fk_meaning.specs.Round.{Runner}
 use Rattle.fk_core.specs.declared.op.CoreOp.{CoreOp}
 use Rattle.fk_core.specs.Next.{Position, position, behind_jump, landing, returned, follows, step_by, step_of, next}
 use Rattle.fk_core.specs.WellFormed.{LeadsOn}
+use Rattle.fk_lockstep.proofs.Round.{first_is}
 use Rattle.fk_sim_block.specs.Next.{OpAt, step_at}
 use Rattle.fk_sim_block.specs.Ready.{is_no_step, MayDo}
 use Rattle.fk_sim_block.specs.Lists.{StaysInList}
 use Rattle.fk_sim_block.specs.Node.{Nestings}
+use Rattle.fk_sim_block.specs.Parts.{is_implicit}
 use Rattle.fk_sim_block.specs.Law.{is_shared_step}
 use Rattle.fk_sim_rounds.proofs.Way.{no_jump}
-use Rattle.fk_lockstep_tree.specs.Where.{Where, InRoot, Waits, InGroup, InBody, BehindBody, stays, goes}
+use Rattle.fk_lockstep_tree.specs.Where.{Where, InRoot, Waits, InGroup, InBody, BehindBody, stays, divides, shrinks, goes}
 use Rattle.fk_lockstep_tree.specs.Placed.{where_in}
 use Rattle.fk_sim_runs.specs.Lists.{IsOfTree}
 use Rattle.fk_sim_runs.specs.Reached.{the_end}
 
 -- ---- which steps of the tree stand where
 
+-- the steps by which members of a group come to other nodes
+abbrev pub MovesAt : (depth : ℕ) → Operation → Type 0
+MovesAt n (o.Split by) = is_implicit by ≡ true
+MovesAt n o.Shrink = n ≢ 0
+MovesAt n o.End = Unit {0}
+MovesAt n op = ⊥
+
 abbrev pub StepOf : Where → Operation → Type 0
 StepOf InRoot op = (op ≡ o.Begin) ⊎ ((op ≡ o.Meet false) ⊎ (op ≡ o.Halt))
-StepOf Waits op = op ≡ o.Resume
-StepOf InGroup op = (is_shared_step op ≡ true) ⊎ (op ≡ o.End)
-StepOf InBody op = (op ≡ o.Meet true) ⊎ (op ≡ o.Meet false)
-StepOf BehindBody op = op ≡ o.Meet true
+StepOf (Waits n) op = op ≡ o.Resume
+StepOf (InGroup n) op = (is_shared_step op ≡ true) ⊎ MovesAt n op
+StepOf (InBody n) op = (op ≡ o.Meet true) ⊎ (op ≡ o.Meet false)
+StepOf (BehindBody n) op = op ≡ o.Meet true
 
 stays_plain : (c : Class) (place to : Where) → stays c place ≡ Some to → is_no_step c ≡ true
 stays_plain class.Local place to e = refl
 stays_plain class.Request place to e = refl
 stays_plain class.Tree place to e = absurd (cc)
+
+not_fork : (by : SplitKind) (n : ℕ) (onward : Bool) (to : Where) → divides by n onward ≡ Some to → is_implicit by ≡ true
+not_fork Fork n onward to e = absurd (cc)
+not_fork by n onward to e = refl
+
+not_start : (n : ℕ) (onward : Bool) (to : Where) → shrinks n onward ≡ Some to → n ≢ 0
+not_start zero onward to e = absurd (cc)
+not_start (suc n) onward to e = λ zero_is. omega (arith, zero_is)
 
 pub step_of_place : (place : Where) (op : Operation) (onward : Bool) (to : Where) → goes place op onward ≡ Some to → (is_no_step (class_of op) ≡ true) ⊎ StepOf place op
 step_of_place InRoot (o.Leave gives true) onward to e = absurd (cc)
@@ -44,78 +63,48 @@ step_of_place InRoot o.Begin onward to e = inr (inl refl)
 step_of_place InRoot (o.Meet false) onward to e = inr (inr (inl refl))
 step_of_place InRoot o.Halt onward to e = inr (inr (inr refl))
 step_of_place InRoot op onward to e = inl (stays_plain (class_of op) InRoot to e)
-step_of_place Waits o.Resume onward to e = inr refl
-step_of_place Waits op onward to e = absurd (cc)
-step_of_place InGroup o.Agree onward to e = inr (inl refl)
-step_of_place InGroup (o.Frame nesting words) onward to e = inr (inl refl)
-step_of_place InGroup o.Block onward to e = inr (inl refl)
-step_of_place InGroup o.Farm onward to e = inr (inl refl)
-step_of_place InGroup o.Seq onward to e = inr (inl refl)
-step_of_place InGroup o.End onward to e = inr (inr refl)
-step_of_place InGroup op onward to e = inl (stays_plain (class_of op) InGroup to e)
-step_of_place InBody (o.Leave gives true) onward to e = absurd (cc)
-step_of_place InBody (o.Meet true) onward to e = inr (inl refl)
-step_of_place InBody (o.Meet false) onward to e = inr (inr refl)
-step_of_place InBody op onward to e = inl (stays_plain (class_of op) InBody to e)
-step_of_place BehindBody (o.Meet true) onward to e = inr refl
-step_of_place BehindBody op onward to e = absurd (cc)
+step_of_place (Waits n) o.Resume onward to e = inr refl
+step_of_place (Waits n) op onward to e = absurd (cc)
+step_of_place (InGroup n) o.Agree onward to e = inr (inl refl)
+step_of_place (InGroup n) (o.Frame nesting words) onward to e = inr (inl refl)
+step_of_place (InGroup n) o.Block onward to e = inr (inl refl)
+step_of_place (InGroup n) (o.Split by) onward to e = inr (inr (not_fork by n onward to e))
+step_of_place (InGroup n) o.Shrink onward to e = inr (inr (not_start n onward to e))
+step_of_place (InGroup n) o.Farm onward to e = inr (inl refl)
+step_of_place (InGroup n) o.Seq onward to e = inr (inl refl)
+step_of_place (InGroup n) o.End onward to e = inr (inr tt)
+step_of_place (InGroup n) op onward to e = inl (stays_plain (class_of op) (InGroup n) to e)
+step_of_place (InBody n) (o.Leave gives true) onward to e = absurd (cc)
+step_of_place (InBody n) (o.Meet true) onward to e = inr (inl refl)
+step_of_place (InBody n) (o.Meet false) onward to e = inr (inr refl)
+step_of_place (InBody n) op onward to e = inl (stays_plain (class_of op) (InBody n) to e)
+step_of_place (BehindBody n) (o.Meet true) onward to e = inr refl
+step_of_place (BehindBody n) op onward to e = absurd (cc)
 
 -- ---- nodes, by where their members stand
 
-pub in_root : (g : ℕ) (k : Option Kind) (runs : Bool) → where_in g k runs ≡ Some InRoot → (g ≡ 0) × ((alone : Bool) × (k ≡ Some (Asynchronous alone)))
-in_root zero None runs e = absurd (cc)
-in_root zero (Some Lockstep) runs e = absurd (cc)
-in_root zero (Some (Waiting first parts)) runs e = absurd (cc)
-in_root zero (Some (Asynchronous alone)) runs e = (refl, (alone, refl))
-in_root (suc g) None runs e = absurd (cc)
-in_root (suc g) (Some Lockstep) runs e = absurd (cc)
-in_root (suc g) (Some (Waiting first parts)) runs e = absurd (cc)
-in_root (suc g) (Some (Asynchronous alone)) true e = absurd (cc)
-in_root (suc g) (Some (Asynchronous alone)) false e = absurd (cc)
+-- the number of levels around the members' own, and the kind of the node. Who is in a body runs it
+abbrev pub NodeOf : Where → (above : ℕ) → Option Kind → (runs : Bool) → Type 0
+NodeOf InRoot above k runs = (above ≡ 0) × (k ≡ Some (Asynchronous false))
+NodeOf (Waits n) above k runs = (above ≡ n) × ((first : ℕ) × (parts : ℕ) × (k ≡ Some (Waiting first parts)))
+NodeOf (InGroup n) above k runs = (above ≡ suc n) × (k ≡ Some Lockstep)
+NodeOf (InBody n) above k runs = (above ≡ suc n) × (runs ≡ true) × ((alone : Bool) × (k ≡ Some (Asynchronous alone)))
+NodeOf (BehindBody n) above k runs = (above ≡ suc n) × ((alone : Bool) × (k ≡ Some (Asynchronous alone)))
 
-pub in_waiting : (g : ℕ) (k : Option Kind) (runs : Bool) → where_in g k runs ≡ Some Waits → (g ≡ 0) × ((first : ℕ) × (parts : ℕ) × (k ≡ Some (Waiting first parts)))
-in_waiting zero None runs e = absurd (cc)
-in_waiting zero (Some Lockstep) runs e = absurd (cc)
-in_waiting zero (Some (Waiting first parts)) runs e = (refl, (first, parts, refl))
-in_waiting zero (Some (Asynchronous alone)) runs e = absurd (cc)
-in_waiting (suc g) None runs e = absurd (cc)
-in_waiting (suc g) (Some Lockstep) runs e = absurd (cc)
-in_waiting (suc g) (Some (Waiting first parts)) runs e = absurd (cc)
-in_waiting (suc g) (Some (Asynchronous alone)) true e = absurd (cc)
-in_waiting (suc g) (Some (Asynchronous alone)) false e = absurd (cc)
-
-pub in_group : (g : ℕ) (k : Option Kind) (runs : Bool) → where_in g k runs ≡ Some InGroup → k ≡ Some Lockstep
-in_group zero None runs e = absurd (cc)
-in_group zero (Some Lockstep) runs e = refl
-in_group zero (Some (Waiting first parts)) runs e = absurd (cc)
-in_group zero (Some (Asynchronous alone)) runs e = absurd (cc)
-in_group (suc g) None runs e = absurd (cc)
-in_group (suc g) (Some Lockstep) runs e = refl
-in_group (suc g) (Some (Waiting first parts)) runs e = absurd (cc)
-in_group (suc g) (Some (Asynchronous alone)) true e = absurd (cc)
-in_group (suc g) (Some (Asynchronous alone)) false e = absurd (cc)
-
-pub in_body : (g : ℕ) (k : Option Kind) (runs : Bool) → where_in g k runs ≡ Some InBody → (g ≢ 0) × (runs ≡ true) × ((alone : Bool) × (k ≡ Some (Asynchronous alone)))
-in_body zero None runs e = absurd (cc)
-in_body zero (Some Lockstep) runs e = absurd (cc)
-in_body zero (Some (Waiting first parts)) runs e = absurd (cc)
-in_body zero (Some (Asynchronous alone)) runs e = absurd (cc)
-in_body (suc g) None runs e = absurd (cc)
-in_body (suc g) (Some Lockstep) runs e = absurd (cc)
-in_body (suc g) (Some (Waiting first parts)) runs e = absurd (cc)
-in_body (suc g) (Some (Asynchronous alone)) true e = ((λ zero_is. omega (arith, zero_is)), refl, (alone, refl))
-in_body (suc g) (Some (Asynchronous alone)) false e = absurd (cc)
-
-pub behind_body : (g : ℕ) (k : Option Kind) (runs : Bool) → where_in g k runs ≡ Some BehindBody → (g ≢ 0) × ((alone : Bool) × (k ≡ Some (Asynchronous alone)))
-behind_body zero None runs e = absurd (cc)
-behind_body zero (Some Lockstep) runs e = absurd (cc)
-behind_body zero (Some (Waiting first parts)) runs e = absurd (cc)
-behind_body zero (Some (Asynchronous alone)) runs e = absurd (cc)
-behind_body (suc g) None runs e = absurd (cc)
-behind_body (suc g) (Some Lockstep) runs e = absurd (cc)
-behind_body (suc g) (Some (Waiting first parts)) runs e = absurd (cc)
-behind_body (suc g) (Some (Asynchronous alone)) true e = absurd (cc)
-behind_body (suc g) (Some (Asynchronous alone)) false e = ((λ zero_is. omega (arith, zero_is)), (alone, refl))
+pub node_of : (above : ℕ) (k : Option Kind) (runs : Bool) (place : Where) → where_in above k runs ≡ Some place → NodeOf place above k runs
+node_of zero None runs place e = absurd (cc)
+node_of zero (Some Lockstep) runs place e = absurd (cc)
+node_of zero (Some (Waiting first parts)) runs place e = subst (λ (q : Where). NodeOf q 0 (Some (Waiting first parts)) runs) (first_is (Waits 0) place e) (refl, (first, parts, refl))
+node_of zero (Some (Asynchronous false)) runs place e = subst (λ (q : Where). NodeOf q 0 (Some (Asynchronous false)) runs) (first_is InRoot place e) (refl, refl)
+node_of zero (Some (Asynchronous true)) runs place e = absurd (cc)
+node_of (suc n) None runs place e = absurd (cc)
+node_of (suc n) (Some Lockstep) runs place e = subst (λ (q : Where). NodeOf q (suc n) (Some Lockstep) runs) (first_is (InGroup n) place e) (refl, refl)
+node_of (suc n) (Some (Waiting first parts)) runs place e =
+    subst (λ (q : Where). NodeOf q (suc n) (Some (Waiting first parts)) runs) (first_is (Waits (suc n)) place e) (refl, (first, parts, refl))
+node_of (suc n) (Some (Asynchronous alone)) true place e =
+    subst (λ (q : Where). NodeOf q (suc n) (Some (Asynchronous alone)) true) (first_is (InBody n) place e) (refl, refl, (alone, refl))
+node_of (suc n) (Some (Asynchronous alone)) false place e =
+    subst (λ (q : Where). NodeOf q (suc n) (Some (Asynchronous alone)) false) (first_is (BehindBody n) place e) (refl, (alone, refl))
 
 -- ---- the operation that a position leads to
 

@@ -49,7 +49,7 @@ ReachedBeginnersLandAtOneIndex =
     → ((h : ℕ) (r : Runner Position) → slice_get s.runners h ≡ Some r → Begins core r)
     → (i : ℕ) × AllLandAt core i s.runners
 
--- A processor that waits for the group is about to go on after it.
+-- A processor that waits for parts is about to go on after them.
 abbrev pub ReachedWaitersResume : Type 0
 ReachedWaitersResume =
     (core : List CoreOp) (nestings : Nestings) (setting : Setting) (s : State Position)

@@ -1,4 +1,5 @@
-//! Laws of lists with one group at a time, and of machines that follow their core runs.
+//! Laws of lists whose processors go through groups, parts and bodies, and of machines that follow
+//! their core runs.
 
 ghost use Rattle.fk_sim_runs.specs.Reached.{RunsReach};
 ghost use Rattle.fk_sim_runs.specs.Begins.{UnitersBegin, ReachedBeginnersAreInRoot};
@@ -7,7 +8,8 @@ ghost use Rattle.fk_sim_runs.specs.Behind.{UnitedHadNext, RunsReachRounds, Reach
 ghost use Rattle.fk_sim_runs.specs.Behind.{ReachedStagesGoOn};
 ghost use Rattle.fk_sim_runs.specs.Facts.{ReachedTreesHaveSpaces, ReachedProcessorsHaveNext};
 ghost use Rattle.fk_sim_runs.specs.Facts.{ReachedStatesHaveNests, ReachedGroupsHaveNext};
-ghost use Rattle.fk_sim_runs.specs.Facts.{ReachedRoundsAreKnown};
+ghost use Rattle.fk_sim_runs.specs.Facts.{ReachedRoundsAreKnown, ReachedRangesStay};
+ghost use Rattle.fk_sim_runs.specs.Levels.{LevelsAreTold};
 ghost use Rattle.fk_sim_runs.specs.Ready.{ReachedCyclesStayReady, ReachedStartsFindHeaders};
 ghost use Rattle.fk_sim_runs.specs.Opening.{OpeningsAreFollowed};
 ghost use Rattle.fk_sim_runs.specs.Pace.{PacesGoOn, PacesAreKept};
@@ -26,9 +28,20 @@ pub fn runs_reach()
     fk_sim_rounds::laws::lists_stay_in_range();
 }
 
-/// The tree of a reached state is sound, and its nodes own words apart.
+/// The tree of a reached state is sound, and its nodes own words apart: those that their lowest
+/// members tell.
 pub fn reached_trees_have_spaces()
     ensures { ReachedTreesHaveSpaces }
+{}
+
+/// The words of a node are the same after a round, if it is still there.
+pub fn reached_ranges_stay()
+    ensures { ReachedRangesStay }
+{}
+
+/// In every run the frame of each call of a processor has the levels of the parts that it is in.
+pub fn levels_are_told()
+    ensures { LevelsAreTold }
 {}
 
 /// In every run each processor has the nests that its position tells, where the list tells them. The
@@ -48,8 +61,9 @@ pub fn reached_groups_have_next()
     ensures { ReachedGroupsHaveNext }
 {}
 
-/// In a round of a machine nobody changes the tree; or all begin a group, or go on in the root; or
-/// a group comes to a body, ends it, or ends.
+/// In a round of a machine all begin the group of a `start`; or at each node nobody changes the
+/// tree, or all members do one step: they go on after the parts for which they wait, come to a
+/// body, end it, divide, leave a loop or stay in it, or end.
 pub fn reached_rounds_are_known()
     ensures { ReachedRoundsAreKnown }
 {}
@@ -75,7 +89,7 @@ pub fn reached_beginners_land_at_one_index()
     ensures { ReachedBeginnersLandAtOneIndex }
 {}
 
-/// A processor that waits for the group of a `start` is about to go on after it.
+/// A processor that waits for parts is about to go on after them.
 pub fn reached_waiters_resume()
     ensures { ReachedWaitersResume }
 {}
@@ -87,8 +101,8 @@ pub fn runs_reach_rounds()
     runs_reach();
 }
 
-/// After a round of a machine the tree is sound and its nodes own words apart, and a processor that
-/// has committed goes on, by itself and in its group.
+/// After a round of a machine the tree is sound and its nodes own words apart, who enters a part has
+/// those of its node, and a processor that has committed goes on, by itself and in its group.
 pub fn reached_rounds_go_on()
     ensures { ReachedRoundsGoOn }
 {}
@@ -168,7 +182,7 @@ pub fn who_has_united_will()
 /// list's core runs, one round for each cycle, in which a processor that could act acts within any
 /// 256 rounds. Its output, shared data and status, a fault at a site included, are those of that
 /// core run. This holds where each cycle goes further (`AlwaysGoesFurther`), as it does in runs of
-/// lists with one group.
+/// lists whose processors go through groups.
 pub fn machines_follow_group_runs()
     ensures { MachinesFollowGroupRuns }
 {}
@@ -194,9 +208,9 @@ pub fn starts_go_further()
 {}
 
 /// A machine of an image that has the law of blocks of groups follows a lawful schedule of the core
-/// runs of a list with one group at a time, one round for each cycle, in which a processor that
-/// could act acts within any 256 rounds. Its output, shared data and status, a fault at a site
-/// included, are those of that core run.
+/// runs of a list whose processors go through groups, parts and bodies, one round for each cycle, in
+/// which a processor that could act acts within any 256 rounds. Its output, shared data and status,
+/// a fault at a site included, are those of that core run.
 ///
 /// This holds for every input, 1 to 1,024 harts and every number of cycles.
 pub fn machines_follow_trees()
