@@ -4,8 +4,8 @@
 
 mod behind;
 mod count;
-mod levels;
+mod pass;
 #[cfg(test)]
 mod tests;
 
-pub use levels::levels;
+pub use pass::levels;
