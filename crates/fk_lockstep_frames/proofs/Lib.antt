@@ -6,6 +6,8 @@ pub mod Steps
 pub mod Runs
 -- the law of spaces
 pub mod Lies
+-- the frames of parts
+pub mod Firsts
 -- the next operation of a position in a list
 pub mod Found
 -- the law of lists

@@ -1,5 +1,5 @@
 -- Lists whose indices tell the nests of the running call.
-use Rattle.std.proofs.Common.{◌≡◌, ℕ, zero, suc, ◌==◌, Bool, true, false, true≢false, List, [], ◌∷◌, ◌++◌, length, slice_get, Option, Some, None, is_some, if◌then◌else◌, refl, sym, ap, ◌∙◌, subst}
+use Rattle.std.proofs.Common.{◌≡◌, ℕ, zero, suc, ◌-◌, ◌≤◌, ◌==◌, Bool, true, false, true≢false, List, [], ◌∷◌, ◌++◌, length, slice_get, Option, Some, None, is_some, if◌then◌else◌, refl, sym, ap, ◌∙◌, subst}
 use Rattle.fk_num.specs.Word.{Memory}
 use Rattle.fk_meaning_operation.specs.declared.operation.OwnValue.TheVariants.{FrameAddress}
 use Rattle.fk_meaning_operation.specs.declared.operation.SplitKind.TheVariants as s
@@ -20,12 +20,13 @@ use Rattle.fk_meaning.specs.Schedule.{beginners, first_processor}
 use Rattle.fk_core.specs.declared.op.CoreOp.{CoreOp}
 use Rattle.fk_core.specs.Next.{Position, position, is_jump, through, led_by, landing_by, landing, behind_jump, follows, next, list_opening}
 use Rattle.fk_lockstep_frames.specs.Nests.{Nest, OfFunction, OfPart, nesting, frame_at, frame_has, has_word, take_frame, behind, MayLeave, MayTake, IsInPart, May, TellsOn}
-use Rattle.fk_lockstep_frames.specs.Taken.{HasNests}
+use Rattle.fk_lockstep_frames.specs.Taken.{HasNests, IsFirstFrame}
 use Rattle.fk_lockstep_frames.specs.Lists.{nests_of, told, IsOutermost, Leads, Calls, Returns, Asks, GoesOn, HasLocalFrames, ListsTellFrames}
 use Rattle.fk_lockstep_frames.proofs.Rounds.{AllAre, all_at, RunnerFits, runs}
 use Rattle.fk_lockstep_frames.proofs.Runs.{local_on, request_on, tree_on, first_nests}
 use Rattle.fk_lockstep_frames.proofs.Found.{found}
 use Rattle.fk_lockstep_frames.proofs.Lies.{frames_lie_in_spaces}
+use Rattle.fk_lockstep_frames.proofs.Firsts.{part_begins}
 
 -- the nests of one call: parts, and the function
 abbrev pub IsOfCall : List Nest → Type 0
@@ -315,6 +316,18 @@ module _ (core : List CoreOp) (main : ℕ) (local : HasLocalFrames core main) wh
       let lie = frames_lie_in_spaces (tells w) p fits.1 in
       lie.usable set number word (ap (λ (frame : Option ℕ). frame_has frame word) here ∙ has)
 
+  -- the frame of a part of the running call
+  pub begins_at : (w : Position) (p : Processor) (part word : ℕ) → FitsList w p → has_word (nests (landing core w.at)) (suc part) word ≡ true
+      → (suc part ≤ nesting (nests (landing core w.at))) × IsFirstFrame (nesting (nests (landing core w.at)) - suc part) (suc part) p
+  begins_at w p part word fits has =
+      let lands = landed w.at w.callers fits.0 in
+      let call = of_call w.at w.callers fits.0 in
+      let here : frame_at (tells w) (suc part) ≡ frame_at (nests (landing core w.at)) (suc part) =
+      frame_at_same (nests w.at) (others w.callers) (suc part) call ∙ ap (λ (ns : List Nest). frame_at ns (suc part)) (sym lands.same) in
+      let same : nesting (tells w) ≡ nesting (nests (landing core w.at)) = nesting_same (nests w.at) (others w.callers) call ∙ ap nesting (sym lands.same) in
+      subst (λ n. (suc part ≤ n) × IsFirstFrame (n - suc part) (suc part) p) same
+      (part_begins (tells w) p fits.1 part word (ap (λ (frame : Option ℕ). frame_has frame word) here ∙ has))
+
   -- the beginning
   pub begins_list : (set : Setting) (firsts : Memory) (h : ℕ) → IsSpace (group_space set) → FitsList (position main []) (first_processor set firsts h)
   begins_list set firsts h space =
@@ -340,4 +353,5 @@ lists_tell_frames core main local words firsts input p schedule space h r here =
     record {
       nests = fits.1;
       usable = λ number word has. usable_at core main local set r.left r.has number word fits has;
+      begins = λ part word has. begins_at core main local r.left r.has part word fits has;
     }

@@ -1,5 +1,5 @@
 -- Flat lists whose indices tell the nests of the running call.
-use Rattle.std.specs.Prelude.{◌≡◌, ℕ, suc, Bool, true, false, List, [], ◌∷◌, ◌++◌, length}
+use Rattle.std.specs.Prelude.{◌≡◌, ℕ, suc, ◌-◌, ◌≤◌, Bool, true, false, List, [], ◌∷◌, ◌++◌, length}
 use Rattle.std.specs.Prelude.{Option, Some, None, is_some, slice_get}
 use Rattle.fk_space.specs.Space.{IsSpace}
 use Rattle.fk_meaning_operation.specs.declared.operation.OwnValue.TheVariants.{FrameAddress}
@@ -13,8 +13,8 @@ use Rattle.fk_meaning.specs.Schedule.{Schedule, run}
 use Rattle.fk_core.specs.declared.op.CoreOp.{CoreOp}
 use Rattle.fk_core.specs.Numbers.{operation_of}
 use Rattle.fk_core.specs.Next.{Position, is_jump, behind_jump, landing, follows, next, list_opening}
-use Rattle.fk_lockstep_frames.specs.Nests.{Nest, OfFunction, has_word, behind, May}
-use Rattle.fk_lockstep_frames.specs.Taken.{HasNests}
+use Rattle.fk_lockstep_frames.specs.Nests.{Nest, OfFunction, nesting, has_word, behind, May}
+use Rattle.fk_lockstep_frames.specs.Taken.{HasNests, IsFirstFrame}
 
 -- `nests` gives for each index the nests of its call, the innermost first and the function last;
 -- `in_main` tells whether an index is in `main`
@@ -82,13 +82,17 @@ pub record HasLocalFrames (core : List CoreOp) (main : ℕ) : Type 0 where
       → Fits core in_main nests i op.target operation
 
 -- a processor has the nests that its position tells, and may use the address of each word of the
--- frames that its call has there
+-- frames that its call has there. The frame of a part is the first in the group of that part
 pub record HasToldFrames (core : List CoreOp) (main : ℕ) (local : HasLocalFrames core main)
     (setting : Setting) (r : Runner Position) : Type 0 where
   pub nests : HasNests (told core local.in_main local.nests r.left) r.has
   pub usable : (number word : ℕ)
       → has_word (local.nests (landing core r.left.at)) number word ≡ true
       → may_use true (known setting r.has (FrameAddress number word)) ≡ true
+  pub begins : (part word : ℕ)
+      → has_word (local.nests (landing core r.left.at)) (suc part) word ≡ true
+      → let nest = nesting (local.nests (landing core r.left.at)) in
+      (suc part ≤ nest) × IsFirstFrame (nest - suc part) (suc part) r.has
 
 -- in every run each processor has the nests that its position tells, if the words for groups are a
 -- space

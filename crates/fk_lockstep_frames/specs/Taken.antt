@@ -1,11 +1,11 @@
 -- What the frames of a processor have taken of the spaces of its groups.
-use Rattle.std.specs.Prelude.{◌≡◌, ℕ, suc, ◌+◌, ◌≤◌, true, List, [], ◌∷◌, map, Option, Some}
-use Rattle.std.specs.Prelude.{None, slice_get}
+use Rattle.std.specs.Prelude.{◌≡◌, ℕ, suc, ◌+◌, ◌^◌, ◌≤◌, true, List, [], ◌∷◌, map, drop, Option}
+use Rattle.std.specs.Prelude.{Some, None, slice_get}
 use Rattle.fk_num.specs.Word.{Memory}
 use Rattle.fk_space.specs.Space.{Space, IsSpace}
 use Rattle.fk_meaning_operation.specs.declared.operation.OwnValue.TheVariants.{FrameAddress}
 use Rattle.fk_meaning_store.specs.Serve.{may_use}
-use Rattle.fk_meaning.specs.Processor.{Processor, Setting, setting_of, group_space}
+use Rattle.fk_meaning.specs.Processor.{Level, Processor, Setting, setting_of, group_space}
 use Rattle.fk_meaning.specs.Local.{known}
 use Rattle.fk_meaning.specs.Round.{Step, Runner}
 use Rattle.fk_meaning.specs.Schedule.{Schedule, opening, run}
@@ -52,6 +52,16 @@ AreBegun nests calls lows = ⊥
 pub record HasNests (nests : List Nest) (p : Processor) : Type 0 where
   pub spaces : AreTaken nests (spaces_of p)
   pub frames : AreBegun nests (frames_of p) (lows_of p)
+
+-- the frame of the running call with a number is the first in a group, which is so many levels
+-- outward and has some level around it
+pub record IsFirstFrame (out number : ℕ) (p : Processor) : Type 0 where
+  pub level : Level
+  pub around : Level
+  pub further : List Level
+  pub there : drop out (p.level ∷ p.outer) ≡ level ∷ around ∷ further
+  pub first : p.call.frames number ≡ level.space.low + 8
+  pub within : level.space.low + 8 ≤ 2 ^ 20
 
 -- in every run, if the work of `main` tells its nests, and the words for groups are a space
 abbrev pub FramesAreAsTold : (W : Type 0) → Type 0

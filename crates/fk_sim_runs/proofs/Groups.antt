@@ -1,8 +1,9 @@
 -- What each group does next, in a state that a run has come to.
-use Rattle.std.proofs.Common.{◌≡◌, ◌≢◌, ◌⊎◌, inl, inr, ⊎_elim, ℕ, zero, suc, ◌+◌, true, List, [], ◌∷◌, length, map, Some, refl, sym, ap, ◌∙◌, subst, arith}
+use Rattle.std.proofs.Common.{◌≡◌, ◌≢◌, ◌⊎◌, inl, inr, ℕ, zero, suc, ◌+◌, true, List, [], ◌∷◌, length, map, Some, refl, sym, ap, ◌∙◌, subst, arith}
 use Rattle.std.specs.Prelude.{All, slice_get}
 use Rattle.std.proofs.lemmas.List.Elements.{All-head, All-tail}
 use Rattle.fk_space.specs.Space.{IsSpace}
+use Rattle.fk_meaning_operation.specs.Kinds.{class_of}
 use Rattle.fk_meaning_operation.specs.declared.operation.Operation.{Operation}
 use Rattle.fk_meaning_operation.specs.declared.operation.Operation.TheVariants as o
 use Rattle.fk_tree.specs.declared.node.Kind.TheVariants.{Lockstep}
@@ -18,12 +19,13 @@ use Rattle.fk_lockstep_tree.specs.Placed.{AreLevels}
 use Rattle.fk_lockstep_tree.proofs.Paths.{at_node, lockstep_place}
 use Rattle.fk_lockstep_tree.proofs.Moves.{ends_in_root}
 use Rattle.fk_sim_block.specs.Owner.{Owner}
+use Rattle.fk_sim_block.specs.Ready.{is_no_step}
 use Rattle.fk_sim_block.specs.Node.{Nestings}
 use Rattle.fk_sim_block.specs.Lockstep.{IsInStart}
 use Rattle.fk_sim_block.specs.Parts.{IsInPart}
 use Rattle.fk_sim_rounds.specs.Next.{landed}
 use Rattle.fk_sim_rounds.specs.After.{runners_of}
-use Rattle.fk_sim_rounds.specs.Program.{MayMoveInStep, IsInStep, AllInStep}
+use Rattle.fk_sim_rounds.specs.Program.{MayMoveInStep, MayInStep, IsInStep, AllInStep}
 use Rattle.fk_sim_rounds.proofs.Agreed.{place_at}
 use Rattle.fk_sim_rounds.proofs.Program.{runner_at, groups_have_next}
 use Rattle.fk_sim_rounds.proofs.Way.{ended_next}
@@ -32,7 +34,7 @@ use Rattle.fk_sim_runs.specs.Reached.{the_end, IsReached}
 use Rattle.fk_sim_runs.specs.Facts.{ReachedGroupsHaveNext}
 use Rattle.fk_sim_runs.specs.Levels.{leaves_part}
 use Rattle.fk_sim_runs.proofs.Ways.{MovesAt, StepOf, Leading}
-use Rattle.fk_sim_runs.proofs.Nexts.{leads_to, ready, does}
+use Rattle.fk_sim_runs.proofs.Nexts.{leads_to, ready, may_alone, does}
 
 pub runners_length : (ps : List Owner) → length (runners_of ps) ≡ length ps
 runners_length [] = refl
@@ -114,6 +116,11 @@ module _ (core : List CoreOp) (nestings : Nestings) (main : ℕ) (setting : Sett
     may_move n e o.End same moves = ends_at n e (ap leaves_part same)
     may_move n e op same moves = absurd moves
 
+    may_step : (n : ℕ) → length p.runner.has.outer ≡ suc n → (is_no_step (class_of leads.operation) ≡ true) ⊎ StepOf (InGroup n) leads.operation → MayInStep nestings leads.operation (landed core p)
+    may_step n e (inl plain) = inl (may_alone core nestings main setting s list is h p.runner p.heap at leads plain)
+    may_step n e (inr (inl shared)) = inr (inl shared)
+    may_step n e (inr (inr moves)) = inr (inr (may_move n e leads.operation refl moves))
+
   one_in_step : (h : ℕ) (p : Owner) → slice_get ps h ≡ Some p → s.tree.places h ≡ g → IsInStep core nestings h (landed core p)
   one_in_step h p there place =
       let at : slice_get s.runners h ≡ Some p.runner = ap (λ l. slice_get l h) runners ∙ runner_at ps h p there in
@@ -135,12 +142,8 @@ module _ (core : List CoreOp) (nestings : Nestings) (main : ℕ) (setting : Sett
         stands = leads.at;
         ready = ready core nestings main setting s list is h p.runner p.heap at leads;
         may =
-            ⊎_elim
-            (λ plain. inl plain)
-            (λ step.
-            ⊎_elim (λ shared. inr (inl shared)) (λ moves. inr (inr (may_move h p at leads lock.depth lock.above_is leads.operation refl moves)))
-            (subst (λ (q : Where). StepOf q leads.operation) lock.is step))
-            (does core nestings main setting s list is h p.runner p.heap at leads);
+            may_step h p at leads lock.depth lock.above_is
+            (subst (λ (q : Where). (is_no_step (class_of leads.operation) ≡ true) ⊎ StepOf q leads.operation) lock.is (does core nestings main setting s list is h p.runner p.heap at leads));
         group = record { around = around.0; further = around.1; outer = around.2 };
       }
 

@@ -159,7 +159,10 @@ begun_outer size p true = refl
 begun_outer size p false = refl
 
 -- who enters a part has one more; in one of two all do
-no_waiter : (first : Bool) → (if first then Some 1 else Some 0) ≡ None → ⊥
+abbrev of_two : Bool → Option ℕ
+of_two first = if first then Some 1 else Some 0
+
+no_waiter : (first : Bool) → of_two first ≡ None → ⊥
 no_waiter true e = absurd (cc)
 no_waiter false e = absurd (cc)
 
@@ -369,8 +372,7 @@ module _ (core : List CoreOp) (main : ℕ) (local : HasLocalFrames core main) wh
           groups = omega (arith, none, there, total, same);
           all = (
             record { outermost = λ e. absurd (true≢false (sym e ∙ c.main)); called = λ e few. none },
-            at_index (inside callers) i (behind_jump core (suc i)) (local.nests i) stand.all.0 back.main back.nested,
-            stand.all.1,
+            (at_index (inside callers) i (behind_jump core (suc i)) (local.nests i) stand.all.0 back.main back.nested, stand.all.1),
           );
         }
 

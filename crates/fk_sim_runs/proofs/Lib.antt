@@ -5,6 +5,8 @@ pub mod Levels
 pub mod Ways
 -- those in the root
 pub mod Root
+-- the frames of parts
+pub mod Finds
 -- what each processor does next
 pub mod Nexts
 -- and each group

@@ -27,7 +27,7 @@ use Rattle.fk_sim_block.specs.Node.{Nestings}
 use Rattle.fk_sim_block.specs.Joint.{word_of}
 use Rattle.fk_sim_match.specs.Nodes.{is_lockstep, body_at}
 use Rattle.fk_sim_match.specs.Rounds.{joint_at_word}
-use Rattle.fk_sim_rounds.specs.Next.{landed, MayMeet, MayByItself, HasNext}
+use Rattle.fk_sim_rounds.specs.Next.{landed, MayAlone, MayMeet, MayByItself, HasNext}
 use Rattle.fk_sim_runs.specs.Lists.{IsOfTree}
 use Rattle.fk_sim_runs.specs.Reached.{the_end, IsReached}
 use Rattle.fk_sim_runs.specs.Facts.{ReachedProcessorsHaveNext}
@@ -103,6 +103,10 @@ module _ (core : List CoreOp) (nestings : Nestings) (main : ℕ) (setting : Sett
       in_range = is.in_range h r at;
     }
 
+    -- it may do an operation alone
+    pub may_alone : is_no_step (class_of operation) ≡ true → MayAlone nestings operation (landed core p)
+    may_alone plain = record { alone = plain; frame = is.finds h r leads.op operation at leads.at.stands leads.at.is_read }
+
     has : Has s.tree g h
     has = (is.stands.sound.placed h (below h r at)).member
 
@@ -169,7 +173,7 @@ module _ (core : List CoreOp) (nestings : Nestings) (main : ℕ) (setting : Sett
 
     pub next_is : Next
     next_is =
-        ⊎_elim (λ plain. by_itself (inl plain)) (λ step. by_place placed.place (node_of above (trees.kind s.tree g) runs placed.place placed.there) step) does
+        ⊎_elim (λ plain. by_itself (inl (may_alone plain))) (λ step. by_place placed.place (node_of above (trees.kind s.tree g) runs placed.place placed.there) step) does
 
 pub reached_processors_have_next : ReachedProcessorsHaveNext
 reached_processors_have_next core nestings main setting s h r heap list is at going =

@@ -5,6 +5,7 @@ use Rattle.std.specs.Prelude.{All}
 use Rattle.std.proofs.lemmas.List.Elements.{All-nil, All-cons}
 use Rattle.fk_space.specs.Space.{Space, IsSpace}
 use Rattle.fk_lockstep_frames.specs.Nests.{Nest, outward}
+use Rattle.fk_lockstep_frames.specs.Lists.{told as told_nests}
 use Rattle.fk_lockstep_frames.specs.Taken.{spaces_of, AreTaken}
 use Rattle.fk_tree.specs.Tree as t
 use Rattle.fk_tree.specs.Tree.{Tree, is_member, root}
@@ -38,6 +39,7 @@ use Rattle.fk_sim_runs.specs.Reached.{the_end, RunsReach}
 use Rattle.fk_sim_runs.proofs.Trees.{is_space}
 use Rattle.fk_sim_runs.proofs.Levels.{levels_are_told, saves_levels}
 use Rattle.fk_sim_runs.proofs.Ways.{leading, goes_within}
+use Rattle.fk_sim_runs.proofs.Finds.{finds_frame}
 
 abbrev IsThere : List CoreOp → Position → Type 0
 IsThere core w = StaysInList core w ⊎ (w ≡ the_end core)
@@ -153,7 +155,7 @@ runs_reach stay core nestings main list words firsts input p schedule some given
       stands = list.in_tree p words firsts input schedule some space possible single none;
       spaces = λ h r at.
           let told = lists_tell_frames core main list.frames words firsts input p schedule space h r at in
-          all_spaces _ (spaces_of r.has) told.nests.spaces;
+          all_spaces (told_nests core list.frames.in_main list.frames.nests r.left) (spaces_of r.has) told.nests.spaces;
       saves = λ h r at.
           let leads = main_goes core nestings main list words firsts input p some space in
           let there = all_there core nestings main list words firsts input p given.room schedule possible single none h r at in
@@ -161,5 +163,7 @@ runs_reach stay core nestings main list words firsts input p schedule some given
       within = all_there core nestings main list words firsts input p given.room schedule possible single none;
       depth = λ h r op at stands. list.well_formed.depths words firsts input p schedule possible none h r op at stands;
       may = λ h r op operation at stands is_read. list.may words firsts input p schedule space h r op operation at stands is_read;
+      finds = λ h r op operation at stands is_read.
+          finds_frame core nestings main list setting r (lists_tell_frames core main list.frames words firsts input p schedule space h r at) op stands operation is_read;
       in_range = λ h r at. stay core main words firsts input p schedule given h r at;
     }

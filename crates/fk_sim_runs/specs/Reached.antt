@@ -14,6 +14,7 @@ use Rattle.fk_sim_block.specs.Ready.{MayDo, IsInRange}
 use Rattle.fk_sim_block.specs.Lists.{StaysInList}
 use Rattle.fk_sim_rounds.specs.InRange.{AreGiven}
 use Rattle.fk_sim_block.specs.Node.{Nestings}
+use Rattle.fk_sim_block.specs.Found.{FindsFrame}
 use Rattle.fk_sim_runs.specs.Lists.{IsOfTree}
 use Rattle.fk_sim_runs.specs.Levels.{SavesLevels}
 
@@ -27,8 +28,8 @@ HasSpaces p = All IsSpace (spaces_of p)
 
 -- What is known of a reached state: processors are where their operations, the tree and their
 -- levels tell, their levels have spaces, and their frames save these levels. Each processor is in
--- the list or at its end, has as many values as its operation expects, may do it, and has words
--- alone.
+-- the list or at its end, has as many values as its operation expects, may do it, finds the frame
+-- that it asks for, and has words alone.
 pub record IsReached (core : List CoreOp) (nestings : Nestings) (setting : Setting)
     (s : State Position) : Type 0 where
   pub stands : StandsInTree (next core) (λ w. landing core w.at) setting s
@@ -44,6 +45,12 @@ pub record IsReached (core : List CoreOp) (nestings : Nestings) (setting : Setti
       → slice_get s.runners h ≡ Some r
       → slice_get core (landing core r.left.at) ≡ Some op
       → operation_of op.kind op.number ≡ Some operation → MayDo operation r
+  pub finds : (h : ℕ) (r : Runner Position) (op : CoreOp) (operation : Operation)
+      → slice_get s.runners h ≡ Some r
+      → slice_get core (landing core r.left.at) ≡ Some op
+      → operation_of op.kind op.number ≡ Some operation
+      → FindsFrame nestings operation
+      (record r { left = position (landing core r.left.at) r.left.callers })
   pub in_range : (h : ℕ) (r : Runner Position) → slice_get s.runners h ≡ Some r → IsInRange r.has
 
 -- A state is reached after each schedule of possible rounds, in which each processor does one
