@@ -449,10 +449,12 @@ for title, (harts, text, show, out) in (groups.ENDLESS | splits.ENDLESS).items()
     FILES[f"endless {title}.f95"] = text
     words = run(f"endless {title}.f95", harts=harts, cycles=100000) + (["--show", show] if show else [])
     ROWS.append(Row(words, 7, out, r"stopped after 100000 cycles\n"))
-for one in runs(TOP / "tools" / "framed_runs.txt"):
-    FILES[f"framed {one.number}.f95"] = one.text
-    words = run(f"framed {one.number}.f95", harts=one.harts, cycles=10000000) + ["--show", one.shown]
-    ROWS.append(Row(words, 0, one.out, re.escape(one.report) + r".*\n", given=one.given))
+for kind in ["framed", "split"]:
+    for one in runs(TOP / "tools" / f"{kind}_runs.txt"):
+        name = f"{kind} {one.number}.f95"
+        FILES[name] = one.text
+        words = run(name, harts=one.harts, cycles=10000000) + ["--show", one.shown]
+        ROWS.append(Row(words, 6 if one.report.startswith("fault") else 0, one.out, re.escape(one.report) + r".*\n", given=one.given))
 ROWS += [
     Row(run("group start.f95", harts=4, cycles=0) + ["--show", "x"], 7, b"x = 0\n", AT_ONCE),
     # a group, its code and its end: get for who is in it, begin, what it does, end, resume, halt

@@ -257,8 +257,8 @@ module _ (tables : Tables) (functions : (binding : ℕ) → Signature) (may_call
 
   whiles : (x : Want) (b : Bool) (left : Where) (leaves : IsLeft b x.base left) (test body step rest : Coded) → by_test.EndsBy b test → Fine (test_of x b left leaves) test
       → Fine (turn_of x b left leaves) body → Fine (step_of x left) step → Onward x b left rest → Fine x (c.while test body step rest)
-  whiles x b left leaves test body step rest ends t u v q = λ all shape.
-      let same = ends shape.1 shape.2 in (
+  whiles x b left leaves test body step rest ended t u v q = λ all shape.
+      let same = ended shape.1 shape.2 in (
         left,
         t all.0 (subst (λ s. Shape false false (of_test s) test) same shape.2),
         u all.1 (subst (λ s. Shape false false (of_turn s x.exits) body) same shape.3),
@@ -268,8 +268,8 @@ module _ (tables : Tables) (functions : (binding : ℕ) → Signature) (may_call
 
   untils : (x : Want) (b : Bool) (left : Where) (leaves : IsLeft b x.base left) (body test rest : Coded) → by_test.EndsBy b test → Fine (turn_of x b left leaves) body
       → Fine (test_of x b left leaves) test → Onward x b left rest → Fine x (c.until body test rest)
-  untils x b left leaves body test rest ends u t q = λ all shape.
-      let same = ends shape.1 shape.2 in (
+  untils x b left leaves body test rest ended u t q = λ all shape.
+      let same = ended shape.1 shape.2 in (
         left,
         u all.0 (subst (λ s. Shape false false (of_turn s x.exits) body) same shape.3),
         t all.1 (subst (λ s. Shape false false (of_test s) test) same shape.2),
