@@ -1,6 +1,6 @@
 -- A program and a list that has its code: sh int x; void main(void) { start { x = $; } }
 use Rattle.std.proofs.Common.{◌≡◌, ℕ, zero, suc, Bool, true, false, List, [], ◌∷◌, slice_get, Some, None, refl, arith}
-use Rattle.std.specs.Prelude.{◌<◌, ◌==◌, codes, if◌then◌else◌}
+use Rattle.std.specs.Prelude.{◌==◌, codes, if◌then◌else◌}
 use Rattle.fk_syntax.specs.declared.program.Mode.TheVariants as m
 use Rattle.fk_syntax.specs.declared.sign.Sign.TheVariants as g
 use Rattle.fk_syntax.specs.Tree as t

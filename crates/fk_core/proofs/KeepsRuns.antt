@@ -1,5 +1,5 @@
 -- A program and a list that has its code in it have the same runs.
-use Rattle.std.proofs.Common.{ℕ, List, [], length, None}
+use Rattle.std.proofs.Common.{[]}
 use Rattle.std.specs.Prelude.{slice_index}
 use Rattle.fk_meaning_forms.specs.Program.{bodies_of, main_of}
 use Rattle.fk_meaning.proofs.Span.{alike_from}

@@ -1,5 +1,5 @@
 -- The table of numbers: the operation for which a kind and a number stand.
-use Rattle.std.specs.Prelude.{ℕ, ◌/◌, ◌%◌, ◌^◌, ◌<◌, ◌≤◌, ◌==◌, Bool, true, false, Option, Some}
+use Rattle.std.specs.Prelude.{ℕ, ◌/◌, ◌%◌, ◌^◌, ◌<◌, ◌==◌, Bool, Option, Some}
 use Rattle.std.specs.Prelude.{None, option_map, if◌then◌else◌}
 use Rattle.fk_num.specs.declared.operator.Op.{Op}
 use Rattle.fk_num.specs.declared.operator.Op.TheVariants as f

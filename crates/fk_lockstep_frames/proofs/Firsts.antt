@@ -2,11 +2,13 @@
 use Rattle.std.proofs.Common.{◌≡◌, ℕ, zero, suc, ◌+◌, ◌-◌, ◌*◌, ◌^◌, ◌<◌, ◌≤◌, ◌==◌, Bool, true, false, true≢false, List, [], ◌∷◌, Option, Some, None, refl, sym, ap, ◌∙◌, subst, arith, drop, if◌then◌else◌}
 use Rattle.std.specs.Prelude.{map}
 use Rattle.std.proofs.lemmas.Bool.{eqb-true}
+use Rattle.std.proofs.Math.Dec.{eqb-suc-zero}
 use Rattle.fk_num.specs.Word.{Memory}
 use Rattle.fk_space.specs.Space.{Space, IsSpace}
 use Rattle.fk_meaning.specs.Processor.{Call, Level, Processor}
 use Rattle.fk_lockstep_frames.specs.Nests.{Nest, OfFunction, OfPart, nesting, frame_at, frame_has, has_word, taken, outward}
 use Rattle.fk_lockstep_frames.specs.Taken.{HasTaken, AreTaken, Begins, AreBegun, HasNests, IsFirstFrame}
+use Rattle.fk_lockstep_frames.proofs.Lies.{pick}
 
 none_some : (words : ℕ) → None ≡ Some words → ⊥
 none_some words e = absurd (cc)
@@ -41,17 +43,15 @@ first_frame : (nests : List Nest) (first : Memory) (calls : List Memory) (l : Le
     → AreTaken (outward nests) (map (λ (l : Level). l.space) outer) → AreBegun nests (first ∷ calls) (l.space.low ∷ map (λ (l : Level). l.space.low) outer)
     → frame_at nests (suc part) ≡ Some words → (suc part ≤ nesting nests) × IsFirst (nesting nests - suc part) (suc part) first (l ∷ outer)
 first_frame [] first calls l outer part words has around begun e = absurd (none_some words e)
-first_frame (OfFunction f ∷ nests) first calls l outer part words has around begun e = absurd (none_some words e)
+first_frame (OfFunction f ∷ nests) first calls l outer part words has around begun e =
+    absurd (none_some words (sym (ap (λ b. if b then f else None) (eqb-suc-zero part)) ∙ e))
 first_frame (OfPart f ∷ nests) first calls l [] part words has around begun e = absurd (no_call nests first calls around begun.1)
-first_frame (OfPart f ∷ nests) first calls l (o ∷ outer) part words has around begun e = by (suc part == suc (nesting nests)) refl e
-  where
-    by : (same : Bool) → (suc part == suc (nesting nests)) ≡ same → (if same then f else frame_at nests (suc part)) ≡ Some words
-        → (suc part ≤ suc (nesting nests)) × IsFirst (suc (nesting nests) - suc part) (suc part) first (l ∷ o ∷ outer)
-    by true same is =
-        let here : suc part ≡ suc (nesting nests) = eqb-true (suc part) (suc (nesting nests)) same in
-        let none : 0 ≡ suc (nesting nests) - suc part = omega (arith, here) in (
-          omega (arith, here),
-          subst (λ k. IsFirst k (suc part) first (l ∷ o ∷ outer)) none
+first_frame (OfPart f ∷ nests) first calls l (o ∷ outer) part words has around begun e =
+    pick f (frame_at nests (suc part)) (suc part) (suc (nesting nests)) words (suc part == suc (nesting nests)) refl e
+    (λ here is.
+    let none : 0 ≡ suc (nesting nests) - suc part = omega (arith, here) in (
+      omega (arith, here),
+      subst (λ k. IsFirst k (suc part) first (l ∷ o ∷ outer)) none
           (record {
             level = l;
             around = o;
@@ -60,16 +60,16 @@ first_frame (OfPart f ∷ nests) first calls l (o ∷ outer) part words has arou
             begins = ap first here ∙ begins_there f words (first (suc (nesting nests))) (l.space.low + 8) is begun.0;
             within = header_within (taken (OfPart f ∷ nests)) l.space has;
           }),
-        )
-    by false same is =
-        let inner = first_frame nests first calls o outer part words around.0 around.1 begun.1 is in
-        let low : suc part ≤ nesting nests = inner.0 in
-        let more : suc (nesting nests - suc part) ≡ suc (nesting nests) - suc part = omega (arith, low) in
-        let x = inner.1 in (
-          omega (arith, low),
-          subst (λ k. IsFirst k (suc part) first (l ∷ o ∷ outer)) more
+    ))
+    (λ is.
+    let inner = first_frame nests first calls o outer part words around.0 around.1 begun.1 is in
+    let low : suc part ≤ nesting nests = inner.0 in
+    let more : suc (nesting nests - suc part) ≡ suc (nesting nests) - suc part = omega (arith, low) in
+    let x = inner.1 in (
+      omega (arith, low),
+      subst (λ k. IsFirst k (suc part) first (l ∷ o ∷ outer)) more
           (record { level = x.level; around = x.around; further = x.further; there = x.there; begins = x.begins; within = x.within }),
-        )
+    ))
 
 pub part_begins : (nests : List Nest) (p : Processor) → HasNests nests p → (part word : ℕ) → has_word nests (suc part) word ≡ true
     → (suc part ≤ nesting nests) × IsFirstFrame (nesting nests - suc part) (suc part) p

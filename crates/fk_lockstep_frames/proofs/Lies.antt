@@ -64,7 +64,7 @@ no_spaces : (nests : List Nest) (first : Memory) (calls : List Memory) → nests
 no_spaces [] first calls e lie = lie
 no_spaces (n ∷ nests) first calls e lie = absurd (cc)
 
-pick : {P : Type 0} (here there : Option ℕ) (number k words : ℕ) (b : Bool) → (number == k) ≡ b → (if b then here else there) ≡ Some words
+pub pick : {P : Type 0} (here there : Option ℕ) (number k words : ℕ) (b : Bool) → (number == k) ≡ b → (if b then here else there) ≡ Some words
     → (number ≡ k → here ≡ Some words → P) → (there ≡ Some words → P) → P
 pick here there number k words true same is at_it other = at_it (eqb-true number k same) is
 pick here there number k words false same is at_it other = other is

@@ -2,7 +2,7 @@
 -- are none of it.
 use Rattle.std.proofs.Common.{length, ◌≡◌, ℕ, zero, suc, ◌*◌, ◌%◌, List, [], ◌∷◌, Bool, Some, None, true, false, sym, ap, subst, ◌∙◌, arith, refl, inl, eq-eqb}
 use Rattle.std.specs.Prelude.{◌==◌, if◌then◌else◌, slice_get}
-use Rattle.fk_num.specs.Word.{Memory, word_sum}
+use Rattle.fk_num.specs.Word.{word_sum}
 use Rattle.fk_meaning_operation.specs.declared.operation.SplitKind.{SplitKind}
 use Rattle.fk_meaning_operation.specs.declared.operation.Operation.{Operation}
 use Rattle.fk_meaning_operation.specs.declared.operation.Operation.TheVariants.{DropLast, Begin, Halt, End, Split, Shrink}

@@ -744,7 +744,8 @@ module _ (core : List CoreOp) (image : Image) (places : Places) (nestings : Nest
         let few = harts.0 in
         let did = harts.1 in
         let one = at_number (λ n d. old.places n.number ≡ x.group → GoesBy n d) 0 h hs ds (omega (arith, lt, many, few)) (omega (arith, few, did)) (each_goes x.group (o.Split x.kind) refl x.does) in
-        let number : one.member.number ≡ h = one.number_is in
+        let none : 0 + h ≡ h = omega arith in
+        let number : one.member.number ≡ h = one.number_is ∙ none in
         let at_one : new.places one.member.number ≡ m = ap new.places number ∙ at in
         let y = one.own (entered one.member.number (subst (λ k. k < setting.processors) (sym number) lt) at_one).0 in
         subst (λ w. IsAtRest w (own' x.group)) (y.words ∙ ap (first_of spaces) at_one) (y.rests x.kind refl)
