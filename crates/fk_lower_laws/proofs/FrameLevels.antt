@@ -1,27 +1,32 @@
 -- The level of each group frame of a function, and of each of a `start` on the outermost level of `main`.
-use Rattle.std.proofs.Common.{◌≡◌, inl, inr, ℕ, ◌+◌, ◌≤◌, Bool, true, false, List, [], ◌∷◌, ◌++◌, Option, Some, None, refl, sym, subst, ◌∙◌, arith}
-use Rattle.std.specs.Prelude.{◌==◌, ◌&&◌, min, if◌then◌else◌}
-use Rattle.std.proofs.lemmas.Bool.{eqb-true, and_parts}
+use Rattle.std.proofs.Common.{◌≡◌, inl, inr, ℕ, suc, ◌+◌, ◌<◌, ◌≤◌, Bool, true, false, List, [], ◌∷◌, ◌++◌, Option, Some, None, refl, sym, ap, subst, ◌∙◌, arith}
+use Rattle.std.specs.Prelude.{◌==◌, ◌&&◌, min, IsSome, if◌then◌else◌}
+use Rattle.std.proofs.lemmas.Bool.{false≢true, eqb-true, and_parts}
 use Rattle.std.proofs.lemmas.List.Sums.{sum_by-cons, sum_by-append}
 use Rattle.std.proofs.lemmas.Option.{slice_get_within, get_or_from_slice_get}
 use Rattle.fk_syntax.specs.declared.facts.Facts.{Facts}
 use Rattle.fk_syntax.specs.declared.nodes.Index.{Index}
 use Rattle.fk_syntax.specs.declared.nodes.Index.TheVariants.{Node}
-use Rattle.fk_syntax.specs.Nodes.{optional_indices, statement_indices, statements_indices, body_indices, items_indices}
+use Rattle.fk_syntax.specs.Nodes.{tree_indices, type_indices, declarations_indices, optional_indices, statement_indices, statements_indices, body_indices, item_indices, items_indices}
+use Rattle.fk_syntax.specs.declared.place.Spot.{Spot}
 use Rattle.fk_syntax.specs.Program as p
 use Rattle.fk_syntax.specs.Program.{Statement, Statements, FunctionTree, ItemTree, ProgramTree}
 use Rattle.fk_meaning_forms.specs.declared.tables.Region.{Region}
-use Rattle.fk_meaning_forms.specs.Tables.{Tables, frame_at, frame_in}
-use Rattle.fk_layout_slots.specs.Told.{Told}
+use Rattle.fk_meaning_forms.specs.Tables.{Tables, note, frame_at, frame_in}
+use Rattle.fk_meaning_forms.specs.Program.{functions_of, with_body, is_main}
+use Rattle.fk_lockstep_structure.specs.Placed.{Who, OfGroup, OfBody, OfMain, inner}
+use Rattle.fk_layout_slots.specs.Told.{Told, splits_at}
 use Rattle.fk_layout_slots.specs.Words.{statement_words, own_words}
 use Rattle.fk_layout_slots.specs.Frames.{last_word, frame, deeper, body_frame, frames_in, all_frames_in, body_frames, regions_of}
 use Rattle.fk_layout.specs.Layout.{told_by, tables_by}
 use Rattle.fk_types_rules.proofs.Counting.{one-same, by, by_node, times, node_times, contained, node-once}
 use Rattle.fk_check_laws.specs.Correct.{IsCorrect}
 use Rattle.fk_check_laws.proofs.Each.{Each, each_map, front_of}
-use Rattle.fk_check_laws.proofs.Frames.{Covers, here, right, left, Within, OfText, all_functions, bodies, name_at, counts, of_text, in_statement, in_statements, each_append}
-use Rattle.fk_lower_laws.specs.Parts.{HasLevel}
-use Rattle.fk_lower_laws.specs.Parts.{StartHasLevel, StartsHaveLevel}
+use Rattle.fk_check_laws.proofs.Frames.{Covers, here, under, right, left, Within, OfText, all_functions, bodies, name_at, counts, of_text, in_statement, in_statements, each_append}
+use Rattle.fk_lower_names.proofs.FrameCounts.{count, count_both, nodes_few}
+use Rattle.fk_lower_names.proofs.Open.{IsLevelled}
+use Rattle.fk_lower_names.proofs.Placing.{SplitsAlone, Placed, AllPlaced, IsPlaced, all_placed}
+use Rattle.fk_lower_laws.specs.Parts.{HasLevel, PartHasLevel, level_in, StatementHasLevels, StatementsHaveLevels}
 
 abbrev pub AtLevel : (at level : ℕ) → Region → Type 0
 AtLevel at level r = r.at ≡ at → r.level ≡ level
@@ -395,7 +400,7 @@ module _ (told : Told) (tables : Tables) (same : (at : ℕ) → splits_at told a
 
   abbrev pub BodyHasLevels : Option Statements → Type 0
   BodyHasLevels None = Unit {0}
-  BodyHasLevels (Some body) = StartsHaveLevel tables body
+  BodyHasLevels (Some body) = StatementsHaveLevels tables 0 body
 
   abbrev pub HasLevels : ItemTree → Type 0
   HasLevels (p.StructItem name members) = Unit {0}
@@ -408,7 +413,7 @@ module _ (told : Told) (tables : Tables) (same : (at : ℕ) → splits_at told a
 
   -- what is to be known of items, as of statements
   abbrev FindsIn : List ItemTree → List Region → Type 0
-  FindsIn xs rs = (at level : ℕ) → 1 ≤ counted at xs → Each (AtLevel at level) rs → HasLevel level (frame_at tables at 0)
+  FindsIn xs rs = (at part level : ℕ) → 1 ≤ counted at xs → Each (AtLevel at level) rs → HasLevel level (frame_at tables at part)
 
   -- the tokens of a function and of the items behind it
   both : (at : ℕ) (g : FunctionTree) (xs : List ItemTree) → counted at (p.FunctionItem g ∷ xs) ≡ counted at (p.FunctionItem g ∷ []) + counted at xs
@@ -420,17 +425,21 @@ module _ (told : Told) (tables : Tables) (same : (at : ℕ) → splits_at told a
     sum_by-append (by_node at) (body_indices g.body) [],
   )
 
+  -- who runs a function, and that its statements are placed so
+  abbrev Stands : FunctionTree → Type 0
+  Stands g = (who : Who) × ((body : Statements) → g.body ≡ Some body → AllPlaced tables who body)
+
   body_levels : (g : FunctionTree) (o : Option Statements) → g.body ≡ o
-      → ((at level : ℕ) → 1 ≤ counted at (p.FunctionItem g ∷ []) → Each (AtLevel at level) (body_frames told g.name.at g.parameters o) → HasLevel level (frame_at tables at 0))
-      → ((at : ℕ) → counted at (p.FunctionItem g ∷ []) ≤ 1) → BodyHasLevels o
-  body_levels g None has f once = tt
-  body_levels g (Some body) has f once =
-      start_levels body
-      (λ at c h.
-      let covers = covered at c in
-      f at 1 (omega (arith, c, covers, parts at))
-      (each_append (AtLevel at 1) (frame g.name.at 0 0 (own_words told g.parameters body)) (all_frames_in told 0 body)
-      (framed told g.name.at 0 0 (own_words told g.parameters body) at 1 (λ e. absurd (let c' : 1 ≤ node_times g.name.at (statements_indices body) = subst (λ k. 1 ≤ node_times k (statements_indices body)) (sym e) c in let z : ⊥ = omega (arith, c', parts g.name.at, once g.name.at, one-same g.name.at g.name.at refl) in z))) h))
+      → ((at part level : ℕ) → 1 ≤ counted at (p.FunctionItem g ∷ []) → Each (AtLevel at level) (body_frames told g.name.at g.parameters o) → HasLevel level (frame_at tables at part))
+      → ((at : ℕ) → counted at (p.FunctionItem g ∷ []) ≤ 1) → count (body_indices o) ≤ 1048576 → (IsSome o → Stands g) → BodyHasLevels o
+  body_levels g None has f once few stands = tt
+  body_levels g (Some body) has f once few stands =
+      let placed = stands refl in
+      all_levels placed.0 0 0 body (placed.1 body has) (λ e. refl) few
+      (λ at part level c h.
+      f at part level (omega (arith, c, parts at))
+      (each_append (AtLevel at level) (frame g.name.at 0 0 (own_words told g.parameters body)) (all_frames_in told 0 body)
+      (framed told g.name.at 0 0 (own_words told g.parameters body) at level (λ e. absurd (apart at c e))) h))
       (λ at. omega (arith, once at, parts at))
     where
       -- it counts its name and its body
@@ -439,37 +448,54 @@ module _ (told : Told) (tables : Tables) (same : (at : ℕ) → splits_at told a
         arith,
         sum_by-cons (by name_at at) g [],
         sum_by-append (by_node at) (body_indices g.body) [],
-        same at,
+        same' at,
       )
         where
-          same : (k : ℕ) → node_times k (body_indices g.body) ≡ node_times k (statements_indices body)
-          same k = subst (λ (b : Option Statements). node_times k (body_indices g.body) ≡ node_times k (body_indices b)) has refl
+          same' : (k : ℕ) → node_times k (body_indices g.body) ≡ node_times k (statements_indices body)
+          same' k = subst (λ (b : Option Statements). node_times k (body_indices g.body) ≡ node_times k (body_indices b)) has refl
 
-      covered : (at : ℕ) → Covers at (statements_indices body) → 1 ≤ node_times at (statements_indices body)
-      covered at c = c
+      -- its name is none of the tokens of its statements
+      apart : (at : ℕ) → Covers at (statements_indices body) → at ≡ g.name.at → ⊥
+      apart at c e =
+          let c' : 1 ≤ node_times g.name.at (statements_indices body) = subst (λ k. 1 ≤ node_times k (statements_indices body)) e c in
+          omega (arith, c', parts g.name.at, once g.name.at, one-same g.name.at g.name.at refl)
 
-  item_levels : (xs : List ItemTree) → FindsIn xs (regions_of told xs) → ((at : ℕ) → counted at xs ≤ 1) → HaveLevels xs
-  item_levels [] f once = tt
-  item_levels (p.StructItem name members ∷ xs) f once = (tt, item_levels xs f once)
-  item_levels (p.VariablesItem variables ∷ xs) f once = (tt, item_levels xs f once)
-  item_levels (p.FunctionItem g ∷ xs) f once =
+  item_levels : (xs : List ItemTree) → FindsIn xs (regions_of told xs) → ((at : ℕ) → counted at xs ≤ 1) → count (items_indices xs) ≤ 1048576 → Each Stands (functions_of xs) → HaveLevels xs
+  item_levels [] f once few stands = tt
+  item_levels (p.StructItem name members ∷ xs) f once few stands = (tt, item_levels xs f once (omega (arith, few, count_both (item_indices (p.StructItem name members)) (items_indices xs))) stands)
+  item_levels (p.VariablesItem variables ∷ xs) f once few stands = (tt, item_levels xs f once (omega (arith, few, count_both (item_indices (p.VariablesItem variables)) (items_indices xs))) stands)
+  item_levels (p.FunctionItem g ∷ xs) f once few stands =
       let mine = body_frames told g.name.at g.parameters g.body in
       let rest = regions_of told xs in
+      let more = count_both (item_indices (p.FunctionItem g)) (items_indices xs) in
+      let inside = count_both (type_indices g.result) (Node g.name.at ∷ declarations_indices g.parameters ++ body_indices g.body) in
+      let within = count_both (declarations_indices g.parameters) (body_indices g.body) in
       let alone : (at : ℕ) → counted at (p.FunctionItem g ∷ []) ≤ 1 = λ at. omega (arith, once at, both at g xs) in
-      let here' : (at level : ℕ) → 1 ≤ counted at (p.FunctionItem g ∷ []) → Each (AtLevel at level) mine → HasLevel level (frame_at tables at 0) =
-      λ at level c h. f at level (omega (arith, c, both at g xs)) (each_append (AtLevel at level) mine rest h (none_there at level xs (omega (arith, c, once at, both at g xs)))) in (
+      let here' : (at part level : ℕ) → 1 ≤ counted at (p.FunctionItem g ∷ []) → Each (AtLevel at level) mine → HasLevel level (frame_at tables at part) =
+      λ at part level c h. f at part level (omega (arith, c, both at g xs)) (each_append (AtLevel at level) mine rest h (none_there at level xs (omega (arith, c, once at, both at g xs)))) in
+      by g.body refl stands
+      (λ own others. (
         (
-          here' g.name.at 0 (omega (arith, sum_by-cons (by name_at g.name.at) g [], one-same g.name.at g.name.at refl)) (own_level g (alone g.name.at)),
-          body_levels g g.body refl here' alone,
+          here' g.name.at 0 0 (omega (arith, sum_by-cons (by name_at g.name.at) g [], one-same g.name.at g.name.at refl)) (own_level g (alone g.name.at)),
+          body_levels g g.body refl here' alone (omega (arith, few, more, inside, within)) own,
         ),
         item_levels xs
-            (λ at level c h. f at level (omega (arith, c, both at g xs)) (each_append (AtLevel at level) mine rest (none_here at level g (omega (arith, c, once at, both at g xs))) h))
-            (λ at. omega (arith, once at, both at g xs)),
-      )
+            (λ at part level c h. f at part level (omega (arith, c, both at g xs)) (each_append (AtLevel at level) mine rest (none_here at level g (omega (arith, c, once at, both at g xs))) h))
+            (λ at. omega (arith, once at, both at g xs)) (omega (arith, few, more)) others,
+      ))
+    where
+      by : (o : Option Statements) → g.body ≡ o → Each Stands (with_body g o (functions_of xs))
+          → ((IsSome g.body → Stands g) → Each Stands (functions_of xs) → HaveLevels (p.FunctionItem g ∷ xs)) → HaveLevels (p.FunctionItem g ∷ xs)
+      by None has stands' go = go (λ some. absurd (false≢true (sym (ap is_some has) ∙ some))) stands'
+      by (Some body) has stands' go = go (λ some. stands'.0) stands'.1
 
 -- the frames of a program that keeps all rules
-pub frames_have_levels : (program : ProgramTree) (facts : Facts) → IsCorrect program facts → HaveLevels (told_by facts) (tables_by program facts) program.items
+pub frames_have_levels : (program : ProgramTree) (facts : Facts) → IsCorrect program facts → HaveLevels (told_by facts) (tables_by program facts) (λ at. refl) program.items
 frames_have_levels program facts valid =
-    item_levels (told_by facts) (tables_by program facts) program.items
-    (λ at level c h. found (tables_by program facts) at 0 level (regions_of (told_by facts) program.items) h)
+    let nodes = nodes_few program valid.well_formed in
+    let small = valid.small in
+    item_levels (told_by facts) (tables_by program facts) (λ at. refl) program.items
+    (λ at part level c h. found (tables_by program facts) at part level (regions_of (told_by facts) program.items) h)
     (λ at. omega (arith, counts at program.items, node-once at (items_indices program.items) valid.well_formed.distinct))
+    (omega (arith, nodes, small))
+    (each_map (IsPlaced program facts valid) (Stands (told_by facts) (tables_by program facts) (λ at. refl)) (λ g placed. (placed.who, placed.body)) (functions_of program.items) (all_placed program facts valid))
