@@ -1,5 +1,6 @@
 pub mod Along
 pub mod Waiting
+mod Deeper
 mod Nested
 mod TypedOk
 mod Acting
