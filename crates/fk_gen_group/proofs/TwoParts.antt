@@ -152,7 +152,7 @@ module _ (core : List CoreOp) (image : Image) (bound : ℕ → ℕ) (places : Pl
             ∙ front.others 0 (λ e. omega arith) (λ e. omega arith) (λ e. omega arith) (λ e. omega arith) ∙ r.came.enters.at.stands.nought;
       })
 
-  other : ◌≢◌ {A = ℕ} 6 5
+  pub other : ◌≢◌ {A = ℕ} 6 5
   other e = omega arith
 
   abbrev pub Counted : Memory → Member → Owner → Type 0
