@@ -1,6 +1,6 @@
 pub mod Ways
 pub mod Parts
-pub mod Unsplit
+pub mod AllOf
 pub mod Asked
 pub mod Typed
 pub mod TypedLaws
