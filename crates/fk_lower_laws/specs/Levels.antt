@@ -37,8 +37,8 @@ module _ (core : List CoreOp) (frames : Frames) (rooms : Rooms) where
       ahead frames (frames.is_main i) + 8 + rooms.words i + rooms.most i + 4 * levels ≤ 64
 
   -- The call goes on from index i at index j, where it is at this place.
-  pub record GoesTo (place : Place) (i j : ℕ) : Type 0 where
-    pub place : rooms.places j ≡ place
+  pub record GoesTo (there : Place) (i j : ℕ) : Type 0 where
+    pub place : rooms.places j ≡ there
     pub words : rooms.words j ≡ rooms.words i
     pub most : rooms.most j ≡ rooms.most i
 

@@ -1,5 +1,5 @@
 -- Flat lists suit frames that keep their live words.
-use Rattle.std.specs.Prelude.{◌≡◌, ℕ, Bool, List, Option, None}
+use Rattle.std.specs.Prelude.{◌≡◌, ℕ, Bool, false, List, Option, None}
 use Rattle.fk_meaning_forms.specs.Code.{Code}
 use Rattle.fk_meaning.specs.Shape.{of_function, Shape}
 use Rattle.fk_core.specs.declared.op.CoreOp.{CoreOp}
