@@ -102,7 +102,7 @@ add_number n register = add_by (high_part n == 0) n register
 abbrev pub copy_label : (arguments : ℕ) → ℕ
 copy_label arguments = arguments
 
--- The label at which the code that all calls share clears this many of the last private words of a
+-- The label at which the code that all calls share clears this many of the first private words of a
 -- frame, 0 to 56.
 abbrev pub clear_label : (words : ℕ) → ℕ
 clear_label words = 64 + words
