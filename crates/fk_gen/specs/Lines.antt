@@ -57,8 +57,7 @@ at_value k = (2 ^ 32 - 4 * k) % 2 ^ 32
 abbrev pub at_private : (i : ℕ) → ℕ
 at_private i = 4 * (7 + i)
 
--- The offset of the header's word with the address of the group frame with a number, from the word
--- after the frame.
+-- The offset of the header's word for the group frame with a number, from the word after the frame.
 abbrev pub at_group_frame : (number : ℕ) → ℕ
 at_group_frame number = at_value (61 - number)
 

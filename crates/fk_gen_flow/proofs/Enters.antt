@@ -24,7 +24,7 @@ use Rattle.fk_sim_nodes.specs.Alone.{later}
 use Rattle.fk_sim_nodes.specs.Source as nodes
 use Rattle.fk_sim_nodes.proofs.InPlace.{step_at}
 use Rattle.fk_sim_block.specs.Owner.{Commons, Owner, Doing, number_of, part, as_part, found}
-use Rattle.fk_sim_block.specs.Stands.{Places, StandsAt, FrameInHart, HasRoom, value_in, frame_end, frame_start, local_address, frame_register, end_register, heap_register, device_register, zero_register, number_register, rank_register, size_register, top_register, local_register, shared_register, shared_mask_register, heap_mask_register}
+use Rattle.fk_sim_block.specs.Stands.{Places, StandsAt, FrameInHart, HasRoom, value_in, frame_end, frame_start, local_address, frame_register, end_register, heap_register, device_register, zero_register, number_register, rank_register, size_register, top_register, local_register, shared_register, shared_mask_register, heap_mask_register, TellsFrame, before_call, HaveGroupFrames, group_word, group_frame_register}
 use Rattle.fk_sim_block.specs.Next.{OpAt, step_at as step_of}
 use Rattle.fk_sim_block.specs.Suits.{Fits, nothing}
 use Rattle.fk_sim_block.specs.Block.{Enters, HasDone}
@@ -33,7 +33,7 @@ use Rattle.fk_gen.specs.Lines.{at_value, high_part, low_part, copy_label, clear_
 use Rattle.fk_gen.specs.InPlace.{HasBlock, LinesAt}
 use Rattle.fk_gen.specs.Keeps.{DoesAnd}
 use Rattle.fk_gen.proofs.Values.{same_word, other_word, values_before, length_before}
-use Rattle.fk_gen.proofs.Standing.{frame_kept, waiting_kept}
+use Rattle.fk_gen.proofs.Standing.{frame_kept, waiting_kept, groups_on}
 use Rattle.fk_gen.proofs.Walk.{private, lines_split}
 use Rattle.fk_gen.proofs.Jumps.{jumps, goes_to_pc, bne_taken, bne_on}
 use Rattle.fk_sim_block.specs.Node.{space_frames, node_register, body_register, frames_register, blocks_register}
@@ -87,7 +87,7 @@ module _ (core : List CoreOp) (image : Image) (bound : ℕ → ℕ) (places : Pl
       let held = subst (λ j. FrameInHart places h w j p.runner.has.call) e stands.running in
       let left = length_before n vs in
       let call' : Call = record (p.runner.has.call) { values = before n vs } in
-      let flowed = flows_on places core nothing _ _ h.local w i onward p.runner.has.call call' (λ x. refl) calls.back refl refl (values_before n (value_in h w) vs held.values) held in
+      let flowed = flows_on places core nothing _ _ w i onward p.runner.has.call call' (λ x. refl) calls.back refl (values_before n (value_in h w) vs held.values) held in
       let many : length (before n vs) ≡ op.depth - n = omega arith in
       let room = subst (λ d. HasRoom places.frames onward (suc d)) (sym many) calls.room in
       let argument_word : (a : ℕ) → a < n → s - suc a ≡ end - (suc a + (op.depth - n)) = λ a lt. omega arith in
@@ -118,7 +118,6 @@ module _ (core : List CoreOp) (image : Image) (bound : ℕ → ℕ) (places : Pl
                 | inl lt ↦ begun.copies a lt ∙ ap h.local (argument_word a lt) ∙ arguments_at (value_in h w) n vs a (suc a + (op.depth - n)) held.values (omega arith) lt (omega arith)
                 | inr le ↦ begun.zeros a le (enough.1 a (calls.kept a k) k le) ∙ sym (arguments_end n vs a le)
               ];
-              group = λ number told. let none : false ≡ true = sym (calls.none number) ∙ told in absurd (cc);
             };
             waiting = (
               record {
@@ -130,8 +129,17 @@ module _ (core : List CoreOp) (image : Image) (bound : ℕ → ℕ) (places : Pl
                 result = begun.result ∙ omega arith;
                 room = room;
               },
-              frame_kept places h.local h'.local w onward (length (before n vs)) call' few (room_below places onward (length (before n vs)) (suc (length (before n vs))) (omega arith) room) (omega arith) (λ j a b. begun.below j (omega arith)) (λ j a b. begun.below j b) flowed,
-              waiting_kept places h.local h'.local p.runner.left.callers p.runner.has.callers few (λ j a b. begun.below j (omega arith)) (λ j a b. begun.below j (omega arith)) stands.waiting,
+              frame_kept places h.local h'.local w onward (length (before n vs)) call' few (room_below places onward (length (before n vs)) (suc (length (before n vs))) (omega arith) room) (omega arith) (λ j a b. begun.below j b) flowed,
+              waiting_kept places h.local h'.local p.runner.left.callers p.runner.has.callers few (λ j a b. begun.below j (omega arith)) stands.waiting,
+            );
+            groups = (
+              subst (λ o. TellsFrame o (h'.registers group_frame_register) (entered n p.runner.has).call) (sym (calls.none 0)) tt,
+              (λ told part is. let none : false ≡ true = sym (calls.none told) ∙ is in absurd (cc)),
+              subst (λ o. HaveGroupFrames places.frames h'.local (before_call o (h'.registers group_frame_register) (h'.local (group_word (suc w) 0))) (onward ∷ p.runner.left.callers) (call' ∷ p.runner.has.callers)) (sym (calls.none 0))
+                  (subst (λ a. HaveGroupFrames places.frames h'.local a (onward ∷ p.runner.left.callers) (call' ∷ p.runner.has.callers)) (sym (same group_frame_register refl refl refl refl refl refl))
+                  (groups_on core places nothing h.local h'.local (h.registers group_frame_register) i onward p.runner.has.call call' p.runner.left.callers p.runner.has.callers calls.back refl
+                  (λ k number le known. begun.below (group_word k number) (omega arith))
+                  (subst (λ j. HaveGroupFrames places.frames h.local (h.registers group_frame_register) (j ∷ p.runner.left.callers) (p.runner.has.call ∷ p.runner.has.callers)) e stands.groups))),
             );
             own = λ j lt. begun.below (7 + j) (omega arith) ∙ stands.own j lt;
             heap = λ j lt. begun.above (16384 + j) (omega arith) ∙ stands.heap j lt;
