@@ -502,7 +502,7 @@ module _ (core : List CoreOp) (places : Places) where
       record {
         running = record {
           home = takes.main ∙ running.home;
-          values = values_kept m m' n (values p.runner.has) (λ j le lt. other_word m w a j (λ e. omega arith)) running.values;
+          values = values_kept m m' n (values p.runner.has) (λ j le lt. other_word m w v j (λ e. omega arith)) running.values;
           privates = λ y e.
               let above = above_group n known in
               other_word m w v (frame_start places n + 7 + y) (λ f. omega arith) ∙ running.privates y (takes.kept y e);

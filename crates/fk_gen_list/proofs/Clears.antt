@@ -31,29 +31,26 @@ last_on mask k e = last-suc mask k ∙ ap (λ b. if b then suc k else up_to_last
 
 last_few : (mask n : ℕ) → up_to_last mask n ≤ n
 last_few mask zero = let e = last-zero mask in omega arith
-last_few mask (suc k) = by (is_in mask k) refl
+last_few mask (suc k) = by (last_few mask k) (is_in mask k) refl
   where
-    by : (b : Bool) → is_in mask k ≡ b → up_to_last mask (suc k) ≤ suc k
-    by true e = let here = last_here mask k e in omega arith
-    by false e =
-        let on = last_on mask k e in
-        let few = last_few mask k in
-        omega arith
+    by : up_to_last mask k ≤ k → (b : Bool) → is_in mask k ≡ b → up_to_last mask (suc k) ≤ suc k
+    by few true e = let here = last_here mask k e in omega arith
+    by few false e = let on = last_on mask k e in omega (arith, on, few)
 
 never : true ≡ false → ⊥
 never e = absurd (cc)
 
 last_reaches : (mask word n : ℕ) → is_in mask word ≡ true → word < n → word < up_to_last mask n
 last_reaches mask word zero has lt = absurd (omega arith)
-last_reaches mask word (suc k) has lt = by (is_in mask k) refl (cases_lt word k)
+last_reaches mask word (suc k) has lt = by (λ less. last_reaches mask word k has less) (is_in mask k) refl (cases_lt word k)
   where
-    by : (b : Bool) → is_in mask k ≡ b → ((word < k) ⊎ (k ≤ word)) → word < up_to_last mask (suc k)
-    by true e c = let here = last_here mask k e in omega (arith, here, lt)
-    by false e (inl less) =
+    by : (word < k → word < up_to_last mask k) → (b : Bool) → is_in mask k ≡ b → ((word < k) ⊎ (k ≤ word)) → word < up_to_last mask (suc k)
+    by below true e c = let here = last_here mask k e in omega (arith, here, lt)
+    by below false e (inl less) =
         let on = last_on mask k e in
-        let reaches = last_reaches mask word k has less in
+        let reaches = below less in
         omega (arith, on, reaches)
-    by false e (inr more) =
+    by below false e (inr more) =
         let last : word ≡ k = omega (arith, lt, more) in
         absurd (never (sym has ∙ ap (is_in mask) last ∙ e))
 

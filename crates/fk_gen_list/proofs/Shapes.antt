@@ -32,6 +32,7 @@ use Rattle.fk_gen_access.specs.Heap as heap
 use Rattle.fk_gen_expr.specs.Expressions as expressions
 use Rattle.fk_gen_flow.specs.Blocks as flow
 use Rattle.fk_sim_block.specs.Next.{OpAt}
+use Rattle.fk_sim_block.specs.Stands.{group_frame_register}
 use Rattle.fk_gen_flow.specs.Calls as calls
 use Rattle.fk_gen_flow.specs.Calls.{most_privates}
 use Rattle.fk_gen_flow.specs.Flow as f
@@ -311,12 +312,19 @@ sum_few : (short : Bool) (n register : ℕ) → length (add_by short n register)
 sum_few true n register = omega arith
 sum_few false n register = omega arith
 
-frame_word_length : (is_first : Bool) (d nesting word : ℕ) → length (expressions.frame_word is_first nesting word ++ result t0 (d + 1) ∷ []) ≤ 15
-frame_word_length true d nesting word = omega arith
-frame_word_length false d nesting word =
+part_length : (is_first : Bool) (d nesting word : ℕ) → length (expressions.part_word is_first nesting word ++ result t0 (d + 1) ∷ []) ≤ 15
+part_length true d nesting word = omega arith
+part_length false d nesting word =
     let all = length-append (add_number (4 * word) t1) (result t0 (d + 1) ∷ []) in
     let sum = sum_few (high_part (4 * word) == 0) (4 * word) t1 in
     omega arith
+
+frame_length : (own : Bool) (d nesting word : ℕ) → length (if own then expressions.own_address d word else expressions.part_address d nesting word) ≤ 15
+frame_length true d nesting word =
+    let all = length-append (add_number (4 * word) group_frame_register) (result t0 (d + 1) ∷ []) in
+    let sum = sum_few (high_part (4 * word) == 0) (4 * word) group_frame_register in
+    omega arith
+frame_length false d nesting word = part_length (word == 0) d nesting word
 
 get_length : (globals d : ℕ) (which : OwnValue) → length (expressions.get_code globals d which) ≤ 15
 get_length globals d (known.Value variable) = omega arith
@@ -327,7 +335,7 @@ get_length globals d known.ProcessorNumber = omega arith
 get_length globals d known.Processors = omega arith
 get_length globals d known.InputLength = omega arith
 get_length globals d known.InputAddress = push_length d (address_of globals)
-get_length globals d (known.FrameAddress nesting word) = frame_word_length (word == 0) d nesting word
+get_length globals d (known.FrameAddress nesting word) = frame_length (nesting == 0) d nesting word
 
 code_length : (globals d : ℕ) (operation : Operation) → length (expressions.expression_code globals d operation) ≤ words_by (Some operation)
 code_length globals d (o.Push n) = push_length d n

@@ -17,7 +17,7 @@ const MOST_PRIVATES: u32 = 56;
 
 // How many private words there are up to the last one in a set.
 fn up_to_last(set: Set) -> u32
-    ensures exact { result ≡ layout.up_to_last set.mask most_privates }
+    ensures { result ≡ layout.up_to_last set.mask most_privates }
 {
     let mut words = MOST_PRIVATES;
     'down: while words > 0 {
