@@ -1,5 +1,5 @@
 -- A block that begins with its commit, a load of a local word; and blocks of jumps, branches and halts.
-use Rattle.std.proofs.Common.{◌≡◌, ℕ, suc, ◌-◌, ◌*◌, ◌%◌, ◌<◌, ◌≤◌, List, length, Bool, Some, true, false, not, ap, subst, sym, ◌∙◌, arith, refl, inl, eq-eqb}
+use Rattle.std.proofs.Common.{◌≡◌, ℕ, suc, ◌-◌, ◌*◌, ◌%◌, ◌<◌, ◌≤◌, List, ◌∷◌, length, Bool, Some, true, false, not, ap, subst, sym, ◌∙◌, arith, refl, inl, eq-eqb}
 use Rattle.std.specs.Prelude.{◌==◌, if◌then◌else◌}
 use Rattle.fk_num.specs.Word.{word_sum}
 use Rattle.fk_meaning_operation.specs.declared.operation.Operation.TheVariants.{Branch, Halt}
