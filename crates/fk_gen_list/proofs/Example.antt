@@ -75,7 +75,7 @@ room index values few = record { header = omega arith; kept = λ word keeps. abs
 suits : Suits core frames 0
 suits = record {
   begins = refl;
-  none = refl;
+  none = λ number. refl;
   few = omega arith;
   jumps = λ i op stands jump. flows i op.target;
   fits = λ i op operation stands.
