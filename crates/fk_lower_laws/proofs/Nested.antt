@@ -1,7 +1,7 @@
 -- How operations change the levels of a call, and the group frames that it has.
-use Rattle.std.proofs.Common.{◌≡◌, ◌⊎◌, inl, inr, ℕ, suc, ◌+◌, ◌-◌, ◌≤◌, Bool, true, false, List, [], ◌∷◌, Option, Some, None, refl, sym, ap, ◌∙◌, subst, arith}
-use Rattle.std.specs.Prelude.{◌==◌, is_some, if◌then◌else◌}
-use Rattle.std.proofs.lemmas.Bool.{false≢true, eqb-true}
+use Rattle.std.proofs.Common.{◌≡◌, ◌⊎◌, inl, inr, ℕ, suc, ◌+◌, ◌-◌, ◌≤◌, Bool, true, false, List, [], ◌∷◌, Option, Some, None, refl, sym, ap, ◌∙◌, subst, arith, eq-eqb}
+use Rattle.std.specs.Prelude.{◌==◌, ◌||◌, is_some, if◌then◌else◌}
+use Rattle.std.proofs.lemmas.Bool.{false≢true, eqb-true, ne_eqb}
 use Rattle.fk_meaning_operation.specs.declared.operation.Operation.{Operation}
 use Rattle.fk_meaning_operation.specs.declared.operation.Operation.TheVariants as o
 use Rattle.fk_meaning_operation.specs.declared.operation.SplitKind.TheVariants as k
@@ -168,3 +168,52 @@ had_before o.Shrink other true p may number has = has
 had_before o.Shrink other false p may number has = around_part p.nests may number has
 had_before o.End other onward p may number has = around_part p.nests may number has
 had_before op other onward p may number has = has
+
+-- ---- the function's own group frame
+
+-- a part has it as what is around it
+own_in_part : (frame : Option ℕ) (nests : List Nest) → has_frame (OfPart frame ∷ nests) 0 ≡ has_frame nests 0
+own_in_part frame nests = ap (λ b. is_some (if b then frame else frame_at nests 0)) (ne_eqb 0 (suc (nesting nests)) (λ e. omega (arith, e)))
+
+own_around : (nests : List Nest) → IsInPart nests → has_frame (tail nests) 0 ≡ has_frame nests 0
+own_around [] part = absurd part
+own_around (OfFunction frame ∷ nests) part = absurd part
+own_around (OfPart frame ∷ []) part = absurd part
+own_around (OfPart frame ∷ nest ∷ nests) part = sym (own_in_part frame (nest ∷ nests))
+
+-- where a frame is taken, there was none with its number
+pub none_taken : (number : ℕ) (nests : List Nest) → MayTake number nests → has_frame nests number ≡ false
+none_taken number [] may = absurd may
+none_taken number (OfFunction frame ∷ nests) may = ap (λ b. is_some (if b then frame else None)) (eq-eqb number 0 may.0) ∙ ap is_some may.1
+none_taken number (OfPart frame ∷ nests) may =
+    ap (λ b. is_some (if b then frame else frame_at nests number)) (eq-eqb number (suc (nesting nests)) may.0) ∙ ap is_some may.1
+
+-- and the function has its own behind it, if it is that one or was there
+pub own_taken : (number words : ℕ) (nests : List Nest) → MayTake number nests → has_frame (take_frame words nests) 0 ≡ ((number == 0) || has_frame nests 0)
+own_taken number words [] may = absurd may
+own_taken number words (OfFunction frame ∷ nests) may = sym (ap (λ b. b || has_frame (OfFunction frame ∷ nests) 0) (eq-eqb number 0 may.0))
+own_taken number words (OfPart frame ∷ nests) may =
+    let part : (number == 0) ≡ false = ne_eqb number 0 (λ e. let is = may.0 in omega (arith, e, is)) in
+    own_in_part (Some words) nests ∙ sym (ap (λ b. b || has_frame (OfPart frame ∷ nests) 0) part ∙ own_in_part frame nests)
+
+-- other operations leave it as it was
+pub own_before : (op : Operation) → takes_frame op ≡ false → (onward : Bool) (p : Place) → MayBeIn op p
+    → has_frame (place_behind op onward p).nests 0 ≡ has_frame p.nests 0
+own_before (o.Frame own words) other onward p may = absurd (false≢true (sym other))
+own_before o.Begin other true p may = own_in_part None p.nests
+own_before o.Begin other false p may = refl
+own_before (o.Split k.IfElse) other onward p may = own_in_part None p.nests
+own_before (o.Split k.IfAlone) other true p may = own_in_part None p.nests
+own_before (o.Split k.AndThen) other true p may = own_in_part None p.nests
+own_before (o.Split k.OrElse) other true p may = own_in_part None p.nests
+own_before (o.Split k.Loop) other true p may = own_in_part None p.nests
+own_before (o.Split k.Fork) other true p may = own_in_part None p.nests
+own_before (o.Split k.IfAlone) other false p may = refl
+own_before (o.Split k.AndThen) other false p may = refl
+own_before (o.Split k.OrElse) other false p may = refl
+own_before (o.Split k.Loop) other false p may = refl
+own_before (o.Split k.Fork) other false p may = refl
+own_before o.Shrink other true p may = refl
+own_before o.Shrink other false p may = own_around p.nests may
+own_before o.End other onward p may = own_around p.nests may
+own_before op other onward p may = refl
