@@ -35,7 +35,7 @@ use Rattle.fk_lockstep_structure.proofs.Texts.{body_in_place}
 
 -- numbers in place of the places change nothing
 module _ (may_call : (in_group : Bool) → (function : ℕ) → Bool) where
-  numbers : {A : Type 0} (who : Who) (resuming : Bool) (code : Code A) (first : ℕ) → Placed may_call who resuming code → Placed may_call who resuming (numbered first code)
+  pub numbers : {A : Type 0} (who : Who) (resuming : Bool) (code : Code A) (first : ℕ) → Placed may_call who resuming code → Placed may_call who resuming (numbered first code)
   numbers who resuming done first h = h
   numbers who resuming (perform t op rest) first h = (h.0, numbers who false rest (suc first) h.1)
   numbers who resuming (choose t op a b rest) first h = (
@@ -86,7 +86,7 @@ module _ (tables : Tables) (may_call : (in_group : Bool) → (function : ℕ) �
       (subst (λ b. w.is_main who ≡ b) (sym is) who_is)
       (subst (λ b. BodyInPlace tables may_call b who (Some statements)) (sym is) h)
 
-  function_in_place : (who : Who) (main : Bool) (f : FunctionTree) → is_main f ≡ main → w.is_main who ≡ main → BodyInPlace tables may_call main who f.body → Placed may_call who false (code_of tables everyone f)
+  pub function_in_place : (who : Who) (main : Bool) (f : FunctionTree) → is_main f ≡ main → w.is_main who ≡ main → BodyInPlace tables may_call main who f.body → Placed may_call who false (code_of tables everyone f)
   function_in_place who main f is who_is h = function_by who main f.mode f.result f.name f.parameters f.body is who_is h
 
   -- the functions that a group, or a processor by itself, may call; and `main`

@@ -39,7 +39,8 @@ pub fn reached_ranges_stay()
     ensures { ReachedRangesStay }
 {}
 
-/// In every run the frame of each call of a processor has the levels of the parts that it is in.
+/// In every run of a list in which only groups split a processor has as many levels around its own
+/// as its calls are in parts.
 pub fn levels_are_told()
     ensures { LevelsAreTold }
 {}
