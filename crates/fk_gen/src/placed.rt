@@ -11,6 +11,9 @@ pub struct Levels {
     pub behind: u32,
     /// In how many parts the call is, with the group of `start` among them.
     pub nest: u32,
+    /// Whether a `fork` left the last of these levels, and how many words then are in the frame of
+    /// the group that it divided.
+    pub fork: Option<u32>,
 }
 
 /// An operation or jump of a flat list, in an image.

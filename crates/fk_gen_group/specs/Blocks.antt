@@ -1,7 +1,6 @@
 -- The blocks of the steps of groups.
 use Rattle.std.specs.Prelude.{◌≡◌, ℕ, ◌+◌, ◌*◌, ◌^◌, ◌==◌, ◌<◌, ◌≤◌, List, [], ◌∷◌, ◌++◌, length}
-use Rattle.std.specs.Prelude.{Bool, true, false, Option, Some, map, if◌then◌else◌}
-use Rattle.fk_meaning_operation.specs.declared.operation.SplitKind.TheVariants.{Fork}
+use Rattle.std.specs.Prelude.{Bool, true, false, Option, Some, None, map, if◌then◌else◌}
 use Rattle.fk_meaning_operation.specs.declared.operation.Operation.{Operation}
 use Rattle.fk_meaning_operation.specs.declared.operation.Operation.TheVariants.{Begin, Agree, Farm}
 use Rattle.fk_meaning_operation.specs.declared.operation.Operation.TheVariants.{Seq, End, Resume}
@@ -228,7 +227,6 @@ is_group_step (Some Resume) = true
 is_group_step (Some (Meet closing)) = true
 is_group_step (Some (Frame nesting words)) = true
 is_group_step (Some Block) = true
-is_group_step (Some (Split Fork)) = false
 is_group_step (Some (Split by)) = true
 is_group_step (Some Shrink) = true
 is_group_step operation = false
@@ -237,11 +235,19 @@ abbrev pub HasWords : Option Operation → Type 0
 HasWords (Some (Frame nesting words)) = words < 2 ^ 21
 HasWords operation = Unit {0}
 
--- The frame has room for the levels, and for one more where a split saves it. Only a part shrinks.
+-- The words of a frame have numbers in lists.
+abbrev pub HasFewWords : Option ℕ → Type 0
+HasFewWords None = Unit {0}
+HasFewWords (Some words) = words < 2 ^ 21
+
+-- The frame has room for the levels, and for one more where a split saves it. Only a part of a loop
+-- shrinks.
 abbrev pub HasLevelWords : Option Operation → Levels → Type 0
 HasLevelWords (Some (Split by)) levels = levels.behind + 4 * (levels.count + 1) ≤ 57
 HasLevelWords (Some Shrink) levels =
-    (levels.behind + 4 * levels.count ≤ 57) × (0 < levels.count)
+    (levels.behind + 4 * levels.count ≤ 57) × (0 < levels.count) × (levels.fork ≡ None)
+HasLevelWords (Some End) levels =
+    (levels.behind + 4 * levels.count ≤ 57) × HasFewWords levels.fork
 HasLevelWords operation levels = levels.behind + 4 * levels.count ≤ 57
 
 -- An operation of a group whose values and levels have room in a frame, and whose target has a

@@ -53,6 +53,7 @@ nestings = record {
   levels = λ i. 0;
   behind = λ i. 0;
   nest = λ i. 0;
+  forks = λ i l. None;
   start = record { there = λ i. record { at = 0; changes = λ r. false }; coming = λ i h. h };
 }
 
@@ -327,8 +328,8 @@ law_of image code = record {
   steps = λ i op operation lowest size at e. absurd (neither stays_in_step refl refl i op operation at e);
   parts = λ i op operation lowest size at e. absurd (neither sets_apart refl refl i op operation at e);
   ends = λ i op lowest size at. absurd (no_end i op at);
-  divides = λ i op by at implicit. absurd (no_split i op by at);
-  lacks = λ i op by at implicit. absurd (no_split i op by at);
+  divides = λ i op by at. absurd (no_split i op by at);
+  lacks = λ i op by at. absurd (no_split i op by at);
   shrinks = λ i op at. absurd (no_shrink i op at);
   ends_part = λ i op at. absurd (no_end i op at);
   meets = λ i op operation at e. absurd (neither is_meeting refl refl i op operation at e);
