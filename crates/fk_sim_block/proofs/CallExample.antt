@@ -223,4 +223,4 @@ in_frame = record {
 
 -- `main` has no group frame, and waits at index 6
 pub has_group_frame : HaveGroupFrames frames memory (address_of 21) (4 ∷ 6 ∷ []) (call ∷ call ∷ [])
-has_group_frame = (record { within = omega arith; is = refl }, tt, tt)
+has_group_frame = (record { within = omega arith; is = refl }, (tt, tt))
