@@ -44,7 +44,7 @@ abbrev places : Places
 places = record {
   block = λ i. if i == 0 then 14 else 15;
   returns = λ i. None;
-  frames = record { keeps = λ i word. false; is_main = λ i. true; group = λ i number. false; of_file = 0 };
+  frames = record { keeps = λ i word. false; is_main = λ i. true; group = λ i. false; of_file = 0 };
 }
 
 -- no levels in frames, and nobody begins a group
