@@ -293,7 +293,7 @@ module _ (core : List CoreOp) (image : Image) (places : Places) (bound : ℕ →
   word_and_nothing a small = omega (arith, small)
 
   -- the node of a group is loaded
-  node_place : (is_own : Bool) (out : ℕ) → Reached
+  abbrev node_place : (is_own : Bool) (out : ℕ) → Reached
   node_place true out = Plain
   node_place false out = LocalAt (frame_start places n + 7 + node_word levels out)
 
