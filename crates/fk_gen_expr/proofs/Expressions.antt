@@ -289,8 +289,11 @@ module _ (core : List CoreOp) (image : Image) (places : Places) (bound : ℕ →
       (ap (λ is. first_commits is) (instructions_of-append (add_by short number group_frame_register) (result_line t0 n (d + 1) ∷ []))) (few_of_own short number) refl
       (subst (Gives told code h t0) same (own_sum_gives short number a refl has.is))
 
+  word_and_nothing : (a : ℕ) → a < 2 ^ 32 → word_sum a 0 ≡ a
+  word_and_nothing a small = omega (arith, small)
+
   -- the node of a group is loaded
-  node_place : (is_own : Bool) (out : ℕ) → Reached
+  abbrev node_place : (is_own : Bool) (out : ℕ) → Reached
   node_place true out = Plain
   node_place false out = LocalAt (frame_start places n + 7 + node_word levels out)
 
@@ -300,7 +303,7 @@ module _ (core : List CoreOp) (image : Image) (places : Places) (bound : ℕ →
     can = (tt, tt);
     same = itself h;
     local = refl;
-    result = omega (arith, node, small);
+    result = ap (λ x. word_sum x 0) node ∙ word_and_nothing a small;
   }
   node_gives false out a frame calls few room small node = record {
     can = (private_place places (h.registers frame_register) n (node_word levels out) frame calls few (omega arith), tt);

@@ -69,22 +69,22 @@ frame_short true levels d nesting word = own_short (high_part (4 * word) == 0) (
 frame_short false levels d nesting word =
     sum_short (high_part (past_header word) == 0) (past_header word) t1 (load_node (outward levels nesting == 0) levels (outward levels nesting)) (result t0 (d + 1))
 
-pub block_short : (globals : ℕ) (levels : Levels) (d : ℕ) (operation : Operation) → IsExpression globals levels d operation → IsShortCode (length (expression_block globals levels d operation))
-block_short globals levels d (Push n) is = number_short (high_part n == 0) n (result t0 (d + 1))
-block_short globals levels d (Get (Value variable)) is = record { some = omega arith; few = omega arith }
-block_short globals levels d (Get Rank) is = record { some = omega arith; few = omega arith }
-block_short globals levels d (Get GroupNumber) is = record { some = omega arith; few = omega arith }
-block_short globals levels d (Get GroupSize) is = record { some = omega arith; few = omega arith }
-block_short globals levels d (Get ProcessorNumber) is = record { some = omega arith; few = omega arith }
-block_short globals levels d (Get Processors) is = record { some = omega arith; few = omega arith }
-block_short globals levels d (Get InputLength) is = record { some = omega arith; few = omega arith }
-block_short globals levels d (Get InputAddress) is = number_short (high_part (address_of globals) == 0) (address_of globals) (result t0 (d + 1))
-block_short globals levels d (Get (FrameAddress nesting word)) is = frame_short (nesting == 0) levels d nesting word
-block_short globals levels d (Set variable) is = record { some = omega arith; few = omega arith }
-block_short globals levels d DropLast is = record { some = omega arith; few = omega arith }
-block_short globals levels d CopyLast is = record { some = omega arith; few = omega arith }
-block_short globals levels d (Apply sign) is = record { some = omega arith; few = omega arith }
-block_short globals levels d (Binary sign false) is = joined_few (operator_code sign) (operand t0 (d - 1)) (operand t1 d) (result t0 (d - 1)) (omega arith) (few_of_operator sign)
-block_short globals levels d (Binary sign true) is = joined_few (operator_code sign) (operand t1 (d - 1)) (operand t0 d) (result t0 (d - 1)) (omega arith) (few_of_operator sign)
-block_short globals levels d (Index size) is = index_short (size == 4) size (operand t0 (d - 1)) (operand t1 d) (Add t0 t0 t1) (result t0 (d - 1))
-block_short globals levels d operation is = absurd (assumption is)
+pub block_short : (globals : ℕ) (levels other : Levels) (d : ℕ) (operation : Operation) → IsExpression globals other d operation → IsShortCode (length (expression_block globals levels d operation))
+block_short globals levels other d (Push n) is = number_short (high_part n == 0) n (result t0 (d + 1))
+block_short globals levels other d (Get (Value variable)) is = record { some = omega arith; few = omega arith }
+block_short globals levels other d (Get Rank) is = record { some = omega arith; few = omega arith }
+block_short globals levels other d (Get GroupNumber) is = record { some = omega arith; few = omega arith }
+block_short globals levels other d (Get GroupSize) is = record { some = omega arith; few = omega arith }
+block_short globals levels other d (Get ProcessorNumber) is = record { some = omega arith; few = omega arith }
+block_short globals levels other d (Get Processors) is = record { some = omega arith; few = omega arith }
+block_short globals levels other d (Get InputLength) is = record { some = omega arith; few = omega arith }
+block_short globals levels other d (Get InputAddress) is = number_short (high_part (address_of globals) == 0) (address_of globals) (result t0 (d + 1))
+block_short globals levels other d (Get (FrameAddress nesting word)) is = frame_short (nesting == 0) levels d nesting word
+block_short globals levels other d (Set variable) is = record { some = omega arith; few = omega arith }
+block_short globals levels other d DropLast is = record { some = omega arith; few = omega arith }
+block_short globals levels other d CopyLast is = record { some = omega arith; few = omega arith }
+block_short globals levels other d (Apply sign) is = record { some = omega arith; few = omega arith }
+block_short globals levels other d (Binary sign false) is = joined_few (operator_code sign) (operand t0 (d - 1)) (operand t1 d) (result t0 (d - 1)) (omega arith) (few_of_operator sign)
+block_short globals levels other d (Binary sign true) is = joined_few (operator_code sign) (operand t1 (d - 1)) (operand t0 d) (result t0 (d - 1)) (omega arith) (few_of_operator sign)
+block_short globals levels other d (Index size) is = index_short (size == 4) size (operand t0 (d - 1)) (operand t1 d) (Add t0 t0 t1) (result t0 (d - 1))
+block_short globals levels other d operation is = absurd (assumption is)
