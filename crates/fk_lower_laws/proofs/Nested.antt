@@ -67,7 +67,7 @@ adds_none o.Seq quits = absurd (false≢true (quits refl))
 adds_none op quits = refl
 
 pub not_either : (op : Operation) (way : Way) → way_of op ≡ way → (way ≡ w.either → ⊥) → nests op ≡ 0
-not_either op way is no = adds_none op (λ e. absurd (no (sym is ∙ e)))
+not_either op way is other = adds_none op (λ e. absurd (other (sym is ∙ e)))
 
 pub in_group : (op : Operation) (p : Place) → nests op ≡ 0 → IsInGroup op p
 in_group (o.Split by) p none = absurd (cc)
@@ -112,7 +112,10 @@ in_part nests number has = by (number == suc (nesting nests)) has
 pub none_begins : (number : ℕ) → has_frame (OfFunction None ∷ []) number ≡ false
 none_begins number = by (number == 0)
   where
-    by : (b : Bool) → is_some (if b then None else None) ≡ false
+    abbrev nothing : Option ℕ
+    nothing = None
+
+    by : (b : Bool) → is_some (if b then nothing else nothing) ≡ false
     by true = refl
     by false = refl
 
