@@ -110,14 +110,11 @@ in_part nests number has = by (number == suc (nesting nests)) has
     by false has' = has'
 
 pub none_begins : (number : ℕ) → has_frame (OfFunction None ∷ []) number ≡ false
-none_begins number = by (number == 0)
+none_begins number = by (number == 0) None refl
   where
-    abbrev nothing : Option ℕ
-    nothing = None
-
-    by : (b : Bool) → is_some (if b then nothing else nothing) ≡ false
-    by true = refl
-    by false = refl
+    by : (b : Bool) (frame : Option ℕ) → frame ≡ None → is_some (if b then frame else None) ≡ false
+    by true frame e = ap (λ (f : Option ℕ). is_some f) e
+    by false frame e = refl
 
 -- what it has outside of a part it has in it
 around_part : (nests : List Nest) → IsInPart nests → (number : ℕ) → has_frame (tail nests) number ≡ true → has_frame nests number ≡ true
