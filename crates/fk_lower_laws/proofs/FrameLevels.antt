@@ -1,5 +1,5 @@
 -- The level of each group frame of a function, and of each of a `start` on the outermost level of `main`.
-use Rattle.std.proofs.Common.{◌≡◌, inl, inr, ℕ, suc, ◌+◌, ◌<◌, ◌≤◌, Bool, true, false, List, [], ◌∷◌, ◌++◌, Option, Some, None, refl, sym, ap, subst, ◌∙◌, arith}
+use Rattle.std.proofs.Common.{◌≡◌, inl, inr, ℕ, suc, ◌+◌, ◌<◌, ◌≤◌, Bool, true, false, List, [], ◌∷◌, ◌++◌, Option, Some, None, is_some, refl, sym, ap, subst, ◌∙◌, arith}
 use Rattle.std.specs.Prelude.{◌==◌, ◌&&◌, min, IsSome, if◌then◌else◌}
 use Rattle.std.proofs.lemmas.Bool.{false≢true, eqb-true, and_parts}
 use Rattle.std.proofs.lemmas.List.Sums.{sum_by-cons, sum_by-append}
@@ -435,11 +435,11 @@ module _ (told : Told) (tables : Tables) (same : (at : ℕ) → splits_at told a
   body_levels g None has f once few stands = tt
   body_levels g (Some body) has f once few stands =
       let placed = stands refl in
-      all_levels placed.0 0 0 body (placed.1 body has) (λ e. refl) few
+      all_levels placed.0 0 0 body (placed.1 body has) (λ e. refl) (omega (arith, few))
       (λ at part level c h.
       f at part level (omega (arith, c, parts at))
       (each_append (AtLevel at level) (frame g.name.at 0 0 (own_words told g.parameters body)) (all_frames_in told 0 body)
-      (framed told g.name.at 0 0 (own_words told g.parameters body) at level (λ e. absurd (apart at c e))) h))
+      (framed told g.name.at 0 0 (own_words told g.parameters body) at level (λ e. absurd (apart at c (sym e)))) h))
       (λ at. omega (arith, once at, parts at))
     where
       -- it counts its name and its body
@@ -473,7 +473,7 @@ module _ (told : Told) (tables : Tables) (same : (at : ℕ) → splits_at told a
       let alone : (at : ℕ) → counted at (p.FunctionItem g ∷ []) ≤ 1 = λ at. omega (arith, once at, both at g xs) in
       let here' : (at part level : ℕ) → 1 ≤ counted at (p.FunctionItem g ∷ []) → Each (AtLevel at level) mine → HasLevel level (frame_at tables at part) =
       λ at part level c h. f at part level (omega (arith, c, both at g xs)) (each_append (AtLevel at level) mine rest h (none_there at level xs (omega (arith, c, once at, both at g xs)))) in
-      by g.body refl stands
+      by_body g.body refl stands
       (λ own others. (
         (
           here' g.name.at 0 0 (omega (arith, sum_by-cons (by name_at g.name.at) g [], one-same g.name.at g.name.at refl)) (own_level g (alone g.name.at)),
@@ -484,10 +484,10 @@ module _ (told : Told) (tables : Tables) (same : (at : ℕ) → splits_at told a
             (λ at. omega (arith, once at, both at g xs)) (omega (arith, few, more)) others,
       ))
     where
-      by : (o : Option Statements) → g.body ≡ o → Each Stands (with_body g o (functions_of xs))
+      by_body : (o : Option Statements) → g.body ≡ o → Each Stands (with_body g o (functions_of xs))
           → ((IsSome g.body → Stands g) → Each Stands (functions_of xs) → HaveLevels (p.FunctionItem g ∷ xs)) → HaveLevels (p.FunctionItem g ∷ xs)
-      by None has stands' go = go (λ some. absurd (false≢true (sym (ap is_some has) ∙ some))) stands'
-      by (Some body) has stands' go = go (λ some. stands'.0) stands'.1
+      by_body None has stands' go = go (λ some. absurd (false≢true (sym (ap is_some has) ∙ some))) stands'
+      by_body (Some body) has stands' go = go (λ some. stands'.0) stands'.1
 
 -- the frames of a program that keeps all rules
 pub frames_have_levels : (program : ProgramTree) (facts : Facts) → IsCorrect program facts → HaveLevels (told_by facts) (tables_by program facts) (λ at. refl) program.items

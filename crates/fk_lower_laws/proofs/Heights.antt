@@ -64,14 +64,14 @@ module _ (functions : (binding : ℕ) → Signature) (place_of : (binding : ℕ)
   next code p n = ap (λ k. n + k) (many functions code p)
 
   -- so it is with the other way of a choice, if anything is done there
-  beside : (op : Operation) (y : Coded) (n : ℕ) {h : ℕ} → IsEven functions place_of op y → (leaves op false ≡ pushes op → Tall (raised h op false) (numbered n y)) → Tall (raised h op false) (numbered n y)
-  beside op y n (inl e) even = even e
-  beside op y n {h} (inr e) even = subst (λ (code : Coded). Tall (raised h op false) (numbered n code)) (sym e) tt
+  beside : (h : ℕ) (op : Operation) (y : Coded) (n : ℕ) → IsEven functions place_of op y → (leaves op false ≡ pushes op → Tall (raised h op false) (numbered n y)) → Tall (raised h op false) (numbered n y)
+  beside h op y n (inl e) even = even e
+  beside h op y n (inr e) even = subst (λ (code : Coded). Tall (raised h op false) (numbered n code)) (sym e) tt
 
   pub tall : (code : Coded) (p : At) (n : ℕ) {h : ℕ} → h ≡ p.values → Counted functions place_of code → HasOpenings code → Tell depth n (all p code) → Tall h (numbered n code)
   tall done p n same c w l = tt
   tall (perform t op rest) p n same c w l = (l.0 ∙ sym same, tall rest (behind_operation p op) (suc n) (raised_so functions place_of op p same) c w l.1)
-  tall (choose t op x y rest) p n same c w l =
+  tall (choose t op x y rest) p n {h} same c w l =
       let f = behind_operation p op in
       let q : At = record { values = (behind functions f x).values; nesting = p.nesting } in
       let m = suc n + size x in
@@ -79,7 +79,7 @@ module _ (functions : (binding : ℕ) → Signature) (place_of : (binding : ℕ)
       let onward = raised_so functions place_of op p same in (
         l.0 ∙ sym same,
         tall x f (suc n) onward c.1 w.0 ls.0,
-        beside op y m c.0 (λ e. tall y f m (raised_by functions place_of op false e p same) c.2 w.1 ls.1),
+        beside h op y m c.0 (λ e. tall y f m (raised_by functions place_of op false e p same) c.2 w.1 ls.1),
         tall rest q (m + size y) (heights functions place_of x f (suc n) onward c.1) c.3 w.2 ls.2,
       )
   tall (while test body step rest) p n same c w l =

@@ -34,6 +34,7 @@ pub mod Frames
 pub mod Items
 pub mod Apart
 pub mod Free
+mod Runs
 mod Sized
 mod Living
 pub mod Suiting

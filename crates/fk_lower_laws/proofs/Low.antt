@@ -176,22 +176,22 @@ module _ (functions : (binding : ℕ) → Signature) (place_of : (binding : ℕ)
     here p same few = omega (arith, same, few)
 
     -- on the other way of a choice there are few values, if anything is done there
-    beside : (op : Operation) (y : Coded) (n : ℕ) {h : ℕ} → IsEven op y → (leaves op false ≡ pushes op → HasFew place_of most (raised h op false) (numbered n y))
+    beside : (h : ℕ) (op : Operation) (y : Coded) (n : ℕ) → IsEven op y → (leaves op false ≡ pushes op → HasFew place_of most (raised h op false) (numbered n y))
         → is_done (numbered n y) ≡ false → HasFew place_of most (raised h op false) (numbered n y)
-    beside op y n (inl e) few z = few e
-    beside op y n (inr e) few z = absurd (true≢false (sym (ap (λ (code : Coded). is_done (numbered n code)) e) ∙ z))
+    beside h op y n (inl e) few z = few e
+    beside h op y n (inr e) few z = absurd (true≢false (sym (ap (λ (code : Coded). is_done (numbered n code)) e) ∙ z))
 
     pub lows : (code : Coded) (p : At) (n : ℕ) {h : ℕ} → h ≡ p.values → Counted code → AreLow most (places functions p code) → HasFew place_of most h (numbered n code)
     lows done p n same c l = here p same l.0
     lows (perform t op rest) p n same c l = (here p same l.0, lows rest (behind_operation p op) (suc n) (raised_so op p same) c l.1)
-    lows (choose t op x y rest) p n same c l =
+    lows (choose t op x y rest) p n {h} same c l =
         let f = behind_operation p op in
         let q : At = record { values = (behind functions f x).values; nesting = p.nesting } in
         let ls = three_of IsLow (places functions f x) (places functions f y) (places functions q rest) l.1 in
         let onward = raised_so op p same in (
           here p same l.0,
           lows x f (suc n) onward c.1 ls.0,
-          beside op y (suc n + size x) c.0 (λ e. lows y f (suc n + size x) (raised_by op false e p same) c.2 ls.1),
+          beside h op y (suc n + size x) c.0 (λ e. lows y f (suc n + size x) (raised_by op false e p same) c.2 ls.1),
           lows rest q (suc n + size x + size y) (heights x f (suc n) onward c.1) c.3 ls.2,
         )
     lows (while test body step rest) p n same c l =

@@ -1,144 +1,170 @@
--- Where no group splits, code is in its function alone or in one part of `main`. One group frame at most is told there.
-use Rattle.std.proofs.Common.{◌≡◌, ℕ, suc, Bool, true, false, true≢false, List, [], ◌∷◌, Option, Some, None, refl, sym, ap, subst, ◌∙◌}
+-- How operations change the levels of a call, and the group frames that it has.
+use Rattle.std.proofs.Common.{◌≡◌, ◌⊎◌, inl, inr, ℕ, suc, ◌+◌, ◌-◌, ◌≤◌, Bool, true, false, List, [], ◌∷◌, Option, Some, None, refl, sym, ap, ◌∙◌, subst, arith}
 use Rattle.std.specs.Prelude.{◌==◌, is_some, if◌then◌else◌}
 use Rattle.std.proofs.lemmas.Bool.{false≢true, eqb-true}
 use Rattle.fk_meaning_operation.specs.declared.operation.Operation.{Operation}
 use Rattle.fk_meaning_operation.specs.declared.operation.Operation.TheVariants as o
+use Rattle.fk_meaning_operation.specs.declared.operation.SplitKind.TheVariants as k
 use Rattle.fk_meaning.specs.Behind.{tail}
-use Rattle.fk_meaning_forms.specs.Code.{Code, done, perform, choose, while, until, turn, again, quit, break, continue, call, ends}
-use Rattle.fk_layout_sizes.specs.Operations.{takes}
-use Rattle.fk_core_liveness.specs.declared.places.FunctionKind.{FunctionKind}
-use Rattle.fk_lockstep_frames.specs.Nests.{Nest, OfFunction, OfPart, frame_of, nesting, frame_has, has_word, take_frame, MayTake, IsInPart}
-use Rattle.fk_core_typing.specs.Values.{Place, place_behind, State, behind, behind_call, MayBeIn, Grants}
-use Rattle.fk_core_typing.specs.Typed.{Typed}
-use Rattle.fk_lower_laws.specs.Unsplit.{is_unsplit, AllOf}
+use Rattle.fk_meaning.specs.Shape.{is_quit}
+use Rattle.fk_layout_sizes.specs.Operations.{nests}
+use Rattle.fk_core_flat.specs.Items as w
+use Rattle.fk_core_flat.specs.Items.{Way, way_of}
+use Rattle.fk_core_liveness.specs.Frames.{is_main_place}
+use Rattle.fk_lockstep_frames.specs.Nests.{Nest, OfFunction, OfPart, nesting, levels_of, frame_at, frame_has, has_word, take_frame, MayTake, IsInPart}
+use Rattle.fk_core_typing.specs.Values.{Place, place_behind, MayBeIn}
+use Rattle.fk_lower_laws.specs.Levels.{levels_in, IsInGroup}
 
-abbrev pub IsShallow : List Nest → Type 0
-IsShallow (OfFunction frame ∷ []) = Unit {0}
-IsShallow (OfPart frame ∷ OfFunction None ∷ []) = Unit {0}
-IsShallow nests = ⊥
+-- ---- levels
 
--- the number of the innermost nest, if it has a frame
-abbrev pub number_if : (frame : Option ℕ) → ℕ → Option ℕ
-number_if None number = None
-number_if (Some words) number = Some number
+deeper : (main : Bool) (nests : List Nest) → levels_of main (OfPart None ∷ nests) ≤ levels_of main nests + 1
+deeper true nests = omega arith
+deeper false nests = omega arith
 
-abbrev pub frame_told : List Nest → Option ℕ
-frame_told [] = None
-frame_told (nest ∷ nests) = number_if (frame_of nest) (nesting (nest ∷ nests))
+out_of_part : (main : Bool) (nests : List Nest) → IsInPart nests → levels_of main (tail nests) ≤ levels_of main nests
+out_of_part main [] part = absurd part
+out_of_part main (OfFunction frame ∷ nests) part = absurd part
+out_of_part main (OfPart frame ∷ []) part = absurd part
+out_of_part true (OfPart frame ∷ nest ∷ nests) part = omega arith
+out_of_part false (OfPart frame ∷ nest ∷ nests) part = omega arith
 
--- ---- operations keep nests shallow
+as_deep : (words : ℕ) (nests : List Nest) → nesting (take_frame words nests) ≡ nesting nests
+as_deep words [] = refl
+as_deep words (OfFunction frame ∷ nests) = refl
+as_deep words (OfPart frame ∷ nests) = refl
 
-out_of_part : (nests : List Nest) → IsShallow nests → IsInPart nests → IsShallow (tail nests)
-out_of_part [] h part = absurd h
-out_of_part (OfFunction frame ∷ nests) h part = absurd part
-out_of_part (OfPart frame ∷ []) h part = absurd h
-out_of_part (OfPart frame ∷ OfPart other ∷ nests) h part = absurd h
-out_of_part (OfPart frame ∷ OfFunction (Some own) ∷ nests) h part = absurd h
-out_of_part (OfPart frame ∷ OfFunction None ∷ []) h part = tt
-out_of_part (OfPart frame ∷ OfFunction None ∷ nest ∷ nests) h part = absurd h
+-- an operation adds as many levels as a layout counts at most
+pub levels_behind : (op : Operation) (onward : Bool) (p : Place) → MayBeIn op p → levels_in (place_behind op onward p) ≤ levels_in p + nests op
+levels_behind (o.Frame number words) onward p may = let same = as_deep words p.nests in by (is_main_place p.function) same
+  where
+    by : (main : Bool) → nesting (take_frame words p.nests) ≡ nesting p.nests → levels_of main (take_frame words p.nests) ≤ levels_of main p.nests + 0
+    by true same = omega (arith, same)
+    by false same = omega (arith, same)
+levels_behind o.Begin true p may = deeper (is_main_place p.function) p.nests
+levels_behind o.Begin false p may = omega arith
+levels_behind (o.Split k.IfElse) onward p may = deeper (is_main_place p.function) p.nests
+levels_behind (o.Split k.IfAlone) true p may = deeper (is_main_place p.function) p.nests
+levels_behind (o.Split k.AndThen) true p may = deeper (is_main_place p.function) p.nests
+levels_behind (o.Split k.OrElse) true p may = deeper (is_main_place p.function) p.nests
+levels_behind (o.Split k.Loop) true p may = deeper (is_main_place p.function) p.nests
+levels_behind (o.Split k.Fork) true p may = deeper (is_main_place p.function) p.nests
+levels_behind (o.Split k.IfAlone) false p may = omega arith
+levels_behind (o.Split k.AndThen) false p may = omega arith
+levels_behind (o.Split k.OrElse) false p may = omega arith
+levels_behind (o.Split k.Loop) false p may = omega arith
+levels_behind (o.Split k.Fork) false p may = omega arith
+levels_behind o.Shrink true p may = omega arith
+levels_behind o.Shrink false p may = let low = out_of_part (is_main_place p.function) p.nests may in omega (arith, low)
+levels_behind o.End onward p may = let low = out_of_part (is_main_place p.function) p.nests may in omega (arith, low)
+levels_behind op onward p may = omega arith
 
-with_taken : (words : ℕ) (nests : List Nest) → IsShallow nests → IsShallow (take_frame words nests)
-with_taken words [] h = absurd h
-with_taken words (OfFunction frame ∷ []) h = tt
-with_taken words (OfFunction frame ∷ nest ∷ nests) h = absurd h
-with_taken words (OfPart frame ∷ []) h = absurd h
-with_taken words (OfPart frame ∷ OfPart other ∷ nests) h = absurd h
-with_taken words (OfPart frame ∷ OfFunction (Some own) ∷ nests) h = absurd h
-with_taken words (OfPart frame ∷ OfFunction None ∷ []) h = tt
-with_taken words (OfPart frame ∷ OfFunction None ∷ nest ∷ nests) h = absurd h
+-- which operations add none
+pub adds_none : (op : Operation) → ((way_of op ≡ w.either) → is_quit op ≡ true) → nests op ≡ 0
+adds_none (o.Split by) quits = absurd (false≢true (quits refl))
+adds_none o.Begin quits = absurd (false≢true (quits refl))
+adds_none o.Farm quits = absurd (false≢true (quits refl))
+adds_none o.Seq quits = absurd (false≢true (quits refl))
+adds_none op quits = refl
 
-pub shallow_behind : (op : Operation) → is_unsplit op ≡ true → (onward : Bool) (p : Place) → MayBeIn op p → IsShallow p.nests → IsShallow (place_behind op onward p).nests
-shallow_behind (o.Split by) is onward p may h = absurd (true≢false (sym is))
-shallow_behind o.Shrink is onward p may h = absurd (true≢false (sym is))
-shallow_behind (o.Frame number words) is onward p may h = with_taken words p.nests h
-shallow_behind o.Begin is true p may h = subst (λ (q : Place). IsShallow (OfPart None ∷ q.nests)) (sym may) tt
-shallow_behind o.Begin is false p may h = h
-shallow_behind o.End is onward p may h = out_of_part p.nests h may
-shallow_behind op is onward p may h = h
+pub not_either : (op : Operation) (way : Way) → way_of op ≡ way → (way ≡ w.either → ⊥) → nests op ≡ 0
+not_either op way is no = adds_none op (λ e. absurd (no (sym is ∙ e)))
 
-pub shallow_granted : (s t : State) → Grants s t → IsShallow s.place.nests → IsShallow t.place.nests
-shallow_granted s t g h = subst IsShallow (ap (λ (p : Place). p.nests) g.place) h
+pub in_group : (op : Operation) (p : Place) → nests op ≡ 0 → IsInGroup op p
+in_group (o.Split by) p none = absurd (cc)
+in_group op p none = tt
 
-module _ (place_of : ℕ → FunctionKind) (frames : ℕ → Option ℕ) where
-  -- code that ends keeps them shallow
-  pub stays_shallow : (code : Code ℕ) (l : Option State) (s e : State) → AllOf is_unsplit code → Typed place_of frames l s code e → IsShallow s.place.nests → IsShallow e.place.nests
-  stays_shallow done l s e u t h = shallow_granted s e t h
-  stays_shallow (perform n op rest) l s e u t h = stays_shallow rest l (behind op true s) e u.1 t.1 (shallow_behind op u.0 true s.place t.0.place h)
-  stays_shallow (choose n op x y rest) l s e u t h =
-      stays_shallow rest l t.1 e u.3 t.4 (stays_shallow x l (behind op true s) t.1 u.1 t.2 (shallow_behind op u.0 true s.place t.0.place h))
-  stays_shallow (while a b c rest) l s e u t h = stays_shallow rest l t.0 e u.3 t.5 (shallow_granted s t.0 t.1 h)
-  stays_shallow (until a b rest) l s e u t h = stays_shallow rest l t.0 e u.2 t.4 (shallow_granted s t.0 t.1 h)
-  stays_shallow (turn a b c rest) l s e u t h = absurd t
-  stays_shallow (again a b c rest) l s e u t h = absurd t
-  stays_shallow (quit n op rest) l s e u t h = stays_shallow rest l (behind op true s) e u.1 t.2 (shallow_behind op u.0 true s.place t.0.place h)
-  stays_shallow (break rest) l s e u t h = stays_shallow rest l s e u t.1 h
-  stays_shallow (continue rest) l s e u t h = stays_shallow rest l s e u t.1 h
-  stays_shallow (call n op f opening rest) l s e u t h = stays_shallow rest l (behind_call (takes op) t.1 s) e u.2 t.4 h
-  stays_shallow (ends n op rest) l s e u t h = stays_shallow rest l (behind op true s) e u.1 t.2 (shallow_behind op u.0 true s.place t.0.place h)
+-- ---- group frames
 
--- ---- the frame that is told
+-- whether a call has the frame with a number
+abbrev pub has_frame : List Nest → (number : ℕ) → Bool
+has_frame nests number = is_some (frame_at nests number)
 
-some_same : (a b : ℕ) → Some a ≡ Some b → a ≡ b
-some_same a b e = cc
+pub low_frame : (nests : List Nest) (number : ℕ) → has_frame nests number ≡ true → number ≤ nesting nests
+low_frame [] number has = absurd (false≢true has)
+low_frame (OfFunction frame ∷ nests) number has = by (number == 0) refl has
+  where
+    by : (b : Bool) → (number == 0) ≡ b → is_some (if b then frame else None) ≡ true → number ≤ 0
+    by true is has' = let zero = eqb-true number 0 is in omega (arith, zero)
+    by false is has' = absurd (false≢true has')
+low_frame (OfPart frame ∷ nests) number has = by (number == suc (nesting nests)) refl has (low_frame nests number)
+  where
+    by : (b : Bool) → (number == suc (nesting nests)) ≡ b → is_some (if b then frame else frame_at nests number) ≡ true
+        → (has_frame nests number ≡ true → number ≤ nesting nests) → number ≤ suc (nesting nests)
+    by true is has' below = let same = eqb-true number (suc (nesting nests)) is in omega (arith, same)
+    by false is has' below = let low = below has' in omega (arith, low)
 
--- it is the one of which a word is named
-of_function : (frame : Option ℕ) (number own word : ℕ) (here : Bool) → (here ≡ true → number ≡ own) → frame_has (if here then frame else None) word ≡ true
-    → number_if frame own ≡ Some number
-of_function None number own word true is has = absurd (false≢true has)
-of_function None number own word false is has = absurd (false≢true has)
-of_function (Some words) number own word true is has = ap (λ k. Some k) (sym (is refl))
-of_function (Some words) number own word false is has = absurd (false≢true has)
+-- it has one of which a word is named
+pub frame_named : (nests : List Nest) (number word : ℕ) → has_word nests number word ≡ true → has_frame nests number ≡ true
+frame_named nests number word has = by (frame_at nests number) has
+  where
+    by : (frame : Option ℕ) → frame_has frame word ≡ true → is_some frame ≡ true
+    by None has' = absurd (false≢true has')
+    by (Some words) has' = refl
 
-of_part : (frame : Option ℕ) (number own word : ℕ) (here other : Bool) → (here ≡ true → number ≡ own)
-    → frame_has (if here then frame else if other then None else None) word ≡ true → number_if frame own ≡ Some number
-of_part None number own word true other is has = absurd (false≢true has)
-of_part frame number own word false true is has = absurd (false≢true has)
-of_part frame number own word false false is has = absurd (false≢true has)
-of_part (Some words) number own word true other is has = ap (λ k. Some k) (sym (is refl))
+-- a part has no frame yet, and a function that begins has none
+in_part : (nests : List Nest) (number : ℕ) → has_frame (OfPart None ∷ nests) number ≡ true → has_frame nests number ≡ true
+in_part nests number has = by (number == suc (nesting nests)) has
+  where
+    by : (b : Bool) → is_some (if b then None else frame_at nests number) ≡ true → has_frame nests number ≡ true
+    by true has' = absurd (false≢true has')
+    by false has' = has'
 
-pub told_named : (nests : List Nest) → IsShallow nests → (number word : ℕ) → has_word nests number word ≡ true → frame_told nests ≡ Some number
-told_named [] h number word has = absurd h
-told_named (OfFunction frame ∷ []) h number word has = of_function frame number 0 word (number == 0) (eqb-true number 0) has
-told_named (OfFunction frame ∷ nest ∷ nests) h number word has = absurd h
-told_named (OfPart frame ∷ []) h number word has = absurd h
-told_named (OfPart frame ∷ OfPart other ∷ nests) h number word has = absurd h
-told_named (OfPart frame ∷ OfFunction (Some own) ∷ nests) h number word has = absurd h
-told_named (OfPart frame ∷ OfFunction None ∷ []) h number word has = of_part frame number 1 word (number == 1) (number == 0) (eqb-true number 1) has
-told_named (OfPart frame ∷ OfFunction None ∷ nest ∷ nests) h number word has = absurd h
+pub none_begins : (number : ℕ) → has_frame (OfFunction None ∷ []) number ≡ false
+none_begins number = by (number == 0)
+  where
+    by : (b : Bool) → is_some (if b then None else None) ≡ false
+    by true = refl
+    by false = refl
 
--- it is the one that was taken
-pub told_taken : (number words : ℕ) (nests : List Nest) → MayTake number nests → (told : ℕ) → frame_told (take_frame words nests) ≡ Some told → told ≡ number
-told_taken number words [] may told e = absurd may
-told_taken number words (OfFunction frame ∷ nests) may told e = sym (some_same 0 told e) ∙ sym may.0
-told_taken number words (OfPart frame ∷ nests) may told e = sym (some_same (suc (nesting nests)) told e) ∙ sym may.0
+-- what it has outside of a part it has in it
+around_part : (nests : List Nest) → IsInPart nests → (number : ℕ) → has_frame (tail nests) number ≡ true → has_frame nests number ≡ true
+around_part [] part number has = absurd part
+around_part (OfFunction frame ∷ nests) part number has = absurd part
+around_part (OfPart frame ∷ []) part number has = absurd part
+around_part (OfPart frame ∷ nest ∷ nests) part number has = by (number == suc (nesting (nest ∷ nests))) refl
+  where
+    by : (b : Bool) → (number == suc (nesting (nest ∷ nests))) ≡ b → is_some (if b then frame else frame_at (nest ∷ nests) number) ≡ true
+    by true is = absurd (let same = eqb-true number (suc (nesting (nest ∷ nests))) is in let low = low_frame (nest ∷ nests) number has in omega (arith, same, low))
+    by false is = has
 
--- a function that gives its frame back tells its own
-pub told_own : (frame : Option ℕ) → is_some frame ≡ true → frame_told (OfFunction frame ∷ []) ≡ Some 0
-told_own None is = absurd (false≢true is)
-told_own (Some words) is = refl
-
--- behind a part nothing is told
-out_untold : (nests : List Nest) → IsShallow nests → IsInPart nests → (number : ℕ) → frame_told (tail nests) ≡ Some number → frame_told nests ≡ Some number
-out_untold [] h part number e = absurd h
-out_untold (OfFunction frame ∷ nests) h part number e = absurd part
-out_untold (OfPart frame ∷ []) h part number e = absurd h
-out_untold (OfPart frame ∷ OfPart other ∷ nests) h part number e = absurd h
-out_untold (OfPart frame ∷ OfFunction (Some own) ∷ nests) h part number e = absurd h
-out_untold (OfPart frame ∷ OfFunction None ∷ []) h part number e = absurd (cc)
-out_untold (OfPart frame ∷ OfFunction None ∷ nest ∷ nests) h part number e = absurd h
+-- a frame that is taken is the one with the number, or it was there
+pub frame_taken : (number words : ℕ) (nests : List Nest) → MayTake number nests → (other : ℕ) → has_frame (take_frame words nests) other ≡ true
+    → (other ≡ number) ⊎ (has_frame nests other ≡ true)
+frame_taken number words [] may other has = absurd may
+frame_taken number words (OfFunction frame ∷ nests) may other has = by (other == 0) refl has
+  where
+    by : (b : Bool) → (other == 0) ≡ b → is_some (if b then Some words else None) ≡ true → (other ≡ number) ⊎ (is_some (if b then frame else None) ≡ true)
+    by true is has' = inl (eqb-true other 0 is ∙ sym may.0)
+    by false is has' = absurd (false≢true has')
+frame_taken number words (OfPart frame ∷ nests) may other has = by (other == suc (nesting nests)) refl has
+  where
+    by : (b : Bool) → (other == suc (nesting nests)) ≡ b → is_some (if b then Some words else frame_at nests other) ≡ true
+        → (other ≡ number) ⊎ (is_some (if b then frame else frame_at nests other) ≡ true)
+    by true is has' = inl (eqb-true other (suc (nesting nests)) is ∙ sym may.0)
+    by false is has' = inr has'
 
 abbrev pub takes_frame : Operation → Bool
 takes_frame (o.Frame number words) = true
 takes_frame op = false
 
--- another operation tells no frame that wasn't told
-pub told_before : (op : Operation) → is_unsplit op ≡ true → takes_frame op ≡ false → (onward : Bool) (p : Place) → MayBeIn op p → IsShallow p.nests
-    → (number : ℕ) → frame_told (place_behind op onward p).nests ≡ Some number → frame_told p.nests ≡ Some number
-told_before (o.Split by) is other onward p may h number e = absurd (true≢false (sym is))
-told_before o.Shrink is other onward p may h number e = absurd (true≢false (sym is))
-told_before (o.Frame own words) is other onward p may h number e = absurd (true≢false other)
-told_before o.Begin is other true p may h number e = absurd (cc)
-told_before o.Begin is other false p may h number e = e
-told_before o.End is other onward p may h number e = out_untold p.nests h may number e
-told_before op is other onward p may h number e = e
+-- behind another operation it has no frame that it hadn't
+pub had_before : (op : Operation) → takes_frame op ≡ false → (onward : Bool) (p : Place) → MayBeIn op p → (number : ℕ)
+    → has_frame (place_behind op onward p).nests number ≡ true → has_frame p.nests number ≡ true
+had_before (o.Frame own words) other onward p may number has = absurd (false≢true (sym other))
+had_before o.Begin other true p may number has = in_part p.nests number has
+had_before o.Begin other false p may number has = has
+had_before (o.Split k.IfElse) other onward p may number has = in_part p.nests number has
+had_before (o.Split k.IfAlone) other true p may number has = in_part p.nests number has
+had_before (o.Split k.AndThen) other true p may number has = in_part p.nests number has
+had_before (o.Split k.OrElse) other true p may number has = in_part p.nests number has
+had_before (o.Split k.Loop) other true p may number has = in_part p.nests number has
+had_before (o.Split k.Fork) other true p may number has = in_part p.nests number has
+had_before (o.Split k.IfAlone) other false p may number has = has
+had_before (o.Split k.AndThen) other false p may number has = has
+had_before (o.Split k.OrElse) other false p may number has = has
+had_before (o.Split k.Loop) other false p may number has = has
+had_before (o.Split k.Fork) other false p may number has = has
+had_before o.Shrink other true p may number has = has
+had_before o.Shrink other false p may number has = around_part p.nests may number has
+had_before o.End other onward p may number has = around_part p.nests may number has
+had_before op other onward p may number has = has

@@ -32,36 +32,36 @@ module _ (program : ProgramTree) (facts : Facts) (valid : IsCorrect program fact
   abbrev Within : (own : Bool) → List Holder → Type 0
   Within own outer = is_in_main outer ≡ true → (main ≡ true) × (own ≡ true)
 
-  inside : {outer : List Holder} → is_in_main outer ≡ false → Within false outer
-  inside is e = absurd (false≢true (sym is ∙ e))
+  inside : (outer : List Holder) → is_in_main outer ≡ false → Within false outer
+  inside outer is e = absurd (false≢true (sym is ∙ e))
 
   mutual
     statement : (own : Bool) (outer : List Holder) → Within own outer → (st : Statement) → Each Right (tokens outer st) → StartsStay main own st
     statement own outer at p.Empty a = tt
     statement own outer at (p.Expression e) a = tt
-    statement own outer at (p.Block list) a = statements false (h.Block ∷ outer) (inside refl) list a
+    statement own outer at (p.Block list) a = statements false (h.Block ∷ outer) (inside (h.Block ∷ outer) refl) list a
     statement own outer at (p.Declare variables) a = tt
     statement own outer at (p.If spot condition body) a =
-        statement false (h.Branch ∷ outer) (inside refl) body (rest_of Right (r.tree_tokens outer condition) (tokens (h.Branch ∷ outer) body) a.1)
+        statement false (h.Branch ∷ outer) (inside (h.Branch ∷ outer) refl) body (rest_of Right (r.tree_tokens outer condition) (tokens (h.Branch ∷ outer) body) a.1)
     statement own outer at (p.IfElse spot condition body otherwise) a =
         let parts = three_of Right (r.tree_tokens outer condition) (tokens (h.Branch ∷ outer) body) (tokens (h.Branch ∷ outer) otherwise) a.1 in
-        (statement false (h.Branch ∷ outer) (inside refl) body parts.1, statement false (h.Branch ∷ outer) (inside refl) otherwise parts.2)
+        (statement false (h.Branch ∷ outer) (inside (h.Branch ∷ outer) refl) body parts.1, statement false (h.Branch ∷ outer) (inside (h.Branch ∷ outer) refl) otherwise parts.2)
     statement own outer at (p.While spot condition body) a =
-        statement false (h.Loop ∷ outer) (inside refl) body (rest_of Right (r.tree_tokens outer condition) (tokens (h.Loop ∷ outer) body) a.1)
+        statement false (h.Loop ∷ outer) (inside (h.Loop ∷ outer) refl) body (rest_of Right (r.tree_tokens outer condition) (tokens (h.Loop ∷ outer) body) a.1)
     statement own outer at (p.DoWhile spot body condition) a =
-        statement false (h.Loop ∷ outer) (inside refl) body (rest_of Right (r.tree_tokens outer condition) (tokens (h.Loop ∷ outer) body) a.1)
+        statement false (h.Loop ∷ outer) (inside (h.Loop ∷ outer) refl) body (rest_of Right (r.tree_tokens outer condition) (tokens (h.Loop ∷ outer) body) a.1)
     statement own outer at (p.For spot before condition after body) a =
         let parts = four_of Right (r.optional_tokens outer before) (r.optional_tokens outer condition) (r.optional_tokens outer after) (tokens (h.Loop ∷ outer) body) a.1 in
-        statement false (h.Loop ∷ outer) (inside refl) body parts.3
+        statement false (h.Loop ∷ outer) (inside (h.Loop ∷ outer) refl) body parts.3
     statement own outer at (p.Start spot count body) a =
         let in_main = true_from_ne_false (is_in_main outer) (λ e. a.0 rules.StartNotInMain (inl (mis.start_elsewhere e))) in
         let here = at in_main in
-        (here.0, here.1, statement false (h.Start ∷ outer) (inside refl) body (rest_of Right (r.optional_tokens outer count) (tokens (h.Start ∷ outer) body) a.1))
-    statement own outer at (p.Farm spot body) a = statement false (h.Farm ∷ outer) (inside refl) body a.1
-    statement own outer at (p.Seq spot body) a = statement false (h.Seq ∷ outer) (inside refl) body a.1
+        (here.0, here.1, statement false (h.Start ∷ outer) (inside (h.Start ∷ outer) refl) body (rest_of Right (r.optional_tokens outer count) (tokens (h.Start ∷ outer) body) a.1))
+    statement own outer at (p.Farm spot body) a = statement false (h.Farm ∷ outer) (inside (h.Farm ∷ outer) refl) body a.1
+    statement own outer at (p.Seq spot body) a = statement false (h.Seq ∷ outer) (inside (h.Seq ∷ outer) refl) body a.1
     statement own outer at (p.Fork spot count part rank body) a =
         let parts = four_of Right (r.tree_tokens outer count) (r.tree_tokens outer part) (r.optional_tokens outer rank) (tokens (h.Fork ∷ outer) body) a.1 in
-        statement false (h.Fork ∷ outer) (inside refl) body parts.3
+        statement false (h.Fork ∷ outer) (inside (h.Fork ∷ outer) refl) body parts.3
     statement own outer at (p.Barrier spot) a = tt
     statement own outer at (p.Break spot) a = tt
     statement own outer at (p.Continue spot) a = tt

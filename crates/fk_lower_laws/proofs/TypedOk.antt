@@ -78,6 +78,17 @@ less {onward = onward} {op = op} {u = u} {v = v} a g = record {
   acts = λ s h. let both = a.acts s h in (both.0, grants_both (behind op onward s) u v both.1 g);
 }
 
+-- a loop is left where its turns begin, or nothing follows it
+abbrev pub GoesOn : Loop → Coded → Type 0
+GoesOn c rest = (n : ℕ) → (c.left.place ≡ c.turn.place) ⊎ (is_done (numbered n rest) ≡ true)
+
+-- where a loop is left in a state, and where its turns begin in one
+abbrev pub LeftIn : Option Loop → State → Type 0
+LeftIn l t = (c : Loop) × (l ≡ Some c) × (c.left ≡ t)
+
+abbrev pub TurnsIn : Option Loop → State → Type 0
+TurnsIn l t = (c : Loop) × (l ≡ Some c) × (c.turn ≡ t)
+
 module _ {place_of : ℕ → FunctionKind} {frame_of : ℕ → Option ℕ} where
   pub weaken : {l : Option Loop} {t u e : State} {code : Coded} → Grants t u → Ok place_of frame_of l u code e → Ok place_of frame_of l t code e
   weaken {t = t} {u = u} g p = record { typed = λ s h n. p.typed s (grants_both s t u h g) n }
@@ -103,10 +114,6 @@ module _ {place_of : ℕ → FunctionKind} {frame_of : ℕ → Option ℕ} where
       same ∙ sym g.place,
     );
   }
-
-  -- a loop is left where its turns begin, or nothing follows it
-  abbrev pub GoesOn : Loop → Coded → Type 0
-  GoesOn c rest = (n : ℕ) → (c.left.place ≡ c.turn.place) ⊎ (is_done (numbered n rest) ≡ true)
 
   pub looped : {l : Option Loop} {e : State} (c : Loop) {test body step rest : Coded} → GoesOn c rest → Ok place_of frame_of (Some c) c.turn test c.turn
       → Ok place_of frame_of (Some c) c.turn body c.turn → Ok place_of frame_of (Some c) c.turn step c.turn → Ok place_of frame_of l c.left rest e
@@ -139,13 +146,6 @@ module _ {place_of : ℕ → FunctionKind} {frame_of : ℕ → Option ℕ} where
 
   pub quits : {t : State} (c : Loop) {tag : y.Place} {op : Operation} → Acts true op t c.turn → Acts false op t c.left → Ok place_of frame_of (Some c) t (quit tag op done) c.turn
   quits c a b = record { typed = λ s g n. ((a.acts s g).0, (b.acts s g).1, (a.acts s g).1) }
-
-  -- where a loop is left in a state, and where its turns begin in one
-  abbrev pub LeftIn : Option Loop → State → Type 0
-  LeftIn l t = (c : Loop) × (l ≡ Some c) × (c.left ≡ t)
-
-  abbrev pub TurnsIn : Option Loop → State → Type 0
-  TurnsIn l t = (c : Loop) × (l ≡ Some c) × (c.turn ≡ t)
 
   pub broken : {l : Option Loop} {t e : State} {rest : Coded} → LeftIn l t → Ok place_of frame_of l t rest e → Ok place_of frame_of l t (break rest) e
   broken is p = record { typed = λ s g n. (subst (λ loop. GrantsLeft loop s) (sym is.1) (subst (λ u. Grants s u) (sym is.2) g), p.typed s g n) }

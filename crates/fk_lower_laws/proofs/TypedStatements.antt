@@ -331,28 +331,28 @@ module _ (tables : Tables) (functions : (binding : ℕ) → Signature) (place_of
 
     told_here : (p : Place) (X : Bool → Exits) (spot : Spot) (number : ℕ) (s : Statement) → (note tables spot.at).splits ≡ false → Asks s (in_split tables spot.at number p.nests)
         → Shaped (X (note tables spot.at).splits) s → StatementHasLevels tables (level_in tables (nesting p.nests) spot.at) s → Told p (X false) s
-    told_here p X spot number s no asks shaped levels = record {
-      asks = subst (λ (b : Bool). Asks s (if b then in_part tables spot.at number p.nests else p.nests)) no asks;
-      shaped = subst (λ (b : Bool). Shaped (X b) s) no shaped;
-      levels = subst (λ (b : Bool). StatementHasLevels tables (if b then suc (nesting p.nests) else nesting p.nests) s) no levels;
+    told_here p X spot number s whole_group asks shaped levels = record {
+      asks = subst (λ (b : Bool). Asks s (if b then in_part tables spot.at number p.nests else p.nests)) whole_group asks;
+      shaped = subst (λ (b : Bool). Shaped (X b) s) whole_group shaped;
+      levels = subst (λ (b : Bool). StatementHasLevels tables (if b then suc (nesting p.nests) else nesting p.nests) s) whole_group levels;
     }
 
     told_part : (p : Place) (X : Bool → Exits) (spot : Spot) (number : ℕ) (s : Statement) → (note tables spot.at).splits ≡ true → Asks s (in_split tables spot.at number p.nests)
         → Shaped (X (note tables spot.at).splits) s → StatementHasLevels tables (level_in tables (nesting p.nests) spot.at) s
         → Told (started p (frame_words (frame_at tables spot.at number))) (X true) s
-    told_part p X spot number s yes asks shaped levels = record {
-      asks = subst (λ (b : Bool). Asks s (if b then in_part tables spot.at number p.nests else p.nests)) yes asks;
-      shaped = subst (λ (b : Bool). Shaped (X b) s) yes shaped;
-      levels = subst (λ (b : Bool). StatementHasLevels tables (if b then suc (nesting p.nests) else nesting p.nests) s) yes levels;
+    told_part p X spot number s parted asks shaped levels = record {
+      asks = subst (λ (b : Bool). Asks s (if b then in_part tables spot.at number p.nests else p.nests)) parted asks;
+      shaped = subst (λ (b : Bool). Shaped (X b) s) parted shaped;
+      levels = subst (λ (b : Bool). StatementHasLevels tables (if b then suc (nesting p.nests) else nesting p.nests) s) parted levels;
     }
 
     -- what is asked of other things there
     asked_here : (p : Place) (Of : List Nest → Type 0) (spot : Spot) → (note tables spot.at).splits ≡ false → Of (in_split tables spot.at 0 p.nests) → Of p.nests
-    asked_here p Of spot no asks = subst (λ (b : Bool). Of (if b then in_part tables spot.at 0 p.nests else p.nests)) no asks
+    asked_here p Of spot whole_group asks = subst (λ (b : Bool). Of (if b then in_part tables spot.at 0 p.nests else p.nests)) whole_group asks
 
     asked_part : (p : Place) (Of : List Nest → Type 0) (spot : Spot) → (note tables spot.at).splits ≡ true → Of (in_split tables spot.at 0 p.nests)
         → Of (started p (frame_words (frame_at tables spot.at 0))).nests
-    asked_part p Of spot yes asks = subst (λ (b : Bool). Of (if b then in_part tables spot.at 0 p.nests else p.nests)) yes asks
+    asked_part p Of spot parted asks = subst (λ (b : Bool). Of (if b then in_part tables spot.at 0 p.nests else p.nests)) parted asks
 
     -- the code of a part, to its end
     part_runs : (p : Place) → IsWithin p → (spot : Spot) (number : ℕ) (loop : Option Loop) (body : Coded → Coded) → HasLevel (suc (nesting p.nests)) (frame_at tables spot.at number)
@@ -378,17 +378,17 @@ module _ (tables : Tables) (functions : (binding : ℕ) → Signature) (place_of
           let shaped = told.shaped in
           let levels = told.levels in
           let frame = frame_words (frame_at tables spot.at 0) in
-          let X = λ b. of_branch tables functions b x in
+          let X : Bool → Exits = λ b. of_branch tables functions b x in
           values p at.within condition asks.0 [] loop (if here.splits then parted else agreed here.sync branched) e
           (split_or p here.splits parted (agreed here.sync branched)
-          (λ yes.
+          (λ parted.
           branch refl (if_enters p) (if_waits p)
-          (part_runs p at.within spot 0 loop body (levels.0 yes)
-          (statement (started p frame) none false loop (in_part_of p frame loop) first (told_part p X spot 0 first yes asks.1 shaped.1 levels.1) stays)) ended (resumed p q))
-          (λ no.
+          (part_runs p at.within spot 0 loop body (levels.0 parted)
+          (statement (started p frame) none false loop (in_part_of p frame loop) first (told_part p X spot 0 first parted asks.1 shaped.1 levels.1) stays)) ended (resumed p q))
+          (λ whole_group.
           agrees tables functions place_of opens p here.sync [] loop branched e
           (branch refl (branches tables functions place_of opens p true true []) (branches tables functions place_of opens p true false [])
-          (arms p loop body (statement p x false loop (inner at) first (told_here p X spot 0 first no asks.1 shaped.1 levels.1) stays)) ended q)))
+          (arms p loop body (statement p x false loop (inner at) first (told_here p X spot 0 first whole_group asks.1 shaped.1 levels.1) stays)) ended q)))
       statement p x own loop at (m.IfElse spot condition first second) told stays rest e q =
           let here = note tables spot.at in
           let a = executed tables functions inside first in
@@ -400,20 +400,20 @@ module _ (tables : Tables) (functions : (binding : ℕ) → Signature) (place_of
           let levels = told.levels in
           let frame = frame_words (frame_at tables spot.at 0) in
           let frame' = frame_words (frame_at tables spot.at 1) in
-          let X = λ b. of_branch tables functions b x in
+          let X : Bool → Exits = λ b. of_branch tables functions b x in
           values p at.within condition asks.0 [] loop (if here.splits then parted else agreed here.sync branched) e
           (split_or p here.splits parted (agreed here.sync branched)
-          (λ yes.
+          (λ parted.
           branch refl (enters_either p true) (enters_either p false)
-          (part_runs p at.within spot 0 loop a (levels.0 yes)
-          (statement (started p frame) none false loop (in_part_of p frame loop) first (told_part p X spot 0 first yes asks.1 shaped.1 levels.2) stays.0))
-          (part_runs p at.within spot 1 loop z (levels.1 yes)
-          (statement (started p frame') none false loop (in_part_of p frame' loop) second (told_part p X spot 1 second yes asks.2 shaped.2 levels.3) stays.1)) (resumed p q))
-          (λ no.
+          (part_runs p at.within spot 0 loop a (levels.0 parted)
+          (statement (started p frame) none false loop (in_part_of p frame loop) first (told_part p X spot 0 first parted asks.1 shaped.1 levels.2) stays.0))
+          (part_runs p at.within spot 1 loop z (levels.1 parted)
+          (statement (started p frame') none false loop (in_part_of p frame' loop) second (told_part p X spot 1 second parted asks.2 shaped.2 levels.3) stays.1)) (resumed p q))
+          (λ whole_group.
           agrees tables functions place_of opens p here.sync [] loop branched e
           (branch refl (branches tables functions place_of opens p true true []) (branches tables functions place_of opens p true false [])
-          (arms p loop a (statement p x false loop (inner at) first (told_here p X spot 0 first no asks.1 shaped.1 levels.2) stays.0))
-          (arms p loop z (statement p x false loop (inner at) second (told_here p X spot 1 second no asks.2 shaped.2 levels.3) stays.1)) q)))
+          (arms p loop a (statement p x false loop (inner at) first (told_here p X spot 0 first whole_group asks.1 shaped.1 levels.2) stays.0))
+          (arms p loop z (statement p x false loop (inner at) second (told_here p X spot 1 second whole_group asks.2 shaped.2 levels.3) stays.1)) q)))
       statement p x own loop at (m.While spot condition body) told stays rest e q =
           let run = executed tables functions inside body in
           let turn = c.while (tested tables functions spot (Some condition)) (run done) done in
@@ -421,16 +421,16 @@ module _ (tables : Tables) (functions : (binding : ℕ) → Signature) (place_of
           let shaped = told.shaped in
           let levels = told.levels in
           let frame = frame_words (frame_at tables spot.at 0) in
-          let X = λ b. of_turn b x in
+          let X : Bool → Exits = λ b. of_turn b x in
           loops p spot loop turn
-          (λ no rest' e' q'.
-          looped (plain_loop p) (λ n. inl refl) (tests p at.within spot (Some condition) no (asked_here p (Value condition) spot no asks.0))
-          (arms p (Some (plain_loop p)) run (statement p (of_turn false x) false (Some (plain_loop p)) (in_loop at) body (told_here p X spot 0 body no asks.1 shaped.1 levels.1) stays)) ended q')
+          (λ whole_group rest' e' q'.
+          looped (plain_loop p) (λ n. inl refl) (tests p at.within spot (Some condition) whole_group (asked_here p (Value condition) spot whole_group asks.0))
+          (arms p (Some (plain_loop p)) run (statement p (of_turn false x) false (Some (plain_loop p)) (in_loop at) body (told_here p X spot 0 body whole_group asks.1 shaped.1 levels.1) stays)) ended q')
           levels.0
-          (λ yes.
-          looped (part_loop p frame) (λ n. inr refl) (part_tests p at.within frame spot (Some condition) yes (asked_part p (Value condition) spot yes asks.0))
+          (λ parted.
+          looped (part_loop p frame) (λ n. inr refl) (part_tests p at.within frame spot (Some condition) parted (asked_part p (Value condition) spot parted asks.0))
           (arms (started p frame) (Some (part_loop p frame)) run
-          (statement (started p frame) (of_turn true x) false (Some (part_loop p frame)) (in_part_loop p x frame) body (told_part p X spot 0 body yes asks.1 shaped.1 levels.1) stays)) ended ended)
+          (statement (started p frame) (of_turn true x) false (Some (part_loop p frame)) (in_part_loop p x frame) body (told_part p X spot 0 body parted asks.1 shaped.1 levels.1) stays)) ended ended)
           rest e q
       statement p x own loop at (m.DoWhile spot body condition) told stays rest e q =
           let run = executed tables functions inside body in
@@ -439,18 +439,18 @@ module _ (tables : Tables) (functions : (binding : ℕ) → Signature) (place_of
           let shaped = told.shaped in
           let levels = told.levels in
           let frame = frame_words (frame_at tables spot.at 0) in
-          let X = λ b. of_turn b x in
+          let X : Bool → Exits = λ b. of_turn b x in
           loops p spot loop turn
-          (λ no rest' e' q'.
+          (λ whole_group rest' e' q'.
           looped_first (plain_loop p) (λ n. inl refl)
-          (arms p (Some (plain_loop p)) run (statement p (of_turn false x) false (Some (plain_loop p)) (in_loop at) body (told_here p X spot 0 body no asks.1 shaped.1 levels.1) stays))
-          (tests p at.within spot (Some condition) no (asked_here p (Value condition) spot no asks.0)) q')
+          (arms p (Some (plain_loop p)) run (statement p (of_turn false x) false (Some (plain_loop p)) (in_loop at) body (told_here p X spot 0 body whole_group asks.1 shaped.1 levels.1) stays))
+          (tests p at.within spot (Some condition) whole_group (asked_here p (Value condition) spot whole_group asks.0)) q')
           levels.0
-          (λ yes.
+          (λ parted.
           looped_first (part_loop p frame) (λ n. inr refl)
           (arms (started p frame) (Some (part_loop p frame)) run
-          (statement (started p frame) (of_turn true x) false (Some (part_loop p frame)) (in_part_loop p x frame) body (told_part p X spot 0 body yes asks.1 shaped.1 levels.1) stays))
-          (part_tests p at.within frame spot (Some condition) yes (asked_part p (Value condition) spot yes asks.0)) ended)
+          (statement (started p frame) (of_turn true x) false (Some (part_loop p frame)) (in_part_loop p x frame) body (told_part p X spot 0 body parted asks.1 shaped.1 levels.1) stays))
+          (part_tests p at.within frame spot (Some condition) parted (asked_part p (Value condition) spot parted asks.0)) ended)
           rest e q
       statement p x own loop at (m.For spot before condition after body) told stays rest e q =
           let run = executed tables functions inside body in
@@ -459,19 +459,19 @@ module _ (tables : Tables) (functions : (binding : ℕ) → Signature) (place_of
           let shaped = told.shaped in
           let levels = told.levels in
           let frame = frame_words (frame_at tables spot.at 0) in
-          let X = λ b. of_turn b x in
+          let X : Bool → Exits = λ b. of_turn b x in
           uses_or p at.within before asks.0 loop (looping tables functions spot turn rest) e
           (loops p spot loop turn
-          (λ no rest' e' q'.
-          looped (plain_loop p) (λ n. inl refl) (tests p at.within spot condition no (asked_here p (OptionValue condition) spot no asks.1))
-          (arms p (Some (plain_loop p)) run (statement p (of_turn false x) false (Some (plain_loop p)) (in_loop at) body (told_here p X spot 0 body no asks.3 shaped.3 levels.1) stays))
-          (uses_or p at.within after (asked_here p (OptionUsed after) spot no asks.2) (Some (plain_loop p)) done (whole p) ended) q')
+          (λ whole_group rest' e' q'.
+          looped (plain_loop p) (λ n. inl refl) (tests p at.within spot condition whole_group (asked_here p (OptionValue condition) spot whole_group asks.1))
+          (arms p (Some (plain_loop p)) run (statement p (of_turn false x) false (Some (plain_loop p)) (in_loop at) body (told_here p X spot 0 body whole_group asks.3 shaped.3 levels.1) stays))
+          (uses_or p at.within after (asked_here p (OptionUsed after) spot whole_group asks.2) (Some (plain_loop p)) done (whole p) ended) q')
           levels.0
-          (λ yes.
-          looped (part_loop p frame) (λ n. inr refl) (part_tests p at.within frame spot condition yes (asked_part p (OptionValue condition) spot yes asks.1))
+          (λ parted.
+          looped (part_loop p frame) (λ n. inr refl) (part_tests p at.within frame spot condition parted (asked_part p (OptionValue condition) spot parted asks.1))
           (arms (started p frame) (Some (part_loop p frame)) run
-          (statement (started p frame) (of_turn true x) false (Some (part_loop p frame)) (in_part_loop p x frame) body (told_part p X spot 0 body yes asks.3 shaped.3 levels.1) stays))
-          (uses_or (started p frame) tt after (asked_part p (OptionUsed after) spot yes asks.2) (Some (part_loop p frame)) done (whole (started p frame)) ended) ended)
+          (statement (started p frame) (of_turn true x) false (Some (part_loop p frame)) (in_part_loop p x frame) body (told_part p X spot 0 body parted asks.3 shaped.3 levels.1) stays))
+          (uses_or (started p frame) tt after (asked_part p (OptionUsed after) spot parted asks.2) (Some (part_loop p frame)) done (whole (started p frame)) ended) ended)
           rest e q)
       statement p x own loop at (m.Start spot count body) told stays rest e q =
           let run = executed tables functions inside body in

@@ -8,6 +8,7 @@ pub mod LoweringLaws
 pub mod AskedLaws
 pub mod Room
 pub mod Rooms
+pub mod Levels
 pub mod Suiting
 pub mod FreeLaws
 pub mod Named
