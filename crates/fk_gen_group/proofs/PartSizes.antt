@@ -1,5 +1,5 @@
 -- What the control words of the parts of a split have when its members have counted.
-use Rattle.std.proofs.Common.{◌≡◌, ℕ, zero, suc, ◌+◌, ◌-◌, ◌*◌, ◌<◌, ◌≤◌, List, [], ◌∷◌, length, Bool, true, false, Option, Some, None, sym, ap, subst, ◌∙◌, arith, refl, inl, inr, eq-eqb}
+use Rattle.std.proofs.Common.{◌≡◌, ℕ, zero, suc, ◌+◌, ◌*◌, ◌<◌, ◌≤◌, List, [], ◌∷◌, length, Bool, true, false, Option, Some, None, sym, ap, subst, ◌∙◌, arith, refl, inl, inr, eq-eqb}
 use Rattle.std.specs.Prelude.{◌==◌, filter, is_some, if◌then◌else◌}
 use Rattle.std.specs.Int.{from_bool}
 use Rattle.std.proofs.lemmas.Bool.{ne_eqb, eqb-true}

@@ -1,5 +1,5 @@
 -- Where the members of a group come to count themselves at a split, and how they enter parts.
-use Rattle.std.proofs.Common.{◌≡◌, ◌≢◌, ℕ, zero, suc, ◌+◌, ◌-◌, ◌*◌, ◌/◌, ◌%◌, ◌^◌, ◌<◌, ◌≤◌, List, [], ◌∷◌, ◌++◌, length, true, false, Some, None, sym, ap, subst, ◌∙◌, arith, refl, ◌⊎◌, inl, inr, eq-eqb}
+use Rattle.std.proofs.Common.{◌≡◌, ◌≢◌, ℕ, zero, suc, ◌+◌, ◌-◌, ◌*◌, ◌/◌, ◌%◌, ◌^◌, ◌<◌, ◌≤◌, List, [], ◌∷◌, ◌++◌, length, true, false, None, sym, ap, subst, ◌∙◌, arith, refl, ◌⊎◌, inl, inr, eq-eqb}
 use Rattle.std.specs.Prelude.{◌==◌}
 use Rattle.std.proofs.lemmas.Bool.{le-leb, ne_eqb}
 use Rattle.fk_num.specs.Word.{Memory, put, word_sum}
@@ -39,7 +39,7 @@ use Rattle.fk_gen_group.specs.Splits.{HasParts, no_room, part_lines, parts_label
 use Rattle.fk_gen_group.specs.Laws.{IsInPlace}
 use Rattle.fk_gen_group.proofs.Last.{value_word, is_value}
 use Rattle.fk_gen_group.proofs.Levels.{below_values, lies_below, many_callers, saved_kept, outer_kept}
-use Rattle.fk_gen_group.proofs.Fronts.{Fronted, link_at, memory_by}
+use Rattle.fk_gen_group.proofs.Fronts.{Fronted, memory_by}
 
 -- ---- a part is at its place
 
