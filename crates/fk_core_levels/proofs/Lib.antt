@@ -1,3 +1,4 @@
 pub mod Raised
 pub mod Settling
+pub mod Telling
 pub mod Swept

@@ -10,7 +10,7 @@ use Rattle.fk_core.specs.declared.op.CoreOp.{CoreOp}
 use Rattle.fk_gen.specs.declared.placed.Levels.{Levels}
 use Rattle.fk_core_levels.specs.Count.{read, here, after, inside, opens, counts_from, nests_from}
 use Rattle.fk_core_levels.specs.Behind.{up_to, named, leads, IsBound, IsLeast}
-use Rattle.fk_core_levels.specs.Levels.{behind_in, AreLevels, told_from, joined, IsSettling, StaysThere}
+use Rattle.fk_core_levels.specs.Levels.{behind_in, AreLevels, told_from, raised, joined, IsSettling, StaysThere}
 use Rattle.fk_core_levels.proofs.Raised.{raised_long, raised_count, raised_nest, raised_above, raised_below}
 
 -- ---- no call has more than 64 words
@@ -78,24 +78,25 @@ told_settles core = record {
 
 pub joined_settles : (core : List CoreOp) (saved : List Levels) (i : ℕ) (onward : Bool) → IsSettling core saved → i < length core → leads core i onward < length core
     → IsSettling core (joined saved i (leads core i onward))
-joined_settles core saved i onward s inside there =
+joined_settles core saved i onward s lt there =
     let j = leads core i onward in
+    let once = raised saved i (behind_in saved j) in
     let first = raised_below saved i (behind_in saved j) in
     record {
-      long = raised_long _ j (behind_in saved i) ∙ raised_long saved i (behind_in saved j) ∙ s.long;
-      count = raised_count _ j (behind_in saved i) ∙ raised_count saved i (behind_in saved j) ∙ s.count;
-      nest = raised_nest _ j (behind_in saved i) ∙ raised_nest saved i (behind_in saved j) ∙ s.nest;
+      long = raised_long once j (behind_in saved i) ∙ raised_long saved i (behind_in saved j) ∙ s.long;
+      count = raised_count once j (behind_in saved i) ∙ raised_count saved i (behind_in saved j) ∙ s.count;
+      nest = raised_nest once j (behind_in saved i) ∙ raised_nest saved i (behind_in saved j) ∙ s.nest;
       holds = λ k op at.
           let held = s.holds k op at in
           let one = raised_above saved i (behind_in saved j) k in
-          let two = raised_above _ j (behind_in saved i) k in
+          let two = raised_above once j (behind_in saved i) k in
           omega (arith, held, one, two);
       least = λ other bound k.
           let low = s.least other bound in
-          let same : other j ≡ other i = bound.stays i onward inside there in
+          let same : other j ≡ other i = bound.stays i onward lt there in
           let low_i = low i in
           let low_j = low j in
-          raised_below _ j (behind_in saved i) other (first other low (omega (arith, low_j, same))) (omega (arith, low_i, same)) k;
+          raised_below once j (behind_in saved i) other (first other low (omega (arith, low_j, same))) (omega (arith, low_i, same)) k;
     }
 
 -- ---- in the end

@@ -1,6 +1,6 @@
 //! The levels of a list.
 
-ghost use Rattle.std.specs.Prelude.{◌≡◌, ◌<◌, ◌^◌, false, IfOk, length};
+ghost use Rattle.std.specs.Prelude.{◌≡◌, ◌<◌, ◌^◌, false, IfOk, if◌then◌else◌, length};
 ghost use Rattle.fk_core_levels.specs.Levels as l;
 
 use crate::behind::{named, settle};
@@ -8,6 +8,13 @@ use crate::count::{after, here, inside, opens};
 use fk_core::CoreOp;
 use fk_gen::Levels;
 use std::alloc::{AllocError, Global};
+
+// In the opening of a call there are no parts.
+fn in_call(opening: bool, parts: u32) -> u32
+    ensures { result ≡ (if opening then 0 else parts) }
+{
+    if opening { 0 } else { parts }
+}
 
 // What is told of each operation by itself.
 fn told(alloc: Global, ops: &[CoreOp]) -> Result<Vec<Levels>, AllocError>
@@ -22,9 +29,9 @@ fn told(alloc: Global, ops: &[CoreOp]) -> Result<Vec<Levels>, AllocError>
         let count = here(parts, *op);
         let nest = here(around, *op);
         saved.push(Levels {
-            count: if opening { 0 } else { count },
+            count: in_call(opening, count),
             behind: named(*op),
-            nest: if opening { 0 } else { nest },
+            nest: in_call(opening, nest),
         })?;
         parts = after(count, *op);
         around = inside(nest, *op);

@@ -1,16 +1,16 @@
 -- What a member of a group that divides has at its commit, and where it stands behind it.
-use Rattle.std.proofs.Common.{◌≡◌, ◌≢◌, ℕ, zero, suc, ◌+◌, ◌-◌, ◌*◌, ◌^◌, ◌<◌, ◌≤◌, List, [], ◌∷◌, length, Bool, true, false, Option, Some, None, sym, ap, subst, ◌∙◌, arith, refl, eq-eqb}
+use Rattle.std.proofs.Common.{◌≡◌, ◌≢◌, ℕ, zero, suc, ◌+◌, ◌-◌, ◌*◌, ◌^◌, ◌<◌, ◌≤◌, List, [], ◌∷◌, length, Bool, true, false, Option, Some, None, sym, ap, subst, ◌∙◌, arith, refl}
 use Rattle.std.specs.Prelude.{◌==◌, nat_lt, if◌then◌else◌}
 use Rattle.std.specs.Int.{from_bool}
 use Rattle.std.proofs.lemmas.Bool.{lt-ltb, eqb-true}
-use Rattle.fk_num.specs.Word.{Memory, put, word_sum}
+use Rattle.fk_num.specs.Word.{put}
 use Rattle.fk_num.specs.Op.{applied}
 use Rattle.fk_num.specs.declared.operator.Op.TheVariants as num
 use Rattle.fk_space.specs.Space.{Space, IsSpace, child, equal_part}
 use Rattle.fk_meaning_operation.specs.declared.operation.SplitKind.{SplitKind}
 use Rattle.fk_meaning_operation.specs.declared.operation.SplitKind.TheVariants.{IfAlone, IfElse, AndThen, OrElse, Loop}
 use Rattle.fk_meaning_operation.specs.declared.operation.Operation.TheVariants.{Split}
-use Rattle.fk_meaning.specs.Processor.{Level, Setting, values, last, before, with_values}
+use Rattle.fk_meaning.specs.Processor.{Setting, values, last, before}
 use Rattle.fk_meaning.specs.Group.{taken_by, waits_with, part_number, part_rank, part_level, divided, enters}
 use Rattle.fk_core.specs.declared.op.CoreOp.{CoreOp}
 use Rattle.fk_core.specs.Next.{follows}
@@ -22,13 +22,12 @@ use Rattle.fk_sim_block.specs.Owner.{Owner, number_of}
 use Rattle.fk_sim_block.specs.Stands.{Places, HasValues, local_address, frame_start, frame_end, value_in, zero_register}
 use Rattle.fk_sim_block.specs.Suits.{Flows, nothing}
 use Rattle.fk_sim_block.specs.Block.{Enters}
-use Rattle.fk_sim_block.specs.Node.{Nestings, HasLevelRoom, HasOuter, HasNestings, first_word, control_address, blocks_register}
+use Rattle.fk_sim_block.specs.Node.{Nestings, HasLevelRoom, HasOuter, first_word, control_address, blocks_register}
 use Rattle.fk_sim_block.specs.Lockstep.{IsMember, ComesByWay, LevelsStay, LevelOpens}
 use Rattle.fk_sim_block.specs.Parts.{IsToDivide, part_of, parts_of, is_implicit}
 use Rattle.fk_sim_block.proofs.Spaces.{space_kept}
 use Rattle.fk_gen.specs.Registers.{ra, t0, t3}
 use Rattle.fk_gen.proofs.Values.{values_before, values_put}
-use Rattle.fk_gen.proofs.ValueLines.{operand_is, place_word}
 use Rattle.fk_gen.proofs.Standing.{InMemory, SameRegisters, in_memory, stands_with, with_list, value_written, nothing_written}
 use Rattle.fk_gen_group.specs.Splits.{HasParts, parts_label, one_part_label, split_goes_on}
 use Rattle.fk_gen_group.specs.Laws.{IsInPlace}

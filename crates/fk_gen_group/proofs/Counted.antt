@@ -4,7 +4,7 @@ use Rattle.fk_num.specs.Word.{Memory}
 use Rattle.fk_image.specs.declared.Image.{Image}
 use Rattle.fk_machine.specs.Hart.{Hart, Setting as MachineSetting}
 use Rattle.fk_sim_nodes.specs.Node.{Member, Words, AreApart}
-use Rattle.fk_sim_nodes.specs.Alone.{Holds, RunsPrivately, AllRunPrivately, NodeCycle, later, in_cycles, with_harts}
+use Rattle.fk_sim_nodes.specs.Alone.{Holds, RunsPrivately, AllRunPrivately, NodeCycle, in_cycles, with_harts}
 use Rattle.fk_sim_nodes.specs.Together.{AllTake, Commits, Together}
 use Rattle.fk_sim_nodes.specs.OnePlace.{AllAreAt}
 use Rattle.fk_sim_nodes.proofs.Runs.{cycle_map, private_run}

@@ -1,5 +1,5 @@
 -- A group that divides.
-use Rattle.std.proofs.Common.{◌≡◌, ℕ, ◌+◌, ◌≤◌, List, [], ◌∷◌, length, map, true, None, sym, ap, subst, ◌∙◌, refl}
+use Rattle.std.proofs.Common.{◌≡◌, ℕ, ◌+◌, ◌≤◌, List, [], ◌∷◌, length, map, true, None, sym, ap, subst, ◌∙◌, arith, refl}
 use Rattle.fk_num.specs.Word.{Memory}
 use Rattle.fk_space.specs.Space.{Space, IsSpace}
 use Rattle.fk_meaning_operation.specs.declared.operation.SplitKind.{SplitKind}

@@ -31,7 +31,7 @@ setting = record { processors = 4; globals = 0; inputs = 0 }
 
 -- a memory where word 7 begins the level of the group
 saved : Memory
-saved i = if i == 7 then 3 else if i == 8 then 0x18000000 else if i == 9 then 0x18200000 else 0
+saved i = if i == 7 then 3 else if i == 8 then 0x18000000 else if i == 9 then 0x18200000 else if i == 10 then 0x18000020 else 0
 
 -- processor 2 in the root, in the group of `start`, and in a part of it
 in_level : (index : ℕ) → Level → List Level → Owner
@@ -139,7 +139,7 @@ is_in_part = record {
     body = tt;
     space = (refl, refl);
     outer = (
-      (omega arith, (record { size = refl; node = refl; blocks = refl }, tt), record { number = refl; rank = refl; size = refl }),
+      (omega arith, (record { size = refl; node = refl; blocks = refl; frames = refl }, tt), record { number = refl; rank = refl; size = refl }),
       tt,
     );
   };

@@ -1,5 +1,5 @@
 -- A split without room for its parts.
-use Rattle.std.proofs.Common.{◌≡◌, ℕ, suc, ◌+◌, ◌-◌, ◌*◌, ◌/◌, ◌%◌, ◌^◌, ◌<◌, ◌≤◌, List, [], ◌∷◌, length, true, false, None, sym, ap, subst, ◌∙◌, arith, refl, inr}
+use Rattle.std.proofs.Common.{◌≡◌, ℕ, suc, ◌+◌, ◌*◌, ◌/◌, ◌%◌, ◌^◌, ◌<◌, ◌≤◌, List, [], ◌∷◌, length, true, false, None, ap, subst, ◌∙◌, arith, refl, inr}
 use Rattle.std.proofs.lemmas.Bool.{lt-leb}
 use Rattle.fk_num.specs.Word.{Memory, word, word_sum}
 use Rattle.fk_num.specs.Op.{applied}
@@ -9,7 +9,7 @@ use Rattle.fk_meaning_operation.specs.declared.operation.SplitKind.{SplitKind}
 use Rattle.fk_meaning_operation.specs.declared.operation.SplitKind.TheVariants.{IfAlone, IfElse, AndThen, OrElse, Loop}
 use Rattle.fk_meaning_operation.specs.declared.operation.Operation.TheVariants.{Split}
 use Rattle.fk_meaning.specs.Processor.{Setting, values}
-use Rattle.fk_meaning.specs.Group.{parts, has_parts, has_room}
+use Rattle.fk_meaning.specs.Group.{parts, has_parts}
 use Rattle.fk_core.specs.declared.op.CoreOp.{CoreOp}
 use Rattle.fk_image.specs.declared.Image.{Image}
 use Rattle.fk_isa.specs.declared.instruction.Instruction.TheVariants.{Lui, Jalr, Sw, Addi, Sub}
@@ -28,7 +28,7 @@ use Rattle.fk_sim_nodes.proofs.Members.{together_map}
 use Rattle.fk_sim_nodes.proofs.OneHart.{each_does}
 use Rattle.fk_sim_block.specs.Owner.{Owner, Doing, core_source}
 use Rattle.fk_sim_block.specs.Stands.{Places, zero_register, device_register}
-use Rattle.fk_sim_block.specs.Block.{Enters, most_before}
+use Rattle.fk_sim_block.specs.Block.{Enters}
 use Rattle.fk_sim_block.specs.Node.{Nestings, OwnsHeader, KnowsSpace, control_address, frames_register, blocks_register}
 use Rattle.fk_sim_block.specs.Lockstep.{IsMember, AllEnter}
 use Rattle.fk_sim_block.specs.Parts.{IsToDivide, AllAreToDivide, is_implicit}

@@ -1,5 +1,5 @@
 -- The members of a group that divides into one part.
-use Rattle.std.proofs.Common.{◌≡◌, ◌≢◌, ℕ, zero, suc, ◌+◌, ◌*◌, ◌^◌, ◌<◌, ◌≤◌, List, [], ◌∷◌, ◌++◌, length, map, true, false, Option, Some, None, sym, ap, subst, ◌∙◌, arith, refl}
+use Rattle.std.proofs.Common.{◌≡◌, ◌≢◌, ℕ, zero, suc, ◌+◌, ◌-◌, ◌*◌, ◌^◌, ◌<◌, ◌≤◌, List, [], ◌∷◌, ◌++◌, length, map, true, false, Option, Some, None, sym, ap, subst, ◌∙◌, arith, refl}
 use Rattle.fk_num.specs.Word.{Memory}
 use Rattle.fk_space.specs.Space.{Space, IsSpace, free, equal_part}
 use Rattle.fk_meaning_operation.specs.declared.operation.SplitKind.{SplitKind}
@@ -44,7 +44,7 @@ aside_stays Fork places nestings i target values label aside = aside
 aside_stays IfElse places nestings i target values label aside = absurd (omega arith)
 
 module _ (core : List CoreOp) (image : Image) (bound : ℕ → ℕ) (places : Places) (nestings : Nestings) (i : ℕ) (op : CoreOp) (by : SplitKind)
-    (split : IsSplitInPlace core image bound places nestings i op by) (is : is_implicit by ≡ true) (label : parts_label by ≡ one_part_label)
+    (split : IsSplitInPlace core image bound places nestings i op by) (implicit : is_implicit by ≡ true) (label : parts_label by ≡ one_part_label)
     (setting : Setting) (space : Space) (is_space : IsSpace space) (many : 20 ≤ free space) (cycle0 : MachineSetting) (mine : Words) (first : ℕ)
     (owns : OwnsHeader mine first) (all_own : OwnsSpace mine space)
     (are : AreCounted by space first 1 (λ p. flag_by by (values p.runner.has))) where
@@ -97,7 +97,7 @@ module _ (core : List CoreOp) (image : Image) (bound : ℕ → ℕ) (places : Pl
 
   pub comes : (m : Member) (p : Owner) → Came m p → Comes image cycle0 steps (bound one_part_label + 7) Ready m p
   comes m p came =
-      let front = fronted core image bound places nestings i op by split.place setting cycle0 m p came.enters is in
+      let front = fronted core image bound places nestings i op by split.place setting cycle0 m p came.enters implicit in
       let placed = placed_one core image bound places nestings i op by split.place split.parts setting space 1 is_space cycle0 first m p came.enters came.member came.divides front
       (flag p) (word p) label many front.flag (word_of m p came front (part_of by p) refl) in
       record {
@@ -142,7 +142,7 @@ module _ (core : List CoreOp) (image : Image) (bound : ℕ → ℕ) (places : Pl
             ∙ front.others 0 (λ e. omega arith) (λ e. omega arith) (λ e. omega arith) (λ e. omega arith) ∙ r.came.enters.at.stands.nought;
       })
 
-  other : ◌≢◌ {A = ℕ} 6 5
+  pub other : ◌≢◌ {A = ℕ} 6 5
   other e = omega arith
 
   abbrev pub Counted : Memory → Member → Owner → Type 0
@@ -206,7 +206,7 @@ module _ (core : List CoreOp) (image : Image) (bound : ℕ → ℕ) (places : Pl
         let flag0 = flag_is ∙ are.none p e in
         let runs = wait_runs image bound places split.parts t m.number link op.target op.site holds split.place.block.labels ready.front.back m.hart live linked nought pc flag0 in
         let flows = split.place.fits.goes_on false in
-        let memory = waits_in core image bound places nestings i op setting cycle0 m0 p by split.place is label flows came.enters e in
+        let memory = waits_in core image bound places nestings i op setting cycle0 m0 p by split.place implicit label flows came.enters e in
         let goes = waits core image bound places nestings i op by split.place flows (stays split.aside) setting cycle0 first m0 p came.enters came.member memory hart live
         (local_at core image bound places nestings i op by split.place split.parts setting space 1 is_space cycle0 first m0 p came.enters came.member came.divides ready.front one_part_label 7 steps (word p)
         ready.placed m.hart ended local same)
@@ -241,7 +241,7 @@ module _ (core : List CoreOp) (image : Image) (bound : ℕ → ℕ) (places : Pl
         let ends : space.blocks ≡ word p + equal_part space 1 = omega arith in
         let blocks = level.blocks ∙ known.1 ∙ ap (λ (s : Space). control_address s.blocks) came.divides.space_is ∙ ap control_address ends in
         let entered =
-        has_entered core image bound places nestings i op by place is setting space 1 cycle0 first m0 p came.enters came.member came.divides (suc i) (place.fits.goes_on true) place.stay split.room
+        has_entered core image bound places nestings i op by place implicit setting space 1 cycle0 first m0 p came.enters came.member came.divides (suc i) (place.fits.goes_on true) place.stay split.room
         0 (size p) (word p) hart hart level at_word live refl refl (λ r ne. refl) blocks in
         let goes =
         enters_part core image bound places nestings i op by place setting cycle0 first m0 p came.enters came.member came.divides.group (suc i) (place.fits.goes_on true) place.stay split.room

@@ -1,5 +1,5 @@
 -- What the control words of the parts of a split have when its members have counted.
-use Rattle.std.proofs.Common.{◌≡◌, ℕ, zero, suc, ◌+◌, ◌-◌, ◌*◌, ◌<◌, ◌≤◌, List, [], ◌∷◌, length, Bool, true, false, Option, Some, None, sym, ap, subst, ◌∙◌, arith, refl, inl, inr, eq-eqb}
+use Rattle.std.proofs.Common.{◌≡◌, ℕ, zero, suc, ◌+◌, ◌*◌, ◌<◌, ◌≤◌, List, [], ◌∷◌, length, Bool, true, false, Option, Some, None, sym, ap, subst, ◌∙◌, arith, refl, inl, inr, eq-eqb}
 use Rattle.std.specs.Prelude.{◌==◌, filter, is_some, if◌then◌else◌}
 use Rattle.std.specs.Int.{from_bool}
 use Rattle.std.proofs.lemmas.Bool.{ne_eqb, eqb-true}
@@ -52,6 +52,9 @@ module _ (by : SplitKind) (space : Space) (first k : ℕ) (count : Owner → ℕ
       inl (ne_eqb (word_at space first k (Some j)) (word p) (λ f. are.differ j lt (sym (f ∙ ap (word_at space first k) e))))
   gives_to j lt p (Some l) e = by_same (j == l) refl
     where
+      true_false : true ≡ false → ⊥
+      true_false e = absurd (cc)
+
       inside : l < k
       inside = subst (Within k) e (are.within p)
 
@@ -62,9 +65,6 @@ module _ (by : SplitKind) (space : Space) (first k : ℕ) (count : Owner → ℕ
       by_same false f =
           inl (ne_eqb (word_at space first k (Some j)) (word p)
           (λ g. true_false (sym (eq-eqb j l (are.same j l lt inside (g ∙ ap (word_at space first k) e))) ∙ f)))
-
-      true_false : true ≡ false → ⊥
-      true_false e = absurd (cc)
 
   pub counted_part : (j : ℕ) → j < k → (v : ℕ) (ps : List Owner) → v ≡ 0 → length ps ≤ 1024
       → sum_from v (shares word count (word_at space first k (Some j)) ps) ≡ size_of_part by ps (Some j)

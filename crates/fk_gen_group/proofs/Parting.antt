@@ -1,5 +1,5 @@
 -- Where the members of a group come to count themselves at a split, and how they enter parts.
-use Rattle.std.proofs.Common.{◌≡◌, ◌≢◌, ℕ, zero, suc, ◌+◌, ◌-◌, ◌*◌, ◌/◌, ◌%◌, ◌^◌, ◌<◌, ◌≤◌, List, [], ◌∷◌, ◌++◌, length, true, false, Some, None, sym, ap, subst, ◌∙◌, arith, refl, ◌⊎◌, inl, inr, eq-eqb}
+use Rattle.std.proofs.Common.{◌≡◌, ◌≢◌, ℕ, zero, suc, ◌+◌, ◌-◌, ◌*◌, ◌/◌, ◌%◌, ◌^◌, ◌<◌, ◌≤◌, List, [], ◌∷◌, ◌++◌, length, true, false, None, sym, ap, subst, ◌∙◌, arith, refl, ◌⊎◌, inl, inr, eq-eqb}
 use Rattle.std.specs.Prelude.{◌==◌}
 use Rattle.std.proofs.lemmas.Bool.{le-leb, ne_eqb}
 use Rattle.fk_num.specs.Word.{Memory, put, word_sum}
@@ -39,7 +39,7 @@ use Rattle.fk_gen_group.specs.Splits.{HasParts, no_room, part_lines, parts_label
 use Rattle.fk_gen_group.specs.Laws.{IsInPlace}
 use Rattle.fk_gen_group.proofs.Last.{value_word, is_value}
 use Rattle.fk_gen_group.proofs.Levels.{below_values, lies_below, many_callers, saved_kept, outer_kept}
-use Rattle.fk_gen_group.proofs.Fronts.{Fronted, link_at, memory_by}
+use Rattle.fk_gen_group.proofs.Fronts.{Fronted, memory_by}
 
 -- ---- a part is at its place
 
@@ -275,9 +275,9 @@ module _ (core : List CoreOp) (image : Image) (bound : ℕ → ℕ) (places : Pl
 -- ---- a level is saved
 
 -- a frame begins behind those below it
-pub starts_in : (places : Places) (n : ℕ) → (64 * n ≤ frame_start places n) × (places.frames.of_file ≤ frame_start places n)
-starts_in places zero = (omega arith, omega arith)
-starts_in places (suc n) = (omega arith, omega arith)
+pub starts_in : (places : Places) (n : ℕ) → places.frames.of_file ≤ 56 → (64 * n ≤ frame_start places n) × (places.frames.of_file ≤ frame_start places n)
+starts_in places zero few = (omega arith, omega arith)
+starts_in places (suc n) few = (omega arith, omega arith)
 
 -- words of a frame are written from a level's first word on: those below are kept, and values above
 pub part_in_memory : (core : List CoreOp) (places : Places) (m m' : Memory) (p : Owner) (i i' low : ℕ) (vs : List ℕ) → places.frames.of_file ≤ 56 → length p.runner.has.callers < 256
@@ -290,7 +290,7 @@ pub part_in_memory : (core : List CoreOp) (places : Places) (m m' : Memory) (p :
 part_in_memory core places m m' p i i' low vs few waiting at flows held start words below above values' =
     let n = length p.runner.has.callers in
     let running = subst (λ a. FrameInMemory places m n a p.runner.has.call) at held.running in
-    let begins = starts_in places n in
+    let begins = starts_in places n few in
     record {
       running = record {
         home = flows.main ∙ running.home;
@@ -413,7 +413,7 @@ module _ (core : List CoreOp) (image : Image) (bound : ℕ → ℕ) (places : Pl
       let held : HasValues (value_of m' n) vs =
       values_kept m.hart.local m' n vs (λ x le lt. high x (omega arith)) (values_before (taken_by by) (value_of m.hart.local n) (values p.runner.has) stands.running.values) in
       let listed = with_list core places j vs p in
-      let starts = starts_in places n in
+      let starts = starts_in places n few in
       let memory : InMemory places m' listed =
       part_in_memory core places m.hart.local m' p i j saved_word vs few calls en.index flows (in_memory places p m.hart stands) (omega arith)
       (λ word keeps. let apart = room.apart (omega arith) word keeps in omega arith)
@@ -709,10 +709,10 @@ module _ (image : Image) (bound : ℕ → ℕ) (places : Places) (shared : HasPa
       let aligned : 4 * next % 4 ≡ 0 = omega arith in
       runs_join image t number 8 2 h both_hart first_hart b.0 (
         hc,
-        bne_on image cycle8 number (k + 7 + 1) 28 0 8 both_hart (holds_in_cycles image 8 t holds) bne (omega arith) b.2 (eq-eqb (h.registers t3) (h.registers zero_register) (flag ∙ sym zero_is)),
+        bne_on image cycle8 number (suc (k + 7)) 28 0 8 both_hart (holds_in_cycles image 8 t holds) bne (omega arith) b.2 (eq-eqb (h.registers t3) (h.registers zero_register) (flag ∙ sym zero_is)),
         (
           first_hart,
-          private image (later cycle8) number (k + 7 + 2) (Jalr zero_register ra 16) hc first_hart (holds_in_cycles image 9 t holds) jalr (omega arith) b.2
+          private image (later cycle8) number (suc (suc (k + 7))) (Jalr zero_register ra 16) hc first_hart (holds_in_cycles image 9 t holds) jalr (omega arith) b.2
               (λ x. (x.reserved, jalr_goes (later cycle8) number 0 1 16 (4 * next) hc x to aligned)),
           refl,
         ),
@@ -736,10 +736,10 @@ module _ (image : Image) (bound : ℕ → ℕ) (places : Places) (shared : HasPa
       let differ : (h.registers t3 == h.registers zero_register) ≡ false = ne_eqb (h.registers t3) (h.registers zero_register) (λ f. omega (arith, f, flag, zero_is)) in
       runs_join image t number 8 3 h both_hart second_hart b.0 (
         hc,
-        bne_taken image cycle8 number (k + 7 + 1) 28 0 8 both_hart (holds_in_cycles image 8 t holds) bne (omega arith) b.2 differ (omega arith),
+        bne_taken image cycle8 number (suc (k + 7)) 28 0 8 both_hart (holds_in_cycles image 8 t holds) bne (omega arith) b.2 differ (omega arith),
         (
           hd,
-          private image (later cycle8) number (k + 7 + 3) (Jalr zero_register ra 0) hc hd (holds_in_cycles image 9 t holds) jalr (omega arith) b.2
+          private image (later cycle8) number (suc (suc (suc (k + 7)))) (Jalr zero_register ra 0) hc hd (holds_in_cycles image 9 t holds) jalr (omega arith) b.2
               (λ x. (x.reserved, jalr_goes (later cycle8) number 0 1 0 (4 * link) hc x to aligned)),
           (second_hart, jal_private image bound (later (later cycle8)) number link 0 (label_of target) hd (holds_in_cycles image 10 t holds) back.0 (labels.within (label_of target)) refl b.2, refl),
         ),

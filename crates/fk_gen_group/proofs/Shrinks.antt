@@ -1,5 +1,5 @@
 -- Some members of a part stay in a loop, and the others leave the part.
-use Rattle.std.proofs.Common.{◌≡◌, ◌≢◌, ℕ, zero, suc, ◌+◌, ◌-◌, ◌*◌, ◌^◌, ◌<◌, ◌≤◌, List, [], ◌∷◌, length, map, Bool, true, false, None, sym, ap, subst, ◌∙◌, arith, refl, inl, inr, eq-eqb}
+use Rattle.std.proofs.Common.{◌≡◌, ◌≢◌, ℕ, zero, suc, ◌+◌, ◌*◌, ◌^◌, ◌<◌, ◌≤◌, List, [], ◌∷◌, length, map, Bool, true, false, None, sym, ap, subst, ◌∙◌, arith, refl, inl, inr, eq-eqb}
 use Rattle.std.specs.Prelude.{◌==◌, nat_lt, not, if◌then◌else◌}
 use Rattle.std.specs.Int.{from_bool}
 use Rattle.std.proofs.lemmas.Bool.{ne_eqb, lt-ltb}
@@ -7,7 +7,7 @@ use Rattle.fk_num.specs.Word.{Memory, word_sum}
 use Rattle.fk_num.specs.Op.{applied}
 use Rattle.fk_num.specs.declared.operator.Op.TheVariants as num
 use Rattle.fk_meaning_operation.specs.declared.operation.Operation.TheVariants.{Shrink}
-use Rattle.fk_meaning.specs.Processor.{Level, Setting, values, last, before, drop_last, leave_level, with_values, to_outer}
+use Rattle.fk_meaning.specs.Processor.{Level, Setting, values, last, before, drop_last, leave_level}
 use Rattle.fk_meaning.specs.Group.{has_room, stays, with_size}
 use Rattle.fk_core.specs.declared.op.CoreOp.{CoreOp}
 use Rattle.fk_core.specs.Next.{follows}
@@ -24,17 +24,16 @@ use Rattle.fk_sim_nodes.proofs.Runs.{cycle_map}
 use Rattle.fk_sim_nodes.proofs.Members.{cycle_commits, together_map}
 use Rattle.fk_sim_block.specs.Owner.{Owner, Doing, core_source}
 use Rattle.fk_sim_block.specs.Stands.{Places, HasValues, value_in, zero_register, frame_register, size_register}
-use Rattle.fk_sim_block.specs.Suits.{Flows, nothing}
 use Rattle.fk_sim_block.specs.Block.{Enters}
 use Rattle.fk_sim_block.specs.Node.{Nestings, OwnsHeader, IsAtRest, KnowsSpace, first_word, control_address}
-use Rattle.fk_sim_block.specs.Lockstep.{IsMember, AllEnter, AllComeByWay, ComesByWay, LevelsStay, LevelOpens, highest_value, is_due}
+use Rattle.fk_sim_block.specs.Lockstep.{IsMember, AllEnter, AllComeByWay, ComesByWay, LevelOpens, highest_value, is_due}
 use Rattle.fk_sim_block.specs.Parts.{IsInPart, AreInPart, AllMove, size_behind, size_of_stay}
 use Rattle.fk_sim_block.proofs.Spaces.{space_kept}
 use Rattle.fk_gen.specs.Registers.{t0, t3}
 use Rattle.fk_gen.specs.Lines.{at_private}
 use Rattle.fk_gen.specs.Operands.{operand}
 use Rattle.fk_gen.proofs.Values.{values_before}
-use Rattle.fk_gen.proofs.Walk.{LocalAt, private, runs_join, told_of, can_run_goes}
+use Rattle.fk_gen.proofs.Walk.{LocalAt, private, told_of, can_run_goes}
 use Rattle.fk_gen.proofs.Jumps.{goes_to_pc, bne_taken, bne_on}
 use Rattle.fk_gen.proofs.Standing.{SameRegisters}
 use Rattle.fk_gen_group.specs.Splits.{shrink_goes_on}

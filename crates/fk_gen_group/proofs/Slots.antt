@@ -1,5 +1,5 @@
 -- The levels that the frame of a call saves, and how it gives the last of them back.
-use Rattle.std.proofs.Common.{◌≡◌, ℕ, suc, ◌+◌, ◌-◌, ◌*◌, ◌<◌, ◌≤◌, List, [], ◌∷◌, ◌++◌, length, false, Some, None, sym, ap, subst, ◌∙◌, arith, refl}
+use Rattle.std.proofs.Common.{◌≡◌, ℕ, suc, ◌+◌, ◌-◌, ◌*◌, ◌<◌, ◌≤◌, List, [], ◌∷◌, ◌++◌, length, false, None, sym, ap, subst, ◌∙◌, arith, refl}
 use Rattle.fk_num.specs.Word.{Memory, word_sum}
 use Rattle.fk_meaning_operation.specs.declared.operation.Operation.{Operation}
 use Rattle.fk_meaning.specs.Processor.{Level, Setting, with_values, to_outer}

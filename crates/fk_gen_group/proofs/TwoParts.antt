@@ -8,7 +8,7 @@ use Rattle.fk_space.specs.Space.{Space, IsSpace, free, equal_part}
 use Rattle.fk_meaning_operation.specs.declared.operation.SplitKind.TheVariants.{IfElse}
 use Rattle.fk_meaning_operation.specs.declared.operation.Operation.TheVariants.{Split}
 use Rattle.fk_meaning.specs.Processor.{Setting, values, last}
-use Rattle.fk_meaning.specs.Group.{taken_by, part_level, has_parts, has_room}
+use Rattle.fk_meaning.specs.Group.{part_level, has_parts, has_room}
 use Rattle.fk_core.specs.declared.op.CoreOp.{CoreOp}
 use Rattle.fk_image.specs.declared.Image.{Image}
 use Rattle.fk_machine.specs.Hart.{Hart, Setting as MachineSetting}
@@ -152,7 +152,7 @@ module _ (core : List CoreOp) (image : Image) (bound : ℕ → ℕ) (places : Pl
             ∙ front.others 0 (λ e. omega arith) (λ e. omega arith) (λ e. omega arith) (λ e. omega arith) ∙ r.came.enters.at.stands.nought;
       })
 
-  other : ◌≢◌ {A = ℕ} 6 5
+  pub other : ◌≢◌ {A = ℕ} 6 5
   other e = omega arith
 
   abbrev pub Counted : Memory → Member → Owner → Type 0

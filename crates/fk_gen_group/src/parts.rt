@@ -1,6 +1,6 @@
 //! The code that all splits into one part share, and all splits into two.
 
-ghost use Rattle.std.specs.Prelude.{◌≡◌, ◌+◌, ◌^◌, ◌<◌, OnOk, length};
+ghost use Rattle.std.specs.Prelude.{◌≡◌, ◌+◌, ◌^◌, ◌<◌, ◌++◌, OnOk, length};
 ghost use Rattle.fk_asm.specs.Assembly.{AreFollowed};
 ghost use Rattle.fk_asm.specs.Block.{with_block};
 ghost use Rattle.fk_gen_group.specs.Splits.{one_part_lines, two_parts_lines, one_part_place};
@@ -33,6 +33,16 @@ pub fn emit_one_part(into: &mut Assembler) -> Result<(), AllocError>
 {
     emit_one_place(into)?;
     emit_counting(into, T3)?;
+    emit_ways(into)
+}
+
+// Who waits goes back, and who enters goes on to the part.
+fn emit_ways(into: &mut Assembler) -> Result<(), AllocError>
+    requires room { length into.old.lines + 10 < 2 ^ 30 }
+    requires free { AreFollowed into.old }
+    ensures added { OnOk result
+        (into.new ≡ with_block into.old (waiting_lines ++ (saving_lines ++ into_one_part))) }
+{
     emit_waiting(into)?;
     emit_saving(into)?;
     emit_into_one(into)

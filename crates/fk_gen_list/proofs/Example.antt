@@ -9,7 +9,7 @@ use Rattle.fk_core.specs.Next.{is_jump, behind_jump}
 use Rattle.fk_core.specs.Numbers.{operation_of}
 use Rattle.fk_sim_block.specs.Stands.{Frames, HasRoom}
 use Rattle.fk_sim_block.specs.Suits.{Flows, Fits, Suits}
-use Rattle.fk_gen_group.specs.Blocks.{is_group_step}
+use Rattle.fk_gen_group.specs.Blocks.{is_group_step, HasLevelWords}
 use Rattle.fk_sim_block.specs.Lockstep.{values_of_step}
 use Rattle.fk_gen_list.specs.Generable.{HasOwnBlock, HasBlocks, has_target, IsGenerable}
 use Rattle.fk_gen_list.specs.Laws.{StepsHaveValues}
@@ -75,7 +75,7 @@ room index values few = record { header = omega arith; kept = λ word keeps. abs
 suits : Suits core frames 0
 suits = record {
   begins = refl;
-  none = refl;
+  none = λ number. refl;
   few = omega arith;
   jumps = λ i op stands jump. flows i op.target;
   fits = λ i op operation stands.
@@ -120,7 +120,7 @@ blocks = record {
       i op (Enter n) stands.stands stands.is_read refl;
 }
 
-pub is_generable : IsGenerable core [] 0 []
+pub is_generable : IsGenerable core [] [] 0 []
 is_generable = record {
   blocks = blocks;
   operations = λ i op at jump. are_operations i op at;
@@ -129,6 +129,10 @@ is_generable = record {
   suits = suits;
   keeps = λ index word keeps. absurd (cc);
   of_file = refl;
+  levels = λ i op operation stands.
+      each (λ i op operation. HasLevelWords (Some operation) (record { count = 0; behind = 0; nest = 0 }))
+      (omega arith) (omega arith) (omega arith) (omega arith) (omega arith)
+      i op operation stands.stands stands.is_read;
   words = All-from_recursion (λ (op : CoreOp). (op.site < 2 ^ 32) × (op.number < 2 ^ 32)) core
       ((omega arith, omega arith), ((omega arith, omega arith), ((omega arith, omega arith), ((omega arith, omega arith), ((omega arith, omega arith), tt)))));
   first_words = All-nil (λ v. v < 2 ^ 32);

@@ -141,7 +141,8 @@ module _ (core : List CoreOp) (image : Image) (bound : ℕ → ℕ) (places : Pl
 
   end_by : (i : ℕ) (op : CoreOp) (lowest size : ℕ) → OpAt core i op End → (start : Bool) → (nestings.levels i == 0) ≡ start
       → EndTogether core image places nestings i op (if start then 6 else 4) lowest size
-  end_by i op lowest size stands true e = groups_end core image bound places nestings i op lowest size (in_place i op End stands refl) (levels.ends i op stands).start
+  end_by i op lowest size stands true e setting t mine first ms ps own owns all inside =
+      groups_end core image bound places nestings i op lowest size (in_place i op End stands refl) (levels.ends i op stands).start setting t mine first ms ps own owns all inside
   end_by i op lowest size stands false e setting t mine first [] [] own owns all inside = record { counted = tt; chain = (refl, (tt, refl)) }
   end_by i op lowest size stands false e setting t mine first (m ∷ ms) (p ∷ ps) own owns all inside = no_level i p.runner.left.at e inside.0.none.0 all.0.index
   end_by i op lowest size stands false e setting t mine first ms ps own owns all inside = absurd (assumption all)
@@ -153,8 +154,9 @@ module _ (core : List CoreOp) (image : Image) (bound : ℕ → ℕ) (places : Pl
 
   part_by : (i : ℕ) (op : CoreOp) → OpAt core i op End → (start : Bool) → (nestings.levels i == 0) ≡ start
       → EndsPart core image places nestings i op (λ onward. if start then 6 else 4)
-  part_by i op stands false e = parts_end core image bound places nestings i op (in_place i op End stands refl) (levels.ends i op stands).part
-  part_by i op stands true e setting t mine first [] [] own owns all inside = record { counted = tt; chain = (refl, (tt, refl)) }
+  part_by i op stands false e setting t mine first ms ps own owns all inside =
+      parts_end core image bound places nestings i op (in_place i op End stands refl) (levels.ends i op stands).part setting t mine first ms ps own owns all inside
+  part_by i op stands true e setting t mine first [] [] own owns all inside = record { counted = tt; chain = (refl, tt, refl) }
   part_by i op stands true e setting t mine first (m ∷ ms) (p ∷ ps) own owns all inside = a_level i p.runner.left.at e inside.0.saved all.0.index
   part_by i op stands true e setting t mine first ms ps own owns all inside = absurd (assumption all)
 

@@ -1,5 +1,5 @@
 -- The opening of an image: each hart begins in the root.
-use Rattle.std.specs.Prelude.{◌≡◌, ℕ, List, true, None}
+use Rattle.std.specs.Prelude.{◌≡◌, ℕ, List, true, false}
 use Rattle.fk_core.specs.declared.op.CoreOp.{CoreOp}
 use Rattle.fk_image.specs.declared.Image.{Image}
 use Rattle.fk_sim_block.specs.Stands.{Places}

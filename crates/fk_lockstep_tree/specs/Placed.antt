@@ -67,7 +67,7 @@ module _ {W : Type 0} (next : W → Option (Step W)) (set : Setting) where
         → IsPlaced spaces s.tree h r
     pub ranges : HaveRanges set s.tree spaces
 
-  -- so it is with the words that the lowest members tell
+  -- a state is in the tree with the words that the lowest members tell
   abbrev pub HasTree : State W → Type 0
   HasTree s = IsInTree (ranges_of s) s
 

@@ -34,7 +34,8 @@ module _ {W : Type 0} (next : W → Option (Step W)) (set : Setting) (round : Ro
     pub single : IsSingle round
     pub possible : is_possible next set round s ≡ true
 
-  -- and one space, which has words of its own
+  -- a round of this kind in which the members of a group have one space, each processor has words
+  -- of a space in its level, and the tree after it is sound
   pub record IsRoundInSpaces : Type 0 where
     pub base : IsRound
     pub one_space : MembersHaveOneSpace s

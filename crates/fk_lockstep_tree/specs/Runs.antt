@@ -40,8 +40,8 @@ module _ {W X : Type 0} (next : W → Option (Step W)) (place : W → X) where
     pub tree : HasTree next set s
     pub beginners : BeginAtOne next place s
 
-  -- so it is after every schedule of possible rounds of this kind, if the words for groups are a
-  -- space
+  -- processors stand in the tree after every schedule of possible rounds of this kind, if the words
+  -- for groups are a space
   abbrev pub AlwaysInTree : (program : W) → Type 0
   AlwaysInTree program =
       (processors : ℕ) (globals firsts input : List ℕ) (schedule : Schedule)

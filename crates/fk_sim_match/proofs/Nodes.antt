@@ -11,21 +11,7 @@ use Rattle.fk_sim_nodes.specs.Node.{OwnApart}
 use Rattle.fk_sim_match.specs.Plan.{IsOpen}
 use Rattle.fk_sim_block.specs.Node.{root_words}
 use Rattle.fk_sim_match.specs.Nodes.{first_of, own_words, owns, HaveSpaces, meeters_at, is_arrival, owner_among, meeters_by, is_arrival_by, plan_of}
-use Rattle.fk_sim_match.specs.Laws.{OneGroupHasSpace, NodesOwnApart, TellsMeeters, WordsTellMeeters}
-
-pub one_group_has_space : OneGroupHasSpace
-one_group_has_space tree spaces group one =
-    let header = one.space.header in
-    let ordered = one.space.ordered in
-    let within = one.space.within in
-    let shared = one.space.shared in
-    record {
-      header = λ g ne some. subst (λ k. (spaces k).low + 8 ≤ (spaces k).high) (sym (one.only g ne some)) (omega (arith, header, ordered, within));
-      within = λ g ne some. subst (λ k. (spaces k).high ≤ root_words) (sym (one.only g ne some)) shared;
-      waits = λ g ne some. let is = one.part g ne some in ap (λ k. is_waiting (t.kind tree k)) is.0 ∙ is.1;
-      nested = λ g ne some up. absurd (up (one.part g ne some).0);
-      apart = λ g k ne ne' differ some some' same. absurd (differ (one.only g ne some ∙ sym (one.only k ne' some')));
-    }
+use Rattle.fk_sim_match.specs.Laws.{NodesOwnApart, TellsMeeters, WordsTellMeeters}
 
 pub few_arrivals : (offset : ℕ) → is_arrival offset ≡ true → offset < 8
 few_arrivals zero is = omega arith

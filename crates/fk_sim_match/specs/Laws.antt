@@ -1,8 +1,8 @@
 -- Laws of the plan of a tree.
 use Rattle.std.specs.Prelude.{◌≡◌, ◌≢◌, ℕ, ◌+◌, ◌<◌, ◌==◌, List, length, true, false, None, is_some}
 use Rattle.fk_num.specs.Word.{Memory}
-use Rattle.fk_space.specs.Space.{Space, IsSpace}
-use Rattle.fk_tree.specs.Tree.{Tree, parent, kind, is_member, is_waiting}
+use Rattle.fk_space.specs.Space.{Space}
+use Rattle.fk_tree.specs.Tree.{Tree, is_member}
 use Rattle.fk_meaning.specs.Processor.{Setting}
 use Rattle.fk_core.specs.declared.op.CoreOp.{CoreOp}
 use Rattle.fk_image.specs.declared.Image.{Image}
@@ -19,17 +19,6 @@ use Rattle.fk_sim_block.specs.Stands.{Places}
 use Rattle.fk_sim_block.specs.Node.{Nestings}
 use Rattle.fk_sim_match.specs.Nodes.{first_of, owns, HaveSpaces, meeters_at, is_arrival, plan_of}
 use Rattle.fk_sim_match.specs.Behind.{blocks_of, joining_blocks_of}
-
--- a tree has one group at most, with a space, and the root waits for it
-pub record HasOneGroup (tree : Tree) (spaces : ℕ → Space) (group : ℕ) : Type 0 where
-  pub only : (g : ℕ) → g ≢ 0 → is_some (tree.nodes g) ≡ true → g ≡ group
-  pub part : (g : ℕ) → g ≢ 0 → is_some (tree.nodes g) ≡ true
-      → (parent tree g ≡ 0) × (is_waiting (kind tree 0) ≡ true)
-  pub space : IsSpace (spaces group)
-
-abbrev pub OneGroupHasSpace : Type 0
-OneGroupHasSpace = (tree : Tree) (spaces : ℕ → Space) (group : ℕ) → HasOneGroup tree spaces group
-    → HaveSpaces tree spaces
 
 abbrev pub NodesOwnApart : Type 0
 NodesOwnApart = (tree : Tree) (spaces : ℕ → Space) → HaveSpaces tree spaces

@@ -14,7 +14,7 @@ ghost use Rattle.fk_sim_match.specs.Standing.{MeetersSetOut, StartersSetOut, Gro
 ghost use Rattle.fk_sim_match.specs.Standing.{GroupsStepTogether, GroupsEndTogether};
 ghost use Rattle.fk_sim_match.specs.Standing.{GroupsDivideTogether, GroupsShrinkTogether};
 ghost use Rattle.fk_sim_match.specs.Standing.{GroupsStartTogether};
-ghost use Rattle.fk_sim_match.specs.Laws.{OneGroupHasSpace, NodesOwnApart, WordsTellMeeters};
+ghost use Rattle.fk_sim_match.specs.Laws.{NodesOwnApart, WordsTellMeeters};
 ghost use Rattle.fk_sim_match.specs.Laws.{MeetersTurn, CyclesAreRounds, UnownedWordsStay};
 
 /// Where a plan binds all nodes, a cycle of the machine is a whole round, or a round up to its
@@ -73,11 +73,6 @@ pub fn who_is_near_acts()
 /// time for it, all act in one round within that number.
 pub fn who_meets_acts()
     ensures { WhoMeetsActs }
-{}
-
-/// While the root has one group at most, the spaces of all groups are apart.
-pub fn one_group_has_space()
-    ensures { OneGroupHasSpace }
 {}
 
 /// No control word belongs to two nodes.

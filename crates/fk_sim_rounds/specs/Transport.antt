@@ -29,7 +29,7 @@ OtherSpacesDontMatter =
     → GoesWith core image places nestings setting spaces s nodes printed stages m
     → GoesWith core image places nestings setting spaces' s nodes printed stages m
 
--- So it is with a state whose processors are in lockstep at the beginning of `start`.
+-- The same holds of a state whose processors are in lockstep at the beginning of `start`.
 abbrev pub UnitedSpacesDontMatter : Type 0
 UnitedSpacesDontMatter =
     (core : List CoreOp) (image : Image) (places : Places) (nestings : Nestings) (setting : Setting)

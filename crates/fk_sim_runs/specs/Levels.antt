@@ -41,7 +41,7 @@ module _ (core : List CoreOp) (main : ℕ) (local : HasLocalFrames core main) wh
     pub groups : length r.has.outer ≡ parts_in (landing core r.left.at ∷ r.left.callers)
     pub calls : AllStandAt (landing core r.left.at ∷ r.left.callers)
 
--- So it is in every run of a list in which only groups split.
+-- This holds in every run of a list in which only groups split.
 abbrev pub LevelsAreTold : Type 0
 LevelsAreTold =
     (core : List CoreOp) (main : ℕ) (local : HasLocalFrames core main)

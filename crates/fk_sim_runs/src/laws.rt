@@ -39,13 +39,14 @@ pub fn reached_ranges_stay()
     ensures { ReachedRangesStay }
 {}
 
-/// In every run the frame of each call of a processor has the levels of the parts that it is in.
+/// In every run of a list in which only groups split a processor has as many levels around its own
+/// as its calls are in parts.
 pub fn levels_are_told()
     ensures { LevelsAreTold }
 {}
 
-/// In every run each processor has the nests that its position tells, where the list tells them. The
-/// words of its groups are spaces, and the frames of its calls begin where the nests say.
+/// In every run each processor has the nests that its position tells, where the list tells them.
+/// The words of its groups are spaces, and the frames of its calls begin where the nests say.
 pub fn reached_states_have_nests()
     ensures { ReachedStatesHaveNests }
 {}
@@ -101,8 +102,8 @@ pub fn runs_reach_rounds()
     runs_reach();
 }
 
-/// After a round of a machine the tree is sound and its nodes own words apart, who enters a part has
-/// those of its node, and a processor that has committed goes on, by itself and in its group.
+/// After a round of a machine the tree is sound and its nodes own words apart, who enters a part
+/// has those of its node, and a processor that has committed goes on, by itself and in its group.
 pub fn reached_rounds_go_on()
     ensures { ReachedRoundsGoOn }
 {}
@@ -208,9 +209,9 @@ pub fn starts_go_further()
 {}
 
 /// A machine of an image that has the law of blocks of groups follows a lawful schedule of the core
-/// runs of a list whose processors go through groups, parts and bodies, one round for each cycle, in
-/// which a processor that could act acts within any 256 rounds. Its output, shared data and status,
-/// a fault at a site included, are those of that core run.
+/// runs of a list whose processors go through groups, parts and bodies, one round for each cycle,
+/// in which a processor that could act acts within any 256 rounds. Its output, shared data and
+/// status, a fault at a site included, are those of that core run.
 ///
 /// This holds for every input, 1 to 1,024 harts and every number of cycles.
 pub fn machines_follow_trees()

@@ -1,7 +1,7 @@
 -- Each meeting is the block of its operation.
-use Rattle.std.proofs.Common.{Some, OnErr, ap, sym, subst, ◌∙◌}
+use Rattle.std.proofs.Common.{◌≡◌, All, Some, OnOk, OnErr, ap, sym, subst, ◌∙◌}
 use Rattle.fk_meaning_operation.specs.declared.operation.Operation.TheVariants.{Meet}
-use Rattle.fk_asm.specs.Block.{HasBegun}
+use Rattle.fk_asm.specs.Block.{GoesToMade, HasBegun, with_block}
 use Rattle.fk_gen_group.specs.Blocks.{block_by}
 use Rattle.fk_gen_group.proofs.blocks.GroupBlocksBlocksPlaced.emit_op.Goals as goal
 
@@ -19,3 +19,18 @@ pub returns-in-Some-Meet-false-clause-begun : goal.returns-in-Some-Meet-false-cl
 returns-in-Some-Meet-false-clause-begun c =
     subst (λ o. OnErr c.meet-in-Some-Meet-false.result (HasBegun (block_by o c.args.op.now.levels c.args.op.now.op.depth c.args.op.now.op.target c.args.op.now.op.site) c.args.into.now c.meet-in-Some-Meet-false.new.into))
     (ap (λ b. Some (Meet b)) (sym c.in-Some-Meet-false.field-0-0-test) ∙ ap Some (sym c.in-Some-Meet-false.field-0-is) ∙ c.in-Some-Meet-false.ensures) c.meet-in-Some-Meet-false.ensures.begun
+
+pub shrink-requires-clause-labels : goal.shrink-requires-clause-labels
+shrink-requires-clause-labels c =
+    subst (λ o. All (GoesToMade c.args.into.now.bound) (block_by o c.args.op.now.levels c.args.op.now.op.depth c.args.op.now.op.target c.args.op.now.op.site))
+    (sym (ap Some (sym c.in-Some-Shrink.field-0-is) ∙ c.in-Some-Shrink.ensures)) c.requires.labels
+
+pub returns-in-Some-Shrink-clause-added : goal.returns-in-Some-Shrink-clause-added
+returns-in-Some-Shrink-clause-added c =
+    subst (λ o. OnOk c.shrink.result (c.shrink.new.into ≡ with_block c.args.into.now (block_by o c.args.op.now.levels c.args.op.now.op.depth c.args.op.now.op.target c.args.op.now.op.site)))
+    (ap Some (sym c.in-Some-Shrink.field-0-is) ∙ c.in-Some-Shrink.ensures) c.shrink.ensures.added
+
+pub returns-in-Some-Shrink-clause-begun : goal.returns-in-Some-Shrink-clause-begun
+returns-in-Some-Shrink-clause-begun c =
+    subst (λ o. OnErr c.shrink.result (HasBegun (block_by o c.args.op.now.levels c.args.op.now.op.depth c.args.op.now.op.target c.args.op.now.op.site) c.args.into.now c.shrink.new.into))
+    (ap Some (sym c.in-Some-Shrink.field-0-is) ∙ c.in-Some-Shrink.ensures) c.shrink.ensures.begun
