@@ -59,7 +59,7 @@ module _ (place_of : ℕ → FunctionKind) (frame_of : ℕ → Option ℕ) where
     none = λ f. refl;
   }
 
-  abbrev loop_of : Option t.Loop → Option (Loop values)
+  abbrev pub loop_of : Option t.Loop → Option (Loop values)
   loop_of None = None
   loop_of (Some loop) = Some (record { turn = loop.turn; left = loop.left; even = loop.even })
 

@@ -67,7 +67,7 @@ adds_none o.Seq quits = absurd (false≢true (quits refl))
 adds_none op quits = refl
 
 pub not_either : (op : Operation) (way : Way) → way_of op ≡ way → (way ≡ w.either → ⊥) → nests op ≡ 0
-not_either op way is no = adds_none op (λ e. absurd (no (sym is ∙ e)))
+not_either op way is other = adds_none op (λ e. absurd (other (sym is ∙ e)))
 
 pub in_group : (op : Operation) (p : Place) → nests op ≡ 0 → IsInGroup op p
 in_group (o.Split by) p none = absurd (cc)
@@ -110,11 +110,11 @@ in_part nests number has = by (number == suc (nesting nests)) has
     by false has' = has'
 
 pub none_begins : (number : ℕ) → has_frame (OfFunction None ∷ []) number ≡ false
-none_begins number = by (number == 0)
+none_begins number = by (number == 0) None refl
   where
-    by : (b : Bool) → is_some (if b then None else None) ≡ false
-    by true = refl
-    by false = refl
+    by : (b : Bool) (frame : Option ℕ) → frame ≡ None → is_some (if b then frame else None) ≡ false
+    by true frame e = ap (λ (f : Option ℕ). is_some f) e
+    by false frame e = refl
 
 -- what it has outside of a part it has in it
 around_part : (nests : List Nest) → IsInPart nests → (number : ℕ) → has_frame (tail nests) number ≡ true → has_frame nests number ≡ true

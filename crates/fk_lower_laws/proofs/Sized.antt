@@ -226,7 +226,12 @@ module _ (firsts : ℕ) (place_of : ℕ → FunctionKind) (frame_of : ℕ → Op
           → Judged sizing (around_of l) (sized s W M N) code (sized e W M N)
       all_sized done inside l s e m n who resuming part closing x p shape at room stand deep t h low parts = record { state = t; words = refl; most = refl; nested = refl }
       all_sized (perform site op rest) inside l s e m n who resuming part closing x p shape at room stand deep t h low parts =
-          (one_may op s m (plain_of op (performs p.0)) t.0 h.0 room low.0 (omega (arith, stand.is, deep)) parts.0, by p.0)
+          (
+            one_may op s m (plain_of op (performs p.0)) t.0 h.0 room low.0 (omega (arith, stand.is, deep)) parts.0,
+            by p.0 (λ a.
+            all_sized rest inside l (behind op true s) e m n who false part false x p.1 (goes_on (ends_part op) (no_end op a) shape.2) at.1 (moved op true s room)
+            (straight_on who op s.place n a stand) deep t.1 h.1 (low_behind op true s rest low.1) parts.1),
+          )
         where
           performs : (way_of op ≡ w.straight) ⊎ ((way_of op ≡ w.onto) × (is_done rest ≡ true)) → (way_of op ≡ w.straight) ⊎ (way_of op ≡ w.onto)
           performs (inl a) = inl a
@@ -240,11 +245,10 @@ module _ (firsts : ℕ) (place_of : ℕ → FunctionKind) (frame_of : ℕ → Op
           goes_on true a either = absurd (true≢false a)
           goes_on false a either = either
 
-          by : (way_of op ≡ w.straight) ⊎ ((way_of op ≡ w.onto) × (is_done rest ≡ true)) → Judged sizing (around_of l) (sized (behind op true s) W M N) rest (sized e W M N)
-          by (inl a) =
-              all_sized rest inside l (behind op true s) e m n who false part false x p.1 (goes_on (ends_part op) (no_end op a) shape.2) at.1 (moved op true s room)
-              (straight_on who op s.place n a stand) deep t.1 h.1 (low_behind op true s rest low.1) parts.1
-          by (inr a) = nothing_sized rest a.1 l (behind op true s) e t.1
+          by : (way_of op ≡ w.straight) ⊎ ((way_of op ≡ w.onto) × (is_done rest ≡ true)) → (way_of op ≡ w.straight → Judged sizing (around_of l) (sized (behind op true s) W M N) rest (sized e W M N))
+              → Judged sizing (around_of l) (sized (behind op true s) W M N) rest (sized e W M N)
+          by (inl a) more = more a
+          by (inr a) more = nothing_sized rest a.1 l (behind op true s) e t.1
       all_sized (choose site op a b rest) inside l s e m n who resuming part closing x p shape at room stand deep t h low parts =
           let u = t.1 in
           let two = ways s.place n who op at.1 t.0.place stand in
@@ -265,7 +269,9 @@ module _ (firsts : ℕ) (place_of : ℕ → FunctionKind) (frame_of : ℕ → Op
             sized u W M N,
             all_sized a inside l (behind op true s) u (m + nests op) n' (who_in who op) false (splits op) false (of_way op x) p.1 shape.2 at.2 (moved op true s room) two.first
                 (omega (arith, more, deep)) t.2 h.1 lx parts.1,
-            second two.second (omega (arith, more, deep)),
+            second two.second (λ stand' is.
+            all_sized b inside l (behind op false s) u (m + nests op) n' (who_in who op) false (has_two_parts op) false (of_way op x) p.2 shape.3 at.3 (moved op false s room)
+            stand' (omega (arith, more, deep)) t.3 h.2 (low_behind op false s b (low.2 is)) parts.2),
             all_sized rest inside l u e m n who (splits op) part (opens_body op) x p.3 shape.6 at.5 (stood u.place s.place t.5 room) (stand_at who u.place s.place n t.5 stand) deep t.4 h.3 lr parts.3,
             t.5,
           )
@@ -274,16 +280,15 @@ module _ (firsts : ℕ) (place_of : ℕ → FunctionKind) (frame_of : ℕ → Op
           added (o.Split by) = omega arith
           added op' = omega arith
 
-          second : Stand (who_in who op) (place_behind op false s.place) (after n (Some op)) ⊎ (waits op ≡ true) → after n (Some op) ≤ m + nests op
+          second : Stand (who_in who op) (place_behind op false s.place) (after n (Some op)) ⊎ (waits op ≡ true)
+              → (Stand (who_in who op) (place_behind op false s.place) (after n (Some op)) → is_done b ≡ false → Judged sizing (around_of l) (sized (behind op false s) W M N) b (sized t.1 W M N))
               → Judged sizing (around_of l) (sized (behind op false s) W M N) b (sized t.1 W M N)
-          second (inr waiting) fits = nothing_sized b (ap is_done (shape.4 waiting)) l (behind op false s) t.1 t.3
-          second (inl stand') fits = by (is_done b) refl
+          second (inr waiting) go = nothing_sized b (ap is_done (shape.4 waiting)) l (behind op false s) t.1 t.3
+          second (inl stand') go = by (is_done b) refl
             where
               by : (empty : Bool) → is_done b ≡ empty → Judged sizing (around_of l) (sized (behind op false s) W M N) b (sized t.1 W M N)
               by true is = nothing_sized b is l (behind op false s) t.1 t.3
-              by false is =
-                  all_sized b inside l (behind op false s) t.1 (m + nests op) (after n (Some op)) (who_in who op) false (has_two_parts op) false (of_way op x) p.2 shape.3 at.3 (moved op false s room)
-                  stand' fits t.3 h.2 (low_behind op false s b (low.2 is)) parts.2
+              by false is = go stand' is
       all_sized (while test body step rest) inside l s e m n who resuming part closing x p shape at room stand deep t h low parts =
           let c = t.0 in
           let r = c.turn in
@@ -298,7 +303,10 @@ module _ (firsts : ℕ) (place_of : ℕ → FunctionKind) (frame_of : ℕ → Op
             all_sized test true (Some c) r r m n (inner who) false false false (of_test shape.1) p.2 shape.2 at.1 room' turn' deep t.2 h.0 (low_at test first low.0) parts.0,
             all_sized body true (Some c) r r m n (inner who) false false false (of_turn shape.1 x) p.3 shape.3 at.2 room' turn' deep t.3 h.1 (low_at body second low.1) parts.1,
             all_sized step true (Some c) r r m n (inner who) false false false none p.4 shape.4 at.3 room' turn' deep t.4 h.2 (low_at step third low.2) parts.2,
-            behind_it t.6 (onward shape.1 shape.5),
+            behind_it t.6 (onward shape.1 shape.5) (λ same shape'.
+            let back : c.left.place ≡ s.place = same ∙ sym g.place in
+            all_sized rest inside l c.left e m n who false part false x p.5 shape' at.4 (stood c.left.place s.place back room) (stand_at who c.left.place s.place n back stand) deep t.5 h.3
+            (low_at rest (leads step (Some c) r r t.4 third ∙ sym c.even) low.3) parts.3),
             t.6,
           )
         where
@@ -307,14 +315,11 @@ module _ (firsts : ℕ) (place_of : ℕ → FunctionKind) (frame_of : ℕ → Op
           onward false a = inl a
 
           behind_it : (t.0.left.place ≡ t.0.turn.place) ⊎ (is_done rest ≡ true) → (Shape part false x rest) ⊎ (is_done rest ≡ true)
+              → (t.0.left.place ≡ t.0.turn.place → Shape part false x rest → Judged sizing (around_of l) (sized t.0.left W M N) rest (sized e W M N))
               → Judged sizing (around_of l) (sized t.0.left W M N) rest (sized e W M N)
-          behind_it (inr is) shape' = nothing_sized rest is l t.0.left e t.5
-          behind_it (inl same) (inr is) = nothing_sized rest is l t.0.left e t.5
-          behind_it (inl same) (inl shape') =
-              let back : t.0.left.place ≡ s.place = same ∙ sym t.1.place in
-              all_sized rest inside l t.0.left e m n who false part false x p.5 shape' at.4 (stood t.0.left.place s.place back room) (stand_at who t.0.left.place s.place n back stand) deep t.5 h.3
-              (low_at rest (leads step (Some t.0) t.0.turn t.0.turn t.4 (leads body (Some t.0) t.0.turn t.0.turn t.3 (leads test (Some t.0) t.0.turn t.0.turn t.2 (as_long s.values t.0.turn.values t.1.values))) ∙ sym t.0.even) low.3)
-              parts.3
+          behind_it (inr is) shape' go = nothing_sized rest is l t.0.left e t.5
+          behind_it (inl same) (inr is) go = nothing_sized rest is l t.0.left e t.5
+          behind_it (inl same) (inl shape') go = go same shape'
       all_sized (until body test rest) inside l s e m n who resuming part closing x p shape at room stand deep t h low parts =
           let c = t.0 in
           let r = c.turn in
@@ -327,7 +332,10 @@ module _ (firsts : ℕ) (place_of : ℕ → FunctionKind) (frame_of : ℕ → Op
             record { state = g; words = refl; most = refl; nested = refl },
             all_sized body true (Some c) r r m n (inner who) false false false (of_turn shape.1 x) p.1 shape.3 at.1 room' turn' deep t.2 h.0 (low_at body first low.0) parts.0,
             all_sized test true (Some c) r r m n (inner who) false false false (of_test shape.1) p.2 shape.2 at.2 room' turn' deep t.3 h.1 (low_at test second low.1) parts.1,
-            behind_it t.5 (onward shape.1 shape.4),
+            behind_it t.5 (onward shape.1 shape.4) (λ same shape'.
+            let back : c.left.place ≡ s.place = same ∙ sym g.place in
+            all_sized rest inside l c.left e m n who false part false x p.3 shape' at.3 (stood c.left.place s.place back room) (stand_at who c.left.place s.place n back stand) deep t.4 h.2
+            (low_at rest (leads test (Some c) r r t.3 second ∙ sym c.even) low.2) parts.2),
             t.5,
           )
         where
@@ -336,14 +344,11 @@ module _ (firsts : ℕ) (place_of : ℕ → FunctionKind) (frame_of : ℕ → Op
           onward false a = inl a
 
           behind_it : (t.0.left.place ≡ t.0.turn.place) ⊎ (is_done rest ≡ true) → (Shape part false x rest) ⊎ (is_done rest ≡ true)
+              → (t.0.left.place ≡ t.0.turn.place → Shape part false x rest → Judged sizing (around_of l) (sized t.0.left W M N) rest (sized e W M N))
               → Judged sizing (around_of l) (sized t.0.left W M N) rest (sized e W M N)
-          behind_it (inr is) shape' = nothing_sized rest is l t.0.left e t.4
-          behind_it (inl same) (inr is) = nothing_sized rest is l t.0.left e t.4
-          behind_it (inl same) (inl shape') =
-              let back : t.0.left.place ≡ s.place = same ∙ sym t.1.place in
-              all_sized rest inside l t.0.left e m n who false part false x p.3 shape' at.3 (stood t.0.left.place s.place back room) (stand_at who t.0.left.place s.place n back stand) deep t.4 h.2
-              (low_at rest (leads test (Some t.0) t.0.turn t.0.turn t.3 (leads body (Some t.0) t.0.turn t.0.turn t.2 (as_long s.values t.0.turn.values t.1.values)) ∙ sym t.0.even) low.2)
-              parts.2
+          behind_it (inr is) shape' go = nothing_sized rest is l t.0.left e t.4
+          behind_it (inl same) (inr is) go = nothing_sized rest is l t.0.left e t.4
+          behind_it (inl same) (inl shape') go = go same shape'
       all_sized (turn a b c rest) inside l s e m n who resuming part closing x p shape at room stand deep t h low parts = absurd t
       all_sized (again a b c rest) inside l s e m n who resuming part closing x p shape at room stand deep t h low parts = absurd t
       all_sized (quit site op rest) inside l s e m n who resuming part closing x p shape at room stand deep t h low parts = (
