@@ -145,8 +145,10 @@ module _ (core : List CoreOp) (entry : ℕ → ℕ) (may_call : (in_group : Bool
       let stand' = stand_at OfBody (place r) (place_behind op true (place s)) none (keeps.behind op true s) (straight_on OfBody op (place s) none shape.0 stand) in
       let more = opened rest l r e (suc i) k n who shape.1 placed.1 t.1 there stand' onward in
       let far : i + suc (0 + extent true rest) ≡ suc i + extent true rest = omega arith in (
-        ((opening_told i n (act m op (aim (way_of op) k)) h.0 f ∙ sym stand.is, act_says i m op (aim (way_of op) k) s h.0 (says_straight op (place s) shape.0)),
-        subst (λ (b : Bool). AreRight (suc i) (skip_mark b r ++ marks sys true l r rest e t.1)) (sym g) more.0),
+        (
+          (opening_told i n (act m op (aim (way_of op) k)) h.0 f ∙ sym stand.is, act_says i m op (aim (way_of op) k) s h.0 (says_straight op (place s) shape.0)),
+          subst (λ (b : Bool). AreRight (suc i) (skip_mark b r ++ marks sys true l r rest e t.1)) (sym g) more.0,
+        ),
         ap (λ (b : Bool). come (i + suc (gap b + extent true rest))) g ∙ ap come far ∙ more.1,
       )
   opened (choose m op x y rest) l s e i k n who shape placed t h stand f = absurd shape
@@ -316,9 +318,11 @@ module _ (core : List CoreOp) (entry : ℕ → ℕ) (may_call : (in_group : Bool
       let stand_u = stand_at who (place u) (place s) n (keeps.stands u s t.5) stand in
       let others = walk rest near c l u e q.behind k n' n who (splits op) in_loop part (opens_body op) x in_split shaped.3 shape.6 placed.5 t.4 has.others shrinks.2 deep stand_u two.behind seconds.1 in
       let far : i + suc (gap q.here + extent q.beside x' + extent q.after y + extent near rest) ≡ q.behind + extent near rest = omega arith in (
-        ((act_told i site m op (label c q.second q.next y) h.0 f ∙ mine ∙ sym stand.is, act_says i site op (label c q.second q.next y) s h.0 two.says),
-        right_both (suc i) q.behind ((js ++ xs) ++ ys) zs (omega arith)
-            (right_both (suc i) q.second (js ++ xs) ys (omega arith) (right_both (suc i) q.first js xs (omega arith) before.0 firsts.0) seconds.0) others.0),
+        (
+          (act_told i site m op (label c q.second q.next y) h.0 f ∙ mine ∙ sym stand.is, act_says i site op (label c q.second q.next y) s h.0 two.says),
+          right_both (suc i) q.behind ((js ++ xs) ++ ys) zs (omega arith)
+              (right_both (suc i) q.second (js ++ xs) ys (omega arith) (right_both (suc i) q.first js xs (omega arith) before.0 firsts.0) seconds.0) others.0,
+        ),
         moved (q.behind + extent near rest) (i + suc (gap q.here + extent q.beside x' + extent q.after y + extent near rest)) n far others.1,
       )
   walk (while test body last rest) near c l s e i k m n who resuming in_loop part closing x in_split shaped shape placed t h shrinks deep stand fits f =
@@ -411,10 +415,12 @@ module _ (core : List CoreOp) (entry : ℕ → ℕ) (may_call : (in_group : Bool
       let ls = skip_length q.here r in
       let e1 = length-append os (en ∷ skip_mark q.here r) in
       let far : i + suc (suc (extent true opening + gap q.here + extent near rest)) ≡ q.behind + extent near rest = omega arith in (
-        ((act_told i site m op (entry function) h.0 f ∙ mine.0 ∙ same ∙ sym stand.is, act_says i site op (entry function) s h.0 (says_into op (place s) shaped.0)),
-        right_both (suc i) q.behind (os ++ (en ∷ skip_mark q.here r)) rs (omega arith)
-            (right_both (suc i) q.back os (en ∷ skip_mark q.here r) (omega arith) openings.0 ((opening_told q.back n (jump (entry function)) has.jumps.0 openings.1 ∙ sym inside'.is, jump_says q.back (entry function) en has.jumps.0), before.0))
-            others.0),
+        (
+          (act_told i site m op (entry function) h.0 f ∙ mine.0 ∙ same ∙ sym stand.is, act_says i site op (entry function) s h.0 (says_into op (place s) shaped.0)),
+          right_both (suc i) q.behind (os ++ (en ∷ skip_mark q.here r)) rs (omega arith)
+              (right_both (suc i) q.back os (en ∷ skip_mark q.here r) (omega arith) openings.0 ((opening_told q.back n (jump (entry function)) has.jumps.0 openings.1 ∙ sym inside'.is, jump_says q.back (entry function) en has.jumps.0), before.0))
+              others.0,
+        ),
         moved (q.behind + extent near rest) (i + suc (suc (extent true opening + gap q.here + extent near rest))) n far others.1,
       )
   walk (ends site op rest) near c l s e i k m n who resuming in_loop part closing x in_split shaped shape placed t h shrinks deep stand fits f =

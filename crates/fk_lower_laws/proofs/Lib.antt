@@ -47,3 +47,4 @@ pub mod Room
 mod Heights
 pub mod TallLists
 pub mod Lists
+mod Shrinking

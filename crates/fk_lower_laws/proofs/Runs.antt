@@ -15,7 +15,7 @@ use Rattle.fk_core_liveness.specs.Frames.{is_main_place}
 use Rattle.fk_lockstep_structure.specs.Placed.{OfGroup, OfBody, OfMain}
 use Rattle.fk_lockstep_structure.specs.InPlace.{FunctionsInPlace}
 use Rattle.fk_lockstep_structure.proofs.Programs.{numbers, function_in_place}
-use Rattle.fk_core_counting.specs.Laws.{ShrinksIn, IsRun}
+use Rattle.fk_core_counting.specs.Laws.{IsRun}
 use Rattle.fk_check_laws.specs.Correct.{IsCorrect}
 use Rattle.fk_check_laws.specs.Valid.{may_run, callable, may_call}
 use Rattle.fk_check_laws.proofs.Declared.{function_number}
@@ -23,8 +23,8 @@ use Rattle.fk_check_laws.proofs.Each.{Each}
 use Rattle.fk_check_laws.proofs.PlacedPrograms.{correct_programs_stand_in_place}
 use Rattle.fk_lower_laws.specs.Asked.{place_by, place_in, place_of}
 use Rattle.fk_lower_laws.specs.TypedLaws.{IsMainAlone}
+use Rattle.fk_lower_laws.proofs.Shrinking.{function_shrinks}
 use Rattle.fk_lower_laws.proofs.Programs.{IsThere, all_there, main_alone}
-use Rattle.fk_lower_laws.proofs.Shrinking.{code_shrinks, numbered_shrinks}
 
 module _ (program : ProgramTree) (facts : Facts) (valid : IsCorrect program facts) where
   abbrev tables : Tables
@@ -42,10 +42,6 @@ module _ (program : ProgramTree) (facts : Facts) (valid : IsCorrect program fact
   abbrev Runs : FunctionTree → ℕ → Type 0
   Runs f first = IsRun calls (place_by f) (numbered first (code_of tables everyone f))
 
-  -- its loops that members leave one by one are parts of their own
-  turns : (f : FunctionTree) (first : ℕ) → ShrinksIn false (numbered first (code_of tables everyone f))
-  turns f first = numbered_shrinks false first (code_of tables everyone f) (code_shrinks tables everyone f)
-
   -- a function by its mode
   of_mode : (f : FunctionTree) (gs : List FunctionTree) → FunctionsInPlace tables calls main (f ∷ gs) → is_main f ≡ false
       → ((in_group : Bool) → calls in_group (binding_of tables f) ≡ may_run in_group f.mode) → (first : ℕ) (mode : Mode) → f.mode ≡ mode → Runs f first
@@ -57,12 +53,12 @@ module _ (program : ProgramTree) (facts : Facts) (valid : IsCorrect program fact
       alone : may_run false f.mode ≡ true → Runs f first
       alone may =
           let g = h.1 (runs false ∙ may) in
-          record { who = OfBody; placed = numbers calls OfBody false (code_of tables everyone f) first (function_in_place tables calls everyone OfBody false f g.0 refl g.1); by_main = λ other. called; shrinks = turns f first }
+          record { who = OfBody; placed = numbers calls OfBody false (code_of tables everyone f) first (function_in_place tables calls everyone OfBody false f g.0 refl g.1); by_main = λ other. called; shrinks = function_shrinks tables everyone calls false OfBody f g.1 first }
 
       by : (mode' : Mode) → f.mode ≡ mode' → Runs f first
       by Sync e' =
           let g = h.0 (runs true ∙ ap (may_run true) e') in
-          record { who = OfGroup; placed = numbers calls OfGroup false (code_of tables everyone f) first (function_in_place tables calls everyone OfGroup false f g.0 refl g.1); by_main = λ other. called; shrinks = turns f first }
+          record { who = OfGroup; placed = numbers calls OfGroup false (code_of tables everyone f) first (function_in_place tables calls everyone OfGroup false f g.0 refl g.1); by_main = λ other. called; shrinks = function_shrinks tables everyone calls false OfGroup f g.1 first }
       by Async e' = alone (ap (may_run false) e')
       by Straight e' = alone (ap (may_run false) e')
 
@@ -76,7 +72,7 @@ module _ (program : ProgramTree) (facts : Facts) (valid : IsCorrect program fact
             who = OfMain true;
             placed = numbers calls (OfMain true) false (code_of tables everyone f) first (function_in_place tables calls everyone (OfMain true) true f g.0 refl g.1);
             by_main = λ other. absurd (true≢false other);
-            shrinks = turns f first;
+            shrinks = function_shrinks tables everyone calls true (OfMain true) f g.1 first;
           }
       by false e =
           of_mode f gs h e
