@@ -14,10 +14,10 @@ ghost use Rattle.fk_lower_laws.specs.HeightLaws.{ListsHaveHeights};
 ghost use Rattle.fk_lower_laws.specs.Laws.{CorrectListsAreSteady, CorrectListsHaveFrames};
 ghost use Rattle.fk_lower_laws.specs.Laws.{LoweredListsCanHaveGroups};
 
-/// The code of a program whose parts, bodies and loops are nested is well typed, if there is a value
-/// wherever one is needed, and a place where something is assigned, each call has its arguments,
-/// each word of a group frame is named where the frame is taken, the frame of each part is on its
-/// level, and each `start` is one of the statements of `main`.
+/// The code of a program whose parts, bodies and loops are nested is well typed, if there is a
+/// value wherever one is needed, and a place where something is assigned, each call has its
+/// arguments, each word of a group frame is named where the frame is taken, the frame of each part
+/// is on its level, and each `start` is one of the statements of `main`.
 pub fn forms_are_typed()
     ensures { FormsAreTyped }
 {}
