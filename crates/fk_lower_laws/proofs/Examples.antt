@@ -1,6 +1,6 @@
 -- A program that is as it is asked: struct pair { int a; int b; }; sh int x; sh struct pair q; int f(int n) { return n; }
 -- void main(void) { int i; for (;;) break; q.b = f(2); x += *&x; putint(x); start farm barrier; }
-use Rattle.std.proofs.Common.{◌≡◌, ℕ, true, false, inl, inr, List, [], ◌∷◌, Some, None, refl, subst}
+use Rattle.std.proofs.Common.{◌≡◌, ℕ, true, false, inl, inr, [], ◌∷◌, Some, None, refl, subst}
 use Rattle.std.specs.Prelude.{codes}
 use Rattle.std.proofs.lemmas.Bool.{false≢true}
 use Rattle.std.proofs.lemmas.Option.{same_Some}

@@ -38,7 +38,6 @@ use Rattle.fk_lower.specs.Depths.{AreTold}
 use Rattle.fk_lower_text.specs.Depths.{depths_of}
 use Rattle.fk_layout.specs.Refusal.{Fits}
 use Rattle.fk_parse_laws.specs.Trim.{ProgramIsTrim}
-use Rattle.fk_compile_text.specs.Plain.{ArePlain}
 use Rattle.fk_core_flat.specs.Fitting.{ProgramFits}
 use Rattle.fk_check_laws.specs.Correct.{IsCorrect}
 use Rattle.fk_core_typing.specs.Typed.{AreTyped}

@@ -1,5 +1,5 @@
 -- Loops shrink only in the parts of splits: a loop whose test ends with a shrink is the part of one.
-use Rattle.std.proofs.Common.{◌≡◌, ℕ, suc, ◌+◌, Bool, true, false, true≢false, List, [], ◌∷◌, Option, Some, None, refl, sym, ap, ◌∙◌, subst}
+use Rattle.std.proofs.Common.{◌≡◌, ℕ, suc, ◌+◌, Bool, true, false, true≢false, List, [], ◌∷◌, Option, Some, None, refl, sym, ◌∙◌}
 use Rattle.std.specs.Prelude.{if◌then◌else◌, is_some}
 use Rattle.fk_syntax.specs.declared.place.Place.{Place}
 use Rattle.fk_syntax.specs.declared.place.Spot.{Spot}
@@ -21,7 +21,7 @@ use Rattle.fk_meaning_forms.specs.Statements.{Inside, is_nothing, is_scalar, use
 use Rattle.fk_meaning_forms.specs.Program.{signature_in, is_main, code_of}
 use Rattle.fk_meaning.proofs.Kept.{entered}
 use Rattle.fk_lockstep.proofs.Kept as k
-use Rattle.fk_lockstep.proofs.Kept.{SharesAgree, all_agree, IsKept}
+use Rattle.fk_lockstep.proofs.Kept.{all_agree, IsKept}
 use Rattle.fk_lockstep_structure.specs.Placed.{Who, OfGroup, OfBody, is_group, inner}
 use Rattle.fk_lockstep_structure.specs.InPlace.{Splits, Calls, InPlace, OptionInPlace, VariablesInPlace, StatementInPlace, StatementsInPlace, BodyInPlace}
 use Rattle.fk_core_counting.specs.Laws.{under, ShrinksIn}

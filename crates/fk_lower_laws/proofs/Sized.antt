@@ -1,20 +1,19 @@
 -- What is known of values, and the room in a function's frame, as one system of states.
-use Rattle.std.proofs.Common.{◌≡◌, ◌⊎◌, ℕ, suc, ◌+◌, ◌*◌, ◌≤◌, Bool, true, false, true≢false, length, Option, None, Some, inl, inr, refl, sym, ap, ◌∙◌, subst, arith}
+use Rattle.std.proofs.Common.{◌≡◌, ◌⊎◌, ℕ, ◌+◌, ◌*◌, ◌≤◌, Bool, true, false, true≢false, length, Option, None, Some, inl, inr, refl, sym, ap, ◌∙◌, subst, arith}
 use Rattle.fk_meaning_operation.specs.declared.operation.Operation.{Operation}
 use Rattle.fk_meaning_operation.specs.declared.operation.Operation.TheVariants as o
 use Rattle.fk_layout_sizes.specs.Operations.{takes, nests}
 use Rattle.fk_meaning_forms.specs.Code.{Code, done, perform, choose, while, until, turn, again, quit, break, continue, call, ends}
-use Rattle.fk_meaning.specs.Shape.{Exits, none, of_way, of_test, of_turn, splits, has_two_parts, waits, is_quit, ends_part, Either, Shape}
+use Rattle.fk_meaning.specs.Shape.{Exits, none, of_way, of_test, of_turn, splits, has_two_parts, waits, ends_part, Either, Shape}
 use Rattle.fk_meaning.specs.Behind.{opens_body}
 use Rattle.fk_meaning.proofs.Spine.{untrue}
 use Rattle.fk_core_liveness.specs.declared.places.FunctionKind.{FunctionKind}
 use Rattle.fk_core_liveness.specs.declared.places.FunctionKind.TheVariants.{Called}
-use Rattle.fk_core_liveness.specs.Frames.{is_main_place}
 use Rattle.fk_core_flat.specs.Items as w
 use Rattle.fk_core_flat.specs.Items.{way_of}
 use Rattle.fk_core_flat.specs.Shape.{is_done, IsOpening, IsShaped}
 use Rattle.fk_core_counting.proofs.Folding.{Parts, past}
-use Rattle.fk_lockstep_structure.specs.Placed.{Who, OfGroup, OfBody, OfMain, is_group, is_main, inner, who_in, may_choose, Placed}
+use Rattle.fk_lockstep_structure.specs.Placed.{Who, OfGroup, OfBody, OfMain, inner, who_in, may_choose, Placed}
 use Rattle.fk_core_counting.proofs.Ways.{Stand, stand_at, stand_inner, straight_on, out_on, ways}
 use Rattle.fk_core_typing.specs.Values.{Place, with_frame, entered, place_behind, State, bare, behind, behind_call, MayBeIn, May, Grants}
 use Rattle.fk_core_typing.specs.Typed as t

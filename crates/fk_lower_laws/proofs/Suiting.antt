@@ -1,7 +1,7 @@
 -- Flat lists of well typed code with room in frames suit frames that hold their live words, and have room for the levels of parts.
 use Rattle.std.proofs.Common.{◌≡◌, ℕ, zero, suc, ◌+◌, ◌-◌, ◌*◌, ◌<◌, ◌≤◌, Bool, true, false, List, [], length, slice_get, Option, Some, None, inl, inr, refl, sym, ap, ◌∙◌, subst, arith}
-use Rattle.std.specs.Prelude.{◌&&◌, not, is_some, nat_lt, ◌⊎◌, if◌then◌else◌}
-use Rattle.std.proofs.lemmas.Bool.{ltb-true, lt-ltb, eqb-true, and_parts, false≢true}
+use Rattle.std.specs.Prelude.{◌&&◌, not, nat_lt, ◌⊎◌, if◌then◌else◌}
+use Rattle.std.proofs.lemmas.Bool.{ltb-true, lt-ltb, eqb-true, and_parts}
 use Rattle.fk_meaning_operation.specs.declared.operation.Operation.{Operation}
 use Rattle.fk_meaning_operation.specs.declared.operation.Operation.TheVariants as o
 use Rattle.fk_meaning_operation.specs.declared.operation.OwnValue.{OwnValue}
@@ -36,7 +36,6 @@ use Rattle.fk_core_typing.proofs.Knowing.{label_done, same_function}
 use Rattle.fk_core_typing.proofs.Listed.{state, at_end, entries, of_jump, of_operation}
 use Rattle.fk_core_typing.proofs.Listed as listed
 use Rattle.fk_lower_laws.specs.Rooms.{HasWord, ahead_in, HaveRoom}
-use Rattle.fk_lockstep_frames.specs.Nests.{Nest, OfFunction}
 use Rattle.fk_core_levels.specs.Count.{counts, read}
 use Rattle.fk_core_levels.specs.Behind.{up_to, named, goes_on, goes_on_by, leads_by, leads}
 use Rattle.fk_core_counting.specs.Laws.{IsRun}
