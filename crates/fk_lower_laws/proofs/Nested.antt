@@ -101,20 +101,13 @@ frame_named nests number word has = by (frame_at nests number) has
     by None has' = absurd (false≢true has')
     by (Some words) has' = refl
 
--- a part has no frame yet, and a function that begins has none
+-- a part has no frame yet
 in_part : (nests : List Nest) (number : ℕ) → has_frame (OfPart None ∷ nests) number ≡ true → has_frame nests number ≡ true
 in_part nests number has = by (number == suc (nesting nests)) has
   where
     by : (b : Bool) → is_some (if b then None else frame_at nests number) ≡ true → has_frame nests number ≡ true
     by true has' = absurd (false≢true has')
     by false has' = has'
-
-pub none_begins : (number : ℕ) → has_frame (OfFunction None ∷ []) number ≡ false
-none_begins number = by (number == 0) None refl
-  where
-    by : (b : Bool) (frame : Option ℕ) → frame ≡ None → is_some (if b then frame else None) ≡ false
-    by true frame e = ap (λ (f : Option ℕ). is_some f) e
-    by false frame e = refl
 
 -- what it has outside of a part it has in it
 around_part : (nests : List Nest) → IsInPart nests → (number : ℕ) → has_frame (tail nests) number ≡ true → has_frame nests number ≡ true

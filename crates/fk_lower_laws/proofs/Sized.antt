@@ -13,7 +13,7 @@ use Rattle.fk_core_liveness.specs.Frames.{is_main_place}
 use Rattle.fk_core_flat.specs.Items as w
 use Rattle.fk_core_flat.specs.Items.{way_of}
 use Rattle.fk_core_flat.specs.Shape.{is_done, IsOpening, IsShaped}
-use Rattle.fk_core_levels.specs.Count.{after}
+use Rattle.fk_core_counting.proofs.Folding.{Parts, past}
 use Rattle.fk_lockstep_structure.specs.Placed.{Who, OfGroup, OfBody, OfMain, is_group, is_main, inner, who_in, may_choose, Placed}
 use Rattle.fk_core_counting.proofs.Ways.{Stand, stand_at, stand_inner, straight_on, out_on, ways}
 use Rattle.fk_core_typing.specs.Values.{Place, with_frame, entered, place_behind, State, bare, behind, behind_call, MayBeIn, May, Grants}
@@ -112,6 +112,9 @@ module _ (firsts : ℕ) (place_of : ℕ → FunctionKind) (frame_of : ℕ → Op
   stays : (op : Operation) (onward : Bool) (p : Place) (m : ℕ) → nests op ≡ 0 → MayBeIn op p → levels_in p ≤ m → levels_in (place_behind op onward p) ≤ m
   stays op onward p m none may low = let more = levels_behind op onward p may in omega (arith, more, none, low)
 
+  low_stand : (who : Who) (p : Place) (k : Parts) (m : ℕ) → Stand who p k → k.levels ≤ m → levels_in p ≤ m
+  low_stand who p k m stand deep = let e : levels_in p ≡ k.levels = ap (λ (x : Parts). x.levels) stand.is in omega (arith, e, deep)
+
   plain_of : (op : Operation) → (way_of op ≡ w.straight) ⊎ (way_of op ≡ w.onto) → nests op ≡ 0
   plain_of op (inl e) = not_either op w.straight e (λ f. cc)
   plain_of op (inr e) = not_either op w.onto e (λ f. cc)
@@ -206,7 +209,7 @@ module _ (firsts : ℕ) (place_of : ℕ → FunctionKind) (frame_of : ℕ → Op
       }
 
       -- in a group a split is in a part, also in `main`
-      divides : (who : Who) (op : Operation) (p : Place) (n : ℕ) → may_choose who op ≡ true → Stand who p n → IsInGroup op p
+      divides : (who : Who) (op : Operation) (p : Place) (n : Parts) → may_choose who op ≡ true → Stand who p n → IsInGroup op p
       divides OfGroup (o.Split by) p n may stand = λ main. stand.within refl main
       divides OfBody (o.Split by) p n may stand = untrue may
       divides (OfMain b) (o.Split by) p n may stand = untrue may
@@ -220,14 +223,14 @@ module _ (firsts : ℕ) (place_of : ℕ → FunctionKind) (frame_of : ℕ → Op
           (λ t'. record { state = t'; words = refl; most = refl; nested = refl }) t
 
       -- the judgements together
-      pub all_sized : (code : Code ℕ) (inside : Bool) (l : Option t.Loop) (s e : State) (m n : ℕ) (who : Who) (resuming part closing : Bool) (x : Exits)
-          → IsShaped has_body inside code → Shape part closing x code → Placed may_call who resuming code → Room s.place.function → Stand who s.place n → n ≤ m
+      pub all_sized : (code : Code ℕ) (inside : Bool) (l : Option t.Loop) (s e : State) (m : ℕ) (n : Parts) (who : Who) (resuming part closing : Bool) (x : Exits)
+          → IsShaped has_body inside code → Shape part closing x code → Placed may_call who resuming code → Room s.place.function → Stand who s.place n → n.levels ≤ m
           → Typed place_of frame_of l s code e → HasWords firsts words most W code → HasFew place_of M (length s.values) code → HasParts N m code
           → Judged sizing (around_of l) (sized s W M N) code (sized e W M N)
       all_sized done inside l s e m n who resuming part closing x p shape at room stand deep t h low parts = record { state = t; words = refl; most = refl; nested = refl }
       all_sized (perform site op rest) inside l s e m n who resuming part closing x p shape at room stand deep t h low parts =
           (
-            one_may op s m (plain_of op (performs p.0)) t.0 h.0 room low.0 (omega (arith, stand.is, deep)) parts.0,
+            one_may op s m (plain_of op (performs p.0)) t.0 h.0 room low.0 (low_stand who s.place n m stand deep) parts.0,
             by p.0 (λ a.
             all_sized rest inside l (behind op true s) e m n who false part false x p.1 (goes_on (ends_part op) (no_end op a) shape.2) at.1 (moved op true s room)
             (straight_on who op s.place n a stand) deep t.1 h.1 (low_behind op true s rest low.1) parts.1),
@@ -252,7 +255,7 @@ module _ (firsts : ℕ) (place_of : ℕ → FunctionKind) (frame_of : ℕ → Op
       all_sized (choose site op a b rest) inside l s e m n who resuming part closing x p shape at room stand deep t h low parts =
           let u = t.1 in
           let two = ways s.place n who op at.1 t.0.place stand in
-          let n' = after n (Some op) in
+          let n' = past (Some op) n in
           let more = added op in
           let most_here = parts_here a (m + nests op) parts.1 in
           let lx = low_behind op true s a low.1 in
@@ -262,8 +265,8 @@ module _ (firsts : ℕ) (place_of : ℕ → FunctionKind) (frame_of : ℕ → Op
               there = h.0;
               room = room;
               low = low.0;
-              few = omega (arith, stand.is, deep, parts.0);
-              further = λ onward. (let next = levels_behind op onward s.place t.0.place in omega (arith, next, stand.is, deep, most_here));
+              few = (let here = low_stand who s.place n m stand deep in omega (arith, here, parts.0));
+              further = λ onward. (let next = levels_behind op onward s.place t.0.place in let here = low_stand who s.place n m stand deep in omega (arith, next, here, most_here));
               grouped = divides who op s.place n at.1 stand;
             },
             sized u W M N,
@@ -276,12 +279,12 @@ module _ (firsts : ℕ) (place_of : ℕ → FunctionKind) (frame_of : ℕ → Op
             t.5,
           )
         where
-          added : (op' : Operation) → after n (Some op') ≤ n + nests op'
+          added : (op' : Operation) → (past (Some op') n).levels ≤ n.levels + nests op'
           added (o.Split by) = omega arith
           added op' = omega arith
 
-          second : Stand (who_in who op) (place_behind op false s.place) (after n (Some op)) ⊎ (waits op ≡ true)
-              → (Stand (who_in who op) (place_behind op false s.place) (after n (Some op)) → is_done b ≡ false → Judged sizing (around_of l) (sized (behind op false s) W M N) b (sized t.1 W M N))
+          second : Stand (who_in who op) (place_behind op false s.place) (past (Some op) n) ⊎ (waits op ≡ true)
+              → (Stand (who_in who op) (place_behind op false s.place) (past (Some op) n) → is_done b ≡ false → Judged sizing (around_of l) (sized (behind op false s) W M N) b (sized t.1 W M N))
               → Judged sizing (around_of l) (sized (behind op false s) W M N) b (sized t.1 W M N)
           second (inr waiting) go = nothing_sized b (ap is_done (shape.4 waiting)) l (behind op false s) t.1 t.3
           second (inl stand') go = by (is_done b) refl
@@ -352,7 +355,7 @@ module _ (firsts : ℕ) (place_of : ℕ → FunctionKind) (frame_of : ℕ → Op
       all_sized (turn a b c rest) inside l s e m n who resuming part closing x p shape at room stand deep t h low parts = absurd t
       all_sized (again a b c rest) inside l s e m n who resuming part closing x p shape at room stand deep t h low parts = absurd t
       all_sized (quit site op rest) inside l s e m n who resuming part closing x p shape at room stand deep t h low parts = (
-        one_may op s m (adds_none op (λ e'. shape.1)) t.0 h.0 room low.0 (omega (arith, stand.is, deep)) parts.0,
+        one_may op s m (adds_none op (λ e'. shape.1)) t.0 h.0 room low.0 (low_stand who s.place n m stand deep) parts.0,
         leaves l (behind op false s) t.1,
         nothing_sized rest (ap is_done shape.5) l (behind op true s) e t.2,
       )
@@ -364,7 +367,7 @@ module _ (firsts : ℕ) (place_of : ℕ → FunctionKind) (frame_of : ℕ → Op
           let b = behind_call (takes op) t.1 s in
           let none' = not_either op w.into p.0 (λ z. cc) in
           let lr = low_at rest (called_rises place_of op f t.1 s t.2) low.1 in (
-            one_may op s m none' t.0 (there_call op p.0) room low.0 (omega (arith, stand.is, deep)) parts.0,
+            one_may op s m none' t.0 (there_call op p.0) room low.0 (low_stand who s.place n m stand deep) parts.0,
             t.1,
             record { place = t.2; few = h.1 },
             opened f t.1 t.2 opening (bare (entered (Called t.1))) (bare (with_frame (Called t.1) (frame_of f))) refl t.3 p.2 (omega arith) 0 refl h.0,
@@ -372,7 +375,7 @@ module _ (firsts : ℕ) (place_of : ℕ → FunctionKind) (frame_of : ℕ → Op
           )
       all_sized (ends site op rest) inside l s e m n who resuming part closing x p shape at room stand deep t h low parts =
           let none' = not_either op w.out p.0 (λ z. cc) in (
-            one_may op s m none' t.0 h.0 room low.0 (omega (arith, stand.is, deep)) parts.0,
+            one_may op s m none' t.0 h.0 room low.0 (low_stand who s.place n m stand deep) parts.0,
             t.1,
             all_sized rest inside l (behind op true s) e m n who false part false x p.1 shape.3 at.2 (moved op true s room) (out_on who op s.place n p.0 stand) deep t.2 h.1 (low_behind op true s rest low.1)
                 parts.1,

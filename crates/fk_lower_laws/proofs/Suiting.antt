@@ -1,5 +1,5 @@
 -- Flat lists of well typed code with room in frames suit frames that hold their live words, and have room for the levels of parts.
-use Rattle.std.proofs.Common.{◌≡◌, ℕ, suc, ◌+◌, ◌-◌, ◌*◌, ◌<◌, ◌≤◌, Bool, true, false, List, [], length, slice_get, Option, Some, None, inl, inr, refl, sym, ap, ◌∙◌, subst, arith}
+use Rattle.std.proofs.Common.{◌≡◌, ℕ, zero, suc, ◌+◌, ◌-◌, ◌*◌, ◌<◌, ◌≤◌, Bool, true, false, List, [], length, slice_get, Option, Some, None, inl, inr, refl, sym, ap, ◌∙◌, subst, arith}
 use Rattle.std.specs.Prelude.{◌&&◌, not, is_some, nat_lt, ◌⊎◌, if◌then◌else◌}
 use Rattle.std.proofs.lemmas.Bool.{ltb-true, lt-ltb, eqb-true, and_parts, false≢true}
 use Rattle.fk_meaning_operation.specs.declared.operation.Operation.{Operation}
@@ -42,18 +42,13 @@ use Rattle.fk_core_levels.specs.Behind.{up_to, named, goes_on, goes_on_by, leads
 use Rattle.fk_core_counting.specs.Laws.{IsRun}
 use Rattle.fk_core_counting.proofs.Lists.{levels_told}
 use Rattle.fk_core_counting.proofs.Walk.{KeepsPlaces}
-use Rattle.fk_core_counting.proofs.Ways.{Stand}
-use Rattle.fk_core_counting.proofs.Folding.{none_read}
+use Rattle.fk_core_counting.proofs.Ways.{stand_begun}
+use Rattle.fk_core_counting.proofs.Folding.{none, none_read}
 use Rattle.fk_lower_laws.specs.Suiting.{LiveWordsSuit}
 use Rattle.fk_lower_laws.specs.Levels.{levels_in, Rooms, HasRoomFor, GoesTo, Enters, GoesOn, FitsRoom, HasRooms}
-use Rattle.fk_lower_laws.proofs.Nested.{has_frame, frame_named, frame_taken, none_begins, had_before, takes_frame}
+use Rattle.fk_lower_laws.proofs.Nested.{has_frame, frame_named, frame_taken, had_before, takes_frame}
 use Rattle.fk_lower_laws.proofs.Sized.{Sized, sized, granted, sizing, sizing_lawful, all_sized}
 use Rattle.fk_lower_laws.proofs.Living.{behind_either, kept_before, read_before, jump_before}
-
--- a function begins without levels
-none_yet : (kind : FunctionKind) (frame : Option ℕ) → levels_in (with_frame kind frame) ≡ 0
-none_yet Main frame = refl
-none_yet (Called gives) frame = refl
 
 module _ (bodies : ℕ → Code ℕ) (core : List CoreOp) (entry : ℕ → ℕ) (place_of : ℕ → FunctionKind) (frame_of : ℕ → Option ℕ) (firsts : ℕ)
     (may_call : (in_group : Bool) → (function : ℕ) → Bool) (typed : IsTypedList bodies core entry place_of frame_of) (tall : HasHeightsOf bodies core place_of)
@@ -64,14 +59,11 @@ module _ (bodies : ℕ → Code ℕ) (core : List CoreOp) (entry : ℕ → ℕ) 
   abbrev lawful : IsLawful sys place_of
   lawful = sizing_lawful firsts place_of frame_of fit.words fit.most fit.nested
 
-  stand : (f : ℕ) → Stand (run f).who (with_frame (place_of f) (frame_of f)) 0
-  stand f = record { is = none_yet (place_of f) (frame_of f); within = λ other main. absurd (false≢true (sym ((run f).by_main other) ∙ main)) }
-
   judged : (f : ℕ) → (end : Sized) × Judged sys None (sys.first f) (bodies f) end
   judged f = (
     sized (typed.typed f).0 (fit.words f) (fit.most f) (fit.nested f),
     all_sized firsts place_of frame_of fit.words fit.most fit.nested fit.room may_call (λ g. is_closed (bodies g)) (fit.words f) (fit.most f) (fit.nested f) (bodies f) false None
-        (bare (with_frame (place_of f) (frame_of f))) (typed.typed f).0 0 0 (run f).who false false false of_function (typed.shaped f).0 (nested f) (run f).placed (fit.room f) (stand f) (omega arith)
+        (bare (with_frame (place_of f) (frame_of f))) (typed.typed f).0 0 none (run f).who false false false of_function (typed.shaped f).0 (nested f) (run f).placed (fit.room f) (stand_begun (run f).who (place_of f) (frame_of f) (run f).by_main) (omega arith)
         (typed.typed f).1 (fit.own f) (fit.few f) (fit.parts f),
   )
 
@@ -180,18 +172,13 @@ module _ (bodies : ℕ → Code ℕ) (core : List CoreOp) (entry : ℕ → ℕ) 
     frames = record {
       keeps = keeps;
       is_main = λ index. is_main_place (at index).state.place.function;
-      group = λ index number. has_frame (at index).state.place.nests number && nat_lt number 4;
+      group = λ index. has_frame (at index).state.place.nests 0;
       of_file = firsts;
     }
 
-    -- where a call goes on, it has the frames of the state in which it comes there
-    has_there : (s : Sized) (j number : ℕ) → ComesTo s j → has_frame (at j).state.place.nests number ≡ true → has_frame s.state.place.nests number ≡ true
-    has_there s j number c e = subst (λ (p : Place). has_frame p.nests number ≡ true) (sym c.grants.state.place) e
-
-    both : (a b : Bool) → a ≡ true → b ≡ true → (a && b) ≡ true
-    both true true e f = refl
-    both true false e f = f
-    both false b e f = e
+    -- where a call goes on, it has the frame of the state in which it comes there
+    has_there : (s : Sized) (j : ℕ) → ComesTo s j → has_frame (at j).state.place.nests 0 ≡ true → has_frame s.state.place.nests 0 ≡ true
+    has_there s j c e = subst (λ (p : Place). has_frame p.nests 0 ≡ true) (sym c.grants.state.place) e
 
     ahead_is : (place : FunctionKind) → ahead frames (is_main_place place) ≡ ahead_in firsts place
     ahead_is Main = refl
@@ -203,13 +190,11 @@ module _ (bodies : ℕ → Code ℕ) (core : List CoreOp) (entry : ℕ → ℕ) 
 
     flows : (s : Sized) (written : (word : ℕ) → Bool) (i j : ℕ) → s.state.place.function ≡ (at i).state.place.function
         → ((word : ℕ) → keeps j word ≡ true → written word ≡ false → keeps i word ≡ true)
-        → ((number : ℕ) → has_frame s.state.place.nests number ≡ true → has_frame (at i).state.place.nests number ≡ true) → ComesTo s j → Flows core frames written i j
+        → (has_frame s.state.place.nests 0 ≡ true → has_frame (at i).state.place.nests 0 ≡ true) → ComesTo s j → Flows core frames written i j
     flows s written i j p h g c = record {
       main = ap is_main_place (sym (granted s.state (at j).state c.grants.state) ∙ p);
       kept = h;
-      group = λ number e.
-          let parts = and_parts (has_frame (at j).state.place.nests number) (nat_lt number 4) e in
-          both (has_frame (at i).state.place.nests number) (nat_lt number 4) (g number (has_there s j number c parts.0)) parts.1;
+      group = λ e. g (has_there s j c e);
     }
 
     -- there is room for one value more, as behind each call
@@ -233,10 +218,8 @@ module _ (bodies : ℕ → Code ℕ) (core : List CoreOp) (entry : ℕ → ℕ) 
     there (n.Value (v.Private word)) i op stands may h room =
         let low : word < (at i).words = h in read_before core keeps live i op word stands (omega (arith, low, room))
     there (n.Value (v.OfFile word)) i op stands may h room = h
-    there (n.FrameAddress number word) i op stands may h room = (
-      (λ low. both (has_frame (at i).state.place.nests number) (nat_lt number 4) (frame_named (at i).state.place.nests number word may) (lt-ltb number 4 low)),
-      h,
-    )
+    there (n.FrameAddress zero word) i op stands may h room = (frame_named (at i).state.place.nests 0 word may, h)
+    there (n.FrameAddress (suc number) word) i op stands may h room = h
     there known i op stands may h room = tt
 
     place : (operation : Operation) (i : ℕ) (op : CoreOp) → OpAt core i op operation → Sounds i op.site operation op.target → b.HasPlace core frames operation i (count i)
@@ -252,7 +235,7 @@ module _ (bodies : ℕ → Code ℕ) (core : List CoreOp) (entry : ℕ → ℕ) 
         omega (arith, a, r, l, t)
     place (o.Set (v.OfFile word)) i op stands s = s.may.there
     place (o.Leave gives true) i op stands s =
-        subst (λ (p : Place). (has_frame p.nests 0 && nat_lt 0 4) ≡ true) (sym s.goes.1) (both (is_some s.goes.0) true s.goes.2 refl)
+        subst (λ (p : Place). has_frame p.nests 0 ≡ true) (sym s.goes.1) s.goes.2
     place (o.Frame number words) i op stands s = s.may.there
     place operation i op stands s = tt
 
@@ -270,7 +253,7 @@ module _ (bodies : ℕ → Code ℕ) (core : List CoreOp) (entry : ℕ → ℕ) 
     by_ordinary operation i op stands r f s =
         ordinary operation i op.target r f (λ onward. flows (sys.behind operation onward (at i)) (writes operation) i (follows core operation i op.target [] onward).at (same_function operation onward (at i).state.place)
         (λ word k u. kept_before core keeps live i op operation stands word (behind_either core keeps operation i op.target word r onward k) u)
-        (λ number e. had_before operation f onward (at i).state.place s.may.may.place number e)
+        (λ e. had_before operation f onward (at i).state.place s.may.may.place 0 e)
         (onto operation i op.site op.target r s onward))
 
     takes : (number words i : ℕ) (op : CoreOp) → OpAt core i op (o.Frame number words) → Sounds i op.site (o.Frame number words) op.target → b.TakesFrame core frames number i (suc i)
@@ -280,15 +263,12 @@ module _ (bodies : ℕ → Code ℕ) (core : List CoreOp) (entry : ℕ → ℕ) 
         record {
           main = ap is_main_place (sym (granted (behind operation true (at i).state) (at (suc i)).state c.grants.state) ∙ same_function operation true (at i).state.place);
           kept = λ word k. kept_before core keeps live i op operation stands word (behind_either core keeps operation i op.target word refl true k) refl;
-          group = λ told e.
-              let parts = and_parts (has_frame (at (suc i)).state.place.nests told) (nat_lt told 4) e in
-              by told parts.1 (frame_taken number words (at i).state.place.nests s.may.may.place told (has_there (sys.behind operation true (at i)) (suc i) told c parts.0));
+          group = λ e. by (frame_taken number words (at i).state.place.nests s.may.may.place 0 (has_there (sys.behind operation true (at i)) (suc i) c e));
         }
       where
-        by : (told : ℕ) → nat_lt told 4 ≡ true → (told ≡ number) ⊎ (has_frame (at i).state.place.nests told ≡ true)
-            → ((told ≡ number) × (number < 4)) ⊎ ((has_frame (at i).state.place.nests told && nat_lt told 4) ≡ true)
-        by told low (inl same) = let low' = ltb-true told 4 low in inl (same, omega (arith, same, low'))
-        by told low (inr had) = inr (both (has_frame (at i).state.place.nests told) (nat_lt told 4) had low)
+        by : (0 ≡ number) ⊎ (has_frame (at i).state.place.nests 0 ≡ true) → (number ≡ 0) ⊎ (has_frame (at i).state.place.nests 0 ≡ true)
+        by (inl same) = inl (sym same)
+        by (inr had) = inr had
 
     calls : (arguments i : ℕ) (op : CoreOp) → OpAt core i op (o.Enter arguments) → Sounds i op.site (o.Enter arguments) op.target → b.Calls core frames arguments i (count i)
     calls arguments i op stands s =
@@ -296,7 +276,7 @@ module _ (bodies : ℕ → Code ℕ) (core : List CoreOp) (entry : ℕ → ℕ) 
         record {
           few = c.few;
           inside = ap is_main_place (sym (granted _ _ c.begins.grants.state));
-          none = λ number. ap (λ (p : Place). has_frame p.nests number && nat_lt number 4) (sym c.begins.grants.state.place) ∙ ap (λ told. told && nat_lt number 4) (none_begins number);
+          none = ap (λ (p : Place). has_frame p.nests 0) (sym c.begins.grants.state.place);
           kept = λ word k. (
               let below = few (suc i) word k in
               let same : fit.words c.function ≡ (at (suc i)).words = c.begins.grants.words in
@@ -304,7 +284,7 @@ module _ (bodies : ℕ → Code ℕ) (core : List CoreOp) (entry : ℕ → ℕ) 
               omega (arith, below, same, room)
               );
           back = flows (sys.behind_call (o.Enter arguments) c.gives (at i)) nothing i (behind_jump core (suc i)) refl
-              (λ word k u. kept_before core keeps live i op (o.Enter arguments) stands word k refl) (λ number e. e) c.on;
+              (λ word k u. kept_before core keeps live i op (o.Enter arguments) stands word k refl) (λ e. e) c.on;
           room = room_at i (behind_jump core (suc i)) (suc (count i - arguments)) s.may.room (sym c.on.grants.words)
               (sym (granted _ _ c.on.grants.state)) (let a = s.may.low in omega (arith, a));
         }
@@ -330,7 +310,7 @@ module _ (bodies : ℕ → Code ℕ) (core : List CoreOp) (entry : ℕ → ℕ) 
 
     jumps : (i : ℕ) (op : CoreOp) → slice_get core i ≡ Some op → is_jump op ≡ true → Flows core frames nothing i op.target
     jumps i op e z =
-        flows (at i) nothing i op.target refl (λ word k u. jump_before core keeps live i op e z word k) (λ number h. h)
+        flows (at i) nothing i op.target refl (λ word k u. jump_before core keeps live i op e z word k) (λ h. h)
         (of_jump bodies core entry place_of frame_of typed sys lawful judged bare_main true tall.depth heights i op e z)
 
     -- where `main` begins
@@ -510,7 +490,7 @@ module _ (bodies : ℕ → Code ℕ) (core : List CoreOp) (entry : ℕ → ℕ) 
         let begins' = opened_main main is none (typed.shaped main).1 in
         record {
           begins = ap (λ (p : Place). is_main_place p.function) begins';
-          none = λ number. ap (λ (p : Place). has_frame p.nests number && nat_lt number 4) begins' ∙ ap (λ told. told && nat_lt number 4) (none_begins number);
+          none = ap (λ (p : Place). has_frame p.nests 0) begins';
           few = few_firsts main is;
           jumps = jumps;
           fits = fits;
