@@ -44,6 +44,7 @@ use Rattle.fk_sim_block.specs.Suits.{writes}
 use Rattle.fk_sim_block.specs.Lists.{is_end}
 use Rattle.fk_sim_block.specs.Lockstep.{LevelsStay, LevelOpens}
 use Rattle.fk_lower_laws.specs.Certain.{HasFrames}
+use Rattle.fk_lower_laws.specs.Laws.{TellsNests}
 use Rattle.fk_lower_laws.specs.Levels as rooms
 
 -- ---- levels at a place
@@ -65,7 +66,7 @@ module _ (p : Place) where
   end_level false (OfPart frame ∷ nest ∷ nests) within = ((λ e. omega (arith, e)), (λ e. omega arith))
   end_level main nests within = absurd (assumption within)
 
-told_count : (saved : List Levels) (i n : ℕ) → slice_get (map (λ (l : Levels). l.count) saved) i ≡ Some n → (levels_in saved i).count ≡ n
+pub told_count : (saved : List Levels) (i n : ℕ) → slice_get (map (λ (l : Levels). l.count) saved) i ≡ Some n → (levels_in saved i).count ≡ n
 told_count [] zero n e = absurd (cc)
 told_count [] (suc i) n e = absurd (cc)
 told_count (l ∷ saved) zero n e = cc
@@ -112,6 +113,18 @@ named_low word bound low = by (nat_lt word 64) (lt-ltb word 64 low)
     by : (b : Bool) → b ≡ true → (if b then suc word else 0) ≤ bound → word < bound
     by true e h = omega (arith, h)
     by false e h = untrue e
+
+-- what a list tells of the operations by which loops shrink
+some_same : (n m : ℕ) (x : Option ℕ) → x ≡ Some n → x ≡ Some m → n ≡ m
+some_same n m x e f = cc
+
+pub shrinks_deep : (core : List CoreOp) (main : ℕ) → TellsNests core main → (i : ℕ) (op : CoreOp) → slice_get core i ≡ Some op → read op ≡ Some o.Shrink
+    → (n : ℕ) → slice_get (counts core) i ≡ Some n → 1 ≤ n
+shrinks_deep core main tells i op at is n counted =
+    let local = tells.local in
+    let level = levels_of (local.in_main i) (local.nests i) in
+    let same = some_same level n (slice_get (counts core) i) (tells.levels.levels i (slice_get_within core i op at)) counted in
+    subst (λ m. 1 ≤ m) same (tells.levels.shrinks i op at is)
 
 module _ (core : List CoreOp) (main firsts : ℕ) (kept : List Set) (begins : main < length core) (within : LeadsWithin core) (held : HasFrames core kept main firsts) (least : IsLeast core (words_in kept))
     (saved : List Levels) (are : AreLevels core saved)
