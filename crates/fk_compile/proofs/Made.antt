@@ -1,6 +1,7 @@
 -- The image that is put together of the code of a text's list.
-use Rattle.std.proofs.Common.{◌≡◌, ℕ, ◌^◌, ◌<◌, ◌≤◌, true, List, [], ◌∷◌, All, length, refl, sym, ap, subst, ◌∙◌, arith}
-use Rattle.std.specs.Prelude.{map, vec_len}
+use Rattle.std.proofs.Common.{◌≡◌, ℕ, ◌^◌, ◌<◌, ◌≤◌, true, List, [], ◌∷◌, All, Ok, IfOk, length, refl, sym, ap, subst, ◌∙◌, arith}
+use Rattle.std.specs.Prelude.{Result, MatchResult, Vec, map, vec_len}
+use Rattle.std.specs.Result.{IsErrAnd}
 use Rattle.std.proofs.lemmas.List.{length-map}
 use Rattle.fk_syntax.specs.declared.facts.Facts.{Facts}
 use Rattle.fk_syntax.specs.declared.place.Place.{Place}
@@ -32,6 +33,7 @@ use Rattle.fk_core_liveness.specs.Live.{IsLeast, words_in}
 use Rattle.fk_gen.specs.declared.placed.Levels.{Levels}
 use Rattle.fk_lower_laws.specs.Certain.{HasFrames}
 use Rattle.fk_gen_list.specs.Generable.{IsGenerable, HasCode, places_in}
+use Rattle.fk_compile_text.proofs.Parts.{kept as passed}
 use Rattle.fk_compile.specs.Lists.{HasListOf, IsGrouped}
 use Rattle.fk_compile.specs.Faithful.{in_image, in_table, words_by}
 use Rattle.fk_compile.proofs.Rooms.{all_levels, shrinks_deep}
@@ -55,6 +57,11 @@ is_generable core ops kept kept' saved saved' main firsts given same_ops same_ke
     let with_saved = subst (λ (levels : List Levels). IsGenerable core kept levels main given) (sym same_saved) with_firsts in
     let with_kept = subst (λ (sets : List Set). IsGenerable core sets saved' main given) (sym same_kept) with_saved in
     subst (λ (list : List CoreOp). IsGenerable list kept' saved' main given) (sym same_ops) with_kept
+
+-- the levels that are found for a list
+pub are_levels : {E D : Type 0} {Q : E → D → Type 0} (core ops : List CoreOp) (r : Result (Vec Levels) E) (m : Result (Vec Levels) D) (saved : Vec Levels) → ops ≡ core
+    → IfOk r (λ v. AreLevels ops v.items) → MatchResult r (λ x. m ≡ Ok x) (λ e. IsErrAnd m (Q e)) → m ≡ Ok saved → AreLevels core saved.items
+are_levels core ops r m saved same levels cases was = subst (λ (list : List CoreOp). AreLevels list saved.items) same (passed _ _ r m saved levels cases was)
 
 -- the sites of a layout, as an image has them
 as_in_image : (all : List (ℕ × Place)) → map in_table (map site all) ≡ map in_image all

@@ -29,7 +29,8 @@ grouped_lists_are_generable core kept saved main firsts can blocks leads live le
       suits = held.suits;
       keeps = held.keeps;
       of_file = held.of_file;
-      levels = level_words core main (length firsts) kept can.steady.within.begins can.steady.within.leads held least saved are (shrinks_deep core main can.nests);
+      levels = level_words core main (length firsts) kept can.steady.within.begins can.steady.within.leads held least saved are (shrinks_deep core main can.nests)
+          (record { there = λ i. record { at = 0; changes = λ r. false }; coming = λ i h. h });
       words = words;
       first_words = first_words;
     }
