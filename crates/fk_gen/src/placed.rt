@@ -19,8 +19,9 @@ pub struct Placed {
     pub op: CoreOp,
     /// The number of words of globals in the image.
     pub globals: u32,
-    /// Whether the call that it begins has private words after its arguments that have to be 0.
-    pub clears: bool,
+    /// How many private words the call that it begins clears, from the first one on, before its
+    /// arguments come there.
+    pub clears: u32,
     /// The index where the caller goes on after the call that it begins, or 0 if it begins none.
     pub back: u32,
     pub levels: Levels,

@@ -20,6 +20,9 @@ pub const FRAME: u8 = 8;
 pub const END: u8 = 9;
 /// `@`.
 pub const NUMBER: u8 = 18;
+/// The address of the running call's group frame, or, if that call has none, of the group frame of
+/// the last waiting call that has one.
+pub const GROUP_FRAME: u8 = 14;
 /// `$`.
 pub const RANK: u8 = 19;
 /// The size of the group.

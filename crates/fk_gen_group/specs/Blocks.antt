@@ -9,6 +9,7 @@ use Rattle.fk_meaning_operation.specs.declared.operation.Operation.TheVariants.{
 use Rattle.fk_meaning_operation.specs.declared.operation.Operation.TheVariants.{Split, Shrink}
 use Rattle.fk_core.specs.Numbers.{operation_of}
 use Rattle.fk_image.specs.declared.Image.{Image}
+use Rattle.fk_isa.specs.declared.instruction.Instruction.{Instruction}
 use Rattle.fk_isa.specs.declared.instruction.Instruction.TheVariants.{Lui, Jal, Jalr, Beq, Bltu, Bgeu}
 use Rattle.fk_isa.specs.declared.instruction.Instruction.TheVariants.{Lw, Sw, Addi, Sltiu, Slli, Srli}
 use Rattle.fk_isa.specs.declared.instruction.Instruction.TheVariants.{Andi, Add, Sub, Sltu, And, Mul}
@@ -16,7 +17,7 @@ use Rattle.fk_isa.specs.declared.instruction.Instruction.TheVariants.{AmoAddW}
 use Rattle.fk_asm.specs.Block.{MarkedLine}
 use Rattle.fk_sim_block.specs.Stands.{end_register, number_register, rank_register, size_register}
 use Rattle.fk_sim_block.specs.Stands.{device_register}
-use Rattle.fk_sim_block.specs.Stands.{zero_register}
+use Rattle.fk_sim_block.specs.Stands.{zero_register, group_frame_register}
 use Rattle.fk_gen.specs.Registers.{ra, t0, t1, t2, t3}
 use Rattle.fk_gen.specs.Lines.{quiet, commits, goes_to, first_commits, at_group_frame}
 use Rattle.fk_gen.specs.Lines.{label_of, high_part, low_part, add_number, to_data}
@@ -80,11 +81,20 @@ end_block target =
 
 -- ---- frames and blocks
 
--- The two ways of a frame have equally many lines. With room the header gets the address of the
--- frame's first word, and the frames of the group end where the frame does.
+-- The two ways of a frame have equally many lines. With room the frames of the group end where the
+-- frame does. A function's own frame comes to the register of group frames, and the header gets what
+-- that register had. Nothing more tells a part's frame, and two lines only take their time.
+abbrev pub first_taking : (own : Bool) → Instruction
+first_taking true = Sw end_register group_frame_register at_group_frame
+first_taking false = Addi t1 t1 0
+
+abbrev pub second_taking : (own : Bool) → Instruction
+second_taking true = Add group_frame_register t1 frames_register
+second_taking false = Addi t1 t1 0
+
 abbrev pub taking_lines : (nesting : ℕ) → List MarkedLine
 taking_lines nesting =
-    quiet (Add t1 t1 frames_register) ∷ quiet (Sw end_register t1 (at_group_frame nesting))
+    quiet (first_taking (nesting == 0)) ∷ quiet (second_taking (nesting == 0))
     ∷ commits (Addi frames_register t0 0) ∷ []
 
 -- A frame is taken behind those of the group, if it ends where the group's blocks begin, or before.

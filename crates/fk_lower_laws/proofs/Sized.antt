@@ -228,13 +228,12 @@ module _ (firsts : ℕ) (place_of : ℕ → FunctionKind) (frame_of : ℕ → Op
           → Typed place_of frame_of l s code e → HasWords firsts words most W code → HasFew place_of M (length s.values) code → HasParts N m code
           → Judged sizing (around_of l) (sized s W M N) code (sized e W M N)
       all_sized done inside l s e m n who resuming part closing x p shape at room stand deep t h low parts = record { state = t; words = refl; most = refl; nested = refl }
-      all_sized (perform site op rest) inside l s e m n who resuming part closing x p shape at room stand deep t h low parts =
-          (
-            one_may op s m (plain_of op (performs p.0)) t.0 h.0 room low.0 (low_stand who s.place n m stand deep) parts.0,
-            by p.0 (λ a.
+      all_sized (perform site op rest) inside l s e m n who resuming part closing x p shape at room stand deep t h low parts = (
+        one_may op s m (plain_of op (performs p.0)) t.0 h.0 room low.0 (low_stand who s.place n m stand deep) parts.0,
+        by p.0 (λ a.
             all_sized rest inside l (behind op true s) e m n who false part false x p.1 (goes_on (ends_part op) (no_end op a) shape.2) at.1 (moved op true s room)
             (straight_on who op s.place n a stand) deep t.1 h.1 (low_behind op true s rest low.1) parts.1),
-          )
+      )
         where
           performs : (way_of op ≡ w.straight) ⊎ ((way_of op ≡ w.onto) × (is_done rest ≡ true)) → (way_of op ≡ w.straight) ⊎ (way_of op ≡ w.onto)
           performs (inl a) = inl a
@@ -273,8 +272,8 @@ module _ (firsts : ℕ) (place_of : ℕ → FunctionKind) (frame_of : ℕ → Op
             all_sized a inside l (behind op true s) u (m + nests op) n' (who_in who op) false (splits op) false (of_way op x) p.1 shape.2 at.2 (moved op true s room) two.first
                 (omega (arith, more, deep)) t.2 h.1 lx parts.1,
             second two.second (λ stand' is.
-            all_sized b inside l (behind op false s) u (m + nests op) n' (who_in who op) false (has_two_parts op) false (of_way op x) p.2 shape.3 at.3 (moved op false s room)
-            stand' (omega (arith, more, deep)) t.3 h.2 (low_behind op false s b (low.2 is)) parts.2),
+                all_sized b inside l (behind op false s) u (m + nests op) n' (who_in who op) false (has_two_parts op) false (of_way op x) p.2 shape.3 at.3 (moved op false s room)
+                stand' (omega (arith, more, deep)) t.3 h.2 (low_behind op false s b (low.2 is)) parts.2),
             all_sized rest inside l u e m n who (splits op) part (opens_body op) x p.3 shape.6 at.5 (stood u.place s.place t.5 room) (stand_at who u.place s.place n t.5 stand) deep t.4 h.3 lr parts.3,
             t.5,
           )
@@ -307,9 +306,9 @@ module _ (firsts : ℕ) (place_of : ℕ → FunctionKind) (frame_of : ℕ → Op
             all_sized body true (Some c) r r m n (inner who) false false false (of_turn shape.1 x) p.3 shape.3 at.2 room' turn' deep t.3 h.1 (low_at body second low.1) parts.1,
             all_sized step true (Some c) r r m n (inner who) false false false none p.4 shape.4 at.3 room' turn' deep t.4 h.2 (low_at step third low.2) parts.2,
             behind_it t.6 (onward shape.1 shape.5) (λ same shape'.
-            let back : c.left.place ≡ s.place = same ∙ sym g.place in
-            all_sized rest inside l c.left e m n who false part false x p.5 shape' at.4 (stood c.left.place s.place back room) (stand_at who c.left.place s.place n back stand) deep t.5 h.3
-            (low_at rest (leads step (Some c) r r t.4 third ∙ sym c.even) low.3) parts.3),
+                let back : c.left.place ≡ s.place = same ∙ sym g.place in
+                all_sized rest inside l c.left e m n who false part false x p.5 shape' at.4 (stood c.left.place s.place back room) (stand_at who c.left.place s.place n back stand) deep t.5 h.3
+                (low_at rest (leads step (Some c) r r t.4 third ∙ sym c.even) low.3) parts.3),
             t.6,
           )
         where
@@ -336,9 +335,9 @@ module _ (firsts : ℕ) (place_of : ℕ → FunctionKind) (frame_of : ℕ → Op
             all_sized body true (Some c) r r m n (inner who) false false false (of_turn shape.1 x) p.1 shape.3 at.1 room' turn' deep t.2 h.0 (low_at body first low.0) parts.0,
             all_sized test true (Some c) r r m n (inner who) false false false (of_test shape.1) p.2 shape.2 at.2 room' turn' deep t.3 h.1 (low_at test second low.1) parts.1,
             behind_it t.5 (onward shape.1 shape.4) (λ same shape'.
-            let back : c.left.place ≡ s.place = same ∙ sym g.place in
-            all_sized rest inside l c.left e m n who false part false x p.3 shape' at.3 (stood c.left.place s.place back room) (stand_at who c.left.place s.place n back stand) deep t.4 h.2
-            (low_at rest (leads test (Some c) r r t.3 second ∙ sym c.even) low.2) parts.2),
+                let back : c.left.place ≡ s.place = same ∙ sym g.place in
+                all_sized rest inside l c.left e m n who false part false x p.3 shape' at.3 (stood c.left.place s.place back room) (stand_at who c.left.place s.place n back stand) deep t.4 h.2
+                (low_at rest (leads test (Some c) r r t.3 second ∙ sym c.even) low.2) parts.2),
             t.5,
           )
         where

@@ -46,7 +46,7 @@ use Rattle.fk_core_counting.proofs.Ways.{stand_begun}
 use Rattle.fk_core_counting.proofs.Folding.{none, none_read}
 use Rattle.fk_lower_laws.specs.Suiting.{LiveWordsSuit}
 use Rattle.fk_lower_laws.specs.Levels.{levels_in, Rooms, HasRoomFor, GoesTo, Enters, GoesOn, FitsRoom, HasRooms}
-use Rattle.fk_lower_laws.proofs.Nested.{has_frame, frame_named, frame_taken, had_before, takes_frame}
+use Rattle.fk_lower_laws.proofs.Nested.{has_frame, frame_named, takes_frame, none_taken, own_taken, own_before}
 use Rattle.fk_lower_laws.proofs.Sized.{Sized, sized, granted, sizing, sizing_lawful, all_sized}
 use Rattle.fk_lower_laws.proofs.Living.{behind_either, kept_before, read_before, jump_before}
 
@@ -176,9 +176,9 @@ module _ (bodies : ℕ → Code ℕ) (core : List CoreOp) (entry : ℕ → ℕ) 
       of_file = firsts;
     }
 
-    -- where a call goes on, it has the frame of the state in which it comes there
-    has_there : (s : Sized) (j : ℕ) → ComesTo s j → has_frame (at j).state.place.nests 0 ≡ true → has_frame s.state.place.nests 0 ≡ true
-    has_there s j c e = subst (λ (p : Place). has_frame p.nests 0 ≡ true) (sym c.grants.state.place) e
+    -- where a call goes on, it has its own frame if it has it in the state in which it comes there
+    own_there : (s : Sized) (j : ℕ) → ComesTo s j → has_frame (at j).state.place.nests 0 ≡ has_frame s.state.place.nests 0
+    own_there s j c = ap (λ (p : Place). has_frame p.nests 0) (sym c.grants.state.place)
 
     ahead_is : (place : FunctionKind) → ahead frames (is_main_place place) ≡ ahead_in firsts place
     ahead_is Main = refl
@@ -190,11 +190,11 @@ module _ (bodies : ℕ → Code ℕ) (core : List CoreOp) (entry : ℕ → ℕ) 
 
     flows : (s : Sized) (written : (word : ℕ) → Bool) (i j : ℕ) → s.state.place.function ≡ (at i).state.place.function
         → ((word : ℕ) → keeps j word ≡ true → written word ≡ false → keeps i word ≡ true)
-        → (has_frame s.state.place.nests 0 ≡ true → has_frame (at i).state.place.nests 0 ≡ true) → ComesTo s j → Flows core frames written i j
+        → has_frame s.state.place.nests 0 ≡ has_frame (at i).state.place.nests 0 → ComesTo s j → Flows core frames written i j
     flows s written i j p h g c = record {
       main = ap is_main_place (sym (granted s.state (at j).state c.grants.state) ∙ p);
       kept = h;
-      group = λ e. g (has_there s j c e);
+      group = own_there s j c ∙ g;
     }
 
     -- there is room for one value more, as behind each call
@@ -234,8 +234,7 @@ module _ (bodies : ℕ → Code ℕ) (core : List CoreOp) (entry : ℕ → ℕ) 
         let t : word < (at i).words = s.may.there in
         omega (arith, a, r, l, t)
     place (o.Set (v.OfFile word)) i op stands s = s.may.there
-    place (o.Leave gives true) i op stands s =
-        subst (λ (p : Place). has_frame p.nests 0 ≡ true) (sym s.goes.1) s.goes.2
+    place (o.Leave gives framed) i op stands s = ap (λ (p : Place). has_frame p.nests 0) s.goes.1 ∙ s.goes.2
     place (o.Frame number words) i op stands s = s.may.there
     place operation i op stands s = tt
 
@@ -253,7 +252,7 @@ module _ (bodies : ℕ → Code ℕ) (core : List CoreOp) (entry : ℕ → ℕ) 
     by_ordinary operation i op stands r f s =
         ordinary operation i op.target r f (λ onward. flows (sys.behind operation onward (at i)) (writes operation) i (follows core operation i op.target [] onward).at (same_function operation onward (at i).state.place)
         (λ word k u. kept_before core keeps live i op operation stands word (behind_either core keeps operation i op.target word r onward k) u)
-        (λ e. had_before operation f onward (at i).state.place s.may.may.place 0 e)
+        (own_before operation f onward (at i).state.place s.may.may.place)
         (onto operation i op.site op.target r s onward))
 
     takes : (number words i : ℕ) (op : CoreOp) → OpAt core i op (o.Frame number words) → Sounds i op.site (o.Frame number words) op.target → b.TakesFrame core frames number i (suc i)
@@ -263,12 +262,9 @@ module _ (bodies : ℕ → Code ℕ) (core : List CoreOp) (entry : ℕ → ℕ) 
         record {
           main = ap is_main_place (sym (granted (behind operation true (at i).state) (at (suc i)).state c.grants.state) ∙ same_function operation true (at i).state.place);
           kept = λ word k. kept_before core keeps live i op operation stands word (behind_either core keeps operation i op.target word refl true k) refl;
-          group = λ e. by (frame_taken number words (at i).state.place.nests s.may.may.place 0 (has_there (sys.behind operation true (at i)) (suc i) c e));
+          none = λ e. subst (λ k. has_frame (at i).state.place.nests k ≡ false) e (none_taken number (at i).state.place.nests s.may.may.place);
+          group = own_there (sys.behind operation true (at i)) (suc i) c ∙ own_taken number words (at i).state.place.nests s.may.may.place;
         }
-      where
-        by : (0 ≡ number) ⊎ (has_frame (at i).state.place.nests 0 ≡ true) → (number ≡ 0) ⊎ (has_frame (at i).state.place.nests 0 ≡ true)
-        by (inl same) = inl (sym same)
-        by (inr had) = inr had
 
     calls : (arguments i : ℕ) (op : CoreOp) → OpAt core i op (o.Enter arguments) → Sounds i op.site (o.Enter arguments) op.target → b.Calls core frames arguments i (count i)
     calls arguments i op stands s =
@@ -284,7 +280,7 @@ module _ (bodies : ℕ → Code ℕ) (core : List CoreOp) (entry : ℕ → ℕ) 
               omega (arith, below, same, room)
               );
           back = flows (sys.behind_call (o.Enter arguments) c.gives (at i)) nothing i (behind_jump core (suc i)) refl
-              (λ word k u. kept_before core keeps live i op (o.Enter arguments) stands word k refl) (λ e. e) c.on;
+              (λ word k u. kept_before core keeps live i op (o.Enter arguments) stands word k refl) refl c.on;
           room = room_at i (behind_jump core (suc i)) (suc (count i - arguments)) s.may.room (sym c.on.grants.words)
               (sym (granted _ _ c.on.grants.state)) (let a = s.may.low in omega (arith, a));
         }
@@ -310,7 +306,7 @@ module _ (bodies : ℕ → Code ℕ) (core : List CoreOp) (entry : ℕ → ℕ) 
 
     jumps : (i : ℕ) (op : CoreOp) → slice_get core i ≡ Some op → is_jump op ≡ true → Flows core frames nothing i op.target
     jumps i op e z =
-        flows (at i) nothing i op.target refl (λ word k u. jump_before core keeps live i op e z word k) (λ h. h)
+        flows (at i) nothing i op.target refl (λ word k u. jump_before core keeps live i op e z word k) refl
         (of_jump bodies core entry place_of frame_of typed sys lawful judged bare_main true tall.depth heights i op e z)
 
     -- where `main` begins

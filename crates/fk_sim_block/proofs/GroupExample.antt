@@ -44,7 +44,7 @@ abbrev places : Places
 places = record {
   block = λ i. if i == 0 then 14 else 15;
   returns = λ i. None;
-  frames = record { keeps = λ i word. false; is_main = λ i. true; group = λ i number. false; of_file = 0 };
+  frames = record { keeps = λ i word. false; is_main = λ i. true; group = λ i. false; of_file = 0 };
 }
 
 -- no levels in frames, and nobody begins a group
@@ -149,8 +149,9 @@ begins image code setting t number running =
             shared_mask = refl;
             devices = refl;
             heap_mask = refl;
-            running = record { home = refl; values = tt; privates = λ i e. never e; group = λ number told. absurd (cc) };
+            running = record { home = refl; values = tt; privates = λ i e. never e };
             waiting = tt;
+            groups = (tt, tt);
             own = λ i lt. absurd (omega arith);
             heap = λ i lt. refl;
             full = refl;
@@ -205,8 +206,9 @@ drop_does image code at setting t runs first m p en member finds =
                     shared_mask = stands.shared_mask;
                     devices = stands.devices;
                     heap_mask = stands.heap_mask;
-                    running = record { home = stands.running.home; values = values_before (value_in h (length p.runner.has.callers)) (values p.runner.has) stands.running.values; privates = λ w e. never e; group = λ number told. absurd (cc) };
+                    running = record { home = stands.running.home; values = values_before (value_in h (length p.runner.has.callers)) (values p.runner.has) stands.running.values; privates = λ w e. never e };
                     waiting = stands.waiting;
+                    groups = (tt, stands.groups.1);
                     own = stands.own;
                     heap = stands.heap;
                     full = stands.full;
