@@ -319,7 +319,7 @@ module _ (core : List CoreOp) (image : Image) (bound : ℕ → ℕ) (places : Pl
           at = e5;
           live = sum.live;
           end = refl;
-          same = λ r a b c. rw (b, b) (sum.same r a);
+          same = λ r a b c. rw b (sum.same r a);
           kept = λ x e. ap (λ l. l x) sum.local;
           written = subst (λ a. InMemory places h5.local a as_taken) (sym (sum.same group_frame_register refl)) (subst (λ l. InMemory places l old as_taken) (sym sum.local) here);
         }

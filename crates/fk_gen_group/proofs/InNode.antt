@@ -301,6 +301,7 @@ tail_of (y ∷ ys) = ys
 -- the node of a level, of so many that are saved
 saved_node : (memory : ℕ → ℕ) (at count out : ℕ) (levels : List Level) (level around : Level) (further : List Level) → HasSaved memory at count levels → out < count
     → drop out levels ≡ level ∷ around ∷ further → memory (at + 4 * (count - suc out) + 1) ≡ control_address level.space.low
+unfolding head_or tail_of
 saved_node memory at zero out levels level around further saved lt there = absurd (let z : ⊥ = omega (arith, lt) in z)
 saved_node memory at (suc n) out [] level around further saved lt there = absurd (assumption saved)
 saved_node memory at (suc n) zero (l ∷ levels) level around further saved lt there =
@@ -323,6 +324,7 @@ module _ (places : Places) (nestings : Nestings) (setting : Setting) (i : ℕ) (
   -- by how many levels outward it is
   node_of : (out : ℕ) (own : Bool) → (out == 0) ≡ own → out ≤ nestings.levels i → (level around : Level) (further : List Level)
       → drop out (p.runner.has.level ∷ p.runner.has.outer) ≡ level ∷ around ∷ further → node_at own out ≡ control_address level.space.low
+  unfolding head_or tail_of
   node_of zero true own le level around further there =
       let first : p.runner.has.level ≡ level = ap (head_or level) there in
       let rest : p.runner.has.outer ≡ around ∷ further = ap tail_of there in
