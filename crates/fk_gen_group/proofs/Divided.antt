@@ -30,7 +30,7 @@ module _ (core : List CoreOp) (image : Image) (places : Places) (nestings : Nest
   -- each comes to its part or to where it waits, and nobody is at the arrival words
   abbrev pub Divided : List Member → Memory → Type 0
   Divided ms' own' =
-      AllMove core image places nestings i op (Split by) setting t (split_goes_on by) (λ p. None) 0 ms' ps
+      AllMove core image places nestings i op (Split by) setting t (split_goes_on by (nestings.levels i)) (λ p. None) 0 ms' ps
       × IsAtRest first own' × AllRest own' (map (moved core i op (Split by) 0 ps) ps)
 
   abbrev pub size : Owner → ℕ
@@ -48,12 +48,12 @@ module _ (core : List CoreOp) (image : Image) (places : Places) (nestings : Nest
     abbrev pub OneComes : Type 0
     OneComes =
         (summed : Memory) (m : Member) (p : Owner) → P summed m p → m.hart.pc ≡ 4 * at → IsSized summed p → size p < 2 ^ 32
-        → ComesByWay core image places nestings i op (Split by) setting t (split_goes_on by) (λ q. None) (highest_value ps) 0 size m p
+        → ComesByWay core image places nestings i op (Split by) setting t (split_goes_on by (nestings.levels i)) (λ q. None) (highest_value ps) 0 size m p
 
-    module _ (divides : (v : Memory) (m : Member) (p : Owner) → P v m p → IsToDivide by space k p)
+    module _ (divides : (v : Memory) (m : Member) (p : Owner) → P v m p → IsToDivide nestings by space k p)
         (words : (v : Memory) (m : Member) (p : Owner) → P v m p → first_word p.runner.has.level p.runner.has.outer ≡ first) (comes : OneComes) where
       all_moved : (summed : Memory) (ms : List Member) (qs : List Owner) → AllAreAt at ms → Both (P summed) ms qs → EachOwner (IsSized summed) qs
-          → AllComeByWay core image places nestings i op (Split by) setting t (split_goes_on by) (λ q. None) (highest_value ps) 0 size ms qs
+          → AllComeByWay core image places nestings i op (Split by) setting t (split_goes_on by (nestings.levels i)) (λ q. None) (highest_value ps) 0 size ms qs
       all_moved summed [] [] stand all sized = tt
       all_moved summed (m ∷ ms) (p ∷ qs) stand all sized =
           (comes summed m p all.0 stand.0 sized.0 (small_size by ps (part_of by p) few), all_moved summed ms qs stand.2 all.1 sized.1)
@@ -63,7 +63,7 @@ module _ (core : List CoreOp) (image : Image) (places : Places) (nestings : Nest
           → AllRest own' (map (moved core i op (Split by) 0 ps) qs)
       all_rest summed own' [] [] all rests = tt
       all_rest summed own' (m ∷ ms) (p ∷ qs) all rests = (
-        subst (λ w. IsAtRest w own') (sym (moved_word by space first k (size p) p (divides summed m p all.0) (words summed m p all.0) (part_of by p))) rests.0,
+        subst (λ w. IsAtRest w own') (sym (moved_word nestings by space first k (size p) p (divides summed m p all.0) (words summed m p all.0) (part_of by p))) rests.0,
         all_rest summed own' ms qs all.1 rests.1,
       )
       all_rest summed own' ms qs all rests = absurd (assumption all)

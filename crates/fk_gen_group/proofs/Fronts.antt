@@ -23,7 +23,6 @@ use Rattle.fk_sim_block.specs.Owner.{Owner}
 use Rattle.fk_sim_block.specs.Stands.{Places, zero_register, frame_register}
 use Rattle.fk_sim_block.specs.Block.{Enters}
 use Rattle.fk_sim_block.specs.Node.{Nestings}
-use Rattle.fk_sim_block.specs.Parts.{is_implicit}
 use Rattle.fk_gen.specs.Registers.{ra, t0, t2, t3}
 use Rattle.fk_gen.specs.Lines.{goes_to, at_private, label_of}
 use Rattle.fk_gen.specs.Operands.{operand, result}
@@ -32,8 +31,21 @@ use Rattle.fk_gen.proofs.Walk.{Quiets, Plain, LocalAt, CanWalk, quiet_lines, wal
 use Rattle.fk_gen.proofs.Jumps.{jumps, jal_private}
 use Rattle.fk_gen.proofs.Does.{quiet_length, holds_in_cycles}
 use Rattle.fk_gen_group.specs.Splits.{no_room, part_lines, parts_label}
-use Rattle.fk_gen_group.specs.Laws.{IsInPlace}
+use Rattle.fk_gen_group.specs.Laws.{IsInPlace, LeavesBy}
 use Rattle.fk_gen_group.proofs.Last.{value_word, is_value, is_last}
+
+-- all splits but a `fork` leave `@` and `$` as they are
+abbrev pub is_implicit : SplitKind → Bool
+is_implicit Fork = false
+is_implicit by = true
+
+pub plain_of : (by : SplitKind) (told : Option ℕ) → is_implicit by ≡ true → LeavesBy by told → told ≡ None
+plain_of IfAlone told is left = left
+plain_of IfElse told is left = left
+plain_of AndThen told is left = left
+plain_of OrElse told is left = left
+plain_of Loop told is left = left
+plain_of by told is left = absurd (cc)
 
 -- ---- room for parts
 

@@ -18,14 +18,14 @@ use Rattle.fk_sim_block.specs.Stands.{Places, zero_register}
 use Rattle.fk_sim_block.specs.Block.{Enters}
 use Rattle.fk_sim_block.specs.Node.{Nestings, OwnsHeader, OwnsSpace, IsAtRest, KnowsSpace, control_address}
 use Rattle.fk_sim_block.specs.Lockstep.{IsMember, AllEnter, ComesByWay, LevelsStay, highest_value, is_due}
-use Rattle.fk_sim_block.specs.Parts.{IsToDivide, AllAreToDivide, part_of, parts_of, size_behind, is_implicit}
+use Rattle.fk_sim_block.specs.Parts.{IsToDivide, AllAreToDivide, part_of, parts_of, size_behind}
 use Rattle.fk_gen.specs.Registers.{t3, ra}
 use Rattle.fk_gen.specs.InPlace.{LinesAt}
 use Rattle.fk_gen.proofs.Walk.{lines_split}
 use Rattle.fk_gen_group.specs.Splits.{part_lines, parts_label, one_part_label, one_part_place, counting_lines, waiting_lines, saving_lines, into_one_part, split_goes_on}
 use Rattle.fk_gen_group.specs.Laws.{IsSplitInPlace, GoesAside}
 use Rattle.fk_gen_group.proofs.Members.{Both, each_so, all_due}
-use Rattle.fk_gen_group.proofs.Fronts.{Fronted, fronted, flag_by, link_at, memory_by}
+use Rattle.fk_gen_group.proofs.Fronts.{is_implicit, plain_of, Fronted, fronted, flag_by, link_at, memory_by}
 use Rattle.fk_gen_group.proofs.Counting.{IsToCount, Knows}
 use Rattle.fk_gen_group.proofs.Counted.{Comes, come_and_count}
 use Rattle.fk_gen_group.proofs.Parting.{IsPlaced, placed_one, one_word, enters_word, waits_word, enters_part, wait_hart, wait_runs, one_hart, one_runs, one_has}
@@ -57,7 +57,7 @@ module _ (core : List CoreOp) (image : Image) (bound : ℕ → ℕ) (places : Pl
   pub record Came (m : Member) (p : Owner) : Type 0 where
     pub enters : Enters core image places setting cycle0 i op (Split by) p m.hart
     pub member : IsMember places nestings setting None first m p
-    pub divides : IsToDivide by space 1 p
+    pub divides : IsToDivide nestings by space 1 p
 
   abbrev pub steps : ℕ
   steps = length (part_lines by op.depth) + 2 + 6
@@ -197,7 +197,7 @@ module _ (core : List CoreOp) (image : Image) (bound : ℕ → ℕ) (places : Pl
         ready.placed m.hart ended local same
 
     abbrev Gone : Type 0
-    Gone = ComesByWay core image places nestings i op (Split by) setting t (split_goes_on by) (λ q. None) highest 0 size m p
+    Gone = ComesByWay core image places nestings i op (Split by) setting t (split_goes_on by (nestings.levels i)) (λ q. None) highest 0 size m p
 
     -- one that waits
     wait_case : part_of by p ≡ None → Gone
@@ -213,7 +213,7 @@ module _ (core : List CoreOp) (image : Image) (bound : ℕ → ℕ) (places : Pl
         (others_at core image bound places nestings i op by split.place split.parts setting space 1 is_space cycle0 first m0 p came.enters came.member came.divides ready.front one_part_label 7 steps (word p)
         ready.placed m.hart ended local same)
         (ap (λ k. 4 * k) (split.place.block.labels.blocks op.target)) in
-        comes_with core image places nestings i op by setting t highest size m p hart None false 3 e (none_enters by) (goes_by by label) runs goes
+        comes_with core image places nestings i op by setting t highest size m p hart None false 3 e (none_enters by) (goes_by by (nestings.levels i) label) runs goes
 
     -- one that enters the part
     enter_case : part_of by p ≡ Some 0 → summed (word p) ≡ size p → size p < 2 ^ 32 → Gone
@@ -241,12 +241,12 @@ module _ (core : List CoreOp) (image : Image) (bound : ℕ → ℕ) (places : Pl
         let ends : space.blocks ≡ word p + equal_part space 1 = omega arith in
         let blocks = level.blocks ∙ known.1 ∙ ap (λ (s : Space). control_address s.blocks) came.divides.space_is ∙ ap control_address ends in
         let entered =
-        has_entered core image bound places nestings i op by place implicit setting space 1 cycle0 first m0 p came.enters came.member came.divides (suc i) (place.fits.goes_on true) place.stay split.room
-        0 (size p) (word p) hart hart level at_word live refl refl (λ r ne. refl) blocks in
+        has_entered core image bound places nestings i op by place implicit setting space 1 cycle0 first m0 p came.enters came.member came.divides (suc i) (place.fits.goes_on true) place.stay.opens split.room
+        (plain_of by (nestings.forks (suc i) (nestings.levels i)) implicit place.stay.left) 0 (size p) (word p) hart hart level at_word live refl refl (λ r ne. refl) blocks in
         let goes =
-        enters_part core image bound places nestings i op by place setting cycle0 first m0 p came.enters came.member came.divides.group (suc i) (place.fits.goes_on true) place.stay split.room
+        enters_part core image bound places nestings i op by place setting cycle0 first m0 p came.enters came.member came.divides.group (suc i) (place.fits.goes_on true) place.stay.opens split.room
         (part_level by p.runner.has (size p) 0) hart entered in
-        comes_with core image places nestings i op by setting t highest size m p hart (Some 0) true 9 e (first_enters by) (goes_in by label) runs goes
+        comes_with core image places nestings i op by setting t highest size m p hart (Some 0) true 9 e (first_enters by) (goes_in by (nestings.levels i) label) runs goes
 
     -- by the part
     pub one_comes : (o : Option ℕ) → part_of by p ≡ o → ((j : ℕ) → part_of by p ≡ Some j → summed (word p) ≡ size p) → size p < 2 ^ 32 → Gone
@@ -258,7 +258,7 @@ module _ (core : List CoreOp) (image : Image) (bound : ℕ → ℕ) (places : Pl
 
   -- ---- all of them
 
-  pub came_all : (ms : List Member) (ps : List Owner) → AllEnter core image places nestings i op (Split by) setting cycle0 None first ms ps → AllAreToDivide by space 1 ps → Both Came ms ps
+  pub came_all : (ms : List Member) (ps : List Owner) → AllEnter core image places nestings i op (Split by) setting cycle0 None first ms ps → AllAreToDivide nestings by space 1 ps → Both Came ms ps
   came_all [] [] all divide = tt
   came_all (m ∷ ms) (p ∷ ps) all divide = (record { enters = all.0; member = all.1; divides = divide.0 }, came_all ms ps all.2 divide.1)
   came_all ms ps all divide = absurd (assumption all)
@@ -278,7 +278,7 @@ module _ (core : List CoreOp) (image : Image) (bound : ℕ → ℕ) (places : Pl
 
   comes_by : (t : MachineSetting) → Holds image t → (ps : List Owner) → (summed : Memory) (m : Member) (p : Owner) → Counted summed m p
       → m.hart.pc ≡ 4 * suc (suc (suc (suc (suc (bound one_part_label + 7))))) → ((j : ℕ) → part_of by p ≡ Some j → summed (word p) ≡ size_behind (Split by) ps p) → size_behind (Split by) ps p < 2 ^ 32
-      → ComesByWay core image places nestings i op (Split by) setting t (split_goes_on by) (λ q. None) (highest_value ps) 0 (λ q. size_behind (Split by) ps q) m p
+      → ComesByWay core image places nestings i op (Split by) setting t (split_goes_on by (nestings.levels i)) (λ q. None) (highest_value ps) 0 (λ q. size_behind (Split by) ps q) m p
   comes_by t holds ps summed m p counted pc sum small =
       one_comes t holds (highest_value ps) (λ q. size_behind (Split by) ps q) summed m p counted (omega arith) (part_of by p) refl sum small
 

@@ -13,9 +13,9 @@ use Rattle.fk_meaning.specs.Group.{part}
 use Rattle.fk_sim_nodes.specs.OnePlace.{last_or, sum_from}
 use Rattle.fk_sim_block.specs.Owner.{Owner}
 use Rattle.fk_sim_block.specs.Node.{IsAtRest}
-use Rattle.fk_sim_block.specs.Parts.{part_of, size_of_part, is_implicit}
+use Rattle.fk_sim_block.specs.Parts.{part_of, size_of_part}
 use Rattle.fk_gen_group.specs.Splits.{parts_label, one_part_label}
-use Rattle.fk_gen_group.proofs.Fronts.{flag_by}
+use Rattle.fk_gen_group.proofs.Fronts.{is_implicit, flag_by}
 use Rattle.fk_gen_group.proofs.Shares.{GivesOne, every_owner, shares, nothing_each, IsAmong, is_cleared, stays_nought, no_shares, sum_is}
 
 -- ---- the words at which members count

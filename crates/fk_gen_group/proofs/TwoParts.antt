@@ -52,7 +52,7 @@ module _ (core : List CoreOp) (image : Image) (bound : ℕ → ℕ) (places : Pl
   pub record Came (m : Member) (p : Owner) : Type 0 where
     pub enters : Enters core image places setting cycle0 i op (Split IfElse) p m.hart
     pub member : IsMember places nestings setting None first m p
-    pub divides : IsToDivide IfElse space 2 p
+    pub divides : IsToDivide nestings IfElse space 2 p
 
   abbrev pub steps : ℕ
   steps = 14
@@ -207,7 +207,7 @@ module _ (core : List CoreOp) (image : Image) (bound : ℕ → ℕ) (places : Pl
     share_is = same 29 (λ e. omega arith) ∙ ready.halved.share
 
     abbrev Gone : Type 0
-    Gone = ComesByWay core image places nestings i op (Split IfElse) setting t (split_goes_on IfElse) (λ q. None) highest 0 size m p
+    Gone = ComesByWay core image places nestings i op (Split IfElse) setting t (split_goes_on IfElse (nestings.levels i)) (λ q. None) highest 0 size m p
 
     abbrev memory : Memory
     memory = memory_by IfElse op.depth ready.hart
@@ -258,10 +258,10 @@ module _ (core : List CoreOp) (image : Image) (bound : ℕ → ℕ) (places : Pl
         let level = both_has image bound places split.parts t m.number link op.target target op.site holds place.block.labels ready.front.back ready.front.next ready.hart m.hart memory saved (word p) (size p) behind linked nought in
         let hb = walk (told_of t m.number) (saving saved) m.hart in
         let entered =
-        has_entered core image bound places nestings i op IfElse place refl setting space 2 cycle0 first m0 p came.enters came.member came.divides (suc i) (place.fits.goes_on true) place.stay split.room
-        0 (size p) (word p) hb hart level at_word live refl refl (λ r ne. rw (ne_eqb r 13 ne)) (blocks_are 0 e (m.hart.registers t1) behind.word_is) in
+        has_entered core image bound places nestings i op IfElse place refl setting space 2 cycle0 first m0 p came.enters came.member came.divides (suc i) (place.fits.goes_on true) place.stay.opens split.room
+        place.stay.left 0 (size p) (word p) hb hart level at_word live refl refl (λ r ne. rw (ne_eqb r 13 ne)) (blocks_are 0 e (m.hart.registers t1) behind.word_is) in
         let goes =
-        enters_part core image bound places nestings i op IfElse place setting cycle0 first m0 p came.enters came.member came.divides.group (suc i) (place.fits.goes_on true) place.stay split.room
+        enters_part core image bound places nestings i op IfElse place setting cycle0 first m0 p came.enters came.member came.divides.group (suc i) (place.fits.goes_on true) place.stay.opens split.room
         (part_level IfElse p.runner.has (size p) 0) hart entered in
         comes_with core image places nestings i op IfElse setting t highest size m p hart (Some 0) true 10 e refl refl runs goes
 
@@ -282,11 +282,11 @@ module _ (core : List CoreOp) (image : Image) (bound : ℕ → ℕ) (places : Pl
         let level = both_has image bound places split.parts t m.number link op.target target op.site holds place.block.labels ready.front.back ready.front.next ready.hart m.hart memory saved (word p) (size p) behind linked nought in
         let hb = walk (told_of t m.number) (saving saved) m.hart in
         let flows = place.fits.goes_on false in
-        let opens = split.aside.0 in
+        let opens = split.aside.0.opens in
         let room = split.aside.1 in
         let entered =
         has_entered core image bound places nestings i op IfElse place refl setting space 2 cycle0 first m0 p came.enters came.member came.divides op.target flows opens room
-        1 (size p) (word p) hb hart level at_word live (ap (λ k. 4 * k) (place.block.labels.blocks op.target)) refl (λ r ne. rw (ne_eqb r 13 ne)) (blocks_are 1 e (m.hart.registers t1) behind.word_is) in
+        split.aside.0.left 1 (size p) (word p) hb hart level at_word live (ap (λ k. 4 * k) (place.block.labels.blocks op.target)) refl (λ r ne. rw (ne_eqb r 13 ne)) (blocks_are 1 e (m.hart.registers t1) behind.word_is) in
         let goes =
         enters_part core image bound places nestings i op IfElse place setting cycle0 first m0 p came.enters came.member came.divides.group op.target flows opens room
         (part_level IfElse p.runner.has (size p) 1) hart entered in
@@ -303,7 +303,7 @@ module _ (core : List CoreOp) (image : Image) (bound : ℕ → ℕ) (places : Pl
 
   -- ---- all of them
 
-  pub came_all : (ms : List Member) (ps : List Owner) → AllEnter core image places nestings i op (Split IfElse) setting cycle0 None first ms ps → AllAreToDivide IfElse space 2 ps → Both Came ms ps
+  pub came_all : (ms : List Member) (ps : List Owner) → AllEnter core image places nestings i op (Split IfElse) setting cycle0 None first ms ps → AllAreToDivide nestings IfElse space 2 ps → Both Came ms ps
   came_all [] [] all divide = tt
   came_all (m ∷ ms) (p ∷ ps) all divide = (record { enters = all.0; member = all.1; divides = divide.0 }, came_all ms ps all.2 divide.1)
   came_all ms ps all divide = absurd (assumption all)
@@ -330,7 +330,7 @@ module _ (core : List CoreOp) (image : Image) (bound : ℕ → ℕ) (places : Pl
   comes_by : (t : MachineSetting) → Holds image t → (ps : List Owner) → (summed : Memory) (m : Member) (p : Owner) → Counted summed m p
       → m.hart.pc ≡ 4 * suc (suc (suc (suc (suc (bound two_parts_label + 11))))) → ((j : ℕ) → part_of IfElse p ≡ Some j → summed (word p) ≡ size_behind (Split IfElse) ps p)
       → size_behind (Split IfElse) ps p < 2 ^ 32
-      → ComesByWay core image places nestings i op (Split IfElse) setting t (split_goes_on IfElse) (λ q. None) (highest_value ps) 0 (λ q. size_behind (Split IfElse) ps q) m p
+      → ComesByWay core image places nestings i op (Split IfElse) setting t (split_goes_on IfElse (nestings.levels i)) (λ q. None) (highest_value ps) 0 (λ q. size_behind (Split IfElse) ps q) m p
   comes_by t holds ps summed m p counted pc sum small =
       two_comes t holds (highest_value ps) (λ q. size_behind (Split IfElse) ps q) summed m p counted (omega arith) (sized_by ps summed p (part_of IfElse p) refl sum) small (part_of IfElse p) refl
 
