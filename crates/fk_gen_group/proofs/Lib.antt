@@ -35,6 +35,8 @@ pub mod Ends
 -- the levels that frames save
 pub mod Slots
 -- the end of a part
+pub mod ForkEnds
+
 pub mod PartEnds
 -- what members give to words
 pub mod Shares

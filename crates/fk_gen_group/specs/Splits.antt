@@ -86,11 +86,14 @@ abbrev pub heading_lines : SplitKind → Levels → List MarkedLine
 heading_lines Fork levels = heading_by levels.count
 heading_lines by levels = []
 
+abbrev pub behind_part : SplitKind → Levels → (target site : ℕ) → List MarkedLine
+behind_part by levels target site =
+    parting_lines (parts_label by) (level_word levels levels.count) target site
+    ++ heading_lines by levels
+
 abbrev pub split_block : SplitKind → Levels → (depth target site : ℕ) → List MarkedLine
 split_block by levels d target site =
-    map quiet (part_lines by d)
-    ++ (parting_lines (parts_label by) (level_word levels levels.count) target site
-    ++ heading_lines by levels)
+    map quiet (part_lines by d) ++ behind_part by levels target site
 
 -- ---- the code that splits share
 
