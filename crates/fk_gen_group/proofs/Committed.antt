@@ -149,7 +149,7 @@ module _ (core : List CoreOp) (image : Image) (bound : ℕ → ℕ) (places : Pl
           omega arith
 
   pub waits : InMemory places (memory_by by op.depth m.hart) (m.hart.registers group_frame_register) waiting → (h : Hart) → h.ended ≡ false → h.local ≡ memory_by by op.depth m.hart
-      → ((r : ℕ) → r ≢ 1 → r ≢ 5 → r ≢ 6 → r ≢ 7 → r ≢ 28 → r ≢ 29 → h.registers r ≡ m.hart.registers r) → h.pc ≡ 4 * places.block op.target
+      → ((r : ℕ) → r ≢ 1 → r ≢ 5 → r ≢ 6 → r ≢ 7 → r ≢ 28 → r ≢ 29 → r ≢ 30 → r ≢ 31 → h.registers r ≡ m.hart.registers r) → h.pc ≡ 4 * places.block op.target
       → IsMember places nestings setting None (first_word p.runner.has.level p.runner.has.outer) (record m { hart = h }) waiting
   waits memory h live local others pc =
       let stands = en.at.stands in
@@ -164,19 +164,19 @@ module _ (core : List CoreOp) (image : Image) (bound : ℕ → ℕ) (places : Pl
       (subst (λ k. below_values places nestings k i op.depth) (sym many) below)
       (λ x lt. low_stays x (subst (λ k. x < frame_end k - op.depth) many lt)) (omega arith) held in
       let same : SameRegisters m.hart h = (
-        kept 0 (λ e. omega arith) (λ e. omega arith) (λ e. omega arith) (λ e. omega arith) (λ e. omega arith) (λ e. omega arith),
-        above 8 (omega arith) (omega arith) (omega arith),
-        above 9 (omega arith) (omega arith) (omega arith),
-        above 18 (omega arith) (omega arith) (omega arith),
-        above 19 (omega arith) (omega arith) (omega arith),
-        above 20 (omega arith) (omega arith) (omega arith),
-        above 22 (omega arith) (omega arith) (omega arith),
-        above 23 (omega arith) (omega arith) (omega arith),
-        above 24 (omega arith) (omega arith) (omega arith),
-        above 25 (omega arith) (omega arith) (omega arith),
-        above 26 (omega arith) (omega arith) (omega arith),
-        above 27 (omega arith) (omega arith) (omega arith),
-        above 14 (omega arith) (omega arith) (omega arith),
+        others 0 (λ e. omega arith) (λ e. omega arith) (λ e. omega arith) (λ e. omega arith) (λ e. omega arith) (λ e. omega arith) (λ e. omega arith) (λ e. omega arith),
+        above 8 (omega arith) (omega arith),
+        above 9 (omega arith) (omega arith),
+        above 18 (omega arith) (omega arith),
+        above 19 (omega arith) (omega arith),
+        above 20 (omega arith) (omega arith),
+        above 22 (omega arith) (omega arith),
+        above 23 (omega arith) (omega arith),
+        above 24 (omega arith) (omega arith),
+        above 25 (omega arith) (omega arith),
+        above 26 (omega arith) (omega arith),
+        above 27 (omega arith) (omega arith),
+        above 14 (omega arith) (omega arith),
       ) in
       record {
         number = member.number;
@@ -184,23 +184,20 @@ module _ (core : List CoreOp) (image : Image) (bound : ℕ → ℕ) (places : Pl
           live = live;
           at = pc;
           stands =
-              stands_with places p waiting m.hart h stands same refl refl (above 21 (omega arith) (omega arith) (omega arith) ∙ stands.top)
+              stands_with places p waiting m.hart h stands same refl refl (above 21 (omega arith) (omega arith) ∙ stands.top)
               (subst (λ l. InMemory places l (m.hart.registers group_frame_register) waiting) (sym local) memory);
         };
         node = record {
-          node = above 10 (omega arith) (omega arith) (omega arith) ∙ member.node.node;
+          node = above 10 (omega arith) (omega arith) ∙ member.node.node;
           body = tt;
-          space = space_kept p.runner.has.level p.runner.has.outer m.hart h (above 12 (omega arith) (omega arith) (omega arith)) (above 13 (omega arith) (omega arith) (omega arith)) member.node.space;
+          space = space_kept p.runner.has.level p.runner.has.outer m.hart h (above 12 (omega arith) (omega arith)) (above 13 (omega arith) (omega arith)) member.node.space;
           outer = (subst (λ l. HasOuter places nestings setting.processors (number_of p) l (op.target ∷ callers) p.runner.has.outer) (sym local) outer, member.node.outer.1);
         };
         words = refl;
       }
     where
-      kept : (r : ℕ) → r ≢ 1 → r ≢ 5 → r ≢ 6 → r ≢ 7 → r ≢ 28 → r ≢ 29 → h.registers r ≡ m.hart.registers r
-      kept = others
-
-      above : (r : ℕ) → 7 < r → r ≢ 28 → r ≢ 29 → h.registers r ≡ m.hart.registers r
-      above r lt a b = others r (λ e. omega arith) (λ e. omega arith) (λ e. omega arith) (λ e. omega arith) a b
+      above : (r : ℕ) → 7 < r → r < 28 → h.registers r ≡ m.hart.registers r
+      above r lt less = others r (λ e. omega arith) (λ e. omega arith) (λ e. omega arith) (λ e. omega arith) (λ e. omega arith) (λ e. omega arith) (λ e. omega arith) (λ e. omega arith)
 
 -- what is in memory of who waits
 module _ (core : List CoreOp) (image : Image) (bound : ℕ → ℕ) (places : Places) (nestings : Nestings) (i : ℕ) (op : CoreOp)

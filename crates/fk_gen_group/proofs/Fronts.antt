@@ -49,10 +49,10 @@ plain_of by told is left = absurd (cc)
 
 -- ---- room for parts
 
-no_words : (s : Space) (k : ℕ) → free s < 4 * k → is_some (share s k) ≡ false
+pub no_words : (s : Space) (k : ℕ) → free s < 4 * k → is_some (share s k) ≡ false
 no_words s k lt = ap (λ b. is_some (if b then None else (if nat_lt (equal_part s k) 16 then None else Some (equal_part s k)))) (lt-ltb (free s) (4 * k) lt)
 
-small_parts : (s : Space) (k : ℕ) → equal_part s k < 16 → is_some (share s k) ≡ false
+pub small_parts : (s : Space) (k : ℕ) → equal_part s k < 16 → is_some (share s k) ≡ false
 small_parts s k lt = elim (cases_lt (free s) (4 * k)) [
   | inl less ↦ no_words s k less
   | inr le ↦
@@ -60,12 +60,12 @@ small_parts s k lt = elim (cases_lt (free s) (4 * k)) [
       ∙ ap (λ b. is_some (if b then None else Some (equal_part s k))) (lt-ltb (equal_part s k) 16 lt)
 ]
 
-enough : (s : Space) (k : ℕ) → 4 * k ≤ free s → 16 ≤ equal_part s k → is_some (share s k) ≡ true
+pub enough : (s : Space) (k : ℕ) → 4 * k ≤ free s → 16 ≤ equal_part s k → is_some (share s k) ≡ true
 enough s k le many =
     ap (λ b. is_some (if b then None else (if nat_lt (equal_part s k) 16 then None else Some (equal_part s k)))) (le-ltb (free s) (4 * k) le)
     ∙ ap (λ b. is_some (if b then None else Some (equal_part s k))) (le-ltb (equal_part s k) 16 many)
 
-both_ways : (b : Bool) → b ≡ true → b ≡ false → ⊥
+pub both_ways : (b : Bool) → b ≡ true → b ≡ false → ⊥
 both_ways b e f = absurd (cc)
 
 -- one part needs 20 words, and two need 40

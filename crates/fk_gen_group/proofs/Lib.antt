@@ -63,6 +63,12 @@ pub mod OnePart
 -- a group that divides into two
 pub mod TwoParts
 -- a group that divides
+pub mod ForkSizes
+
+pub mod Forks
+
+pub mod ForkWays
+
 pub mod Divides
 -- the size of the group of `start`
 pub mod Sizes

@@ -29,7 +29,7 @@ use Rattle.fk_gen_group.proofs.Fronts.{is_implicit, plain_of, Fronted, fronted, 
 use Rattle.fk_gen_group.proofs.Counting.{IsToCount, Knows}
 use Rattle.fk_gen_group.proofs.Counted.{Comes, come_and_count}
 use Rattle.fk_gen_group.proofs.Parting.{IsPlaced, placed_one, one_word, enters_word, waits_word, enters_part, wait_hart, wait_runs, one_hart, one_runs, one_has}
-use Rattle.fk_gen_group.proofs.PartSizes.{AreCounted, Within, word_at}
+use Rattle.fk_gen_group.proofs.PartSizes.{AreCounted, Each, Within, word_at}
 use Rattle.fk_gen_group.proofs.Committed.{live_at, flag_at, link_is, others_at, nought_at, local_at, saved_at_word, is_behind, waits, waits_in, has_entered, none_enters, first_enters, goes_in, goes_by, comes_with}
 use Rattle.fk_gen_group.proofs.Divided.{Divided, all_divided}
 
@@ -47,7 +47,7 @@ module _ (core : List CoreOp) (image : Image) (bound : ℕ → ℕ) (places : Pl
     (split : IsSplitInPlace core image bound places nestings i op by) (implicit : is_implicit by ≡ true) (label : parts_label by ≡ one_part_label)
     (setting : Setting) (space : Space) (is_space : IsSpace space) (many : 20 ≤ free space) (cycle0 : MachineSetting) (mine : Words) (first : ℕ)
     (owns : OwnsHeader mine first) (all_own : OwnsSpace mine space)
-    (are : AreCounted by space first 1 (λ p. flag_by by (values p.runner.has))) where
+    (are : AreCounted Each by space first 1 (λ p. flag_by by (values p.runner.has))) where
   abbrev pub flag : Owner → ℕ
   flag p = flag_by by (values p.runner.has)
 
@@ -83,16 +83,16 @@ module _ (core : List CoreOp) (image : Image) (bound : ℕ → ℕ) (places : Pl
   -- the word is by who enters
   word_of : (m : Member) (p : Owner) (came : Came m p) (front : FrontOf m p came) (o : Option ℕ) → part_of by p ≡ o → word_by m p came front (flag p) ≡ control_address (word p)
   word_of m p came front None e =
-      ap (word_by m p came front) (are.none p e)
+      ap (word_by m p came front) (are.none p tt e)
       ∙ waits_word core image bound places nestings i op by split.place split.parts setting space 1 is_space cycle0 first m p came.enters came.member came.divides front
       ∙ ap (λ x. control_address (word_at space first 1 x)) (sym e)
   word_of m p came front (Some zero) e =
       let start : space.frames + 4 ≡ word_at space first 1 (Some 0) = omega arith in
-      ap (word_by m p came front) (are.one p 0 e)
+      ap (word_by m p came front) (are.one p 0 tt e)
       ∙ enters_word core image bound places nestings i op by split.place split.parts setting space 1 is_space cycle0 first m p came.enters came.member came.divides front
       ∙ ap control_address start ∙ ap (λ x. control_address (word_at space first 1 x)) (sym e)
   word_of m p came front (Some (suc j)) e =
-      let inside : suc j < 1 = subst (Within 1) e (are.within p) in
+      let inside : suc j < 1 = subst (Within 1) e (are.within p tt) in
       absurd (omega arith)
 
   pub comes : (m : Member) (p : Owner) → Came m p → Comes image cycle0 steps (bound one_part_label + 7) Ready m p
@@ -134,8 +134,8 @@ module _ (core : List CoreOp) (image : Image) (bound : ℕ → ℕ) (places : Pl
       subst (λ h. IsToCount mine 6 28 word flag (record m { hart = h }) p) (sym r.is)
       (record {
         address = placed.word_is;
-        within = within_by (part_of by p) (are.within p);
-        own = own_by (part_of by p) (are.within p);
+        within = within_by (part_of by p) (are.within p tt);
+        own = own_by (part_of by p) (are.within p tt);
         value = placed.others 28 (λ e. omega arith) (λ e. omega arith) (λ e. omega arith) ∙ front.flag;
         nought =
             placed.others 0 (λ e. omega arith) (λ e. omega arith) (λ e. omega arith)
@@ -203,15 +203,15 @@ module _ (core : List CoreOp) (image : Image) (bound : ℕ → ℕ) (places : Pl
     wait_case : part_of by p ≡ None → Gone
     wait_case e =
         let hart = wait_hart image bound places split.parts t m.number link op.target op.site holds split.place.block.labels ready.front.back m.hart live linked nought in
-        let flag0 = flag_is ∙ are.none p e in
+        let flag0 = flag_is ∙ are.none p tt e in
         let runs = wait_runs image bound places split.parts t m.number link op.target op.site holds split.place.block.labels ready.front.back m.hart live linked nought pc flag0 in
         let flows = split.place.fits.goes_on false in
         let memory = waits_in core image bound places nestings i op setting cycle0 m0 p by split.place implicit label flows came.enters e in
         let goes = waits core image bound places nestings i op by split.place flows (stays split.aside) setting cycle0 first m0 p came.enters came.member memory hart live
         (local_at core image bound places nestings i op by split.place split.parts setting space 1 is_space cycle0 first m0 p came.enters came.member came.divides ready.front one_part_label 7 steps (word p)
         ready.placed m.hart ended local same)
-        (others_at core image bound places nestings i op by split.place split.parts setting space 1 is_space cycle0 first m0 p came.enters came.member came.divides ready.front one_part_label 7 steps (word p)
-        ready.placed m.hart ended local same)
+        (λ r a b c d f g x y. others_at core image bound places nestings i op by split.place split.parts setting space 1 is_space cycle0 first m0 p came.enters came.member came.divides ready.front one_part_label 7 steps (word p)
+        ready.placed m.hart ended local same r a b c d f g)
         (ap (λ k. 4 * k) (split.place.block.labels.blocks op.target)) in
         comes_with core image places nestings i op by setting t highest size m p hart None false 3 e (none_enters by) (goes_by by (nestings.levels i) label) runs goes
 
@@ -233,7 +233,7 @@ module _ (core : List CoreOp) (image : Image) (bound : ℕ → ℕ) (places : Pl
         let saved =
         saved_at_word core image bound places nestings i op by place split.parts setting space 1 is_space cycle0 first m0 p came.enters came.member came.divides ready.front one_part_label 7 steps (word p)
         ready.placed m.hart ended local same in
-        let flag1 = flag_is ∙ are.one p 0 e in
+        let flag1 = flag_is ∙ are.one p 0 tt e in
         let hart = one_hart image bound places split.parts t m.number link op.target target op.site holds place.block.labels ready.front.back ready.front.next ready.hart m.hart memory saved (word p) (size p) behind linked nought in
         let runs = one_runs image bound places split.parts t m.number link op.target target op.site holds place.block.labels ready.front.back ready.front.next ready.hart m.hart memory saved (word p) (size p) behind linked nought pc flag1 in
         let level = one_has image bound places split.parts t m.number link op.target target op.site holds place.block.labels ready.front.back ready.front.next ready.hart m.hart memory saved (word p) (size p) behind linked nought in
@@ -253,7 +253,7 @@ module _ (core : List CoreOp) (image : Image) (bound : ℕ → ℕ) (places : Pl
     one_comes None e sum small = wait_case e
     one_comes (Some zero) e sum small = enter_case e (sum 0 e) small
     one_comes (Some (suc j)) e sum small =
-        let inside : suc j < 1 = subst (Within 1) e (are.within p) in
+        let inside : suc j < 1 = subst (Within 1) e (are.within p tt) in
         absurd (omega arith)
 
   -- ---- all of them
@@ -291,7 +291,7 @@ module _ (core : List CoreOp) (image : Image) (bound : ℕ → ℕ) (places : Pl
       (λ v ms' counted. all_due core setting i op (Split by) (Counted v) ms' ps split.place.stands refl (due_here room v) counted)
       own
       (λ own1 own2 summed own' ms' one two sum cleared stand counted.
-      all_divided core image places nestings i op by setting t first ps space 1 flag are few (suc (suc (suc (suc (suc (bound one_part_label + 7)))))) Counted
-      (λ v m p c. c.near.ready.came.divides) (λ v m p c. c.near.ready.came.member.words) (comes_by t holds_later ps)
+      all_divided core image places nestings i op by setting t first ps Each space 1 flag are few (suc (suc (suc (suc (suc (bound one_part_label + 7)))))) Counted
+      (λ v m p c. tt) (λ v m p c. c.near.ready.came.divides) (λ v m p c. c.near.ready.came.member.words) (comes_by t holds_later ps)
       own own1 own2 summed own' one two sum cleared ms' stand counted rest)
       ms (each_so Came (Comes image cycle0 steps (bound one_part_label + 7) Ready) ms ps comes all)

@@ -31,7 +31,7 @@ use Rattle.fk_gen_group.proofs.Fronts.{Fronted, fronted, flag_by, link_at, memor
 use Rattle.fk_gen_group.proofs.Counting.{IsToCount, Knows}
 use Rattle.fk_gen_group.proofs.Counted.{Comes, come_and_count}
 use Rattle.fk_gen_group.proofs.Parting.{IsHalved, placed_two, two_word, first_word_is, second_word_is, enters_part, saving, first_hart, first_runs, second_hart, second_runs, both_has}
-use Rattle.fk_gen_group.proofs.PartSizes.{AreCounted, Within, word_at, either, none_waits}
+use Rattle.fk_gen_group.proofs.PartSizes.{AreCounted, Each, Within, word_at, either, none_waits}
 use Rattle.fk_gen_group.proofs.Committed.{live_at, flag_at, link_is, nought_at, saved_at_word, is_behind, has_entered, comes_with}
 use Rattle.fk_gen_group.proofs.Divided.{Divided, all_divided}
 
@@ -42,7 +42,7 @@ flag_of_part false j e = cc
 
 module _ (core : List CoreOp) (image : Image) (bound : ℕ → ℕ) (places : Places) (nestings : Nestings) (i : ℕ) (op : CoreOp)
     (split : IsSplitInPlace core image bound places nestings i op IfElse) (setting : Setting) (space : Space) (is_space : IsSpace space) (many : 40 ≤ free space)
-    (cycle0 : MachineSetting) (mine : Words) (first : ℕ) (owns : OwnsHeader mine first) (all_own : OwnsSpace mine space) (are : AreCounted IfElse space first 2 (λ p. 1)) where
+    (cycle0 : MachineSetting) (mine : Words) (first : ℕ) (owns : OwnsHeader mine first) (all_own : OwnsSpace mine space) (are : AreCounted Each IfElse space first 2 (λ p. 1)) where
   abbrev pub one_each : Owner → ℕ
   one_each p = 1
 
@@ -92,7 +92,7 @@ module _ (core : List CoreOp) (image : Image) (bound : ℕ → ℕ) (places : Pl
       ∙ second_word_is core image bound places nestings i op IfElse split.place split.parts setting space 2 is_space cycle0 first m p came.enters came.member came.divides front many
       ∙ ap control_address start ∙ ap (λ x. control_address (word_at space first 2 x)) (sym e)
   word_of m p came front (Some (suc (suc j))) e =
-      let inside : suc (suc j) < 2 = subst (Within 2) e (are.within p) in
+      let inside : suc (suc j) < 2 = subst (Within 2) e (are.within p tt) in
       absurd (omega arith)
 
   pub comes : (m : Member) (p : Owner) → Came m p → Comes image cycle0 steps (bound two_parts_label + 11) Ready m p
@@ -144,8 +144,8 @@ module _ (core : List CoreOp) (image : Image) (bound : ℕ → ℕ) (places : Pl
       subst (λ h. IsToCount mine 6 5 word one_each (record m { hart = h }) p) (sym r.is)
       (record {
         address = placed.word_is;
-        within = within_by (part_of IfElse p) (are.within p);
-        own = own_by (part_of IfElse p) (are.within p);
+        within = within_by (part_of IfElse p) (are.within p tt);
+        own = own_by (part_of IfElse p) (are.within p tt);
         value = r.halved.one;
         nought =
             placed.others 0 (λ e. omega arith) (λ e. omega arith) (λ e. omega arith)
@@ -232,7 +232,7 @@ module _ (core : List CoreOp) (image : Image) (bound : ℕ → ℕ) (places : Pl
     part_within (suc (suc j)) lt = absurd (omega arith)
 
     word_within : (j : ℕ) → part_of IfElse p ≡ Some j → word p + equal_part space 2 ≤ 2 ^ 20
-    word_within j e = subst (λ x. word_at space first 2 x + equal_part space 2 ≤ 2 ^ 20) (sym e) (part_within j (subst (Within 2) e (are.within p)))
+    word_within j e = subst (λ x. word_at space first 2 x + equal_part space 2 ≤ 2 ^ 20) (sym e) (part_within j (subst (Within 2) e (are.within p tt)))
 
     -- where the blocks of the part begin
     blocks_are : (j : ℕ) → part_of IfElse p ≡ Some j → (found : ℕ) → found ≡ control_address (word p) → word_sum found (m.hart.registers t4) ≡ control_address (word p + equal_part space 2)
@@ -298,7 +298,7 @@ module _ (core : List CoreOp) (image : Image) (bound : ℕ → ℕ) (places : Pl
     two_comes (Some zero) e = first_case e
     two_comes (Some (suc zero)) e = second_case e
     two_comes (Some (suc (suc j))) e =
-        let inside : suc (suc j) < 2 = subst (Within 2) e (are.within p) in
+        let inside : suc (suc j) < 2 = subst (Within 2) e (are.within p tt) in
         absurd (omega arith)
 
   -- ---- all of them
@@ -343,7 +343,7 @@ module _ (core : List CoreOp) (image : Image) (bound : ℕ → ℕ) (places : Pl
       (λ v ms' counted. all_due core setting i op (Split IfElse) (Counted v) ms' ps split.place.stands refl (due_here room v) counted)
       own
       (λ own1 own2 summed own' ms' one two sum cleared stand counted.
-      all_divided core image places nestings i op IfElse setting t first ps space 2 one_each are few (suc (suc (suc (suc (suc (bound two_parts_label + 11)))))) Counted
-      (λ v m p c. c.near.ready.came.divides) (λ v m p c. c.near.ready.came.member.words) (comes_by t holds_later ps)
+      all_divided core image places nestings i op IfElse setting t first ps Each space 2 one_each are few (suc (suc (suc (suc (suc (bound two_parts_label + 11)))))) Counted
+      (λ v m p c. tt) (λ v m p c. c.near.ready.came.divides) (λ v m p c. c.near.ready.came.member.words) (comes_by t holds_later ps)
       own own1 own2 summed own' one two sum cleared ms' stand counted rest)
       ms (each_so Came (Comes image cycle0 steps (bound two_parts_label + 11) Ready) ms ps comes all)
