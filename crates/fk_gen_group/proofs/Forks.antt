@@ -41,7 +41,7 @@ use Rattle.fk_gen_group.specs.Laws.{IsInPlace}
 use Rattle.fk_gen_group.proofs.Last.{value_word}
 use Rattle.fk_gen_group.proofs.Sizes.{positive, positive_is}
 use Rattle.fk_gen_group.proofs.PartSizes.{word_at}
-use Rattle.fk_gen_group.proofs.ForkSizes.{entry, entry_of, room_of, share_of, part_ends, number_of_part}
+use Rattle.fk_gen_group.proofs.ForkSizes.{entry, entry_of, room_of, share_of, part_ends, ends_in, number_of_part}
 
 -- ---- the values
 
@@ -255,22 +255,11 @@ module _ (core : List CoreOp) (image : Image) (bound : ℕ → ℕ) (places : Pl
               let few : equal_part space (suc c) ≤ 2 ^ 20 = omega (arith, ends, within, top) in
               ap (λ x. applied num.Shl (word_sum x (2 ^ 32 - 4)) 2) q ∙ omega (arith, few)
 
-      -- a part ends in the space
-      pub ends_within : (j : ℕ) → j < count → word_at space first count (Some j) + equal_part space count ≤ space.blocks
-      ends_within j lt = by count room lt
-        where
-          by : (c : ℕ) → has_parts space c ≡ true → j < c → word_at space first c (Some j) + equal_part space c ≤ space.blocks
-          by zero e less = absurd (omega arith)
-          by (suc c) e less =
-              let ends = part_ends space c j e less in
-              let ordered = is_space.ordered in
-              omega (arith, ends, ordered)
-
       -- who enters comes to its part
       enters_word : (j : ℕ) → j < count → reached j count bytes (control_address space.frames) 1 (control_address first) ≡ control_address (word_at space first count (Some j))
       enters_word j lt =
           let b = share_bytes j lt in
-          let ends = ends_within j lt in
+          let ends = ends_in space first count is_space low_is room j lt in
           let header = is_space.header in
           let ordered = is_space.ordered in
           let within = is_space.within in
