@@ -26,7 +26,7 @@ use Rattle.fk_lockstep_tree.specs.Placed.{where_in, IsPlaced}
 use Rattle.fk_lockstep_nodes.specs.Steps.{Keeps, Does, KeepsOrDoes, StepsBy, MayStep, stepping}
 use Rattle.fk_lockstep_tree.specs.Steps.{StepFits, AreKnown}
 use Rattle.fk_lockstep_tree.specs.Rounds.{IsRound, RoundsAreKnown}
-use Rattle.fk_lockstep_tree.proofs.Moves.{OfGroups, root_begins, waiters_resume, group_steps, no_fork, shrinks_deep, bodies_meet, others_meet, joint_tells, not_alone, joint_is_step, goes_on}
+use Rattle.fk_lockstep_tree.proofs.Moves.{OfGroups, root_begins, waiters_resume, group_steps, shrinks_deep, bodies_meet, others_meet, joint_tells, not_alone, joint_is_step, goes_on}
 use Rattle.fk_lockstep_tree.proofs.Paths.{at_root, below_root, parent_below, at_node, waiting_place, IsAlone, HasBodyThere, lockstep_place, body_place}
 use Rattle.fk_lockstep_tree.proofs.Acts.{does_at, Acts, acts, counts_as, due_at, fits_at, stepping_length}
 
@@ -99,7 +99,7 @@ changing_found op (Some step) e = by (changes_tree step.operation) refl e
 -- of a group in lockstep all steps fit that groups do
 locked_fits : (tree : Tree) (g d : ℕ) (op : Operation) (to : Where) → OfGroups op → goes (InGroup d) op true ≡ Some to → ((m : ℕ) → d ≡ suc m → parent tree g ≢ 0) → kind tree g ≡ Some Lockstep
     → StepFits tree g op
-locked_fits tree g d (o.Split by) to of way deep e = (e, no_fork d by true to way)
+locked_fits tree g d (o.Split by) to of way deep e = e
 locked_fits tree g d o.Shrink to of way deep e = let s = shrinks_deep d true to way in (e, deep s.0 s.1)
 locked_fits tree g d o.End to of way deep e = e
 locked_fits tree g d o.Farm to of way deep e = e
