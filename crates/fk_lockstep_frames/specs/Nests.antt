@@ -42,15 +42,23 @@ nesting (OfPart numbered frame ∷ nests) = suc (nesting nests)
 abbrev pub levels_of : (main : Bool) → List Nest → ℕ
 levels_of main nests = nesting nests - (if main then 1 else 0)
 
--- whether each of these parts is numbered
-abbrev pub numbered_in : (levels : ℕ) → List Nest → List Bool
-numbered_in zero nests = []
-numbered_in (suc n) [] = []
-numbered_in (suc n) (OfFunction frame ∷ nests) = []
-numbered_in (suc n) (OfPart numbered frame ∷ nests) = numbered ∷ numbered_in n nests
+-- the words of the frame in the innermost part, if the innermost nest is a part
+abbrev pub words_in_part : List Nest → ℕ
+words_in_part (OfPart numbered frame ∷ nests) = words_in frame
+words_in_part nests = 0
 
-abbrev pub numbered_of : (main : Bool) → List Nest → List Bool
-numbered_of main nests = numbered_in (levels_of main nests) nests
+-- the level with a number, the first one having the number 0, if a `fork` left it; and the words of
+-- the frame in the part that the `fork` divided
+abbrev pub left_by_fork : (numbered : Bool) → (around : List Nest) → Option ℕ
+left_by_fork false around = None
+left_by_fork true around = Some (words_in_part around)
+
+abbrev pub forks_of : (main : Bool) → List Nest → (level : ℕ) → Option ℕ
+forks_of main [] level = None
+forks_of main (OfFunction frame ∷ nests) level = None
+forks_of main (OfPart numbered frame ∷ nests) level =
+    if suc level == levels_of main (OfPart numbered frame ∷ nests) then left_by_fork numbered nests
+    else forks_of main nests level
 
 -- whether the innermost group is that of a numbered part
 abbrev pub is_numbered : List Nest → Bool
