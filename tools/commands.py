@@ -19,6 +19,7 @@ from pathlib import Path
 sys.dont_write_bytecode = True
 import frames
 import groups
+import splits
 from programs import FAULTS_OF_RUNS, PROGRAMS
 from runs import runs
 from texts import FAULTS, NO_TOKENS, OPENERS, TEXTS
@@ -388,7 +389,7 @@ FILES.update(
         "spellings.f95": b"#include <fork.h>\n// hex, octal\nvoid main(void) { putint(0x10 + 010 /* and */ + 'a' + 1u); }",
         "second.f95": b"sh int y; sh int x; void main(void) { x = 4294967295; }",
         "first.f95": b"sh int x; sh int y; void main(void) { y = 1; }",
-        "split.f95": b"void main(void) { start if ($) ; }",
+        "fork.f95": b"void main(void) { start fork (1; @=0) ; }",
         "far.f95": b"/*" + b" " * 300000 + b"*/ " + SUMS,
         "globals.f95": b"".join(b"sh int v%d;" % number for number in range(LONG)) + b"void main(void) { putint(1); }",
         "long.image": image([0] * LONG),
@@ -416,7 +417,7 @@ ROWS += [
     Row(run("first.f95") + ["--show", "x"], 0, b"x = 0\n", FINISHED),
     Row(run("first.f95") + ["--show", "y"], 0, b"y = 1\n", FINISHED),
     Row(run("empty.f95") + ["--show", "main"], 1, b"", r"refused 23 NoGlobal main\n", given=b"x"),
-    Row(run("split.f95") + ["--show", "y"], 1, b"", r"refused 22 NotBuilt\n", given=b"x"),
+    Row(run("fork.f95") + ["--show", "y"], 1, b"", r"refused 22 NotBuilt\n", given=b"x"),
     Row(execute("halt.image"), 0, b"", r"finished after 2 cycles\n", given=b"1 -2 3"),
     # more bytes than are moved at once
     Row(run("far.f95"), 0, b"5\n", FINISHED),
@@ -436,22 +437,24 @@ for title, (harts, text, out, kind, place, processor) in FAULTS_OF_RUNS.items():
     ROWS.append(Row(run(f"fault {title}.f95", harts=harts), 6, out, report))
 
 # programs with one group at a time, those that fault, and those that never end
-for title, (harts, given, text, show, out) in (groups.PROGRAMS | frames.PROGRAMS).items():
+for title, (harts, given, text, show, out) in (groups.PROGRAMS | frames.PROGRAMS | splits.PROGRAMS).items():
     FILES[f"group {title}.f95"] = text
     words = run(f"group {title}.f95", harts=harts) + (["--show", show] if show else [])
     ROWS.append(Row(words, 0, out, FINISHED, given=given))
-for title, (harts, text, out, kind, place, processor) in (groups.FAULTS | frames.FAULTS).items():
+for title, (harts, text, out, kind, place, processor) in (groups.FAULTS | frames.FAULTS | splits.FAULTS).items():
     FILES[f"group fault {title}.f95"] = text
     report = rf"fault {kind} at {place} by processor {processor} after \d+ cycles\n"
     ROWS.append(Row(run(f"group fault {title}.f95", harts=harts), 6, out, report))
-for title, (harts, text, show, out) in groups.ENDLESS.items():
+for title, (harts, text, show, out) in (groups.ENDLESS | splits.ENDLESS).items():
     FILES[f"endless {title}.f95"] = text
     words = run(f"endless {title}.f95", harts=harts, cycles=100000) + (["--show", show] if show else [])
     ROWS.append(Row(words, 7, out, r"stopped after 100000 cycles\n"))
-for one in runs(TOP / "tools" / "framed_runs.txt"):
-    FILES[f"framed {one.number}.f95"] = one.text
-    words = run(f"framed {one.number}.f95", harts=one.harts, cycles=10000000) + ["--show", one.shown]
-    ROWS.append(Row(words, 0, one.out, re.escape(one.report) + r".*\n", given=one.given))
+for kind in ["framed", "split"]:
+    for one in runs(TOP / "tools" / f"{kind}_runs.txt"):
+        name = f"{kind} {one.number}.f95"
+        FILES[name] = one.text
+        words = run(name, harts=one.harts, cycles=10000000) + ["--show", one.shown]
+        ROWS.append(Row(words, 6 if one.report.startswith("fault") else 0, one.out, re.escape(one.report) + r".*\n", given=one.given))
 ROWS += [
     Row(run("group start.f95", harts=4, cycles=0) + ["--show", "x"], 7, b"x = 0\n", AT_ONCE),
     # a group, its code and its end: get for who is in it, begin, what it does, end, resume, halt
@@ -508,20 +511,14 @@ for index, rule in enumerate(RULES):
     name = f"rule{index}.f95"
     FILES[name], line = breaking(*rule)
     ROWS.append(Row(run(name), 1, b"", line))
-# texts that keep all rules, with a split or a split loop; the last ones in functions that nobody calls
+# texts that keep all rules, with a `fork`; the last one in a function that nobody calls
 NOT_BUILT = [
-    b"void main(void) { start if ($) ; else ; }",
-    b"void main(void) { int x; start x = $ && 1; }",
-    b"void main(void) { int x; start x = $ || 1; }",
-    b"void main(void) { int x; start x = $ ? 1 : 2; }",
-    b"void main(void) { int x = 3; start while (x) x--; }",
-    b"void main(void) { int x = 3; start do x--; while (x); }",
-    b"void main(void) { int x; start for (x = 0; x < 3; x++) ; }",
-    b"sync int f(sh int a) { sh int k = a; return $ ? k : 1; } void main(void) { start f(1); }",
-    b"sync void f(void) { if ($) ; } void main(void) { }",
+    b"void main(void) { start fork (2; @=$; $=0) ; }",
+    b"void main(void) { int x; start { while (x) if ($) fork (2; @=$) x = @; } }",
+    b"sync void f(void) { fork (2; @=$) ; } void main(void) { start f(); }",
     b"sync void f(void) { fork (2; @=$) ; } void main(void) { }",
 ]
-# texts with group frames, `shalloc` or `shmalloc`, and the kinds of their sites by hand
+# texts with group frames, `shalloc`, `shmalloc` or splits, and the kinds of their sites by hand
 BUILT = {
     b"void main(void) { shmalloc(4); }": [1, 21, 4, 34],
     b"sync void f(void) { sh int a; } void main(void) { }": [2, 1, 14, 4, 11, 34],
@@ -530,6 +527,16 @@ BUILT = {
     b"sync int *f(void) { return shalloc(4); } void main(void) { start f(); }": [1, 24, 26, 11, 1, 11, 2, 23, 22, 4, 29, 30, 34],
     # const, agree, enter, frame, the address and the value of the parameter, write, drop
     b"sync void f(sh int a) { } void main(void) { start f(5); }": [11, 2, 23, 1, 24, 22, 25, 2, 2, 14, 4, 29, 30, 34],
+    # the condition, split, the end of each part, resume
+    b"void main(void) { start if ($) ; else ; }": [2, 23, 2, 27, 29, 29, 30, 29, 30, 34],
+    # the left side, split; in the part the right side, which becomes 0 or 1
+    b"void main(void) { int x; start x = $ && 1; }": [1, 3, 4, 2, 23, 2, 27, 1, 1, 7, 29, 30, 3, 4, 29, 30, 34],
+    b"void main(void) { int x; start x = $ || 1; }": [1, 3, 4, 2, 23, 2, 27, 1, 1, 7, 29, 30, 3, 4, 29, 30, 34],
+    b"void main(void) { int x; start x = $ ? 1 : 2; }": [1, 3, 4, 2, 23, 2, 27, 1, 29, 1, 29, 30, 3, 4, 29, 30, 34],
+    # split; in each turn the condition and shrink
+    b"void main(void) { start while ($) ; }": [2, 23, 27, 2, 28, 30, 29, 30, 34],
+    b"void main(void) { start do ; while ($); }": [2, 23, 27, 2, 28, 30, 29, 30, 34],
+    b"sync void f(void) { if ($) { sh int k; } } void main(void) { }": [2, 27, 25, 2, 1, 14, 4, 29, 30, 11, 34],
 }
 # a text that keeps all rules and isn't built; and mistakes of several kinds in one text
 FILES["valid.f95"] = b"void main(void) { start fork (1; @=0) ; }"
@@ -579,7 +586,7 @@ ROWS += [
     Row(run("shared.f95"), 1, b"", r"refused 11 GlobalsTooLarge 524289\n"),
     Row(build("most.f95", "most.image"), 0, b"", r"built \d+ words\n", files={"most.image": is_image}),
     Row(build("largest.f95", "largest.image"), 0, b"", r"built \d+ words\n", files={"largest.image": is_image}),
-    refused(main_of(privates(47) + b"start if ($) ;"), r"refused 22 NotBuilt\n"),
+    refused(main_of(privates(47) + b"start fork (1; @=0) ;"), r"refused 10 FrameTooLarge main 66\n"),
     refused(main_of(privates(52) + b"start ;"), r"refused 10 FrameTooLarge main 65\n"),
     refused(LARGE + main_of(b"start ;"), r"refused 11 GlobalsTooLarge 524289\n"),
     refused(LARGE + main_of(privates(64)), r"refused 10 FrameTooLarge main 73\n"),

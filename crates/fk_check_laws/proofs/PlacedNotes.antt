@@ -28,7 +28,6 @@ use Rattle.fk_types_rules.proofs.Counting.{times, node_times, contained, node-on
 use Rattle.fk_check_laws.specs.Correct.{IsCorrect}
 use Rattle.fk_check_laws.proofs.Each.{Each, each, same_at}
 use Rattle.fk_check_laws.proofs.Notes.{nth_past, among, note_at, Theirs, Unmisplaced, unmisplaced}
-use Rattle.fk_check_laws.specs.Valid.{IsValid}
 use Rattle.fk_check_laws.proofs.RegionTokens as regions
 use Rattle.fk_check_laws.proofs.SharingTokens as sharing
 
@@ -79,26 +78,23 @@ module _ (program : ProgramTree) (facts : Facts) (valid : IsCorrect program fact
   async_by f index there main mode is other = valid.known.types.kept f.name.place rules.NoMain
       (inl (inr (inr (inr (inr (refl, inr (index, f, there, ((bytes_eq-Decides f.name.bytes (codes "main")).0 main, (λ both. other (sym is ∙ both.1))), refl)))))))
 
-module _ (program : ProgramTree) (facts : Facts) (valid : IsValid program facts) where
+module _ (program : ProgramTree) (facts : Facts) (valid : IsCorrect program facts) where
   abbrev pub tables : Tables
   tables = tables_by program facts
 
-  abbrev pub correct : IsCorrect program facts
-  correct = record { well_formed = valid.well_formed; small = valid.small; known = valid.known }
-
   -- it breaks no rule, and is noted where it stands
-  pub record IsRight (x : Theirs program facts correct) : Type 0 where
-    pub unbroken : Unmisplaced program facts correct x
+  pub record IsRight (x : Theirs program facts valid) : Type 0 where
+    pub unbroken : Unmisplaced program facts valid x
     pub sync : region x.around ≡ Synchronous → (note tables x.spot.at).sync ≡ true
     pub alone : (note tables x.spot.at).splits ≡ true → region x.around ≡ Synchronous
     pub agrees : (note tables x.spot.at).sync ≡ true → region x.around ≡ Synchronous
 
-  right : (i : ℕ) (x : Theirs program facts correct) → slice_get (r.tokens program) i ≡ Some x → IsRight x
+  right : (i : ℕ) (x : Theirs program facts valid) → slice_get (r.tokens program) i ≡ Some x → IsRight x
   right i x is = record {
-    unbroken = unmisplaced program facts correct i x is;
-    sync = λ e. sync_from program facts correct x.spot.at (region_low program facts correct i x is) (i, x, is, refl, e);
-    alone = split_region program facts correct i x is;
-    agrees = λ e. sync_region program facts correct i x is (sync_to program facts correct x.spot.at e);
+    unbroken = unmisplaced program facts valid i x is;
+    sync = λ e. sync_from program facts valid x.spot.at (region_low program facts valid i x is) (i, x, is, refl, e);
+    alone = split_region program facts valid i x is;
+    agrees = λ e. sync_region program facts valid i x is (sync_to program facts valid x.spot.at e);
   }
 
   pub all_right : Each IsRight (r.tokens program)

@@ -34,19 +34,20 @@ use Rattle.fk_lockstep_structure.specs.InPlace.{BodyInPlace, NoneShared, Functio
 use Rattle.fk_lockstep_structure.specs.Returns.{BodyReturns, FunctionsReturn}
 use Rattle.fk_layout.specs.Layout.{tables_by}
 use Rattle.fk_lockstep_structure.proofs.Programs.{programs_have_one_program}
-use Rattle.fk_check_laws.specs.Valid.{IsValid, may_run, callable, may_call, ValidProgramsAreInPlace, ValidProgramsHaveOneProgram}
+use Rattle.fk_check_laws.specs.Correct.{IsCorrect}
+use Rattle.fk_check_laws.specs.Valid.{IsValid, may_run, callable, may_call, CorrectProgramsStandInPlace, ValidProgramsAreInPlace, ValidProgramsHaveOneProgram}
 use Rattle.fk_check_laws.proofs.Each.{Each, each, front_of, rest_of}
 use Rattle.fk_check_laws.proofs.Typed.{Unbroken}
 use Rattle.fk_check_laws.proofs.Notes.{among}
 use Rattle.fk_check_laws.proofs.Main.{there_is_main}
 use Rattle.fk_check_laws.proofs.Things.{thing, thing_tells}
-use Rattle.fk_check_laws.proofs.PlacedNotes.{async_by, tables, correct, all_right, all_ours}
+use Rattle.fk_check_laws.proofs.PlacedNotes.{async_by, tables, all_right, all_ours}
 use Rattle.fk_check_laws.proofs.Named.{env, unbroken_pieces}
 use Rattle.fk_check_laws.proofs.Declared.{function_number}
 use Rattle.fk_check_laws.proofs.Returning.{statements_return}
 use Rattle.fk_check_laws.proofs.PlacedStatements.{Right, Mine, Stands, Refers, Fine, Where, scope_of, AreGoodStatements, statements_good}
 
-module _ (program : ProgramTree) (facts : Facts) (valid : IsValid program facts) where
+module _ (program : ProgramTree) (facts : Facts) (valid : IsCorrect program facts) where
   abbrev fs : List FunctionTree
   fs = functions_of program.items
 
@@ -158,7 +159,7 @@ module _ (program : ProgramTree) (facts : Facts) (valid : IsValid program facts)
       (λ thing. rest_of (Mine program facts valid functions thing) (s.item_tokens thing ◌∷◌ [] x) (s.items_tokens thing ◌∷◌ [] xs) (o thing))
       (rest_of (Stands program facts valid functions) (item_marks x) (items_marks xs) b) (rest_of (Fine program facts valid functions) (item_pieces x) (items_pieces xs) k))
 
-  fine_pieces : (ps : List PieceTree) → Each (λ x. Unbroken (PieceBreaks (env program facts (correct program facts valid)) x)) ps → Each (Refers program facts valid functions) (pieces_references ps) → Each (Fine program facts valid functions) ps
+  fine_pieces : (ps : List PieceTree) → Each (λ x. Unbroken (PieceBreaks (env program facts valid) x)) ps → Each (Refers program facts valid functions) (pieces_references ps) → Each (Fine program facts valid functions) ps
   fine_pieces [] u c = tt
   fine_pieces (x ∷ ps) u c = (
     (u.0, front_of (Refers program facts valid functions) (piece_references x) (pieces_references ps) c),
@@ -168,7 +169,7 @@ module _ (program : ProgramTree) (facts : Facts) (valid : IsValid program facts)
   pub fine : Each IsFine fs
   fine = all_fine program.items (λ j x is. (j, is)) (all_right program facts valid) (λ thing. all_ours program facts valid thing)
       (each (Stands program facts valid functions) (outline program) (λ i x is. (i, is)))
-      (fine_pieces (pieces program) (unbroken_pieces program facts (correct program facts valid))
+      (fine_pieces (pieces program) (unbroken_pieces program facts valid)
       (each (Refers program facts valid functions) (pieces_references (pieces program)) (λ i x is. among (pieces_references (pieces program)) i x is)))
 
   -- ---- what each is
@@ -185,9 +186,9 @@ module _ (program : ProgramTree) (facts : Facts) (valid : IsValid program facts)
   main_async f index there main = by f.mode refl
     where
       by : (mode : Mode) → f.mode ≡ mode → mode ≡ Async
-      by Sync is = absurd (async_by program facts (correct program facts valid) f index there main Sync is (λ e. cc))
+      by Sync is = absurd (async_by program facts valid f index there main Sync is (λ e. cc))
       by Async is = refl
-      by Straight is = absurd (async_by program facts (correct program facts valid) f index there main Straight is (λ e. cc))
+      by Straight is = absurd (async_by program facts valid f index there main Straight is (λ e. cc))
 
   good_main : (f : FunctionTree) (k : IsFine f) → is_main f ≡ true → Good (OfMain true) true k.body
   good_main f k main =
@@ -210,7 +211,7 @@ module _ (program : ProgramTree) (facts : Facts) (valid : IsValid program facts)
   shaped (f ∷ gs) h = (subst (BodyShaped (tables program facts valid) functions) (sym h.0.has) (shaped_one f h.0), shaped gs h.1)
 
   number_of : (f : FunctionTree) (k : IsFine f) → slice_get (declarations program) (binding_of (tables program facts valid) f) ≡ Some (n.Header f)
-  number_of f k = function_number program facts (correct program facts valid) k.index f k.there (ap is_some k.has)
+  number_of f k = function_number program facts valid k.index f k.there (ap is_some k.has)
 
   pub called : (in_group : Bool) (f : FunctionTree) (k : IsFine f) → may_call program in_group (binding_of (tables program facts valid) f) ≡ true → (is_main f ≡ false) × (may_run in_group f.mode ≡ true)
   called in_group f k may =
@@ -247,7 +248,7 @@ module _ (program : ProgramTree) (facts : Facts) (valid : IsValid program facts)
         let same = eqb-true (binding_of (tables program facts valid) f) (main_of (tables program facts valid) program) e ∙ found.3 in
         let one = same_header f found.0 (sym (number_of f k) ∙ ap (slice_get (declarations program)) same ∙ number_of found.0 found.1) in
         subst (λ x. is_main x ≡ true) (sym one) found.2
-    | inr none ↦ absurd (there_is_main program facts (correct program facts valid) none)
+    | inr none ↦ absurd (there_is_main program facts valid none)
   ]
 
   -- a function that runs by itself has no `sh` parameters
@@ -288,14 +289,27 @@ module _ (program : ProgramTree) (facts : Facts) (valid : IsValid program facts)
     returning gs h.1,
   )
 
-pub valid_programs_are_in_place : ValidProgramsAreInPlace
-valid_programs_are_in_place program facts valid = record {
+pub correct_programs_stand_in_place : CorrectProgramsStandInPlace
+correct_programs_stand_in_place program facts valid = record {
   shaped = shaped program facts valid (functions_of program.items) (fine program facts valid);
-  noted = noted program facts valid (functions_of program.items) (fine program facts valid);
   in_place = in_place program facts valid (functions_of program.items) (fine program facts valid);
-  valued = valid.valued;
-  returning = returning program facts valid (functions_of program.items) (fine program facts valid);
 }
+
+-- what is valid is correct
+pub correct : (program : ProgramTree) (facts : Facts) → IsValid program facts → IsCorrect program facts
+correct program facts valid = record { well_formed = valid.well_formed; small = valid.small; known = valid.known }
+
+pub valid_programs_are_in_place : ValidProgramsAreInPlace
+valid_programs_are_in_place program facts valid =
+    let right = correct program facts valid in
+    let standing = correct_programs_stand_in_place program facts right in
+    record {
+      shaped = standing.shaped;
+      noted = noted program facts right (functions_of program.items) (fine program facts right);
+      in_place = standing.in_place;
+      valued = valid.valued;
+      returning = returning program facts right (functions_of program.items) (fine program facts right);
+    }
 
 pub valid_programs_have_one_program : ValidProgramsHaveOneProgram
 valid_programs_have_one_program program facts valid setting schedule words firsts input processors some possible fine =

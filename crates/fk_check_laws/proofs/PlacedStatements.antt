@@ -68,14 +68,14 @@ use Rattle.fk_lockstep_structure.specs.InPlace as ip
 use Rattle.fk_lockstep_structure.specs.InPlace.{Splits, StatementInPlace, StatementsInPlace}
 use Rattle.fk_lockstep_structure.proofs.Forms.{inner_group}
 use Rattle.fk_check_laws.specs.Correct.{IsCorrect}
-use Rattle.fk_check_laws.specs.Valid.{IsValid, may_run, callable, may_call}
+use Rattle.fk_check_laws.specs.Valid.{may_run, callable, may_call}
 use Rattle.fk_check_laws.proofs.Each.{Each, front_of, rest_of, two_of, three_of, four_of}
 use Rattle.fk_check_laws.proofs.Typed.{Unbroken}
 use Rattle.fk_check_laws.proofs.Notes.{among, binding_is, Theirs}
 use Rattle.fk_check_laws.proofs.Statements as fit
 use Rattle.fk_check_laws.proofs.Statements.{inside, never_inside}
 use Rattle.fk_check_laws.proofs.Spelled.{spelled}
-use Rattle.fk_check_laws.proofs.PlacedNotes.{tables, correct, splits_from, IsRight, Ours, IsOurs}
+use Rattle.fk_check_laws.proofs.PlacedNotes.{tables, splits_from, IsRight, Ours, IsOurs}
 use Rattle.fk_check_laws.proofs.Named.{env, Known, IsKnown, known, meant_at, declared_low, takes}
 use Rattle.fk_check_laws.proofs.Expressions.{told}
 use Rattle.fk_check_laws.proofs.Read.{NoMain, Any, IsNamed, read}
@@ -118,24 +118,21 @@ main_by : (main : Bool) (x other : Meant) → main ≡ true → x ≡ (if main t
 main_by true x other e is = ap is_main_meant is
 main_by false x other e is = absurd (false≢true e)
 
-module _ (program : ProgramTree) (facts : Facts) (valid : IsValid program facts) (functions : (binding : ℕ) → Signature) where
-  abbrev proper : IsCorrect program facts
-  proper = correct program facts valid
-
-  abbrev pub Right : Theirs program facts proper → Type 0
+module _ (program : ProgramTree) (facts : Facts) (valid : IsCorrect program facts) (functions : (binding : ℕ) → Signature) where
+  abbrev pub Right : Theirs program facts valid → Type 0
   Right x = IsRight program facts valid x
 
   abbrev pub Mine : (ℕ → Option Thing) → Ours program facts valid → Type 0
   Mine thing x = IsOurs program facts valid thing x
 
   abbrev pub Stands : MarkTree → Type 0
-  Stands mark = fit.Stands program facts proper functions mark
+  Stands mark = fit.Stands program facts valid functions mark
 
   abbrev pub Refers : ReferenceTree → Type 0
-  Refers x = fit.Refers program facts proper functions x
+  Refers x = fit.Refers program facts valid functions x
 
   abbrev pub Fine : PieceTree → Type 0
-  Fine x = fit.Fine program facts proper functions x
+  Fine x = fit.Fine program facts valid functions x
 
   -- ---- expressions where a group runs them, or processors by themselves
 
@@ -180,10 +177,10 @@ module _ (program : ProgramTree) (facts : Facts) (valid : IsValid program facts)
 
     -- nor does one that runs by itself call `shalloc`
     allots : (name : Named) (from : ℕ) → Right (token_in outer (spot_of name) (w.Name (spelling_of name.bytes)))
-        → (meaning : Meaning) → MeansAt (outline program) name.bytes from meaning → IsKnown program facts proper name meaning
+        → (meaning : Meaning) → MeansAt (outline program) name.bytes from meaning → IsKnown program facts valid name meaning
         → Allots (tables program facts valid) name → in_group ≡ true
     allots name from x (m.Declared number) means k a =
-        let low = declared_low program facts proper number k.meant.0 k.meant.1 in
+        let low = declared_low program facts valid number k.meant.0 k.meant.1 in
         let same = eqb-true (note (tables program facts valid) name.at).binding no_binding a.predeclared in
         absurd (omega (arith, same, k.binds, low))
     allots name from x m.Predeclared means k a = true_from_ne_false in_group (λ no.
@@ -192,56 +189,56 @@ module _ (program : ProgramTree) (facts : Facts) (valid : IsValid program facts)
         (sym (spelled name means.1 a.no_value a.no_other)) (mis.shalloc_outside k.means (λ e. runs.alone no e)))))
     allots name from x m.Undeclared means k a = absurd k.binds
 
-    may : (name : Named) → Right (token_in outer (spot_of name) (w.Name (spelling_of name.bytes))) → Known program facts proper name
-        → NoMain program facts proper functions name → may_call program in_group (note (tables program facts valid) name.at).binding ≡ true
+    may : (name : Named) → Right (token_in outer (spot_of name) (w.Name (spelling_of name.bytes))) → Known program facts valid name
+        → NoMain program facts valid functions name → may_call program in_group (note (tables program facts valid) name.at).binding ≡ true
     may name x is_known no_main = true_from_ne_false _ (λ wrong. is_known (by wrong))
       where
         at : ℕ
         at = (note (tables program facts valid) name.at).binding
 
-        declared : (number : ℕ) (d : DeclarationTree) → slice_get (declarations program) number ≡ Some d → IsKnown program facts proper name (m.Declared number)
-            → IsDeclared (structs_of program.items) d ((env program facts proper).meant name) → callable in_group (Some d) ≡ false → ⊥
+        declared : (number : ℕ) (d : DeclarationTree) → slice_get (declarations program) number ≡ Some d → IsKnown program facts valid name (m.Declared number)
+            → IsDeclared (structs_of program.items) d ((env program facts valid).meant name) → callable in_group (Some d) ≡ false → ⊥
         declared number (n.Variable v) is k meant wrong = false≢true (sym wrong)
         declared number (n.Header f) is k meant wrong = elim (and_cases (not (is_main f)) (may_run in_group f.mode) wrong) [
           | inl main ↦ no_main (main_by (is_text f.name.bytes (codes "main")) _ _ (not-false (is_main f) main) meant.3)
           | inr mode' ↦ wrong_mode (spot_of name) (spelling_of name.bytes) x f (number, f, k.means, is, refl) mode'
         ]
 
-        by : callable in_group (slice_get (declarations program) at) ≡ false → (meaning : Meaning) → IsKnown program facts proper name meaning → ⊥
+        by : callable in_group (slice_get (declarations program) at) ≡ false → (meaning : Meaning) → IsKnown program facts valid name meaning → ⊥
         by wrong (m.Declared number) k = declared number k.meant.0 k.meant.1 k k.meant.2
             (subst (λ o. callable in_group o ≡ false) k.meant.1 (subst (λ i. callable in_group (slice_get (declarations program) i) ≡ false) k.binds wrong))
         by wrong m.Predeclared k = none_there (slice_get (declarations program) at) refl wrong
           where
             none_there : (o : Option DeclarationTree) → slice_get (declarations program) at ≡ o → callable in_group o ≡ false → ⊥
             none_there None is wrong = false≢true (sym wrong)
-            none_there (Some d) is wrong = omega (arith, k.binds, declared_low program facts proper at d is)
+            none_there (Some d) is wrong = omega (arith, k.binds, declared_low program facts valid at d is)
         by wrong m.Undeclared k = k.binds
 
-    good : (x : Tree) → Unbroken (Broken (env program facts proper) (term_of x)) → Each Right (r.tree_tokens outer x) → Each Stands (tree_marks x) → Each Refers (tree_references x) → IsGood in_group x
+    good : (x : Tree) → Unbroken (Broken (env program facts valid) (term_of x)) → Each Right (r.tree_tokens outer x) → Each Stands (tree_marks x) → Each Refers (tree_references x) → IsGood in_group x
     good x un a b' c' =
-        let named = told Right Stands Refers outer Any (IsNamed program facts proper functions) (λ spot y. tt)
-        (λ name y used referred. known program facts proper name used.0 used.1 referred) x a b' c' in
-        let is_read = read program facts proper functions (Takes (tables program facts valid)) (takes program facts proper) x un named in
+        let named = told Right Stands Refers outer Any (IsNamed program facts valid functions) (λ spot y. tt)
+        (λ name y used referred. known program facts valid name used.0 used.1 referred) x a b' c' in
+        let is_read = read program facts valid functions (Takes (tables program facts valid)) (takes program facts valid) x un named in
         let each_may : (name : Named) → Right (token_in outer (spot_of name) (w.Name (spelling_of name.bytes))) → Stands (Uses name) → Refers (Name name)
-        → NoMain program facts proper functions name → ip.Calls (tables program facts valid) (may_call program) in_group name =
+        → NoMain program facts valid functions name → ip.Calls (tables program facts valid) (may_call program) in_group name =
         λ name y used referred no_main.
-        let m' = meant_at program facts proper name used.0 used.1 referred in
-        (may name y (known program facts proper name used.0 used.1 referred) no_main, allots name used.0 y m'.0 m'.1 m'.2) in
+        let m' = meant_at program facts valid name used.0 used.1 referred in
+        (may name y (known program facts valid name used.0 used.1 referred) no_main, allots name used.0 y m'.0 m'.1 m'.2) in
         record {
           fits = is_read.fits;
-          in_place = both_told (Splits (tables program facts valid) (may_call program) in_group) (NoMain program facts proper functions) (ip.Calls (tables program facts valid) (may_call program) in_group) x
+          in_place = both_told (Splits (tables program facts valid) (may_call program) in_group) (NoMain program facts valid functions) (ip.Calls (tables program facts valid) (may_call program) in_group) x
               (told Right Stands Refers outer (Splits (tables program facts valid) (may_call program) in_group)
-              (λ name. NoMain program facts proper functions name → ip.Calls (tables program facts valid) (may_call program) in_group name) (λ spot y. splits_in_group spot w.Branching y) each_may x a b' c')
+              (λ name. NoMain program facts valid functions name → ip.Calls (tables program facts valid) (may_call program) in_group name) (λ spot y. splits_in_group spot w.Branching y) each_may x a b' c')
               is_read.plain;
-          noted = λ within. both_told (Decides (tables program facts valid) (may_call program true)) (NoMain program facts proper functions) (Means (tables program facts valid) (may_call program true)) x
+          noted = λ within. both_told (Decides (tables program facts valid) (may_call program true)) (NoMain program facts valid functions) (Means (tables program facts valid) (may_call program true)) x
               (told Right Stands Refers outer (Decides (tables program facts valid) (may_call program true))
-              (λ name. NoMain program facts proper functions name → Means (tables program facts valid) (may_call program true) name) (λ spot y. decides within spot w.Branching mis.sign_decides y)
+              (λ name. NoMain program facts valid functions name → Means (tables program facts valid) (may_call program true) name) (λ spot y. decides within spot w.Branching mis.sign_decides y)
               (λ name y used referred no_main. subst (λ g'. may_call program g' (note (tables program facts valid) name.at).binding ≡ true) within (each_may name y used referred no_main).0) x a b' c')
               is_read.plain;
         }
 
     -- as a piece of the text
-    used_whole : (r' : Role) (x : Tree) → Unbroken (UsedBreaks (env program facts proper) r' (term_of x)) → Unbroken (Broken (env program facts proper) (term_of x))
+    used_whole : (r' : Role) (x : Tree) → Unbroken (UsedBreaks (env program facts valid) r' (term_of x)) → Unbroken (Broken (env program facts valid) (term_of x))
     used_whole role.Condition x un place rule broken = un place rule (inl broken)
     used_whole role.Alone x un place rule broken = un place rule (inl broken)
     used_whole role.Word x un place rule broken = un place rule (inl broken)
@@ -262,11 +259,11 @@ module _ (program : ProgramTree) (facts : Facts) (valid : IsValid program facts)
     declared_may g' x there =
         let number = declared_here (outline program) there.0 (n.Variable x) there.1 in
         let low = declared_below program valid.well_formed (n.Variable x) (among (declarations program) (binding (outline program) there.0) (n.Variable x) number) in
-        let is = binding_is program facts proper x.name.at (binding (outline program) there.0) low (b.declares (n.Variable x) there.0 there.0 there.1 refl refl) in (
+        let is = binding_is program facts valid x.name.at (binding (outline program) there.0) low (b.declares (n.Variable x) there.0 there.0 there.1 refl refl) in (
           ap (λ i. callable g' (slice_get (declarations program) i)) is ∙ ap (callable g') number,
           (λ a.
               let same = eqb-true (note (tables program facts valid) x.name.at).binding no_binding a.predeclared in
-              let below = declared_low program facts proper (binding (outline program) there.0) (n.Variable x) number in
+              let below = declared_low program facts valid (binding (outline program) there.0) (n.Variable x) number in
               absurd (omega (arith, same, is, below))),
         )
 
@@ -279,7 +276,7 @@ module _ (program : ProgramTree) (facts : Facts) (valid : IsValid program facts)
     first_good x a b' f = by x.first a b' (λ place rule broken. f.0 place rule (inr broken)) f.1
       where
         by : (first : Option Tree) → Each Right (r.optional_tokens outer first) → Each Stands (optional_marks first)
-            → Unbroken (if_there (InitialBreaks (env program facts proper) x) first) → Each Refers (optional_references first) → OptionGood in_group first
+            → Unbroken (if_there (InitialBreaks (env program facts valid) x) first) → Each Refers (optional_references first) → OptionGood in_group first
         by None a b' un c' = tt
         by (Some first) a b' un c' = good first (λ place rule broken. un place rule (inl (inl broken))) a b' c'
 
@@ -330,7 +327,7 @@ module _ (program : ProgramTree) (facts : Facts) (valid : IsValid program facts)
   splits_here : (held : (ℕ → Option Thing) → List hh.Holder) (shared : (ℕ → Option Thing) → Bool) (spot : Spot) → Decider held shared spot → is_split spot ≡ true
       → (thing : ℕ → Option Thing) × Tells program thing × (sa.splits (sa.region (held thing)) (shared thing) ≡ true)
   splits_here held shared spot decider e =
-      let h' = splits_from program facts proper spot.at e in
+      let h' = splits_from program facts valid spot.at e in
       let one = decider h'.0 in
       (h'.0, h'.1, subst (λ (y : Ours program facts valid). sb.is_splitting (sa.region y.around) y.word ≡ true) (one.same h'.2 h'.3 h'.4 h'.5) h'.6)
 

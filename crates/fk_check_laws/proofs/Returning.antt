@@ -16,7 +16,7 @@ use Rattle.fk_meaning_forms.specs.Expressions.{Signature}
 use Rattle.fk_meaning_forms.specs.Statements.{is_nothing}
 use Rattle.fk_lockstep_structure.specs.Returns.{StatementReturns, StatementsReturn}
 use Rattle.fk_check_laws.proofs.Each.{Each, front_of, rest_of}
-use Rattle.fk_check_laws.specs.Valid.{IsValid}
+use Rattle.fk_check_laws.specs.Correct.{IsCorrect}
 use Rattle.fk_check_laws.proofs.PlacedStatements.{Fine}
 
 -- `void` alone gives nothing
@@ -32,7 +32,7 @@ void_is_nothing t.Unsigned stars e = absurd (cc)
 void_is_nothing t.Void stars e = eq-eqb stars 0 e.1
 void_is_nothing (t.Struct name) stars e = absurd (cc)
 
-module _ (program : ProgramTree) (facts : Facts) (valid : IsValid program facts) (functions : (binding : ℕ) → Signature) (result : TypeTree) where
+module _ (program : ProgramTree) (facts : Facts) (valid : IsCorrect program facts) (functions : (binding : ℕ) → Signature) (result : TypeTree) where
   abbrev Right : PieceTree → Type 0
   Right x = Fine program facts valid functions x
 

@@ -42,12 +42,13 @@ use Rattle.fk_lockstep_structure.proofs.Whole.{code_is_framed}
 use Rattle.fk_lockstep_structure.proofs.FramePrograms.{programs_are_framed}
 use Rattle.fk_check_laws.proofs.Each.{Each, front_of, rest_of, same_at}
 use Rattle.fk_check_laws.proofs.Things.{thing, thing_tells}
+use Rattle.fk_check_laws.specs.Correct.{IsCorrect}
 use Rattle.fk_check_laws.specs.Valid.{IsValid, may_run, may_call, ValidProgramsHaveOneSpace}
 use Rattle.fk_check_laws.proofs.PlacedNotes.{Ours, IsOurs}
 use Rattle.fk_check_laws.proofs.Frames.{Covers, here, under, right, left, IsDeep, OfText, all_functions, bodies, name_at, counts, of_text, found_deep, found_none}
-use Rattle.fk_check_laws.proofs.PlacedPrograms.{IsFine, fine, called, none_shared, valid_programs_are_in_place}
+use Rattle.fk_check_laws.proofs.PlacedPrograms.{IsFine, fine, called, none_shared, correct, valid_programs_are_in_place}
 
-module _ (program : ProgramTree) (facts : Facts) (valid : IsValid program facts) where
+module _ (program : ProgramTree) (facts : Facts) (valid : IsCorrect program facts) where
   abbrev told : Told
   told = told_by facts
 
@@ -263,7 +264,9 @@ module _ (program : ProgramTree) (facts : Facts) (valid : IsValid program facts)
   )
 
 pub valid_programs_are_inner : (program : ProgramTree) (facts : Facts) → IsValid program facts → FunctionsInner (tables_by program facts) (may_call program) (functions_of program.items)
-valid_programs_are_inner program facts valid = functions_inner program facts valid (functions_of program.items) (fine program facts valid)
+valid_programs_are_inner program facts valid =
+    let right = correct program facts valid in
+    functions_inner program facts right (functions_of program.items) (fine program facts right)
 
 pub valid_programs_have_one_space : ValidProgramsHaveOneSpace
 valid_programs_have_one_space program facts valid none setting schedule words firsts input processors some possible right' =

@@ -9,7 +9,8 @@ use Rattle.fk_syntax.specs.Program.{ProgramTree}
 use Rattle.fk_syntax.specs.WellFormed.{IsWellFormed}
 use Rattle.fk_meaning.specs.Processor.{Setting}
 use Rattle.fk_meaning.specs.Schedule.{Schedule, run, ArePossible}
-use Rattle.fk_meaning_forms.specs.Program.{functions_of, signature_in, is_main}
+use Rattle.fk_meaning.specs.Shaped.{ProgramShaped}
+use Rattle.fk_meaning_forms.specs.Program.{functions_of, signature_in, is_main, main_of}
 use Rattle.fk_meaning.specs.Program.{next_in, program_opening}
 use Rattle.fk_types_names.specs.Outline.{DeclarationTree, Variable, Header, declarations}
 use Rattle.fk_regions.specs.declared.around.Holder.{Holder}
@@ -17,11 +18,12 @@ use Rattle.fk_regions.specs.declared.token.Word.TheVariants.{Fork}
 use Rattle.fk_regions.specs.Tokens.{TokenIn, tokens}
 use Rattle.fk_check.specs.Known.{AreAllFacts}
 use Rattle.fk_layout.specs.Layout.{tables_by}
-use Rattle.fk_meaning_forms.specs.Tables.{frame_at}
+use Rattle.fk_meaning_forms.specs.Tables.{Tables, frame_at}
 use Rattle.fk_lockstep.specs.OneProgram.{KeepOneProgram}
 use Rattle.fk_lockstep.specs.OneSpace.{KeepOneSpace}
 use Rattle.fk_lockstep_structure.specs.Forks.{ForksAreValued}
-use Rattle.fk_lockstep_structure.specs.InPlace.{IsInPlace}
+use Rattle.fk_lockstep_structure.specs.InPlace.{IsInPlace, FunctionsInPlace}
+use Rattle.fk_check_laws.specs.Correct.{IsCorrect}
 
 -- a function with this mode may be called by a group, or by processors by themselves
 abbrev pub may_run : (in_group : Bool) → Mode → Bool
@@ -61,7 +63,19 @@ pub record IsValid (program : ProgramTree) (facts : Facts) : Type 0 where
   pub valued : ForksAreValued (tables_by program facts) (signature_in (tables_by program facts)
       (functions_of program.items)) (functions_of program.items)
 
--- such a program is in place, by its names, its types and the slots of its variables
+-- the parts, bodies and loops of a program are nested, and only groups split. Nothing is said of the
+-- values of a `fork`
+pub record StandsInPlace (tables : Tables) (program : ProgramTree)
+    (may_call : (in_group : Bool) → (function : ℕ) → Bool) : Type 0 where
+  pub shaped : ProgramShaped tables program
+  pub in_place : FunctionsInPlace tables may_call (main_of tables program)
+      (functions_of program.items)
+
+abbrev pub CorrectProgramsStandInPlace : Type 0
+CorrectProgramsStandInPlace = (program : ProgramTree) (facts : Facts) → IsCorrect program facts
+    → StandsInPlace (tables_by program facts) program (may_call program)
+
+-- a valid program is in place, by its names, its types and the slots of its variables
 abbrev pub ValidProgramsAreInPlace : Type 0
 ValidProgramsAreInPlace = (program : ProgramTree) (facts : Facts) → IsValid program facts
     → IsInPlace (tables_by program facts) program (may_call program)

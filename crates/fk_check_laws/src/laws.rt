@@ -1,6 +1,7 @@
 //! Laws of programs that keep all rules.
 
 ghost use Rattle.fk_check_laws.specs.Laws.{ConditionsOfLoopsBegin, CorrectProgramsFit};
+ghost use Rattle.fk_check_laws.specs.Valid.{CorrectProgramsStandInPlace};
 ghost use Rattle.fk_check_laws.specs.Valid.{ForkFreeProgramsAreValued, ValidProgramsAreInPlace};
 ghost use Rattle.fk_check_laws.specs.Valid.{ValidProgramsHaveOneProgram, ValidProgramsHaveOneSpace};
 
@@ -16,6 +17,12 @@ pub fn correct_programs_fit()
 /// variable.
 pub fn conditions_begin()
     ensures { ConditionsOfLoopsBegin }
+{}
+
+/// The parts, bodies and loops of a program that keeps the forty rules are nested, only groups split,
+/// and no name denotes a function that may not be called there.
+pub fn correct_programs_stand_in_place()
+    ensures { CorrectProgramsStandInPlace }
 {}
 
 /// If no token of a program is a `fork`, nothing is required of the expressions of a `fork`.

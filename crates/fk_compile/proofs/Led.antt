@@ -1,4 +1,4 @@
--- Plain programs that are in place lead each processor from place to place.
+-- Programs that are in place and have no `fork` lead each processor from place to place.
 use Rattle.std.proofs.Common.{◌≡◌, ℕ, suc, ◌+◌, Bool, true, false, true≢false, List, [], ◌∷◌, Option, Some, None, ap, ◌∙◌, sym, refl, subst}
 use Rattle.std.proofs.lemmas.Bool.{eqb-true}
 use Rattle.std.specs.Prelude.{◌==◌, is_some, if◌then◌else◌}
@@ -18,16 +18,16 @@ use Rattle.fk_lockstep_tree.specs.Where.{Where}
 use Rattle.fk_lockstep_structure.specs.Placed as w
 use Rattle.fk_lockstep_structure.specs.InPlace.{NoneShared, BodyInPlace, FunctionsInPlace}
 use Rattle.fk_lockstep_structure.specs.Inner.{FunctionsInner}
-use Rattle.fk_lockstep_tree.specs.Leads.{Leads}
+use Rattle.fk_lockstep_tree.specs.Leads.{Loop, turning, Leads}
 use Rattle.fk_compile_text.specs.Built.{operations, operations_in}
 use Rattle.fk_compile_text.specs.Plain.{is_plain}
 use Rattle.fk_lower_laws.proofs.Along.{EachOf, each_of, front, back, along}
 use Rattle.fk_compile.specs.Led.{ProgramsAreLed}
-use Rattle.fk_compile.proofs.Wants.{Base, Main, Group, Body, place_of, who_of, Want}
+use Rattle.fk_compile.proofs.Wants.{Base, Main, Root, Group, Body, place_of, who_of, Want}
 use Rattle.fk_compile.proofs.LedTexts.{MayLeave, body_leads}
 
 -- numbers in place of the places change nothing
-numbers : {A : Type 0} (may_call : (in_group : Bool) → (function : ℕ) → Bool) (f : Where) (l : Option Where) (p : Where) (code : Code A) (e : Where) (first : ℕ)
+numbers : {A : Type 0} (may_call : (in_group : Bool) → (function : ℕ) → Bool) (f : Where) (l : Option Loop) (p : Where) (code : Code A) (e : Where) (first : ℕ)
     → Leads may_call f l p code e → Leads may_call f l p (numbered first code) e
 numbers may_call f l p done e first h = h
 numbers may_call f l p (perform t op rest) e first h = (h.0, h.1, numbers may_call f l h.0 rest e (suc first) h.2)
@@ -43,22 +43,26 @@ numbers may_call f l p (choose t op a b rest) e first h = (
   numbers may_call f l h.2 rest e (suc first + size a + size b) h.8,
   numbers may_call f l h.3 rest e (suc first + size a + size b) h.9,
 )
-numbers may_call f l p (while test body step rest) e first h = (
-  numbers may_call f (Some p) p test p first h.0,
-  numbers may_call f (Some p) p body p (first + size test) h.1,
-  numbers may_call f (Some p) p step p (first + size test + size body) h.2,
-  numbers may_call f l p rest e (first + size test + size body + size step) h.3,
-)
-numbers may_call f l p (until body test rest) e first h = (
-  numbers may_call f (Some p) p body p first h.0,
-  numbers may_call f (Some p) p test p (first + size body) h.1,
-  numbers may_call f l p rest e (first + size body + size test) h.2,
-)
+numbers may_call f l p (while test body step rest) e first h =
+    let loop = Some (turning p h.0) in (
+      h.0,
+      numbers may_call f loop p test p first h.1,
+      numbers may_call f loop p body p (first + size test) h.2,
+      numbers may_call f loop p step p (first + size test + size body) h.3,
+      numbers may_call f l h.0 rest e (first + size test + size body + size step) h.4,
+    )
+numbers may_call f l p (until body test rest) e first h =
+    let loop = Some (turning p h.0) in (
+      h.0,
+      numbers may_call f loop p body p first h.1,
+      numbers may_call f loop p test p (first + size body) h.2,
+      numbers may_call f l h.0 rest e (first + size body + size test) h.3,
+    )
 numbers may_call f l p (turn test body step rest) e first h = absurd h
 numbers may_call f l p (again test body step rest) e first h = absurd h
-numbers may_call f l p (quit t op rest) e first h = (h.0, h.1, numbers may_call f l p rest e (suc first) h.2)
-numbers may_call f l p (break rest) e first h = (h.0, numbers may_call f l p rest e first h.1)
-numbers may_call f l p (continue rest) e first h = (h.0, numbers may_call f l p rest e first h.1)
+numbers may_call f l p (quit t op rest) e first h = (h.0, h.1, h.2, numbers may_call f l p rest e (suc first) h.3)
+numbers may_call f l p (break rest) e first h = (h.0, h.1, numbers may_call f l p rest e first h.2)
+numbers may_call f l p (continue rest) e first h = (h.0, h.1, numbers may_call f l p rest e first h.2)
 numbers may_call f l p (call t op function opening rest) e first h =
     (h.0, h.1, numbers may_call p None p opening p (suc first) h.2, numbers may_call f l p rest e (suc first + size opening) h.3)
 numbers may_call f l p (ends t op rest) e first h = (h.0, h.1, numbers may_call f l p rest e (suc first) h.2)
@@ -152,21 +156,26 @@ module _ (tables : Tables) (may_call : (in_group : Bool) → (function : ℕ) �
             (front is_plain (operations (code_of tables everyone f)) (operations_in tables everyone fs) plain))
         by false is others = others
 
-    in_groups : (main binding : ℕ) (fs : List FunctionTree) → may_call true binding ≡ true → FunctionsInPlace tables may_call main fs → AllGiven Group true binding fs
-    in_groups main binding [] may h = tt
-    in_groups main binding (f ∷ fs) may h = (
-      (λ e. let g = h.0 (subst (λ b. may_call true b ≡ true) (sym (eqb-true (binding_of tables f) binding e)) may) in (false, g.0, refl, g.1, λ main' framed. refl)),
-      in_groups main binding fs may h.3,
+    in_groups : (depth main binding : ℕ) (fs : List FunctionTree) → may_call true binding ≡ true → FunctionsInPlace tables may_call main fs → AllGiven (Group depth) true binding fs
+    in_groups depth main binding [] may h = tt
+    in_groups depth main binding (f ∷ fs) may h = (
+      (λ e.
+          let g = h.0 (subst (λ b. may_call true b ≡ true) (sym (eqb-true (binding_of tables f) binding e)) may) in
+          (false, g.0, refl, g.1, λ main' framed. (depth, refl))),
+      in_groups depth main binding fs may h.3,
     )
 
-    in_bodies : (in_root : Bool) (main binding : ℕ) (fs : List FunctionTree) → may_call false binding ≡ true → FunctionsInPlace tables may_call main fs → FunctionsInner tables may_call fs → AllGiven (Body in_root) true binding fs
-    in_bodies in_root main binding [] may h i = tt
-    in_bodies in_root main binding (f ∷ fs) may h i = (
+    -- functions that are called by processors by themselves
+    in_bodies : (b : Base) → who_of b true ≡ w.OfBody → (main binding : ℕ) (fs : List FunctionTree) → may_call false binding ≡ true → FunctionsInPlace tables may_call main fs
+        → FunctionsInner tables may_call fs → AllGiven b true binding fs
+    in_bodies b is main binding [] may h i = tt
+    in_bodies b is main binding (f ∷ fs) may h i = (
       (λ e.
-          let may' = subst (λ b. may_call false b ≡ true) (sym (eqb-true (binding_of tables f) binding e)) may in
+          let may' = subst (λ k. may_call false k ≡ true) (sym (eqb-true (binding_of tables f) binding e)) may in
           let g = h.1 may' in
-          (false, g.0, refl, g.1, λ main' framed. absurd (true≢false (sym framed ∙ ap is_some (i.1 may'))))),
-      in_bodies in_root main binding fs may h.3 i.2,
+          (false, g.0, ap w.is_main is, subst (λ who. BodyInPlace tables may_call false who f.body) (sym is) g.1,
+          λ main' framed. absurd (true≢false (sym framed ∙ ap is_some (i.1 may'))))),
+      in_bodies b is main binding fs may h.3 i.2,
     )
 
     in_main : (main : ℕ) (fs : List FunctionTree) → FunctionsInPlace tables may_call main fs → AllGiven Main true main fs
@@ -182,10 +191,11 @@ programs_are_led tables program may_call placed inner none plain shaped =
     let each = each_of is_plain (operations_in tables fs fs) plain in
     record {
       shaped = shaped;
-      in_group = λ function closed may. bodies tables may_call fs unshared frameless Group true function fs 0 (in_groups tables may_call fs unshared frameless main function fs may placed.in_place) placed.shaped each;
+      in_group = λ depth function closed may.
+          bodies tables may_call fs unshared frameless (Group depth) true function fs 0 (in_groups tables may_call fs unshared frameless depth main function fs may placed.in_place) placed.shaped each;
       in_root = λ function closed may.
-          bodies tables may_call fs unshared frameless (Body true) true function fs 0 (in_bodies tables may_call fs unshared frameless true main function fs may placed.in_place inner) placed.shaped each;
-      in_body = λ function closed may.
-          bodies tables may_call fs unshared frameless (Body false) true function fs 0 (in_bodies tables may_call fs unshared frameless false main function fs may placed.in_place inner) placed.shaped each;
+          bodies tables may_call fs unshared frameless Root true function fs 0 (in_bodies tables may_call fs unshared frameless Root refl main function fs may placed.in_place inner) placed.shaped each;
+      in_body = λ depth function closed may.
+          bodies tables may_call fs unshared frameless (Body depth) true function fs 0 (in_bodies tables may_call fs unshared frameless (Body depth) refl main function fs may placed.in_place inner) placed.shaped each;
       main_of = bodies tables may_call fs unshared frameless Main true main fs 0 (in_main tables may_call fs unshared frameless main fs placed.in_place) placed.shaped each;
     }

@@ -1,5 +1,5 @@
 -- The code of statements and functions leads from a place to its end.
-use Rattle.std.proofs.Common.{◌≡◌, ℕ, Bool, true, false, true≢false, List, [], ◌∷◌, Option, Some, None, ◌∙◌, sym, refl, subst}
+use Rattle.std.proofs.Common.{◌≡◌, ℕ, zero, suc, Bool, true, false, true≢false, not, List, [], ◌∷◌, Option, Some, None, ap, ◌∙◌, sym, refl, subst}
 use Rattle.std.specs.Prelude.{if◌then◌else◌}
 use Rattle.fk_syntax.specs.declared.place.Spot.{Spot}
 use Rattle.fk_syntax.specs.Tree.{Tree}
@@ -7,91 +7,79 @@ use Rattle.fk_syntax.specs.Program as p
 use Rattle.fk_syntax.specs.Program.{DeclaredTree, Statement, Statements}
 use Rattle.fk_meaning_operation.specs.declared.operation.Operation.{Operation}
 use Rattle.fk_meaning_operation.specs.declared.operation.Operation.TheVariants as o
-use Rattle.fk_meaning_operation.specs.declared.operation.OwnValue.TheVariants as n
-use Rattle.fk_meaning_operation.specs.declared.operation.SplitKind.TheVariants.{IfAlone, IfElse, Loop, Fork}
+use Rattle.fk_meaning_operation.specs.declared.operation.OwnValue.TheVariants as own
+use Rattle.fk_meaning_operation.specs.declared.operation.SplitKind.{SplitKind}
+use Rattle.fk_meaning_operation.specs.declared.operation.SplitKind.TheVariants.{IfAlone, IfElse, Fork}
+use Rattle.fk_meaning_operation.specs.declared.operation.SplitKind.TheVariants as sk
 use Rattle.fk_meaning_forms.specs.Code as c
 use Rattle.fk_meaning_forms.specs.Code.{Code, done, perform, choose, while, until, turn, again, quit, break, continue, call, ends}
 use Rattle.fk_meaning_forms.specs.Tables.{Tables, note, frame_at}
 use Rattle.fk_meaning_forms.specs.Expressions.{Coded, ResultLocation, nowhere, plain, agreed, token, Signature, addressed, assigned, dropped, framed, variable, value}
 use Rattle.fk_meaning_forms.specs.Statements.{Inside, is_scalar, used, used_or, value_or, declared, all_declared, part_frame, leaving, tested, looping, left_by, executed, all_executed, end_of, body_of}
-use Rattle.fk_meaning.specs.Behind.{is_shrink, shrinks}
+use Rattle.fk_meaning.specs.Behind.{is_shrink}
 use Rattle.fk_meaning.specs.Shape.{Exits, none, of_test, of_turn, Either, Shape}
-use Rattle.fk_meaning.proofs.Spine.{untrue, test_is}
+use Rattle.fk_meaning.proofs.Spine.{untrue}
 use Rattle.fk_lockstep_tree.specs.Where.{Where, InRoot, Waits, InGroup, InBody, BehindBody, goes}
 use Rattle.fk_lockstep_structure.specs.Placed as w
-use Rattle.fk_lockstep_structure.specs.Placed.{Who, is_group, is_outermost, inner}
+use Rattle.fk_lockstep_structure.specs.Placed.{Who, OfGroup, is_group, is_outermost, inner}
 use Rattle.fk_lockstep_structure.specs.InPlace.{Splits, Calls, InPlace, OptionInPlace, VariablesInPlace, NoneShared, StatementInPlace, StatementsInPlace}
-use Rattle.fk_lockstep_structure.proofs.Behind.{either_no}
-use Rattle.fk_lockstep_tree.specs.Leads.{Comes, Leads}
+use Rattle.fk_lockstep_structure.proofs.Behind.{either_no, either_yes}
+use Rattle.fk_lockstep_tree.specs.Leads.{Comes, Loop, turning, Quits, Leads}
 use Rattle.fk_compile_text.specs.Plain.{is_plain}
-use Rattle.fk_lower_laws.specs.Unsplit.{AllOf}
+use Rattle.fk_lower_laws.specs.AllOf.{AllOf}
 use Rattle.fk_compile.proofs.Wants as wants
-use Rattle.fk_compile.proofs.Wants.{Base, Main, Group, Body, place_of, in_group, who_of, inner_is, group_is, keeps_at, Want, arm}
+use Rattle.fk_compile.proofs.Wants.{Base, Main, Root, Group, Body, place_of, in_group, who_of, inner_is, group_is, group_of, IsGroup, keeps_at, IsLeft, TurnsAt, LeftAt, Want, arm, within, end_of_part}
+use Rattle.fk_compile.proofs.Tests as by_test
 
--- plain tests leave their loop by a branch
-test_branches : {A : Type 0} (code : Code A) → AllOf is_plain code → shrinks code ≡ false
-test_branches done h = refl
-test_branches (perform t op rest) h = test_branches rest h.1
-test_branches (choose t op a b rest) h = test_branches rest h.3
-test_branches (while test body step rest) h = test_branches rest h.3
-test_branches (until body test rest) h = test_branches rest h.2
-test_branches (turn test body step rest) h = test_branches rest h.3
-test_branches (again test body step rest) h = test_branches rest h.3
-test_branches (quit t op rest) h = by op h.0
-  where
-    by : (op' : Operation) → is_plain op' ≡ true → is_shrink op' ≡ false
-    by o.Shrink e = untrue e
-    by op' e = refl
-test_branches (break rest) h = test_branches rest h
-test_branches (continue rest) h = test_branches rest h
-test_branches (call t op f opening rest) h = test_branches rest h.2
-test_branches (ends t op rest) h = test_branches rest h.1
+-- ---- what is wanted of the parts of a loop, and of what `start` begins, and `farm` and `seq`
 
-plain_loop : (part shrinking : Bool) (x : Exits) (test rest : Coded) → AllOf is_plain test → Shape false false (of_test shrinking) test
-    → Either shrinking ((part ≡ true) × (x.tests ≡ false) × (rest ≡ done)) (Shape part false x rest) → Shape part false x rest
-plain_loop part shrinking x test rest all shape e = either_no shrinking _ _ e (sym (test_is shrinking test shape) ∙ test_branches test all)
+abbrev pub loop_of : Want → (left : Where) → Option Loop
+loop_of x left = Some (turning (place_of x.base) left)
 
--- what is wanted of the parts of a loop, and of what `start` begins, and `farm` and `seq`
-abbrev test_of : Want → (shrinking : Bool) → Want
-test_of x b = record {
+abbrev test_of : (x : Want) (shrinking : Bool) (left : Where) → IsLeft shrinking x.base left → Want
+test_of x b left leaves = record {
   base = x.base;
   outermost = false;
   function = x.function;
-  loop = Some (place_of x.base);
+  loop = loop_of x left;
   exits = of_test b;
   part = false;
   breaks = λ e. untrue e;
   continues = λ e. untrue e;
-  tests = λ e. refl;
+  tests = λ e. (left, refl, leaves);
   returns = λ e. untrue e;
   parted = λ e. untrue e;
 }
+
+turn_breaks : (b : Bool) (base : Base) (left : Where) → IsLeft b base left → not b ≡ true → LeftAt (place_of base) (Some (turning (place_of base) left))
+turn_breaks true base left leaves e = untrue e
+turn_breaks false base left leaves e = (place_of base, ap (λ (at : Where). Some (turning (place_of base) at)) leaves)
 
 turn_returns : (x : Want) (b : Bool) → (if b then false else x.exits.returns) ≡ true → place_of x.base ≡ x.function
 turn_returns x true e = untrue e
 turn_returns x false e = x.returns e
 
-abbrev turn_of : Want → (shrinking : Bool) → Want
-turn_of x b = record {
+abbrev turn_of : (x : Want) (shrinking : Bool) (left : Where) → IsLeft shrinking x.base left → Want
+turn_of x b left leaves = record {
   base = x.base;
   outermost = false;
   function = x.function;
-  loop = Some (place_of x.base);
+  loop = loop_of x left;
   exits = of_turn b x.exits;
   part = false;
-  breaks = λ e. refl;
-  continues = λ e. refl;
+  breaks = turn_breaks b x.base left leaves;
+  continues = λ e. (left, refl);
   tests = λ e. untrue e;
   returns = turn_returns x b;
   parted = λ e. untrue e;
 }
 
-abbrev step_of : Want → Want
-step_of x = record {
+abbrev step_of : (x : Want) (left : Where) → Want
+step_of x left = record {
   base = x.base;
   outermost = false;
   function = x.function;
-  loop = Some (place_of x.base);
+  loop = loop_of x left;
   exits = none;
   part = false;
   breaks = λ e. untrue e;
@@ -103,7 +91,7 @@ step_of x = record {
 
 abbrev start_of : Want → Want
 start_of x = record {
-  base = Group;
+  base = Group 0;
   outermost = false;
   function = x.function;
   loop = x.loop;
@@ -113,12 +101,12 @@ start_of x = record {
   continues = λ e. untrue e;
   tests = λ e. untrue e;
   returns = λ e. untrue e;
-  parted = λ e. refl;
+  parted = λ e. (0, refl);
 }
 
-abbrev body_in_group : Want → Want
-body_in_group x = record {
-  base = Body false;
+abbrev body_of_group : Want → (depth : ℕ) → Want
+body_of_group x depth = record {
+  base = Body depth;
   outermost = false;
   function = x.function;
   loop = x.loop;
@@ -131,34 +119,46 @@ body_in_group x = record {
   parted = λ e. untrue e;
 }
 
--- who may do what
+-- ---- who may do what
+
 begins_in : (b : Base) (outermost : Bool) → is_outermost (who_of b outermost) ≡ true → place_of b ≡ InRoot
 begins_in Main outermost e = refl
-begins_in Group outermost e = untrue e
-begins_in (Body r) outermost e = untrue e
-
-groups_in : (b : Base) → in_group b ≡ true → place_of b ≡ InGroup
-groups_in Main e = untrue e
-groups_in Group e = refl
-groups_in (Body r) e = untrue e
+begins_in Root outermost e = untrue e
+begins_in (Group n) outermost e = untrue e
+begins_in (Body n) outermost e = untrue e
 
 halts_in : (b : Base) (outermost : Bool) → w.is_main (who_of b outermost) ≡ true → Comes (place_of b) o.Halt (place_of b)
 halts_in Main outermost e = λ way. refl
-halts_in Group outermost e = untrue e
-halts_in (Body r) outermost e = untrue e
+halts_in Root outermost e = untrue e
+halts_in (Group n) outermost e = untrue e
+halts_in (Body n) outermost e = untrue e
 
 meets_in : (b : Base) → in_group b ≡ false → Comes (place_of b) (o.Meet false) (place_of b)
 meets_in Main e = λ way. refl
-meets_in Group e = absurd (true≢false e)
-meets_in (Body true) e = λ way. refl
-meets_in (Body false) e = λ way. refl
+meets_in Root e = λ way. refl
+meets_in (Group n) e = absurd (true≢false e)
+meets_in (Body n) e = λ way. refl
+
+-- a loop that all leave together goes on where it turned. The members of a part leave it one by one
+branches_out : (b : Base) (left : Where) (shrinking : Bool) → false ≡ shrinking → IsLeft shrinking b left → Quits (place_of b) left (o.Branch true)
+branches_out b left true e leaves = absurd (true≢false (sym e))
+branches_out b left false e leaves = (
+  keeps_at b (o.Branch true) refl true,
+  subst (λ (at : Where). goes (place_of b) (o.Branch true) false ≡ Some at) (sym leaves) (keeps_at b (o.Branch true) refl false),
+)
+
+shrinks_out : (b : Base) (left : Where) (shrinking : Bool) → true ≡ shrinking → IsLeft shrinking b left → Quits (place_of b) left o.Shrink
+shrinks_out b left true e leaves =
+    subst (λ (base : Base). Quits (place_of base) left o.Shrink) (sym leaves.1)
+    (refl, subst (λ (at : Where). goes (InGroup (suc leaves.0)) o.Shrink false ≡ Some at) (sym leaves.2) refl)
+shrinks_out b left false e leaves = absurd (true≢false e)
 
 -- a function with a frame began in a group, which gives the frame back
 abbrev pub MayLeave : (main framed : Bool) → (function : Where) → Type 0
-MayLeave main framed function = main ≡ false → framed ≡ true → function ≡ InGroup
+MayLeave main framed function = main ≡ false → framed ≡ true → (depth : ℕ) × (function ≡ InGroup depth)
 
-leaves_frame : (b : Base) (gives : Bool) → place_of b ≡ InGroup → Comes (place_of b) (o.Leave gives true) (place_of b)
-leaves_frame b gives e = subst (λ (at : Where). Comes at (o.Leave gives true) at) (sym e) (λ way. refl)
+leaves_frame : (b : Base) (gives : Bool) (n : ℕ) → place_of b ≡ InGroup n → Comes (place_of b) (o.Leave gives true) (place_of b)
+leaves_frame b gives n e = subst (λ (at : Where). Comes at (o.Leave gives true) at) (sym e) (λ way. refl)
 
 module _ (tables : Tables) (functions : (binding : ℕ) → Signature) (may_call : (in_group : Bool) → (function : ℕ) → Bool)
     (unshared : (binding : ℕ) → may_call false binding ≡ true → NoneShared (functions binding).parameters)
@@ -218,51 +218,96 @@ module _ (tables : Tables) (functions : (binding : ℕ) → Signature) (may_call
   declares x [] h rest q = q
   declares x (d ∷ ds) h rest q = declares_one x d h.0 h.1 (all_declared tables functions ds rest) (declares x ds h.2 rest q)
 
-  -- what isn't plain is never there
-  splits_not : (b : Bool) (x : Want) (parted other : Coded) → (AllOf is_plain parted → false ≡ true) → Fine x other → Fine x (if b then parted else other)
-  splits_not true x parted other never q = λ all shape. untrue (never all)
-  splits_not false x parted other never q = q
+  -- a group splits at a token, or doesn't
+  splits_or : (b : Bool) (x : Want) (parted other : Coded) → (b ≡ true → Fine x parted) → (b ≡ false → Fine x other) → Fine x (if b then parted else other)
+  splits_or true x parted other p' q = p' refl
+  splits_or false x parted other p' q = q refl
+
+  divides : (x : Want) (n' : ℕ) → x.base ≡ Group n' → (spot : Spot) (by : SplitKind) (a b rest : Coded) → Fine (within x n' true) a → Fine (within x n' true) b → Fine x rest
+      → Fine x (choose spot.place (o.Split by) a b (plain o.Resume rest))
+  divides x n' group spot by a b rest p' q r = wants.divides tables functions may_call unshared frameless x n' group spot.place by a b rest p' q r
+
+  -- no code ends a part
+  empty : (x : Want) → x.part ≡ true → Fine x done
+  empty x is = λ all shape. absurd (true≢false (sym is ∙ shape.1))
 
   -- tests of loops
-  quits : (x : Want) → Fine x (quit nowhere (o.Branch true) done)
-  quits x = λ all shape. (x.tests shape.3, keeps_at x.base (o.Branch true) refl, wants.ends_here tables functions may_call unshared frameless x shape.2)
+  quits : (x : Want) (op : Operation)
+      → ((left : Where) (shrinking : Bool) → is_shrink op ≡ shrinking → IsLeft shrinking x.base left → Quits (place_of x.base) left op) → Fine x (quit nowhere op done)
+  quits x op out = λ all shape.
+      let loop = x.tests shape.3 in
+      (loop.0, loop.1, out loop.0 x.exits.shrinking shape.4 loop.2, wants.ends_here tables functions may_call unshared frameless x shape.2)
 
   tests : (x : Want) (spot : Spot) (condition : Option Tree) → Splits tables may_call (in_group x.base) spot.at → TellsIf x condition → Fine x (tested tables functions spot condition)
   tests x spot condition splits h =
       let here = note tables spot.at in
       gives_or x (plain (o.Push 1)) (pushes x 1) condition h (leaving tables functions here)
-      (splits_not here.splits x (quit nowhere o.Shrink done) (agreed here.sync (quit nowhere (o.Branch true) done)) (λ all. all.0)
-      (wants.agrees_or tables functions may_call unshared frameless x here.sync (wants.agreed_there tables functions may_call unshared frameless x spot.at splits) (quit nowhere (o.Branch true) done) (quits x)))
+      (splits_or here.splits x (quit nowhere o.Shrink done) (agreed here.sync (quit nowhere (o.Branch true) done))
+      (λ is. quits x o.Shrink (shrinks_out x.base))
+      (λ is. wants.agrees_or tables functions may_call unshared frameless x here.sync (wants.agreed_there tables functions may_call unshared frameless x spot.at splits)
+          (quit nowhere (o.Branch true) done) (quits x (o.Branch true) (branches_out x.base))))
 
-  whiles : (x : Want) (test body step : Coded) → ((b : Bool) → Fine (test_of x b) test) → ((b : Bool) → Fine (turn_of x b) body) → Fine (step_of x) step → Keeps x (c.while test body step)
-  whiles x test body step t u v rest q = λ all shape. (
-    t shape.1 all.0 shape.2,
-    u shape.1 all.1 shape.3,
-    v all.2 shape.4,
-    q all.3 (plain_loop x.part shape.1 x.exits test rest all.0 shape.2 shape.5),
-  )
+  ends_by : (x : Want) (spot : Spot) (condition : Option Tree) → TellsIf x condition → (b : Bool) → (note tables spot.at).splits ≡ b → by_test.EndsBy b (tested tables functions spot condition)
+  ends_by x spot condition h b e = by_test.tests_end tables functions may_call (in_group x.base) spot condition h b e
 
-  untils : (x : Want) (body test : Coded) → ((b : Bool) → Fine (turn_of x b) body) → ((b : Bool) → Fine (test_of x b) test) → Keeps x (c.until body test)
-  untils x body test u t rest q = λ all shape. (
-    u shape.1 all.0 shape.3,
-    t shape.1 all.1 shape.2,
-    q all.2 (plain_loop x.part shape.1 x.exits test rest all.1 shape.2 shape.4),
-  )
+  -- what stands behind a loop
+  abbrev Onward : Want → (shrinking : Bool) → (left : Where) → Coded → Type 0
+  Onward x b left rest = AllOf is_plain rest → Either b ((x.part ≡ true) × (x.exits.tests ≡ false) × (rest ≡ done)) (Shape x.part false x.exits rest)
+      → Leads may_call x.function x.loop left rest (end_of_part x.base x.part)
 
-  loops : (x : Want) (spot : Spot) (loop : Coded → Coded) → Keeps x loop → Keeps x (looping tables functions spot loop)
-  loops x spot loop keeps rest q =
-      splits_not (note tables spot.at).splits x (choose spot.place (o.Split Loop) (part_frame tables functions spot 0 (loop done)) done (plain o.Resume rest)) (loop rest) (λ all. all.0) (keeps rest q)
+  whiles : (x : Want) (b : Bool) (left : Where) (leaves : IsLeft b x.base left) (test body step rest : Coded) → by_test.EndsBy b test → Fine (test_of x b left leaves) test
+      → Fine (turn_of x b left leaves) body → Fine (step_of x left) step → Onward x b left rest → Fine x (c.while test body step rest)
+  whiles x b left leaves test body step rest ended t u v q = λ all shape.
+      let same = ended shape.1 shape.2 in (
+        left,
+        t all.0 (subst (λ s. Shape false false (of_test s) test) same shape.2),
+        u all.1 (subst (λ s. Shape false false (of_turn s x.exits) body) same shape.3),
+        v all.2 shape.4,
+        q all.3 (subst (λ s. Either s ((x.part ≡ true) × (x.exits.tests ≡ false) × (rest ≡ done)) (Shape x.part false x.exits rest)) same shape.5),
+      )
+
+  untils : (x : Want) (b : Bool) (left : Where) (leaves : IsLeft b x.base left) (body test rest : Coded) → by_test.EndsBy b test → Fine (turn_of x b left leaves) body
+      → Fine (test_of x b left leaves) test → Onward x b left rest → Fine x (c.until body test rest)
+  untils x b left leaves body test rest ended u t q = λ all shape.
+      let same = ended shape.1 shape.2 in (
+        left,
+        u all.0 (subst (λ s. Shape false false (of_turn s x.exits) body) same shape.3),
+        t all.1 (subst (λ s. Shape false false (of_test s) test) same shape.2),
+        q all.2 (subst (λ s. Either s ((x.part ≡ true) × (x.exits.tests ≡ false) × (rest ≡ done)) (Shape x.part false x.exits rest)) same shape.4),
+      )
+
+  -- all go on where they turned; the part of a private loop ends with it
+  goes_on : (x : Want) (rest : Coded) → Fine x rest → Onward x false (place_of x.base) rest
+  goes_on x rest q = λ all shape. q all shape
+
+  -- groups and bodies
+  frames_in : (x : Want) → in_group x.base ≡ true → (spot : Spot) (part : ℕ) → Keeps x (part_frame tables functions spot part)
+  frames_in x g spot part rest q = wants.frames tables functions may_call unshared frameless x g (frame_at tables spot.at part) spot.place rest q
+
+  loops : (x : Want) (spot : Spot) (loop : Coded → Coded) → Splits tables may_call (in_group x.base) spot.at
+      → ((note tables spot.at).splits ≡ true → (depth : ℕ) → x.base ≡ Group depth → Fine (within x depth true) (loop done))
+      → ((note tables spot.at).splits ≡ false → Keeps x loop) → Keeps x (looping tables functions spot loop)
+  loops x spot loop splits parted keeps rest q =
+      splits_or (note tables spot.at).splits x (choose spot.place (o.Split sk.Loop) (part_frame tables functions spot 0 (loop done)) done (plain o.Resume rest)) (loop rest)
+      (λ is.
+      let group = group_of x.base (splits.0 is) in
+      divides x group.0 group.1 spot sk.Loop (part_frame tables functions spot 0 (loop done)) done rest
+      (frames_in (within x group.0 true) refl spot 0 (loop done) (parted is group.0 group.1))
+      (empty (within x group.0 true) refl) q)
+      (λ is. keeps is rest q)
 
   -- ends of functions
   halts : (x : Want) (main framed : Bool) → w.is_main (who_of x.base x.outermost) ≡ main → MayLeave main framed x.function → Keeps x (ends nowhere (if main then o.Halt else o.Leave false framed))
   halts x true framed e k rest q = λ all shape. (halts_in x.base x.outermost e, x.returns shape.2, q all.1 shape.3)
-  halts x false true e k rest q = λ all shape. (leaves_frame x.base false (x.returns shape.2 ∙ k refl refl), x.returns shape.2, q all.1 shape.3)
+  halts x false true e k rest q = λ all shape.
+      let group = k refl refl in (leaves_frame x.base false group.0 (x.returns shape.2 ∙ group.1), x.returns shape.2, q all.1 shape.3)
   halts x false false e k rest q = λ all shape. (keeps_at x.base (o.Leave false false) refl, x.returns shape.2, q all.1 shape.3)
 
   gives_end : (x : Want) (main framed : Bool) → w.is_main (who_of x.base x.outermost) ≡ main → MayLeave main framed x.function → (rest : Coded) → Fine x rest
       → Fine x (if main then plain o.DropLast (ends nowhere o.Halt rest) else ends nowhere (o.Leave true framed) rest)
   gives_end x true framed e k rest q = performed x o.DropLast refl (ends nowhere o.Halt rest) (halts x true framed e k rest q) (λ shape. shape.2)
-  gives_end x false true e k rest q = λ all shape. (leaves_frame x.base true (x.returns shape.2 ∙ k refl refl), x.returns shape.2, q all.1 shape.3)
+  gives_end x false true e k rest q = λ all shape.
+      let group = k refl refl in (leaves_frame x.base true group.0 (x.returns shape.2 ∙ group.1), x.returns shape.2, q all.1 shape.3)
   gives_end x false false e k rest q = λ all shape. (keeps_at x.base (o.Leave true false) refl, x.returns shape.2, q all.1 shape.3)
 
   returns : (x : Want) (inside : Inside) → w.is_main (who_of x.base x.outermost) ≡ inside.main → MayLeave inside.main inside.framed x.function
@@ -272,23 +317,20 @@ module _ (tables : Tables) (functions : (binding : ℕ) → Signature) (may_call
       gives x e h (if inside.main then plain o.DropLast (ends nowhere o.Halt rest) else ends nowhere (o.Leave true inside.framed) rest) (gives_end x inside.main inside.framed is k rest q)
 
   -- groups and bodies
-  frames_in : (x : Want) → in_group x.base ≡ true → (spot : Spot) (part : ℕ) → Keeps x (part_frame tables functions spot part)
-  frames_in x g spot part rest q = wants.frames tables functions may_call unshared frameless x g (frame_at tables spot.at part) spot.place rest q
-
   starts : (x : Want) → is_outermost (who_of x.base x.outermost) ≡ true → (body rest : Coded) → Fine (start_of x) body → Fine x rest
       → Fine x (choose nowhere o.Begin body done (plain o.Resume rest))
   starts x first body rest p' q =
       let root = begins_in x.base x.outermost first in
-      let e = wants.end_of_part x.base x.part in
+      let e = end_of_part x.base x.part in
       λ all shape.
-      let behind : Leads may_call x.function x.loop Waits (plain o.Resume rest) e
+      let behind : Leads may_call x.function x.loop (Waits 0) (plain o.Resume rest) e
       = (InRoot, (λ way. refl), subst (λ (at : Where). Leads may_call x.function x.loop at rest e) root (q all.3.1 shape.6.2)) in (
-        InGroup,
-        Waits,
-        Waits,
-        Waits,
-        subst (λ (at : Where). goes at o.Begin true ≡ Some InGroup) (sym root) refl,
-        subst (λ (at : Where). goes at o.Begin false ≡ Some Waits) (sym root) refl,
+        InGroup 0,
+        Waits 0,
+        Waits 0,
+        Waits 0,
+        subst (λ (at : Where). goes at o.Begin true ≡ Some (InGroup 0)) (sym root) refl,
+        subst (λ (at : Where). goes at o.Begin false ≡ Some (Waits 0)) (sym root) refl,
         p' all.1 shape.2,
         refl,
         behind,
@@ -296,33 +338,32 @@ module _ (tables : Tables) (functions : (binding : ℕ) → Signature) (may_call
       )
 
   -- `farm` and `seq`
-  opens : (x : Want) (op : Operation) → is_plain op ≡ true → goes InGroup op true ≡ Some InBody → goes InGroup op false ≡ Some BehindBody → in_group x.base ≡ true → (body rest : Coded)
+  opens : (x : Want) (n' : ℕ) → x.base ≡ Group n' → (op : Operation) → goes (InGroup n') op true ≡ Some (InBody n') → goes (InGroup n') op false ≡ Some (BehindBody n') → (body rest : Coded)
       → (AllOf is_plain (choose nowhere op body done (plain (o.Meet true) rest)) → Shape x.part false x.exits (choose nowhere op body done (plain (o.Meet true) rest))
-      → Leads may_call x.function x.loop InBody body InBody × Leads may_call x.function x.loop (place_of x.base) rest (wants.end_of_part x.base x.part))
+      → Leads may_call x.function x.loop (InBody n') body (InBody n') × Leads may_call x.function x.loop (place_of x.base) rest (end_of_part x.base x.part))
       → Fine x (choose nowhere op body done (plain (o.Meet true) rest))
-  opens x op plain' on aside in_g body rest parts =
-      let group = groups_in x.base in_g in
-      let e = wants.end_of_part x.base x.part in
+  opens x n' group op on aside body rest parts =
+      let e = end_of_part x.base x.part in
       λ all shape.
       let both = parts all shape in
-      let more = subst (λ (at : Where). Leads may_call x.function x.loop at rest e) group both.1 in (
-        InBody,
-        BehindBody,
-        InBody,
-        BehindBody,
-        subst (λ (at : Where). goes at op true ≡ Some InBody) (sym group) on,
-        subst (λ (at : Where). goes at op false ≡ Some BehindBody) (sym group) aside,
+      let more = subst (λ (b : Base). Leads may_call x.function x.loop (place_of b) rest e) group both.1 in (
+        InBody n',
+        BehindBody n',
+        InBody n',
+        BehindBody n',
+        subst (λ (b : Base). goes (place_of b) op true ≡ Some (InBody n')) (sym group) on,
+        subst (λ (b : Base). goes (place_of b) op false ≡ Some (BehindBody n')) (sym group) aside,
         both.0,
         refl,
-        (InGroup, (λ way. refl), more),
-        (InGroup, (λ way. refl), more),
+        (InGroup n', (λ way. refl), more),
+        (InGroup n', (λ way. refl), more),
       )
 
-  farms : (x : Want) → in_group x.base ≡ true → (body rest : Coded) → Fine (body_in_group x) body → Fine x rest → Fine x (choose nowhere o.Farm body done (plain (o.Meet true) rest))
-  farms x g body rest p' q = opens x o.Farm refl refl refl g body rest (λ all shape. (p' all.1 shape.2, q all.3.1 shape.6.2))
+  farms : (x : Want) (n' : ℕ) → x.base ≡ Group n' → (body rest : Coded) → Fine (body_of_group x n') body → Fine x rest → Fine x (choose nowhere o.Farm body done (plain (o.Meet true) rest))
+  farms x n' group body rest p' q = opens x n' group o.Farm refl refl body rest (λ all shape. (p' all.1 shape.2, q all.3.1 shape.6.2))
 
-  seqs : (x : Want) → in_group x.base ≡ true → (body rest : Coded) → Fine (body_in_group x) body → Fine x rest → Fine x (choose nowhere o.Seq body done (plain (o.Meet true) rest))
-  seqs x g body rest p' q = opens x o.Seq refl refl refl g body rest (λ all shape. (p' all.1 shape.2, q all.3.1 shape.6.2))
+  seqs : (x : Want) (n' : ℕ) → x.base ≡ Group n' → (body rest : Coded) → Fine (body_of_group x n') body → Fine x rest → Fine x (choose nowhere o.Seq body done (plain (o.Meet true) rest))
+  seqs x n' group body rest p' q = opens x n' group o.Seq refl refl body rest (λ all shape. (p' all.1 shape.2, q all.3.1 shape.6.2))
 
   barriers : (x : Want) → in_group x.base ≡ false → Keeps x (plain (o.Meet false))
   barriers x g rest q = λ all shape. (place_of x.base, meets_in x.base g, q all.1 shape.2)
@@ -336,6 +377,17 @@ module _ (tables : Tables) (functions : (binding : ℕ) → Signature) (may_call
 
   in_arm : (main : Bool) (x : Want) (s : Statement) → StatementInPlace tables may_call main (inner (who_of x.base x.outermost)) s → StatementInPlace tables may_call main (who_of x.base false) s
   in_arm main x s h = subst (λ (who : Who). StatementInPlace tables may_call main who s) (inner_is x.base x.outermost) h
+
+  -- in a part that a group makes
+  in_part : (main : Bool) (x : Want) (n' : ℕ) → x.base ≡ Group n' → (s : Statement) → StatementInPlace tables may_call main (inner (who_of x.base x.outermost)) s
+      → StatementInPlace tables may_call main OfGroup s
+  in_part main x n' group s h = subst (λ (b : Base). StatementInPlace tables may_call main (inner (who_of b x.outermost)) s) group h
+
+  splits_within : (x : Want) (n' : ℕ) → x.base ≡ Group n' → (spot : Spot) → Splits tables may_call (in_group x.base) spot.at → Splits tables may_call true spot.at
+  splits_within x n' group spot h = subst (λ (b : Base). Splits tables may_call (in_group b) spot.at) group h
+
+  told_within : (x : Want) (n' : ℕ) → x.base ≡ Group n' → (e : Option Tree) → TellsIf x e → OptionInPlace tables may_call true e
+  told_within x n' group e h = subst (λ (b : Base). OptionInPlace tables may_call (in_group b) e) group h
 
   told_there : (x : Want) (e : Tree) → InPlace tables may_call (is_group (who_of x.base x.outermost)) e → Tells x e
   told_there x e h = subst (λ b. InPlace tables may_call b e) (group_is x.base x.outermost) h
@@ -362,8 +414,16 @@ module _ (tables : Tables) (functions : (binding : ℕ) → Signature) (may_call
         let parted = choose spot.place (o.Split IfAlone) (part_frame tables functions spot 0 (body (plain o.End done))) done (plain o.Resume rest) in
         let branched = choose nowhere (o.Branch true) (body done) done rest in
         gives x condition (told_there x condition h.1) (if here.splits then parted else agreed here.sync branched)
-        (splits_not here.splits x parted (agreed here.sync branched) (λ all. all.0)
-        (wants.agrees_or tables functions may_call unshared frameless x here.sync (wants.agreed_there tables functions may_call unshared frameless x spot.at (splits_there x spot h.0)) branched
+        (splits_or here.splits x parted (agreed here.sync branched)
+        (λ is.
+        let group = group_of x.base ((splits_there x spot h.0).0 is) in
+        let y = within x group.0 true in
+        divides x group.0 group.1 spot IfAlone (part_frame tables functions spot 0 (body (plain o.End done))) done rest
+        (frames_in y refl spot 0 (body (plain o.End done))
+        (statement y inside k first (in_part inside.main x group.0 group.1 first h.2) (plain o.End done) (wants.part_ended tables functions may_call unshared frameless y)))
+        (empty y refl) q)
+        (λ is.
+        wants.agrees_or tables functions may_call unshared frameless x here.sync (wants.agreed_there tables functions may_call unshared frameless x spot.at (splits_there x spot h.0)) branched
         (wants.chooses tables functions may_call unshared frameless x nowhere true (body done) done rest
         (statement (arm x) inside k first (in_arm inside.main x first h.2) done (wants.ended tables functions may_call unshared frameless (arm x))) (wants.ended tables functions may_call unshared frameless (arm x)) q)))
     statement x inside k (p.IfElse spot condition first second) h rest q =
@@ -373,56 +433,109 @@ module _ (tables : Tables) (functions : (binding : ℕ) → Signature) (may_call
         let parted = choose spot.place (o.Split IfElse) (part_frame tables functions spot 0 (a (plain o.End done))) (part_frame tables functions spot 1 (b (plain o.End done))) (plain o.Resume rest) in
         let branched = choose nowhere (o.Branch true) (a done) (b done) rest in
         gives x condition (told_there x condition h.1) (if here.splits then parted else agreed here.sync branched)
-        (splits_not here.splits x parted (agreed here.sync branched) (λ all. all.0)
-        (wants.agrees_or tables functions may_call unshared frameless x here.sync (wants.agreed_there tables functions may_call unshared frameless x spot.at (splits_there x spot h.0)) branched
+        (splits_or here.splits x parted (agreed here.sync branched)
+        (λ is.
+        let group = group_of x.base ((splits_there x spot h.0).0 is) in
+        let y = within x group.0 true in
+        divides x group.0 group.1 spot IfElse (part_frame tables functions spot 0 (a (plain o.End done))) (part_frame tables functions spot 1 (b (plain o.End done))) rest
+        (frames_in y refl spot 0 (a (plain o.End done))
+        (statement y inside k first (in_part inside.main x group.0 group.1 first h.2) (plain o.End done) (wants.part_ended tables functions may_call unshared frameless y)))
+        (frames_in y refl spot 1 (b (plain o.End done))
+        (statement y inside k second (in_part inside.main x group.0 group.1 second h.3) (plain o.End done) (wants.part_ended tables functions may_call unshared frameless y))) q)
+        (λ is.
+        wants.agrees_or tables functions may_call unshared frameless x here.sync (wants.agreed_there tables functions may_call unshared frameless x spot.at (splits_there x spot h.0)) branched
         (wants.chooses tables functions may_call unshared frameless x nowhere true (a done) (b done) rest
         (statement (arm x) inside k first (in_arm inside.main x first h.2) done (wants.ended tables functions may_call unshared frameless (arm x)))
         (statement (arm x) inside k second (in_arm inside.main x second h.3) done (wants.ended tables functions may_call unshared frameless (arm x))) q)))
     statement x inside k (p.While spot condition body) h rest q =
         let test = tested tables functions spot (Some condition) in
         let run = executed tables functions inside body done in
-        loops x spot (c.while test run done)
-        (whiles x test run done (λ b. tests (test_of x b) spot (Some condition) (splits_there x spot h.0) (told_there x condition h.1))
-        (λ b. statement (turn_of x b) inside k body (in_arm inside.main x body h.2) done (wants.ended tables functions may_call unshared frameless (turn_of x b))) (wants.ended tables functions may_call unshared frameless (step_of x))) rest q
+        let told = told_there x condition h.1 in
+        let splits = splits_there x spot h.0 in
+        loops x spot (c.while test run done) splits
+        (λ is n' group.
+        let y = within x n' true in
+        let leaves : IsLeft true y.base (Waits (suc n')) = (n', refl, refl) in
+        whiles y true (Waits (suc n')) leaves test run done done (ends_by x spot (Some condition) told true is)
+        (tests (test_of y true (Waits (suc n')) leaves) spot (Some condition) (splits_within x n' group spot splits) (told_within x n' group (Some condition) told))
+        (statement (turn_of y true (Waits (suc n')) leaves) inside k body (in_part inside.main x n' group body h.2) done
+        (wants.ended tables functions may_call unshared frameless (turn_of y true (Waits (suc n')) leaves)))
+        (wants.ended tables functions may_call unshared frameless (step_of y (Waits (suc n')))) (λ all shape. refl))
+        (λ is others more.
+        let at = place_of x.base in
+        whiles x false at refl test run done others (ends_by x spot (Some condition) told false is) (tests (test_of x false at refl) spot (Some condition) splits told)
+        (statement (turn_of x false at refl) inside k body (in_arm inside.main x body h.2) done (wants.ended tables functions may_call unshared frameless (turn_of x false at refl)))
+        (wants.ended tables functions may_call unshared frameless (step_of x at)) (goes_on x others more)) rest q
     statement x inside k (p.DoWhile spot body condition) h rest q =
         let test = tested tables functions spot (Some condition) in
         let run = executed tables functions inside body done in
-        loops x spot (c.until run test)
-        (untils x run test (λ b. statement (turn_of x b) inside k body (in_arm inside.main x body h.2) done (wants.ended tables functions may_call unshared frameless (turn_of x b)))
-        (λ b. tests (test_of x b) spot (Some condition) (splits_there x spot h.0) (told_there x condition h.1))) rest q
+        let told = told_there x condition h.1 in
+        let splits = splits_there x spot h.0 in
+        loops x spot (c.until run test) splits
+        (λ is n' group.
+        let y = within x n' true in
+        let leaves : IsLeft true y.base (Waits (suc n')) = (n', refl, refl) in
+        untils y true (Waits (suc n')) leaves run test done (ends_by x spot (Some condition) told true is)
+        (statement (turn_of y true (Waits (suc n')) leaves) inside k body (in_part inside.main x n' group body h.2) done
+        (wants.ended tables functions may_call unshared frameless (turn_of y true (Waits (suc n')) leaves)))
+        (tests (test_of y true (Waits (suc n')) leaves) spot (Some condition) (splits_within x n' group spot splits) (told_within x n' group (Some condition) told))
+        (λ all shape. refl))
+        (λ is others more.
+        let at = place_of x.base in
+        untils x false at refl run test others (ends_by x spot (Some condition) told false is)
+        (statement (turn_of x false at refl) inside k body (in_arm inside.main x body h.2) done (wants.ended tables functions may_call unshared frameless (turn_of x false at refl)))
+        (tests (test_of x false at refl) spot (Some condition) splits told) (goes_on x others more)) rest q
     statement x inside k (p.For spot before condition after body) h rest q =
         let test = tested tables functions spot condition in
         let run = executed tables functions inside body done in
         let step = used_or tables functions after done in
+        let told = told_if x condition h.2 in
+        let told_after = told_if x after h.3 in
+        let splits = splits_there x spot h.0 in
         uses_or x before (told_if x before h.1) (looping tables functions spot (c.while test run step) rest)
-        (loops x spot (c.while test run step)
-        (whiles x test run step (λ b. tests (test_of x b) spot condition (splits_there x spot h.0) (told_if x condition h.2))
-        (λ b. statement (turn_of x b) inside k body (in_arm inside.main x body h.4) done (wants.ended tables functions may_call unshared frameless (turn_of x b)))
-        (uses_or (step_of x) after (told_if x after h.3) done (wants.ended tables functions may_call unshared frameless (step_of x)))) rest q)
+        (loops x spot (c.while test run step) splits
+        (λ is n' group.
+        let y = within x n' true in
+        let leaves : IsLeft true y.base (Waits (suc n')) = (n', refl, refl) in
+        whiles y true (Waits (suc n')) leaves test run step done (ends_by x spot condition told true is)
+        (tests (test_of y true (Waits (suc n')) leaves) spot condition (splits_within x n' group spot splits) (told_within x n' group condition told))
+        (statement (turn_of y true (Waits (suc n')) leaves) inside k body (in_part inside.main x n' group body h.4) done
+        (wants.ended tables functions may_call unshared frameless (turn_of y true (Waits (suc n')) leaves)))
+        (uses_or (step_of y (Waits (suc n'))) after (told_within x n' group after told_after) done (wants.ended tables functions may_call unshared frameless (step_of y (Waits (suc n')))))
+        (λ all shape. refl))
+        (λ is others more.
+        let at = place_of x.base in
+        whiles x false at refl test run step others (ends_by x spot condition told false is) (tests (test_of x false at refl) spot condition splits told)
+        (statement (turn_of x false at refl) inside k body (in_arm inside.main x body h.4) done (wants.ended tables functions may_call unshared frameless (turn_of x false at refl)))
+        (uses_or (step_of x at) after told_after done (wants.ended tables functions may_call unshared frameless (step_of x at))) (goes_on x others more)) rest q)
     statement x inside k (p.Start spot count body) h rest q =
         let run = part_frame tables functions spot 0 (executed tables functions inside body (plain o.End done)) in
-        gives_or x (plain (o.Get n.Processors)) (λ rest' q'. performed x (o.Get n.Processors) refl rest' q' (λ shape. shape.2)) count (told_if x count h.1)
+        gives_or x (plain (o.Get own.Processors)) (λ rest' q'. performed x (o.Get own.Processors) refl rest' q' (λ shape. shape.2)) count (told_if x count h.1)
         (choose nowhere o.Begin run done (plain o.Resume rest))
         (starts x h.0 run rest
         (frames_in (start_of x) refl spot 0 (executed tables functions inside body (plain o.End done))
         (statement (start_of x) inside k body h.2 (plain o.End done) (wants.part_ended tables functions may_call unshared frameless (start_of x)))) q)
     statement x inside k (p.Fork spot parts part rank body) h rest q =
         let divided = choose spot.place (o.Split Fork) (part_frame tables functions spot 0 (executed tables functions inside body (plain o.End done))) done (plain o.Resume rest) in
-        let ranked = value_or tables functions (plain (o.Get n.Rank)) rank divided in
+        let ranked = value_or tables functions (plain (o.Get own.Rank)) rank divided in
         gives x parts (told_there x parts h.1) (plain o.Agree (value tables functions part ranked))
         (wants.agrees tables functions may_call unshared frameless x (group_there x h.0) (value tables functions part ranked)
         (gives x part (told_there x part h.2) ranked
-        (gives_or x (plain (o.Get n.Rank)) (λ rest' q'. performed x (o.Get n.Rank) refl rest' q' (λ shape. shape.2)) rank (told_if x rank h.3) divided
+        (gives_or x (plain (o.Get own.Rank)) (λ rest' q'. performed x (o.Get own.Rank) refl rest' q' (λ shape. shape.2)) rank (told_if x rank h.3) divided
         (forks x spot (part_frame tables functions spot 0 (executed tables functions inside body (plain o.End done))) rest))))
     statement x inside k (p.Farm spot body) h rest q =
-        farms x (group_there x h.0) (executed tables functions inside body done) rest
-        (statement (body_in_group x) inside k body h.1 done (wants.ended tables functions may_call unshared frameless (body_in_group x))) q
+        let group = group_of x.base (group_there x h.0) in
+        let y = body_of_group x group.0 in
+        farms x group.0 group.1 (executed tables functions inside body done) rest
+        (statement y inside k body h.1 done (wants.ended tables functions may_call unshared frameless y)) q
     statement x inside k (p.Seq spot body) h rest q =
-        seqs x (group_there x h.0) (executed tables functions inside body done) rest
-        (statement (body_in_group x) inside k body h.1 done (wants.ended tables functions may_call unshared frameless (body_in_group x))) q
+        let group = group_of x.base (group_there x h.0) in
+        let y = body_of_group x group.0 in
+        seqs x group.0 group.1 (executed tables functions inside body done) rest
+        (statement y inside k body h.1 done (wants.ended tables functions may_call unshared frameless y)) q
     statement x inside k (p.Barrier spot) h rest q = barriers x (sym (group_is x.base x.outermost) ∙ h) rest q
-    statement x inside k (p.Break spot) h rest q = λ all shape. (x.breaks shape.1, q all shape.2)
-    statement x inside k (p.Continue spot) h rest q = λ all shape. (x.continues shape.1, q all shape.2)
+    statement x inside k (p.Break spot) h rest q = λ all shape. (let loop = x.breaks shape.1 in (loop.0, loop.1, q all shape.2))
+    statement x inside k (p.Continue spot) h rest q = λ all shape. (let loop = x.continues shape.1 in (loop.0, loop.1, q all shape.2))
     statement x inside k (p.Return spot e) h rest q = returns x inside h.0 k e (told_if x e h.1) rest q
 
     all_statements : (x : Want) (inside : Inside) → MayLeave inside.main inside.framed x.function → (statements : Statements) → StatementsInPlace tables may_call inside.main (who_of x.base x.outermost) statements

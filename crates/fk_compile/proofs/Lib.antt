@@ -1,4 +1,5 @@
 pub mod Wants
+pub mod Tests
 pub mod LedTexts
 pub mod Led
 pub mod Evaluating

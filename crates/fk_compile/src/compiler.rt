@@ -10,6 +10,7 @@ use crate::image::{are_words, site_table};
 use crate::laws::steps_find_values;
 use crate::list::{kept_words, list_of};
 use fk_compile_text::{GlobalRow, Refusal, built_text};
+use fk_core_levels::levels;
 use fk_gen_list::generate;
 use fk_image::Image;
 use fk_sim_rounds::laws::programs_are_followed;
@@ -42,9 +43,16 @@ pub fn compile<'a>(alloc: Global, source: &'a [u8]) -> Result<Compiled<'a>, Refu
     let layout = text.layout;
     let globals = layout.words.len() as u32;
     let kept = kept_words(alloc, &list, &layout.firsts)?;
-    let code = generate(alloc, &list.ops, &kept, list.main, &layout.firsts, globals).map_err(
-        Refusal::Memory,
-    )?;
+    let saved = levels(alloc, &list.ops).map_err(Refusal::Memory)?;
+    let code = generate(
+        alloc,
+        &list.ops,
+        &kept,
+        &saved,
+        list.main,
+        &layout.firsts,
+        globals,
+    ).map_err(Refusal::Memory)?;
     let sites = site_table(alloc, &layout.sites).map_err(Refusal::Memory)?;
     // These calls are facts for the proof, and do nothing.
     are_words(&layout.firsts);

@@ -1,9 +1,5 @@
 -- the elements of a list, one by one
 pub mod Elements
--- beside splits and their parts all operations are plain: of expressions, and of statements and texts
-pub mod BesideSplits
-pub mod SplitExpressions
-pub mod SplitStatements
 -- what a visitor sees of the operations of a text
 pub mod Watched
 -- how far tokens reach, and how few items they make

@@ -1,11 +1,11 @@
 -- A visitor that is shown a text sees whether all its operations are built.
-use Rattle.std.proofs.Common.{◌≡◌, ℕ, Bool, true, false, ◌&&◌, List, [], ◌∷◌, ◌++◌, Contains, refl, sym, ap, ◌∙◌}
+use Rattle.std.proofs.Common.{◌≡◌, ℕ, Bool, true, false, true≢false, ◌&&◌, List, [], ◌∷◌, ◌++◌, Contains, refl, sym, ap, ◌∙◌}
 use Rattle.std.specs.List.{list_all}
 use Rattle.std.proofs.lemmas.List.Sums.{AllPass-from_list_all}
 use Rattle.fk_syntax.specs.Program.{FunctionTree, ItemTree, ProgramTree}
 use Rattle.fk_meaning_operation.specs.declared.operation.Operation.{Operation}
 use Rattle.fk_meaning_operation.specs.declared.operation.Operation.TheVariants as o
-use Rattle.fk_meaning_operation.specs.declared.operation.SplitKind.{SplitKind}
+use Rattle.fk_meaning_operation.specs.declared.operation.SplitKind.TheVariants.{Fork}
 use Rattle.fk_meaning_forms.specs.Code.{done, perform, choose, while, until, turn, again, quit, break, continue, call, ends}
 use Rattle.fk_meaning_forms.specs.Expressions.{Coded, Signature}
 use Rattle.fk_meaning_forms.specs.Program as p
@@ -19,8 +19,7 @@ use Rattle.fk_compile_text.specs.Built.{operations, operations_in, operations_of
 use Rattle.fk_compile_text.specs.Plain.{is_plain, ArePlain}
 use Rattle.fk_compile_text.specs.Building.{building_after, no_mark}
 use Rattle.fk_compile_text.specs.declared.building.Building.{Building}
-use Rattle.fk_compile_text.proofs.BesideSplits.{split_among}
-use Rattle.fk_compile_text.proofs.SplitStatements.{unsplit_texts_are_plain}
+use Rattle.fk_compile_text.proofs.Elements.{one_fails}
 
 -- an operation is built as it is shown
 as_shown : (op : Operation) → is_plain (shown op) ≡ is_plain op
@@ -121,8 +120,12 @@ module _ (known : w.ProgramTables) (tables : Tables) (tree : ProgramTree) (same_
   pub all_built : list_all is_plain (operations_in (tables_of known) (functions_in known) (functions_in known)) ≡ true → ArePlain tables tree
   all_built is = AllPass-from_list_all is_plain (operations_of tables tree) (told true is)
 
-  pub one_splits : list_all is_plain (operations_in (tables_of known) (functions_in known) (functions_in known)) ≡ false
-      → (by : SplitKind) × Contains (operations_of tables tree) (o.Split by)
-  one_splits is =
-      let fs = p.functions_of tree.items in
-      split_among (operations_of tables tree) (unsplit_texts_are_plain tables fs fs) (told false is)
+  -- what isn't built is the split of a `fork`
+  fork_among : (op : Operation) → Contains (operations_of tables tree) op → is_plain op ≡ false → Contains (operations_of tables tree) (o.Split Fork)
+  fork_among (o.Split Fork) among e = among
+  fork_among (o.Split by) among e = absurd (true≢false e)
+  fork_among op among e = absurd (true≢false e)
+
+  pub one_forks : list_all is_plain (operations_in (tables_of known) (functions_in known) (functions_in known)) ≡ false
+      → Contains (operations_of tables tree) (o.Split Fork)
+  one_forks is = let found = one_fails is_plain (operations_of tables tree) (told false is) in fork_among found.0 found.1 found.2

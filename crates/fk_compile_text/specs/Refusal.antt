@@ -24,7 +24,7 @@ use Rattle.fk_compile_text.specs.declared.refusal.Refusal.TheVariants.{Memory}
 -- The first refusal of a text that applies. The text is too long. If it isn't, it has a lexical
 -- fault at the least place. If it has tokens, they have no tree, because of a fault at a token or
 -- at the end. If they have one, it breaks this rule first. If it keeps all rules, there is too much
--- of something for a layout. If it has a layout, it has a split.
+-- of something for a layout. If it has a layout, it has a `fork`.
 abbrev pub IsRefusedText : List ℕ → Refusal → Type 0
 IsRefusedText source (SourceTooLong bytes) = (bytes ≡ length source) × (most_text_bytes < bytes)
 IsRefusedText source (BadByte place) = (length source ≤ most_text_bytes)

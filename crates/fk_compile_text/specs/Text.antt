@@ -20,7 +20,7 @@ use Rattle.fk_layout_lookup.specs.declared.lookup.Lookup.{Lookup}
 use Rattle.fk_layout_walk.specs.Known.{tables_of, items_in}
 use Rattle.fk_layout_walk.specs.declared.known.ProgramTables.{ProgramTables}
 use Rattle.fk_meaning_operation.specs.declared.operation.Operation.TheVariants.{Split}
-use Rattle.fk_meaning_operation.specs.declared.operation.SplitKind.{SplitKind}
+use Rattle.fk_meaning_operation.specs.declared.operation.SplitKind.TheVariants.{Fork}
 use Rattle.fk_compile_text.specs.Built.{operations_of}
 use Rattle.fk_compile_text.specs.Plain.{ArePlain}
 
@@ -87,11 +87,10 @@ pub record IsBuilt (source : List ℕ) : Type 0 where
   pub laid : HasLayout source
   pub built : ArePlain (tables_by laid.tree laid.facts) laid.tree
 
--- A text has a layout, and one of its operations is a split.
+-- A text has a layout, and one of its operations is the split of a `fork`.
 pub record IsNotBuilt (source : List ℕ) : Type 0 where
   pub laid : HasLayout source
-  pub by : SplitKind
-  pub among : Contains (operations_of (tables_by laid.tree laid.facts) laid.tree) (Split by)
+  pub forks : Contains (operations_of (tables_by laid.tree laid.facts) laid.tree) (Split Fork)
 
 -- the lookup tells the functions and the group frames of this tree, as these facts have them
 abbrev pub Finds : ProgramTree → Facts → Lookup → Type 0

@@ -9,13 +9,13 @@ ghost use Rattle.fk_compile_text.specs.Plain.{is_plain};
 
 use fk_layout_walk::{Event, Mark, ProgramTables, Visitor};
 use fk_layout_walk_statements::text;
-use fk_meaning_operation::Operation;
+use fk_meaning_operation::{Operation, SplitKind};
 
-/// Whether an operation is built. It isn't if it splits a group or tests a split loop.
+/// Whether an operation is built. It isn't if it is the split of a `fork`.
 pub fn is_plain(operation: Operation) -> bool
     ensures { result ≡ is_plain operation }
 {
-    !matches!(operation, Operation::Split(_) | Operation::Shrink)
+    !matches!(operation, Operation::Split(SplitKind::Fork))
 }
 
 /// A visitor that finds whether all operations are built.

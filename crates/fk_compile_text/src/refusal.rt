@@ -45,8 +45,7 @@ pub enum Refusal {
     /// The text has this many bytes, more than 1,048,576.
     #[error("a text of {0} bytes is too long")]
     SourceTooLong(u64),
-    /// The text is one of the language, but has a split, which isn't built: a `fork`, or a private
-    /// condition in a synchronous region.
+    /// The text is one of the language, but has a `fork`, which isn't built.
     #[error("not built")]
     NotBuilt,
     /// There isn't enough memory for the image.

@@ -1,9 +1,10 @@
 -- Code that is well typed, of functions of which some are called.
-use Rattle.std.proofs.Common.{◌≡◌, ℕ, zero, suc, ◌-◌, ◌^◌, ◌≤◌, true, false, List, [], ◌∷◌, length, Option, None, Some, refl, arith}
+use Rattle.std.proofs.Common.{◌≡◌, inl, inr, ℕ, zero, suc, ◌-◌, ◌^◌, ◌≤◌, true, false, List, [], ◌∷◌, length, Option, None, Some, refl, arith}
 use Rattle.fk_num.specs.declared.operator.Op.TheVariants as f
 use Rattle.fk_meaning_operation.specs.declared.operation.Operation.TheVariants as o
 use Rattle.fk_meaning_operation.specs.declared.operation.Operation.{Operation}
 use Rattle.fk_meaning_operation.specs.declared.operation.OwnValue.TheVariants as n
+use Rattle.fk_meaning_operation.specs.declared.operation.SplitKind.TheVariants as p
 use Rattle.fk_meaning_operation.specs.declared.operation.Variable.TheVariants as v
 use Rattle.fk_meaning_forms.specs.Code.{Code, done, perform, choose, while, quit, break, call, ends}
 use Rattle.fk_core_liveness.specs.declared.places.FunctionKind.{FunctionKind}
@@ -14,7 +15,7 @@ use Rattle.fk_core_typing.specs.LocalDepths.{needs}
 use Rattle.fk_sim_block.specs.Suits.{looks_at}
 use Rattle.fk_lockstep_frames.specs.Nests.{OfFunction, OfPart}
 use Rattle.fk_core_typing.specs.Values.{Value, Unknown, Shared, with_frame, entered, State, bare, behind, MayBeIn, Asks, May, Grants}
-use Rattle.fk_core_typing.specs.Typed.{Typed, IsTyped}
+use Rattle.fk_core_typing.specs.Typed.{Loop, Typed, IsTyped}
 use Rattle.fk_core_typing.proofs.Granting.{none_asked, good_as_itself, grants_itself}
 
 -- function 0 is `main`. All others give a value, and take a frame of 2 words from function 2 on
@@ -75,7 +76,7 @@ member_is_typed = (
 abbrev read : ℕ → Code ℕ → Code ℕ
 read i rest = perform i (get 0) (perform (suc i) (o.Check false) (perform (suc (suc i)) o.Read rest))
 
-reads : (rest : Code ℕ) (asked : State) (l : Option State) (i : ℕ) (place : FunctionKind) (vs : List Value)
+reads : (rest : Code ℕ) (asked : State) (l : Option Loop) (i : ℕ) (place : FunctionKind) (vs : List Value)
     → Typed place_of frame_of l (at place (Unknown ∷ vs)) rest asked → Typed place_of frame_of l (at place vs) (read i rest) asked
 reads rest asked l i place vs more = (may _ _ tt (omega arith, omega arith) tt, (may _ _ tt (omega arith, omega arith) tt, (may _ _ tt (omega arith, omega arith) refl, more)))
 
@@ -91,14 +92,18 @@ none = at (Called true) []
 abbrev two : State
 two = at (Called true) (Unknown ∷ Unknown ∷ Shared ∷ [])
 
-test_is_typed : Typed place_of frame_of (Some none) none (read 0 (quit 3 (o.Branch true) done)) none
+-- who leaves the loop goes on as at the beginning of a turn
+abbrev turns : Loop
+turns = record { turn = none; left = none; even = refl }
+
+test_is_typed : Typed place_of frame_of (Some turns) none (read 0 (quit 3 (o.Branch true) done)) none
 test_is_typed =
-    reads (quit 3 (o.Branch true) done) none (Some none) 0 (Called true) [] (may _ _ tt (omega arith, omega arith) tt, grants_itself none, grants_itself none)
+    reads (quit 3 (o.Branch true) done) none (Some turns) 0 (Called true) [] (may _ _ tt (omega arith, omega arith) tt, grants_itself none, grants_itself none)
 
 abbrev assigned : Code ℕ
 assigned = perform 15 o.Write (perform 16 o.DropLast (break done))
 
-assigned_is_typed : Typed place_of frame_of (Some none) (at (Called true) (Unknown ∷ Shared ∷ [])) assigned none
+assigned_is_typed : Typed place_of frame_of (Some turns) (at (Called true) (Unknown ∷ Shared ∷ [])) assigned none
 assigned_is_typed = (may _ _ tt (omega arith, omega arith) refl, (may _ _ tt (omega arith, omega arith) tt, (grants_itself none, grants_itself none)))
 
 abbrev call_with : Code ℕ
@@ -108,13 +113,14 @@ call_with =
     (perform 13 (o.Push 0) done)
     (call 14 (o.Enter 2) 1 done assigned)
 
-call_is_typed : Typed place_of frame_of (Some none) (at (Called true) (Unknown ∷ Unknown ∷ Shared ∷ [])) call_with none
+call_is_typed : Typed place_of frame_of (Some turns) (at (Called true) (Unknown ∷ Unknown ∷ Shared ∷ [])) call_with none
 call_is_typed = (
   may _ _ tt (omega arith, omega arith) tt,
   two,
   (may _ _ tt (omega arith, omega arith) tt, (may _ _ tt (omega arith, omega arith) tt, (may _ _ tt (omega arith, omega arith) tt, grants_itself two))),
   (may _ _ tt (omega arith, omega arith) tt, forgotten),
   (may _ _ tt (omega arith, omega arith) tt, true, refl, grants_itself none, assigned_is_typed),
+  refl,
 )
 
 abbrev loop : Code ℕ
@@ -130,12 +136,13 @@ loop_is_typed : IsTyped place_of frame_of 1 loop
 loop_is_typed = (
   none,
   (
-    none,
+    turns,
     grants_itself none,
     test_is_typed,
     (may _ _ tt (omega arith, omega arith) tt, (may _ _ tt (omega arith, omega arith) tt, (may _ _ tt (omega arith, omega arith) tt, (may _ _ tt (omega arith, omega arith) refl, (may _ _ tt (omega arith, omega arith) tt, call_is_typed))))),
     grants_itself none,
     (may _ _ tt (omega arith, omega arith) tt, (may _ _ tt (omega arith, omega arith) tt, (None, refl, refl), grants_itself none)),
+    inl refl,
   ),
 )
 
@@ -153,7 +160,8 @@ spread_is_typed = (
   inside,
   grants_itself inside,
   grants_itself inside,
-  (may _ _ tt (omega arith, omega arith) tt, (may _ _ tt (omega arith, omega arith) tt, inside, grants_itself inside, grants_itself inside, (may _ _ tt (omega arith, omega arith) tt, (may _ _ tt (omega arith, omega arith) tt, values Main [])))),
+  (may _ _ tt (omega arith, omega arith) tt, (may _ _ tt (omega arith, omega arith) tt, inside, grants_itself inside, grants_itself inside, (may _ _ tt (omega arith, omega arith) tt, (may _ _ tt (omega arith, omega arith) tt, values Main [])), refl)),
+  refl,
 )
 
 abbrev in_group : Code ℕ
@@ -162,7 +170,7 @@ in_group = perform 2 (get 0) (perform 3 o.Agree (choose 4 (o.Branch true) (perfo
 in_group_is_typed : Typed place_of frame_of None inside in_group (at Main [])
 in_group_is_typed = (
   may _ _ tt (omega arith, omega arith) tt,
-  (may _ _ tt (omega arith, omega arith) tt, (may _ _ tt (omega arith, omega arith) tt, inside, (may _ _ tt (omega arith, omega arith) tt, grants_itself inside), grants_itself inside, spread_is_typed)),
+  (may _ _ tt (omega arith, omega arith) tt, (may _ _ tt (omega arith, omega arith) tt, inside, (may _ _ tt (omega arith, omega arith) tt, grants_itself inside), grants_itself inside, spread_is_typed, refl)),
 )
 
 abbrev grouped : Code ℕ
@@ -179,8 +187,34 @@ grouped_is_typed = (
       in_group_is_typed,
       values Main [],
       (may _ _ tt (omega arith, omega arith) tt, (may _ _ tt (omega arith, omega arith) tt, refl, values Main [])),
+      refl,
     ),
   ),
+)
+
+-- while (c) ; of a group, which splits there: who leaves the loop goes on outside its part
+abbrev deeper : State
+deeper = bare (record { function = Main; nests = OfPart None ∷ OfPart None ∷ OfFunction None ∷ [] })
+
+abbrev private_loop : Code ℕ
+private_loop = choose 0 (o.Split p.Loop) (while (perform 1 (get 0) (quit 2 o.Shrink done)) done done done) done (perform 3 o.Resume done)
+
+private_loop_is_typed : Typed place_of frame_of None inside private_loop inside
+private_loop_is_typed = (
+  may _ _ tt (omega arith, omega arith) tt,
+  inside,
+  (
+    record { turn = deeper; left = inside; even = refl },
+    grants_itself deeper,
+    (may _ _ tt (omega arith, omega arith) tt, (may _ _ tt (omega arith, omega arith) tt, grants_itself inside, grants_itself deeper)),
+    grants_itself deeper,
+    grants_itself deeper,
+    grants_itself inside,
+    inr refl,
+  ),
+  grants_itself inside,
+  (may _ _ tt (omega arith, omega arith) tt, grants_itself inside),
+  refl,
 )
 
 -- a function with a frame of 2 words, the second of which becomes 5, and a call of it in a group

@@ -11,6 +11,7 @@ use Rattle.fk_meaning_store.specs.Serve.{may_use}
 use Rattle.fk_meaning_forms.specs.Code.{Code}
 use Rattle.fk_core_liveness.specs.declared.places.FunctionKind.{FunctionKind}
 use Rattle.fk_core_liveness.specs.declared.places.FunctionKind.TheVariants.{Main, Called}
+use Rattle.fk_core_liveness.specs.Frames.{is_main_place}
 use Rattle.fk_core.specs.declared.op.CoreOp.{CoreOp}
 use Rattle.fk_core.specs.Next.{follows, behind_jump}
 use Rattle.fk_core.specs.CodeAt.{Around}
@@ -393,3 +394,16 @@ typed_lists_know bodies core entry place_of frame_of typed main is none = (
         });
   },
 )
+
+-- the frames are told by the states
+same_main : (kind : FunctionKind) → is_main kind ≡ is_main_place kind
+same_main Main = refl
+same_main (Called gives) = refl
+
+pub frames_of_states : (bodies : ℕ → Code ℕ) (core : List CoreOp) (entry : ℕ → ℕ) (place_of : ℕ → FunctionKind) (frame_of : ℕ → Option ℕ)
+    (typed : IsTypedList bodies core entry place_of frame_of) (main : ℕ) (is : place_of main ≡ Main) (none : frame_of main ≡ None) (i : ℕ)
+    → let local = (typed_lists_know bodies core entry place_of frame_of typed main is none).0 in
+    let place = (at bodies core entry place_of frame_of typed i).place in
+    (local.nests i ≡ place.nests) × (local.in_main i ≡ is_main_place place.function)
+unfolding has_frames typed_lists_know
+frames_of_states bodies core entry place_of frame_of typed main is none i = (refl, same_main (at bodies core entry place_of frame_of typed i).place.function)

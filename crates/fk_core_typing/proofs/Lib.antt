@@ -9,7 +9,7 @@ pub mod Granting
 pub mod Examples
 pub mod Done
 pub mod System
-mod Marks
+pub mod Marks
 pub mod Rising
 pub mod Standing
 pub mod Sound

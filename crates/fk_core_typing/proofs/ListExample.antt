@@ -54,6 +54,7 @@ f_is_typed = (
       (may _ _ tt (omega arith, omega arith) tt, (may _ _ tt (omega arith, omega arith) tt, (may _ _ tt (omega arith, omega arith) tt, (may _ _ tt (omega arith, omega arith) tt, (may _ _ tt (omega arith, omega arith) tt, true, refl, grants_itself none, (may _ _ tt (omega arith, omega arith) tt, grants_itself one)))))),
       (may _ _ tt (omega arith, omega arith) tt, any (Called true) 0),
       (may _ _ tt (omega arith, omega arith) tt, (None, refl, refl), (may _ _ tt (omega arith, omega arith) tt, (may _ _ tt (omega arith, omega arith) tt, (None, refl, refl), grants_itself none))),
+      refl,
     ),
   ),
 )

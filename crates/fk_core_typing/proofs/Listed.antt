@@ -46,7 +46,7 @@ not_out o.Halt i e = absurd (cc)
 not_out op i e = let absurdity = e in absurd (cc)
 
 module _ (core : List CoreOp) (entry : ℕ → ℕ) where
-  has_below : (items : List Item) (j d : ℕ) → d < length items → Has core j items → j + d < length core
+  pub has_below : (items : List Item) (j d : ℕ) → d < length items → Has core j items → j + d < length core
   has_below [] j d a h = absurd (let e : ⊥ = omega arith in e)
   has_below (item ∷ items) j zero a h = let b = slice_get_within core j h.0.0 h.0.1 in omega arith
   has_below (item ∷ items) j (suc d) a h = let b = has_below items (suc j) d (omega arith) h.1 in omega arith
@@ -128,7 +128,7 @@ module _ (bodies : ℕ → Code ℕ) (core : List CoreOp) (entry : ℕ → ℕ) 
     all_noted ss (suc j) (λ d r e. ap state (let e : suc j + d ≡ j + suc d = omega arith in e) ∙ h (suc d) r e),
   )
 
-  noted : (f : ℕ) → Noted state (place f) (states f)
+  pub noted : (f : ℕ) → Noted state (place f) (states f)
   noted f = all_noted (states f) (place f) (as_noted f)
 
   module _ (told : Bool) (depth : ℕ → ℕ) (heights : told ≡ true → (f : ℕ) → HasHeights place_of depth 0 (bodies f)) where

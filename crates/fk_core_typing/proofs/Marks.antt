@@ -4,7 +4,7 @@ use Rattle.std.specs.Prelude.{◌==◌, ◌&&◌, ◌||◌}
 use Rattle.fk_meaning_forms.specs.Code.{Code, done, perform, choose, while, until, turn, again, quit, break, continue, call, ends}
 use Rattle.fk_core_flat.specs.Items.{way_of, goes_away}
 use Rattle.fk_core_flat.specs.Flat.{begins_here, gap, extent}
-use Rattle.fk_core_typing.proofs.System.{System, Judged}
+use Rattle.fk_core_typing.proofs.System.{System, Loop, Judged}
 
 -- that of a jump that may be left out
 abbrev pub skip_mark : {A : Type 0} → (here : Bool) → A → List A
@@ -30,7 +30,7 @@ module _ {A : Type 0} (state : ℕ → A) where
   noted_back i r (x ∷ xs) ys e h = let f : r ≡ suc i + length xs = omega arith in noted_back (suc i) r xs ys f h.1
 
 module _ (sys : System) where
-  abbrev pub marks : (near : Bool) (l : Option sys.State) (s : sys.State) (code : Code ℕ) (e : sys.State) → Judged sys l s code e → List sys.State
+  abbrev pub marks : (near : Bool) (l : Option (Loop sys)) (s : sys.State) (code : Code ℕ) (e : sys.State) → Judged sys l s code e → List sys.State
   marks near l s done e t = []
   marks near l s (perform n op rest) e t =
       let r = sys.behind op true s in
@@ -44,12 +44,14 @@ module _ (sys : System) where
   marks near l s (while test body step rest) e t =
       let steps = begins_here false step in
       let enters = begins_here steps body in
-      let b = t.0 in
-      ((marks enters (Some b) b test b t.2 ++ marks steps (Some b) b body b t.3) ++ marks false (Some b) b step b t.4)
-      ++ marks near l b rest e t.5
+      let round = t.0 in
+      let b = round.turn in
+      ((marks enters (Some round) b test b t.2 ++ marks steps (Some round) b body b t.3) ++ marks false (Some round) b step b t.4)
+      ++ marks near l round.left rest e t.5
   marks near l s (until body test rest) e t =
-      let b = t.0 in
-      (marks true (Some b) b body b t.2 ++ marks false (Some b) b test b t.3) ++ marks near l b rest e t.4
+      let round = t.0 in
+      let b = round.turn in
+      (marks true (Some round) b body b t.2 ++ marks false (Some round) b test b t.3) ++ marks near l round.left rest e t.4
   marks near l s (turn test body step rest) e t = []
   marks near l s (again test body step rest) e t = []
   marks near l s (quit n op rest) e t =
@@ -74,7 +76,7 @@ module _ (sys : System) where
   four xs ys zs ws = let e = three xs ys zs in let f = length-append ((xs ++ ys) ++ zs) ws in omega arith
 
   -- as many as the list is long
-  pub mark_length : (near : Bool) (l : Option sys.State) (s : sys.State) (code : Code ℕ) (e : sys.State) (t : Judged sys l s code e)
+  pub mark_length : (near : Bool) (l : Option (Loop sys)) (s : sys.State) (code : Code ℕ) (e : sys.State) (t : Judged sys l s code e)
       → length (marks near l s code e t) ≡ extent near code
   mark_length near l s done e t = refl
   mark_length near l s (perform n op rest) e t =
@@ -104,19 +106,21 @@ module _ (sys : System) where
   mark_length near l s (while test body step rest) e t =
       let steps = begins_here false step in
       let enters = begins_here steps body in
-      let b = t.0 in
-      let lt = mark_length enters (Some b) b test b t.2 in
-      let lb = mark_length steps (Some b) b body b t.3 in
-      let ls = mark_length false (Some b) b step b t.4 in
-      let lr = mark_length near l b rest e t.5 in
-      let c = four (marks enters (Some b) b test b t.2) (marks steps (Some b) b body b t.3) (marks false (Some b) b step b t.4) (marks near l b rest e t.5) in
+      let round = t.0 in
+      let b = round.turn in
+      let lt = mark_length enters (Some round) b test b t.2 in
+      let lb = mark_length steps (Some round) b body b t.3 in
+      let ls = mark_length false (Some round) b step b t.4 in
+      let lr = mark_length near l round.left rest e t.5 in
+      let c = four (marks enters (Some round) b test b t.2) (marks steps (Some round) b body b t.3) (marks false (Some round) b step b t.4) (marks near l round.left rest e t.5) in
       omega arith
   mark_length near l s (until body test rest) e t =
-      let b = t.0 in
-      let lb = mark_length true (Some b) b body b t.2 in
-      let lt = mark_length false (Some b) b test b t.3 in
-      let lr = mark_length near l b rest e t.4 in
-      let c = three (marks true (Some b) b body b t.2) (marks false (Some b) b test b t.3) (marks near l b rest e t.4) in
+      let round = t.0 in
+      let b = round.turn in
+      let lb = mark_length true (Some round) b body b t.2 in
+      let lt = mark_length false (Some round) b test b t.3 in
+      let lr = mark_length near l round.left rest e t.4 in
+      let c = three (marks true (Some round) b body b t.2) (marks false (Some round) b test b t.3) (marks near l round.left rest e t.4) in
       omega arith
   mark_length near l s (turn test body step rest) e t = absurd t
   mark_length near l s (again test body step rest) e t = absurd t

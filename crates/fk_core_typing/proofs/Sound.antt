@@ -19,7 +19,7 @@ use Rattle.fk_core_flat.proofs.Parts.{choice_at, turns_at, rounds_at, entering_a
 use Rattle.fk_core_flat.proofs.CodeAt.{no_extent, both_true, at_gap, opening_is_shaped, opening_begins, behind_opening, behind_jump_at}
 use Rattle.fk_core_typing.specs.Heights.{raised, height, HasHeights}
 use Rattle.fk_core_typing.proofs.Done.{by_done}
-use Rattle.fk_core_typing.proofs.System.{System, GrantsLoop, Judged, IsLawful}
+use Rattle.fk_core_typing.proofs.System.{System, Loop as StateLoop, GrantsTurn, GrantsLeft, Judged, IsLawful}
 use Rattle.fk_core_typing.proofs.Marks.{skip_mark, skip_length, Noted, noted_front, noted_back, marks, mark_length}
 use Rattle.fk_core_typing.proofs.Standing.{stands_at}
 
@@ -74,18 +74,23 @@ module _ (core : List CoreOp) (entry : ℕ → ℕ) (place_of : ℕ → Function
   comes_by false j target s h m c is = at_index s j h.0.0 m.0 h.0.1
 
   -- the indices of the loop round a place
-  abbrev LoopComes : Option sys.State → Around → Type 0
+  abbrev LoopComes : Option (StateLoop sys) → Around → Type 0
   LoopComes None None = Unit {0}
-  LoopComes (Some round) (Some loop) = Comes round loop.behind × Comes round loop.onward
+  LoopComes (Some round) (Some loop) = Comes round.left loop.behind × Comes round.turn loop.onward
   LoopComes l c = ⊥
 
-  leaves_loop : (l : Option sys.State) (c : Around) (s : sys.State) → GrantsLoop sys l s → LoopComes l c → Comes s (f.behind c) × Comes s (f.onward c)
+  leaves_loop : (l : Option (StateLoop sys)) (c : Around) (s : sys.State) → GrantsLeft sys l s → LoopComes l c → Comes s (f.behind c)
   leaves_loop None c s g ls = absurd g
   leaves_loop (Some round) None s g ls = absurd ls
-  leaves_loop (Some round) (Some loop) s g ls = (comes_as s round loop.behind g ls.0, comes_as s round loop.onward g ls.1)
+  leaves_loop (Some round) (Some loop) s g ls = comes_as s round.left loop.behind g ls.0
+
+  turns_again : (l : Option (StateLoop sys)) (c : Around) (s : sys.State) → GrantsTurn sys l s → LoopComes l c → Comes s (f.onward c)
+  turns_again None c s g ls = absurd g
+  turns_again (Some round) None s g ls = absurd ls
+  turns_again (Some round) (Some loop) s g ls = comes_as s round.turn loop.onward g ls.1
 
   -- code that begins with an operation does so in its state
-  first_comes : (code : Code ℕ) (near : Bool) (c : Around) (l : Option sys.State) (s e : sys.State) (i k : ℕ) → is_first code ≡ true
+  first_comes : (code : Code ℕ) (near : Bool) (c : Around) (l : Option (StateLoop sys)) (s e : sys.State) (i k : ℕ) → is_first code ≡ true
       → (t : Judged sys l s code e) → Has core i (flat entry near c i k code) → Noted state i (marks sys near l s code e t) → Comes s i
   first_comes (perform n op rest) near c l s e i k is t h m = at_index s i h.0.0 m.0 h.0.1
   first_comes (choose n op x y rest) near c l s e i k is t h m = at_index s i h.0.0 m.0 h.0.1
@@ -101,7 +106,7 @@ module _ (core : List CoreOp) (entry : ℕ → ℕ) (place_of : ℕ → Function
   first_comes (continue rest) near c l s e i k is t h m = absurd (cc)
 
   -- so does a step, which may be empty
-  start_comes : (code : Code ℕ) (c : Around) (l : Option sys.State) (s : sys.State) (i k : ℕ) → is_start code ≡ true
+  start_comes : (code : Code ℕ) (c : Around) (l : Option (StateLoop sys)) (s : sys.State) (i k : ℕ) → is_start code ≡ true
       → (t : Judged sys l s code s) → Has core i (flat entry false c i k code) → Noted state i (marks sys false l s code s t)
       → Comes s k → Comes s (if begins_here false code then i else k)
   start_comes (perform n op rest) c l s i k is t h m g = at_index s i h.0.0 m.0 h.0.1
@@ -119,7 +124,7 @@ module _ (core : List CoreOp) (entry : ℕ → ℕ) (place_of : ℕ → Function
 
   module _ (has_body : ℕ → Bool) where
     -- code begins where its state is granted
-    pub begins : (code : Code ℕ) (near : Bool) (c : Around) (l : Option sys.State) (s e : sys.State) (i k : ℕ) → IsShaped has_body (is_some c) code
+    pub begins : (code : Code ℕ) (near : Bool) (c : Around) (l : Option (StateLoop sys)) (s e : sys.State) (i k : ℕ) → IsShaped has_body (is_some c) code
         → (t : Judged sys l s code e) → Has core i (flat entry near c i k code) → Noted state i (marks sys near l s code e t)
         → (is_closed code ≡ false → Comes e k) → LoopComes l c → Comes s (label c i k code)
     begins done near c l s e i k p t h m end ls = comes_as s e k t (end refl)
@@ -128,36 +133,38 @@ module _ (core : List CoreOp) (entry : ℕ → ℕ) (place_of : ℕ → Function
     begins (while test body step rest) near c l s e i k p t h m end ls =
         let q = turns_at entry test body step rest near c i k in
         let has = has_turns entry core test body step rest near c i k h in
-        let b = t.0 in
-        let ts = marks sys q.enters (Some b) b test b t.2 in
-        let bs = marks sys q.steps (Some b) b body b t.3 in
-        let ss = marks sys false (Some b) b step b t.4 in
-        let rs = marks sys near l b rest e t.5 in
+        let round = t.0 in
+        let b = round.turn in
+        let ts = marks sys q.enters (Some round) b test b t.2 in
+        let bs = marks sys q.steps (Some round) b body b t.3 in
+        let ss = marks sys false (Some round) b step b t.4 in
+        let rs = marks sys near l round.left rest e t.5 in
         let mt = noted_front state i ts bs (noted_front state i (ts ++ bs) ss (noted_front state i ((ts ++ bs) ++ ss) rs m)) in
-        comes_as s b i t.1 (first_comes test q.enters (Some q.loop) (Some b) b b i q.enter p.0 t.2 has.test mt)
+        comes_as s b i t.1 (first_comes test q.enters (Some q.loop) (Some round) b b i q.enter p.0 t.2 has.test mt)
     begins (until body test rest) near c l s e i k p t h m end ls =
         let q = rounds_at entry body test rest near c i k in
         let has = has_rounds entry core body test rest near c i k h in
-        let b = t.0 in
-        let bs = marks sys true (Some b) b body b t.2 in
-        let ts = marks sys false (Some b) b test b t.3 in
-        let rs = marks sys near l b rest e t.4 in
-        let lb = mark_length sys true (Some b) b body b t.2 in
-        let lt = mark_length sys false (Some b) b test b t.3 in
+        let round = t.0 in
+        let b = round.turn in
+        let bs = marks sys true (Some round) b body b t.2 in
+        let ts = marks sys false (Some round) b test b t.3 in
+        let rs = marks sys near l round.left rest e t.4 in
+        let lb = mark_length sys true (Some round) b body b t.2 in
+        let lt = mark_length sys false (Some round) b test b t.3 in
         let e1 = length-append bs ts in
         let whole = noted_front state i (bs ++ ts) rs m in
         let mb = noted_front state i bs ts whole in
         let mt = noted_back state i q.test bs ts (omega arith) whole in
         let mr = noted_back state i q.behind (bs ++ ts) rs (omega arith) m in
-        let gt = first_comes test false (Some q.loop) (Some b) b b q.test q.enter p.0 t.3 has.test mt in
-        let gr = begins rest near c l b e q.behind k p.3 t.4 has.others mr end ls in
+        let gt = first_comes test false (Some q.loop) (Some round) b b q.test q.enter p.0 t.3 has.test mt in
+        let gr = begins rest near c l round.left e q.behind k p.3 t.4 has.others mr end ls in
         comes_as s b (label c i k (until body test rest)) t.1
-        (begins body true (Some q.loop) (Some b) b b i q.test p.1 t.2 has.body mb (λ z. gt) (gr, gt))
+        (begins body true (Some q.loop) (Some round) b b i q.test p.1 t.2 has.body mb (λ z. gt) (gr, gt))
     begins (turn test body step rest) near c l s e i k p t h m end ls = absurd t
     begins (again test body step rest) near c l s e i k p t h m end ls = absurd t
     begins (quit n op rest) near c l s e i k p t h m end ls = at_index s i h.0.0 m.0 h.0.1
-    begins (break rest) near c l s e i k p t h m end ls = (leaves_loop l c s t.0 ls).0
-    begins (continue rest) near c l s e i k p t h m end ls = (leaves_loop l c s t.0 ls).1
+    begins (break rest) near c l s e i k p t h m end ls = leaves_loop l c s t.0 ls
+    begins (continue rest) near c l s e i k p t h m end ls = turns_again l c s t.0 ls
     begins (call n op f opening rest) near c l s e i k p t h m end ls = at_index s i h.0.0 m.0 h.0.1
     begins (ends n op rest) near c l s e i k p t h m end ls = at_index s i h.0.0 m.0 h.0.1
 
@@ -172,25 +179,25 @@ module _ (core : List CoreOp) (entry : ℕ → ℕ) (place_of : ℕ → Function
       pub sound_done : (code : Code ℕ) (near : Bool) (c : Around) (j i k : ℕ) → is_done code ≡ true → Sound j (flat entry near c i k code)
       sound_done code near c j i k e = by_done (λ x. Sound j (flat entry near c i k x)) code e tt
 
-      done_comes : (code : Code ℕ) (l : Option sys.State) (s e : sys.State) (k : ℕ) → is_done code ≡ true → Judged sys l s code e
+      done_comes : (code : Code ℕ) (l : Option (StateLoop sys)) (s e : sys.State) (k : ℕ) → is_done code ≡ true → Judged sys l s code e
           → (is_closed code ≡ false → Comes e k) → Comes s k
       done_comes code l s e k d =
           by_done (λ x. Judged sys l s x e → (is_closed x ≡ false → Comes e k) → Comes s k) code d (λ t end. comes_as s e k t (end refl))
 
       -- code that is written somewhere, from a state to another, is sound
-      abbrev Written : (code : Code ℕ) (near : Bool) (c : Around) (l : Option sys.State) (s e : sys.State) → Judged sys l s code e → (r k : ℕ) → Type 0
+      abbrev Written : (code : Code ℕ) (near : Bool) (c : Around) (l : Option (StateLoop sys)) (s e : sys.State) → Judged sys l s code e → (r k : ℕ) → Type 0
       Written code near c l s e t r k =
           Has core r (flat entry near c r k code) → Noted state r (marks sys near l s code e t)
           → Tall (sys.height s) code → (near ≡ true → k ≡ r + extent near code) → Sound r (flat entry near c r k code)
 
       -- so is a part of a loop, wherever that is
-      abbrev WrittenInLoop : (code : Code ℕ) (round : sys.State) → Judged sys (Some round) round code round → Type 0
+      abbrev WrittenInLoop : (code : Code ℕ) (round : StateLoop sys) → Judged sys (Some round) round.turn code round.turn → Type 0
       WrittenInLoop code round t =
-          (near : Bool) (loop : Loop) (r k : ℕ) → Comes round k → LoopComes (Some round) (Some loop)
-          → Written code near (Some loop) (Some round) round round t r k
+          (near : Bool) (loop : Loop) (r k : ℕ) → Comes round.turn k → LoopComes (Some round) (Some loop)
+          → Written code near (Some loop) (Some round) round.turn round.turn t r k
 
       -- what follows an operation that falls into it
-      followed : (here : Bool) (rest : Code ℕ) (near : Bool) (c : Around) (l : Option sys.State) (s e : sys.State) (j k : ℕ)
+      followed : (here : Bool) (rest : Code ℕ) (near : Bool) (c : Around) (l : Option (StateLoop sys)) (s e : sys.State) (j k : ℕ)
           → here ≡ begins_here near rest → IsShaped has_body (is_some c) rest → (t : Judged sys l s rest e)
           → Has core j (skip here (label c (j + gap here) k rest)) → Has core (j + gap here) (flat entry near c (j + gap here) k rest)
           → Noted state j (skip_mark here s) → Noted state (j + gap here) (marks sys near l s rest e t)
@@ -203,7 +210,7 @@ module _ (core : List CoreOp) (entry : ℕ → ℕ) (place_of : ℕ → Function
             sound_skip here j (label c r k rest) s ms b,
           )
 
-      follows : (here : Bool) (rest : Code ℕ) (near : Bool) (c : Around) (l : Option sys.State) (s e : sys.State) (j k : ℕ)
+      follows : (here : Bool) (rest : Code ℕ) (near : Bool) (c : Around) (l : Option (StateLoop sys)) (s e : sys.State) (j k : ℕ)
           → here ≡ begins_here near rest → IsShaped has_body (is_some c) rest → (t : Judged sys l s rest e)
           → Has core j (skip here (label c (j + gap here) k rest) ++ flat entry near c (j + gap here) k rest)
           → Noted state j (skip_mark here s ++ marks sys near l s rest e t)
@@ -232,7 +239,7 @@ module _ (core : List CoreOp) (entry : ℕ → ℕ) (place_of : ℕ → Function
       abbrev by_way : (way : Way) (op : Operation) (s : sys.State) (i target : ℕ) → way_of op ≡ way → Goes way op s i target → Goes (way_of op) op s i target
       by_way way op s i target e g = subst (λ w. Goes w op s i target) (sym e) g
 
-      performed : (n : ℕ) (op : Operation) (rest : Code ℕ) (near : Bool) (c : Around) (l : Option sys.State) (s e : sys.State) (i k : ℕ)
+      performed : (n : ℕ) (op : Operation) (rest : Code ℕ) (near : Bool) (c : Around) (l : Option (StateLoop sys)) (s e : sys.State) (i k : ℕ)
           → (way_of op ≡ w.straight) ⊎ ((way_of op ≡ w.onto) × (is_done rest ≡ true)) → IsShaped has_body (is_some c) rest
           → (t : Judged sys l s (perform n op rest) e) → (is_closed rest ≡ false → Comes e k) → LoopComes l c
           → ((r : ℕ) → Written rest near c l (sys.behind op true s) e t.1 r k)
@@ -259,7 +266,7 @@ module _ (core : List CoreOp) (entry : ℕ → ℕ) (place_of : ℕ → Function
           let a = aim (way_of op) k in
           (stated s i n op a m.0 (record { may = t.0; height = λ z. (hh z).0; goes = by_way w.straight op s i a o f.0 }), f.1)
 
-      chosen : (n : ℕ) (op : Operation) (x y rest : Code ℕ) (near : Bool) (c : Around) (l : Option sys.State) (s e : sys.State) (i k : ℕ)
+      chosen : (n : ℕ) (op : Operation) (x y rest : Code ℕ) (near : Bool) (c : Around) (l : Option (StateLoop sys)) (s e : sys.State) (i k : ℕ)
           → way_of op ≡ w.either → IsShaped has_body (is_some c) x → IsShaped has_body (is_some c) y → IsShaped has_body (is_some c) rest
           → (t : Judged sys l s (choose n op x y rest) e) → (is_closed rest ≡ false → Comes e k) → LoopComes l c
           → ((near : Bool) (r k : ℕ) → Comes t.1 k → Written x near c l (sys.behind op true s) t.1 t.2 r k)
@@ -309,24 +316,25 @@ module _ (core : List CoreOp) (entry : ℕ → ℕ) (place_of : ℕ → Function
                 (sound_both (suc i) q.second (q.jumps ++ q.firsts) q.seconds (omega arith) fx.1 sy) sr,
           )
 
-      whiled : (test body step rest : Code ℕ) (near : Bool) (c : Around) (l : Option sys.State) (s e : sys.State) (i k : ℕ)
+      whiled : (test body step rest : Code ℕ) (near : Bool) (c : Around) (l : Option (StateLoop sys)) (s e : sys.State) (i k : ℕ)
           → (p : IsShaped has_body (is_some c) (while test body step rest))
           → (t : Judged sys l s (while test body step rest) e) → (is_closed rest ≡ false → Comes e k) → LoopComes l c
           → WrittenInLoop test t.0 t.2 → WrittenInLoop body t.0 t.3 → WrittenInLoop step t.0 t.4
-          → ((r : ℕ) → Written rest near c l t.0 e t.5 r k)
+          → ((r : ℕ) → Written rest near c l t.0.left e t.5 r k)
           → Written (while test body step rest) near c l s e t i k
       whiled test body step rest near c l s e i k p t end ls more_t more_b more_s more h m hh is =
           let q = turns_at entry test body step rest near c i k in
           let has = has_turns entry core test body step rest near c i k h in
-          let b = t.0 in
+          let round = t.0 in
+          let b = round.turn in
           let lp : Around = Some q.loop in
-          let ts = marks sys q.enters (Some b) b test b t.2 in
-          let bs = marks sys q.steps (Some b) b body b t.3 in
-          let ss = marks sys false (Some b) b step b t.4 in
-          let rs = marks sys near l b rest e t.5 in
-          let lt = mark_length sys q.enters (Some b) b test b t.2 in
-          let lb = mark_length sys q.steps (Some b) b body b t.3 in
-          let ls' = mark_length sys false (Some b) b step b t.4 in
+          let ts = marks sys q.enters (Some round) b test b t.2 in
+          let bs = marks sys q.steps (Some round) b body b t.3 in
+          let ss = marks sys false (Some round) b step b t.4 in
+          let rs = marks sys near l round.left rest e t.5 in
+          let lt = mark_length sys q.enters (Some round) b test b t.2 in
+          let lb = mark_length sys q.steps (Some round) b body b t.3 in
+          let ls' = mark_length sys false (Some round) b step b t.4 in
           let e1 = length-append ts bs in
           let e2 = length-append (ts ++ bs) ss in
           let whole = noted_front state i ((ts ++ bs) ++ ss) rs m in
@@ -344,19 +352,19 @@ module _ (core : List CoreOp) (entry : ℕ → ℕ) (place_of : ℕ → Function
           let end_b : q.steps ≡ true → q.loop.onward ≡ q.body + extent q.steps body = λ z. ap (λ (x : Bool). if x then q.step else i) z in
           let end_t : q.enters ≡ true → q.enter ≡ i + extent q.enters test = λ z. begins_at body q.steps lp q.body q.loop.onward z end_b in
           let end_s : false ≡ true → i ≡ q.step + extent false step = λ z. absurd (true≢false (sym z)) in
-          let gi = first_comes test q.enters lp (Some b) b b i q.enter p.0 t.2 has.test mt in
-          let go = start_comes step lp (Some b) b q.step i p.1 t.4 has.step ms gi in
-          let gr = begins rest near c l b e q.behind k p.5 t.5 has.others mr end ls in
-          let gl : LoopComes (Some b) lp = (gr, go) in
-          let ge = begins body q.steps lp (Some b) b b q.body q.loop.onward p.3 t.3 has.body mb (λ z. go) gl in
+          let gi = first_comes test q.enters lp (Some round) b b i q.enter p.0 t.2 has.test mt in
+          let go = start_comes step lp (Some round) b q.step i p.1 t.4 has.step ms gi in
+          let gr = begins rest near c l round.left e q.behind k p.5 t.5 has.others mr end ls in
+          let gl : LoopComes (Some round) lp = (gr, go) in
+          let ge = begins body q.steps lp (Some round) b b q.body q.loop.onward p.3 t.3 has.body mb (λ z. go) gl in
           let u0 : sys.height s ≡ sys.height b = lawful.level s b t.1 in
-          let u1 : height place_of (sys.height s) test ≡ sys.height b = ap (λ h. height place_of h test) u0 ∙ stands_at sys place_of lawful test (Some b) b b t.2 in
-          let u2 : height place_of (height place_of (sys.height s) test) body ≡ sys.height b = ap (λ h. height place_of h body) u1 ∙ stands_at sys place_of lawful body (Some b) b b t.3 in
-          let u3 : height place_of (height place_of (height place_of (sys.height s) test) body) step ≡ sys.height b = ap (λ h. height place_of h step) u2 ∙ stands_at sys place_of lawful step (Some b) b b t.4 in
+          let u1 : height place_of (sys.height s) test ≡ sys.height b = ap (λ h. height place_of h test) u0 ∙ stands_at sys place_of lawful test (Some round) b b t.2 in
+          let u2 : height place_of (height place_of (sys.height s) test) body ≡ sys.height b = ap (λ h. height place_of h body) u1 ∙ stands_at sys place_of lawful body (Some round) b b t.3 in
+          let u3 : height place_of (height place_of (height place_of (sys.height s) test) body) step ≡ sys.height b = ap (λ h. height place_of h step) u2 ∙ stands_at sys place_of lawful step (Some round) b b t.4 in
           let tt' = tall test (sys.height s) (sys.height b) u0 (λ z. (hh z).0) in
           let tb = tall body (height place_of (sys.height s) test) (sys.height b) u1 (λ z. (hh z).1) in
           let ts' = tall step (height place_of (height place_of (sys.height s) test) body) (sys.height b) u2 (λ z. (hh z).2) in
-          let tr = tall rest (height place_of (height place_of (height place_of (sys.height s) test) body) step) (sys.height b) u3 (λ z. (hh z).3) in
+          let tr = tall rest (height place_of (height place_of (height place_of (sys.height s) test) body) step) (sys.height round.left) (u3 ∙ sym round.even) (λ z. (hh z).3) in
           sound_both i q.behind (q.tests ++ q.bodies ++ q.lasts) q.others (omega arith)
           (sound_both i q.step (q.tests ++ q.bodies) q.lasts (omega arith)
           (sound_both i q.body q.tests q.bodies (omega arith)
@@ -365,22 +373,23 @@ module _ (core : List CoreOp) (entry : ℕ → ℕ) (place_of : ℕ → Function
           (more_s false q.loop q.step i gi gl has.step ms ts' end_s))
           (more q.behind has.others mr tr end_r)
 
-      untiled : (body test rest : Code ℕ) (near : Bool) (c : Around) (l : Option sys.State) (s e : sys.State) (i k : ℕ)
+      untiled : (body test rest : Code ℕ) (near : Bool) (c : Around) (l : Option (StateLoop sys)) (s e : sys.State) (i k : ℕ)
           → (p : IsShaped has_body (is_some c) (until body test rest))
           → (t : Judged sys l s (until body test rest) e) → (is_closed rest ≡ false → Comes e k) → LoopComes l c
           → WrittenInLoop body t.0 t.2 → WrittenInLoop test t.0 t.3
-          → ((r : ℕ) → Written rest near c l t.0 e t.4 r k)
+          → ((r : ℕ) → Written rest near c l t.0.left e t.4 r k)
           → Written (until body test rest) near c l s e t i k
       untiled body test rest near c l s e i k p t end ls more_b more_t more h m hh is =
           let q = rounds_at entry body test rest near c i k in
           let has = has_rounds entry core body test rest near c i k h in
-          let b = t.0 in
+          let round = t.0 in
+          let b = round.turn in
           let lp : Around = Some q.loop in
-          let bs = marks sys true (Some b) b body b t.2 in
-          let ts = marks sys false (Some b) b test b t.3 in
-          let rs = marks sys near l b rest e t.4 in
-          let lb = mark_length sys true (Some b) b body b t.2 in
-          let lt = mark_length sys false (Some b) b test b t.3 in
+          let bs = marks sys true (Some round) b body b t.2 in
+          let ts = marks sys false (Some round) b test b t.3 in
+          let rs = marks sys near l round.left rest e t.4 in
+          let lb = mark_length sys true (Some round) b body b t.2 in
+          let lt = mark_length sys false (Some round) b test b t.3 in
           let e1 = length-append bs ts in
           let whole = noted_front state i (bs ++ ts) rs m in
           let mb = noted_front state i bs ts whole in
@@ -392,23 +401,23 @@ module _ (core : List CoreOp) (entry : ℕ → ℕ) (place_of : ℕ → Function
           let end_r : near ≡ true → k ≡ q.behind + extent near rest = λ z. (let f = is z in omega arith) in
           let end_b : true ≡ true → q.test ≡ i + extent true body = λ z. refl in
           let end_t : false ≡ true → q.enter ≡ q.test + extent false test = λ z. absurd (true≢false (sym z)) in
-          let gt = first_comes test false lp (Some b) b b q.test q.enter p.0 t.3 has.test mt in
-          let gr = begins rest near c l b e q.behind k p.3 t.4 has.others mr end ls in
-          let gl : LoopComes (Some b) lp = (gr, gt) in
-          let ge = begins body true lp (Some b) b b i q.test p.1 t.2 has.body mb (λ z. gt) gl in
+          let gt = first_comes test false lp (Some round) b b q.test q.enter p.0 t.3 has.test mt in
+          let gr = begins rest near c l round.left e q.behind k p.3 t.4 has.others mr end ls in
+          let gl : LoopComes (Some round) lp = (gr, gt) in
+          let ge = begins body true lp (Some round) b b i q.test p.1 t.2 has.body mb (λ z. gt) gl in
           let u0 : sys.height s ≡ sys.height b = lawful.level s b t.1 in
-          let u1 : height place_of (sys.height s) body ≡ sys.height b = ap (λ h. height place_of h body) u0 ∙ stands_at sys place_of lawful body (Some b) b b t.2 in
-          let u2 : height place_of (height place_of (sys.height s) body) test ≡ sys.height b = ap (λ h. height place_of h test) u1 ∙ stands_at sys place_of lawful test (Some b) b b t.3 in
+          let u1 : height place_of (sys.height s) body ≡ sys.height b = ap (λ h. height place_of h body) u0 ∙ stands_at sys place_of lawful body (Some round) b b t.2 in
+          let u2 : height place_of (height place_of (sys.height s) body) test ≡ sys.height b = ap (λ h. height place_of h test) u1 ∙ stands_at sys place_of lawful test (Some round) b b t.3 in
           let tb = tall body (sys.height s) (sys.height b) u0 (λ z. (hh z).0) in
           let tt' = tall test (height place_of (sys.height s) body) (sys.height b) u1 (λ z. (hh z).1) in
-          let tr = tall rest (height place_of (height place_of (sys.height s) body) test) (sys.height b) u2 (λ z. (hh z).2) in
+          let tr = tall rest (height place_of (height place_of (sys.height s) body) test) (sys.height round.left) (u2 ∙ sym round.even) (λ z. (hh z).2) in
           sound_both i q.behind (q.bodies ++ q.tests) q.others (omega arith)
           (sound_both i q.test q.bodies q.tests (omega arith)
           (more_b true q.loop i q.test gt gl has.body mb tb end_b)
           (more_t false q.loop q.test q.enter ge gl has.test mt tt' end_t))
           (more q.behind has.others mr tr end_r)
 
-      quits : (n : ℕ) (op : Operation) (rest : Code ℕ) (near : Bool) (c : Around) (l : Option sys.State) (s e : sys.State) (i k : ℕ)
+      quits : (n : ℕ) (op : Operation) (rest : Code ℕ) (near : Bool) (c : Around) (l : Option (StateLoop sys)) (s e : sys.State) (i k : ℕ)
           → way_of op ≡ w.either → IsShaped has_body (is_some c) rest
           → (t : Judged sys l s (quit n op rest) e) → (is_closed rest ≡ false → Comes e k) → LoopComes l c
           → ((r : ℕ) → Written rest near c l (sys.behind op true s) e t.2 r k)
@@ -422,9 +431,9 @@ module _ (core : List CoreOp) (entry : ℕ → ℕ) (place_of : ℕ → Function
           let f' = follows here rest near c l b e (suc i) k refl p t.2 h.1 m.1 at end ls (λ hr mr. more r hr mr tail at) in
           let out = leaves_loop l c (sys.behind op false s) t.1 ls in
           let a = f.behind c in
-          (stated s i n op a m.0 (record { may = t.0; height = λ z. (hh z).0; goes = by_way w.either op s i a o (f'.0, out.0) }), f'.1)
+          (stated s i n op a m.0 (record { may = t.0; height = λ z. (hh z).0; goes = by_way w.either op s i a o (f'.0, out) }), f'.1)
 
-      calls : (n : ℕ) (op : Operation) (f' : ℕ) (opening rest : Code ℕ) (near : Bool) (c : Around) (l : Option sys.State) (s e : sys.State) (i k : ℕ)
+      calls : (n : ℕ) (op : Operation) (f' : ℕ) (opening rest : Code ℕ) (near : Bool) (c : Around) (l : Option (StateLoop sys)) (s e : sys.State) (i k : ℕ)
           → (p : IsShaped has_body (is_some c) (call n op f' opening rest))
           → (t : Judged sys l s (call n op f' opening rest) e) → (is_closed rest ≡ false → Comes e k) → LoopComes l c
           → ((r k : ℕ) → Comes (sys.entered op f' t.1) k → Written opening true None None (sys.begin op f' t.1) (sys.entered op f' t.1) t.3 r k)
@@ -477,7 +486,7 @@ module _ (core : List CoreOp) (entry : ℕ → ℕ) (place_of : ℕ → Function
       ended rest near c e i k true d end more = sound_done rest near c i i k d
       ended rest near c e i k false d end more = more (λ z. end (ap (λ x. x || is_closed rest) d ∙ z))
 
-      pub sound : (code : Code ℕ) (near : Bool) (c : Around) (l : Option sys.State) (s e : sys.State) (i k : ℕ) → IsShaped has_body (is_some c) code
+      pub sound : (code : Code ℕ) (near : Bool) (c : Around) (l : Option (StateLoop sys)) (s e : sys.State) (i k : ℕ) → IsShaped has_body (is_some c) code
           → (t : Judged sys l s code e) → (is_closed code ≡ false → Comes e k) → LoopComes l c → Written code near c l s e t i k
       sound done near c l s e i k p t end ls h m hh is = tt
       sound (perform n op rest) near c l s e i k p t end ls h m hh is =
@@ -490,16 +499,16 @@ module _ (core : List CoreOp) (entry : ℕ → ℕ) (place_of : ℕ → Function
       sound (while test body step rest) near c l s e i k p t end ls h m hh is =
           let a = Some t.0 in
           whiled test body step rest near c l s e i k p t end ls
-          (λ near loop r k g gl. sound test near (Some loop) a t.0 t.0 r k p.2 t.2 (λ z. g) gl)
-          (λ near loop r k g gl. sound body near (Some loop) a t.0 t.0 r k p.3 t.3 (λ z. g) gl)
-          (λ near loop r k g gl. sound step near (Some loop) a t.0 t.0 r k p.4 t.4 (λ z. g) gl)
-          (λ r. sound rest near c l t.0 e r k p.5 t.5 end ls) h m hh is
+          (λ near loop r k g gl. sound test near (Some loop) a t.0.turn t.0.turn r k p.2 t.2 (λ z. g) gl)
+          (λ near loop r k g gl. sound body near (Some loop) a t.0.turn t.0.turn r k p.3 t.3 (λ z. g) gl)
+          (λ near loop r k g gl. sound step near (Some loop) a t.0.turn t.0.turn r k p.4 t.4 (λ z. g) gl)
+          (λ r. sound rest near c l t.0.left e r k p.5 t.5 end ls) h m hh is
       sound (until body test rest) near c l s e i k p t end ls h m hh is =
           let a = Some t.0 in
           untiled body test rest near c l s e i k p t end ls
-          (λ near loop r k g gl. sound body near (Some loop) a t.0 t.0 r k p.1 t.2 (λ z. g) gl)
-          (λ near loop r k g gl. sound test near (Some loop) a t.0 t.0 r k p.2 t.3 (λ z. g) gl)
-          (λ r. sound rest near c l t.0 e r k p.3 t.4 end ls) h m hh is
+          (λ near loop r k g gl. sound body near (Some loop) a t.0.turn t.0.turn r k p.1 t.2 (λ z. g) gl)
+          (λ near loop r k g gl. sound test near (Some loop) a t.0.turn t.0.turn r k p.2 t.3 (λ z. g) gl)
+          (λ r. sound rest near c l t.0.left e r k p.3 t.4 end ls) h m hh is
       sound (turn test body step rest) near c l s e i k p t end ls h m hh is = absurd t
       sound (again test body step rest) near c l s e i k p t end ls h m hh is = absurd t
       sound (quit n op rest) near c l s e i k p t end ls h m hh is =

@@ -1,8 +1,9 @@
 -- What is known along code, whatever it is: states, and how operations and calls change them.
-use Rattle.std.proofs.Common.{◌≡◌, ℕ, ◌+◌, ◌-◌, Bool, true, false, Option, None, Some}
+use Rattle.std.proofs.Common.{◌≡◌, ◌⊎◌, ℕ, ◌+◌, ◌-◌, Bool, true, false, Option, None, Some}
 use Rattle.fk_meaning_operation.specs.declared.operation.Operation.{Operation}
 use Rattle.fk_layout_sizes.specs.Operations.{takes}
 use Rattle.fk_meaning_forms.specs.Code.{Code, done, perform, choose, while, until, quit, break, continue, call, ends}
+use Rattle.fk_core_flat.specs.Shape.{is_done}
 use Rattle.fk_core_liveness.specs.declared.places.FunctionKind.{FunctionKind}
 use Rattle.fk_core_typing.specs.Heights.{raised, results_of}
 
@@ -10,6 +11,8 @@ pub record System : Type 1 where
   pub State : Type 0
   -- what is asked in a state is so in another
   pub Grants : State → State → Type 0
+  -- who is in a state stands where another one does
+  pub Stands : State → State → Type 0
   -- an operation may be done, or ends its function
   pub May : Operation → State → Type 0
   pub Ends : Operation → State → Type 0
@@ -25,27 +28,38 @@ pub record System : Type 1 where
   pub height : State → ℕ
 
 module _ (y : System) where
-  abbrev pub GrantsLoop : Option y.State → y.State → Type 0
-  GrantsLoop None s = ⊥
-  GrantsLoop (Some round) s = y.Grants s round
+  -- a loop: where its turns begin, and where it is left
+  pub record Loop : Type 0 where
+    pub turn : y.State
+    pub left : y.State
+    pub even : y.height left ≡ y.height turn
+
+  abbrev pub GrantsTurn : Option Loop → y.State → Type 0
+  GrantsTurn None s = ⊥
+  GrantsTurn (Some loop) s = y.Grants s loop.turn
+
+  abbrev pub GrantsLeft : Option Loop → y.State → Type 0
+  GrantsLeft None s = ⊥
+  GrantsLeft (Some loop) s = y.Grants s loop.left
 
   -- code that is as such states ask it: `Typed` is so, with what is known of values
-  abbrev pub Judged : Option y.State → y.State → Code ℕ → y.State → Type 0
+  abbrev pub Judged : Option Loop → y.State → Code ℕ → y.State → Type 0
   Judged l s done e = y.Grants s e
   Judged l s (perform n op rest) e = y.May op s × Judged l (y.behind op true s) rest e
   Judged l s (choose n op x z rest) e =
       y.May op s × (together : y.State)
-      × Judged l (y.behind op true s) x together × Judged l (y.behind op false s) z together × Judged l together rest e
+      × Judged l (y.behind op true s) x together × Judged l (y.behind op false s) z together × Judged l together rest e × y.Stands together s
   Judged l s (while test body step rest) e =
-      (round : y.State) × y.Grants s round
-      × Judged (Some round) round test round × Judged (Some round) round body round × Judged (Some round) round step round
-      × Judged l round rest e
+      (loop : Loop) × y.Grants s loop.turn
+      × Judged (Some loop) loop.turn test loop.turn × Judged (Some loop) loop.turn body loop.turn × Judged (Some loop) loop.turn step loop.turn
+      × Judged l loop.left rest e × (y.Stands loop.left loop.turn ⊎ (is_done rest ≡ true))
   Judged l s (until body test rest) e =
-      (round : y.State) × y.Grants s round
-      × Judged (Some round) round body round × Judged (Some round) round test round × Judged l round rest e
-  Judged l s (quit n op rest) e = y.May op s × GrantsLoop l (y.behind op false s) × Judged l (y.behind op true s) rest e
-  Judged l s (break rest) e = GrantsLoop l s × Judged l s rest e
-  Judged l s (continue rest) e = GrantsLoop l s × Judged l s rest e
+      (loop : Loop) × y.Grants s loop.turn
+      × Judged (Some loop) loop.turn body loop.turn × Judged (Some loop) loop.turn test loop.turn
+      × Judged l loop.left rest e × (y.Stands loop.left loop.turn ⊎ (is_done rest ≡ true))
+  Judged l s (quit n op rest) e = y.May op s × GrantsLeft l (y.behind op false s) × Judged l (y.behind op true s) rest e
+  Judged l s (break rest) e = GrantsLeft l s × Judged l s rest e
+  Judged l s (continue rest) e = GrantsTurn l s × Judged l s rest e
   Judged l s (call n op f opening rest) e =
       y.May op s × (gives : Bool) × y.Calls op f gives opening
       × Judged None (y.begin op f gives) opening (y.entered op f gives) × Judged l (y.behind_call op gives s) rest e

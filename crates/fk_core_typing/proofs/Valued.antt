@@ -15,7 +15,7 @@ use Rattle.fk_core_typing.specs.Typed as t
 use Rattle.fk_core_typing.specs.Typed.{EndsIn, Typed}
 use Rattle.fk_core_typing.specs.Laws.{IsTypedList}
 use Rattle.fk_core_typing.proofs.Granting.{as_long, grants_itself, grants_both}
-use Rattle.fk_core_typing.proofs.System.{System, GrantsLoop, Judged, IsLawful}
+use Rattle.fk_core_typing.proofs.System.{System, Loop, GrantsTurn, GrantsLeft, Judged, IsLawful}
 use Rattle.fk_core_typing.proofs.Rising.{rises, called_rises}
 use Rattle.fk_core_typing.proofs.Listed.{state}
 
@@ -34,6 +34,7 @@ module _ (place_of : ℕ → FunctionKind) (frame_of : ℕ → Option ℕ) where
   values = record {
     State = State;
     Grants = Grants;
+    Stands = λ s t. s.place ≡ t.place;
     May = May;
     Ends = λ op s. EndsIn op s.place;
     behind = behind;
@@ -58,25 +59,44 @@ module _ (place_of : ℕ → FunctionKind) (frame_of : ℕ → Option ℕ) where
     none = λ f. refl;
   }
 
-  looped : (l : Option State) (s : State) → t.GrantsLoop l s → GrantsLoop values l s
-  looped None s g = absurd g
-  looped (Some round) s g = g
+  abbrev loop_of : Option t.Loop → Option (Loop values)
+  loop_of None = None
+  loop_of (Some loop) = Some (record { turn = loop.turn; left = loop.left; even = loop.even })
 
-  pub judged : (code : Code ℕ) (l : Option State) (s e : State) → Typed place_of frame_of l s code e → Judged values l s code e
+  leaves : (l : Option t.Loop) (s : State) → t.GrantsLeft l s → GrantsLeft values (loop_of l) s
+  leaves None s g = absurd g
+  leaves (Some loop) s g = g
+
+  turns : (l : Option t.Loop) (s : State) → t.GrantsTurn l s → GrantsTurn values (loop_of l) s
+  turns None s g = absurd g
+  turns (Some loop) s g = g
+
+  pub judged : (code : Code ℕ) (l : Option t.Loop) (s e : State) → Typed place_of frame_of l s code e → Judged values (loop_of l) s code e
   judged done l s e h = h
   judged (perform n op rest) l s e h = (h.0, judged rest l (behind op true s) e h.1)
   judged (choose n op x y rest) l s e h =
-      (h.0, h.1, judged x l (behind op true s) h.1 h.2, judged y l (behind op false s) h.1 h.3, judged rest l h.1 e h.4)
+      (h.0, h.1, judged x l (behind op true s) h.1 h.2, judged y l (behind op false s) h.1 h.3, judged rest l h.1 e h.4, h.5)
   judged (while test body step rest) l s e h =
-      let b = h.0 in
-      (b, h.1, judged test (Some b) b b h.2, judged body (Some b) b b h.3, judged step (Some b) b b h.4, judged rest l b e h.5)
+      let c = h.0 in
+      let b = c.turn in
+      (
+        record { turn = c.turn; left = c.left; even = c.even },
+        h.1,
+        judged test (Some c) b b h.2,
+        judged body (Some c) b b h.3,
+        judged step (Some c) b b h.4,
+        judged rest l c.left e h.5,
+        h.6,
+      )
   judged (until body test rest) l s e h =
-      let b = h.0 in (b, h.1, judged body (Some b) b b h.2, judged test (Some b) b b h.3, judged rest l b e h.4)
+      let c = h.0 in
+      let b = c.turn in
+      (record { turn = c.turn; left = c.left; even = c.even }, h.1, judged body (Some c) b b h.2, judged test (Some c) b b h.3, judged rest l c.left e h.4, h.5)
   judged (turn test body step rest) l s e h = absurd h
   judged (again test body step rest) l s e h = absurd h
-  judged (quit n op rest) l s e h = (h.0, looped l (behind op false s) h.1, judged rest l (behind op true s) e h.2)
-  judged (break rest) l s e h = (looped l s h.0, judged rest l s e h.1)
-  judged (continue rest) l s e h = (looped l s h.0, judged rest l s e h.1)
+  judged (quit n op rest) l s e h = (h.0, leaves l (behind op false s) h.1, judged rest l (behind op true s) e h.2)
+  judged (break rest) l s e h = (leaves l s h.0, judged rest l s e h.1)
+  judged (continue rest) l s e h = (turns l s h.0, judged rest l s e h.1)
   judged (call n op f opening rest) l s e h =
       (h.0, h.1, h.2, judged opening None (bare (entered (Called h.1))) (bare (with_frame (Called h.1) (frame_of f))) h.3, judged rest l (behind_call (takes op) h.1 s) e h.4)
   judged (ends n op rest) l s e h = (h.0, h.1, judged rest l (behind op true s) e h.2)

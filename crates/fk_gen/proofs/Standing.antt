@@ -1,6 +1,6 @@
 -- What a processor has in local memory stays there, but what is written.
 use Rattle.std.proofs.Common.{◌≡◌, ℕ, zero, suc, ◌+◌, ◌-◌, ◌*◌, ◌^◌, ◌<◌, ◌≤◌, List, [], ◌∷◌, length, Bool, true, false, sym, ap, subst, ◌∙◌, arith, refl, eq-eqb, inl, inr}
-use Rattle.std.specs.Prelude.{◌==◌, ◌⊎◌}
+use Rattle.std.specs.Prelude.{◌==◌, ◌||◌, ◌⊎◌}
 use Rattle.std.proofs.lemmas.Bool.{ne_eqb, eqb-true, eqb-false}
 use Rattle.std.specs.Int.{from_bool}
 use Rattle.fk_num.specs.Word.{Memory, put}
@@ -13,8 +13,8 @@ use Rattle.fk_core.specs.declared.op.CoreOp.{CoreOp}
 use Rattle.fk_core.specs.Next.{position}
 use Rattle.fk_machine.specs.Hart.{Hart}
 use Rattle.fk_sim_block.specs.Owner.{Owner}
-use Rattle.fk_sim_block.specs.Stands.{Places, HasValues, HasRoom, FrameInMemory, HasGroupFrame, HasWaiting, StandsFor, ahead, frame_end, frame_start, group_word, full_word, value_of}
-use Rattle.fk_sim_block.specs.Stands.{zero_register, frame_register, end_register, number_register, rank_register, size_register, top_register, local_register, shared_register, heap_register, shared_mask_register, device_register, heap_mask_register}
+use Rattle.fk_sim_block.specs.Stands.{Frames, Places, HasValues, HasRoom, FrameInMemory, HasWaiting, IsGroupFrame, TellsFrame, HasPartFrames, has_own, before_call, HaveGroupFrames, StandsFor, ahead, frame_end, frame_start, group_word, full_word, value_of}
+use Rattle.fk_sim_block.specs.Stands.{zero_register, frame_register, end_register, number_register, rank_register, size_register, top_register, local_register, shared_register, heap_register, shared_mask_register, device_register, heap_mask_register, group_frame_register}
 use Rattle.fk_sim_block.specs.Suits.{Flows, TakesFrame, nothing}
 use Rattle.fk_gen.proofs.Values.{same_word, other_word, values_kept}
 
@@ -51,25 +51,10 @@ lies_in places (suc n) at count few home room =
 
 -- ---- frames and waiting calls keep what no word of theirs is written to
 
--- the words of the header of `main` with addresses of group frames lie below all frames
-abbrev pub MainKeepsFrames : (m m' : Memory) → Type 0
-MainKeepsFrames m m' = (j : ℕ) → 3 ≤ j → j < 7 → m' j ≡ m j
-
--- the header's word with the address of a group frame
-pub group_kept : (places : Places) (m m' : Memory) (waiting number : ℕ) → number < 4 → places.frames.of_file ≤ 56 → MainKeepsFrames m m'
-    → ((j : ℕ) → places.frames.of_file + 7 ≤ j → j < 64 * waiting + 7 → m' j ≡ m j) → m' (group_word waiting number) ≡ m (group_word waiting number)
-group_kept places m m' zero number known few low same = low (group_word zero number) (omega arith) (omega arith)
-group_kept places m m' (suc n) number known few low same = same (group_word (suc n) number) (omega arith) (omega arith)
-
--- a group frame that the header of one call has the address of, that of another has
-pub frame_stays : (m m' : Memory) (waiting number first : ℕ) → (number < 4 → m' (group_word waiting number) ≡ m (group_word waiting number))
-    → HasGroupFrame m waiting number first → HasGroupFrame m' waiting number first
-frame_stays m m' waiting number first same has = record { few = has.few; within = has.within; address = same has.few ∙ has.address }
-
 pub frame_kept : (places : Places) (m m' : Memory) (waiting at count : ℕ) (call : Call) → places.frames.of_file ≤ 56 → HasRoom places.frames at count
-    → length call.values ≤ count → MainKeepsFrames m m' → ((j : ℕ) → places.frames.of_file + 7 ≤ j → j < frame_end waiting → m' j ≡ m j)
+    → length call.values ≤ count → ((j : ℕ) → places.frames.of_file + 7 ≤ j → j < frame_end waiting → m' j ≡ m j)
     → FrameInMemory places m waiting at call → FrameInMemory places m' waiting at call
-frame_kept places m m' waiting at count call few room within low same f =
+frame_kept places m m' waiting at count call few room within same f =
     let l = lies_in places waiting at count few f.home room in
     let start = l.start in
     let vs = l.values in
@@ -77,14 +62,12 @@ frame_kept places m m' waiting at count call few room within low same f =
       home = f.home;
       values = values_kept m m' waiting call.values (λ j le lt. same j (omega arith) lt) f.values;
       privates = λ i e. let k = l.kept i e in same (frame_start places waiting + 7 + i) (omega arith) (omega arith) ∙ f.privates i e;
-      group = λ number told.
-          frame_stays m m' waiting number (call.frames number) (λ known. group_kept places m m' waiting number known few low (λ j le lt. same j le (omega arith))) (f.group number told);
     }
 
-pub waiting_kept : (places : Places) (m m' : Memory) (backs : List ℕ) (calls : List Call) → places.frames.of_file ≤ 56 → MainKeepsFrames m m'
+pub waiting_kept : (places : Places) (m m' : Memory) (backs : List ℕ) (calls : List Call) → places.frames.of_file ≤ 56
     → ((j : ℕ) → places.frames.of_file + 7 ≤ j → j < 64 * length calls + 3 → m' j ≡ m j) → HasWaiting places m backs calls → HasWaiting places m' backs calls
-waiting_kept places m m' [] [] few low same held = tt
-waiting_kept places m m' (i ∷ backs) (c ∷ calls) few low same held =
+waiting_kept places m m' [] [] few same held = tt
+waiting_kept places m m' (i ∷ backs) (c ∷ calls) few same held =
     let n = length calls in (
       record {
         begun_at = held.0.begun_at;
@@ -95,10 +78,158 @@ waiting_kept places m m' (i ∷ backs) (c ∷ calls) few low same held =
         result = same (64 * suc n + 2) (omega arith) (omega arith) ∙ held.0.result;
         room = held.0.room;
       },
-      frame_kept places m m' n i (suc (length c.values)) c few held.0.room (omega arith) low (λ j le lt. same j le (omega arith)) held.1,
-      waiting_kept places m m' backs calls few low (λ j le lt. same j le (omega arith)) held.2,
+      frame_kept places m m' n i (suc (length c.values)) c few held.0.room (omega arith) (λ j le lt. same j le (omega arith)) held.1,
+      waiting_kept places m m' backs calls few (λ j le lt. same j le (omega arith)) held.2,
     )
-waiting_kept places m m' backs calls few low same held = absurd (assumption held)
+waiting_kept places m m' backs calls few same held = absurd (assumption held)
+
+-- ---- group frames stay, where headers and the register do
+
+parts_kept : (frames : Frames) (m m' : Memory) (n i : ℕ) (call : Call) → ((number : ℕ) → number < 4 → m' (group_word n number) ≡ m (group_word n number))
+    → HasPartFrames frames m n i call → HasPartFrames frames m' n i call
+parts_kept frames m m' n i call same held = λ number part told.
+    let has = held number part told in
+    (has.0, record { within = has.1.within; is = same number has.0 ∙ has.1.is })
+
+pub groups_kept : (frames : Frames) (m m' : Memory) (address : ℕ) (indices : List ℕ) (calls : List Call)
+    → ((k number : ℕ) → k < length calls → number < 4 → m' (group_word k number) ≡ m (group_word k number))
+    → HaveGroupFrames frames m address indices calls → HaveGroupFrames frames m' address indices calls
+groups_kept frames m m' address [] calls same held = tt
+groups_kept frames m m' address (i ∷ indices) [] same held = tt
+groups_kept frames m m' address (i ∷ indices) (c ∷ calls) same held =
+    let n = length calls in (
+      held.0,
+      parts_kept frames m m' n i c (λ number known. same n number (omega arith) known) held.1,
+      subst (λ a. HaveGroupFrames frames m' a indices calls) (ap (before_call (has_own frames i) address) (sym (same n 0 (omega arith) (omega arith))))
+          (groups_kept frames m m' (before_call (has_own frames i) address (m (group_word n 0))) indices calls (λ k number lt known. same k number (omega arith) known) held.2),
+    )
+
+-- a call of the same group frames has the address that another has
+pub told_on : (own : Bool) (address : ℕ) (call call' : Call) → call'.frames ≡ call.frames → TellsFrame own address call → TellsFrame own address call'
+told_on false address call call' same tells = tt
+told_on true address call call' same tells = subst (λ (f : ℕ → ℕ). IsGroupFrame address (f 0)) (sym same) tells
+
+pub parts_on : (frames : Frames) (m m' : Memory) (n i j : ℕ) (call call' : Call) → ((number : ℕ) → frames.group j number ≡ true → frames.group i number ≡ true)
+    → call'.frames ≡ call.frames → ((number : ℕ) → number < 4 → m' (group_word n number) ≡ m (group_word n number))
+    → HasPartFrames frames m n i call → HasPartFrames frames m' n j call'
+parts_on frames m m' n i j call call' flows frames' same held = λ number part told.
+    let has = held number part (flows number told) in
+    (has.0, subst (λ (f : ℕ → ℕ). IsGroupFrame (m' (group_word n number)) (f number)) (sym frames') (record { within = has.1.within; is = same number has.0 ∙ has.1.is }))
+
+-- what the register had before the call, where the header keeps it
+before_on : (frames : Frames) (m m' : Memory) (address i j : ℕ) (backs : List ℕ) (calls : List Call) → frames.group j 0 ≡ frames.group i 0
+    → ((k number : ℕ) → k ≤ length calls → number < 4 → m' (group_word k number) ≡ m (group_word k number))
+    → HaveGroupFrames frames m (before_call (has_own frames i) address (m (group_word (length calls) 0))) backs calls
+    → HaveGroupFrames frames m' (before_call (has_own frames j) address (m' (group_word (length calls) 0))) backs calls
+before_on frames m m' address i j backs calls own same held =
+    let w = group_word (length calls) 0 in
+    subst (λ x. HaveGroupFrames frames m' (before_call x address (m' w)) backs calls) (sym own)
+    (subst (λ a. HaveGroupFrames frames m' (before_call (has_own frames i) address a) backs calls) (sym (same (length calls) 0 (omega arith) (omega arith)))
+    (groups_kept frames m m' (before_call (has_own frames i) address (m w)) backs calls (λ k number lt known. same k number (omega arith) known) held))
+
+-- the running call goes on at another index, with other values and private words
+pub groups_on : (core : List CoreOp) (places : Places) (written : ℕ → Bool) (m m' : Memory) (address i j : ℕ) (call call' : Call) (backs : List ℕ) (calls : List Call)
+    → Flows core places.frames written i j → call'.frames ≡ call.frames
+    → ((k number : ℕ) → k ≤ length calls → number < 4 → m' (group_word k number) ≡ m (group_word k number))
+    → HaveGroupFrames places.frames m address (i ∷ backs) (call ∷ calls) → HaveGroupFrames places.frames m' address (j ∷ backs) (call' ∷ calls)
+groups_on core places written m m' address i j call call' backs calls flows frames same held = (
+  subst (λ x. TellsFrame x address call') (sym flows.own) (told_on (has_own places.frames i) address call call' frames held.0),
+  parts_on places.frames m m' (length calls) i j call call' flows.group frames (λ number known. same (length calls) number (omega arith) known) held.1,
+  before_on places.frames m m' address i j backs calls flows.own same held.2,
+)
+
+-- those of a hart that stands for a processor at an index
+pub groups_go : (core : List CoreOp) (places : Places) (written : ℕ → Bool) (p : Owner) (h : Hart) (i j : ℕ) (call' : Call) → p.runner.left.at ≡ i
+    → Flows core places.frames written i j → call'.frames ≡ p.runner.has.call.frames → StandsFor places p h
+    → HaveGroupFrames places.frames h.local (h.registers group_frame_register) (j ∷ p.runner.left.callers) (call' ∷ p.runner.has.callers)
+groups_go core places written p h i j call' at flows same stands =
+    groups_on core places written h.local h.local (h.registers group_frame_register) i j p.runner.has.call call' p.runner.left.callers p.runner.has.callers flows same (λ k number le known. refl)
+    (subst (λ k. HaveGroupFrames places.frames h.local (h.registers group_frame_register) (k ∷ p.runner.left.callers) (p.runner.has.call ∷ p.runner.has.callers)) at stands.groups)
+
+-- what the call of a group frame that is taken has
+abbrev pub taking_call : Call → (number first : ℕ) → Call
+taking_call call number first = record call { frames = put call.frames number first }
+
+-- the other group frames of the call, where one is taken
+others_told : (core : List CoreOp) (places : Places) (m m' : Memory) (n number first i j : ℕ) (call : Call) → TakesFrame core places.frames number i j
+    → ((other : ℕ) → other < 4 → (other ≡ number → ⊥) → m' (group_word n other) ≡ m (group_word n other))
+    → HasPartFrames places.frames m n i call → (told : ℕ) → (told ≡ number → ⊥) → 0 < told → places.frames.group j told ≡ true
+    → (told < 4) × IsGroupFrame (m' (group_word n told)) ((taking_call call number first).frames told)
+others_told core places m m' n number first i j call takes same held told apart part is = by (takes.group told is)
+  where
+    by : ((told ≡ number) ⊎ (places.frames.group i told ≡ true)) → (told < 4) × IsGroupFrame (m' (group_word n told)) (put call.frames number first told)
+    by (inl e) = absurd (apart e)
+    by (inr before) =
+        let has = held told part before in
+        let kept : put call.frames number first told ≡ call.frames told = other_word call.frames number first told apart in
+        (has.0, subst (IsGroupFrame (m' (group_word n told))) (sym kept) (record { within = has.1.within; is = same told has.0 apart ∙ has.1.is }))
+
+-- the running call takes its own group frame, and its header keeps what the register had
+pub groups_with : (core : List CoreOp) (places : Places) (m m' : Memory) (address first i j : ℕ) (call : Call) (backs : List ℕ) (calls : List Call)
+    → TakesFrame core places.frames 0 i j → first ≤ 2 ^ 20 → m' (group_word (length calls) 0) ≡ address
+    → ((k number : ℕ) → k ≤ length calls → number < 4 → ((k ≡ length calls) × (number ≡ 0) → ⊥) → m' (group_word k number) ≡ m (group_word k number))
+    → HaveGroupFrames places.frames m address (i ∷ backs) (call ∷ calls)
+    → HaveGroupFrames places.frames m' (address_of first) (j ∷ backs) (taking_call call 0 first ∷ calls)
+groups_with core places m m' address first i j call backs calls takes small kept same held =
+    let frames = places.frames in
+    let n = length calls in
+    let w = group_word n 0 in
+    let frame : put call.frames 0 first 0 ≡ first = same_word call.frames 0 first in
+    let before : HaveGroupFrames frames m address backs calls =
+    subst (λ x. HaveGroupFrames frames m (before_call x address (m w)) backs calls) takes.none held.2 in
+    (
+      subst (λ x. TellsFrame x (address_of first) (taking_call call 0 first)) (sym takes.own)
+          record { within = subst (λ x. x ≤ 2 ^ 20) (sym frame) small; is = ap address_of (sym frame) },
+      (λ told part is.
+      others_told core places m m' n 0 first i j call takes (λ other low apart. same n other (omega arith) low (λ e. apart e.1)) held.1 told (λ e. omega (arith, e, part)) part is),
+      subst (λ x. HaveGroupFrames frames m' (before_call x (address_of first) (m' w)) backs calls) (sym takes.own)
+          (subst (λ a. HaveGroupFrames frames m' a backs calls) (sym kept)
+          (groups_kept frames m m' address backs calls (λ k number lt low. same k number (omega arith) low (λ e. let here = e.0 in omega (arith, here, lt))) before)),
+    )
+
+-- it takes one of a part, of which its header gets the address
+pub groups_more : (core : List CoreOp) (places : Places) (m m' : Memory) (address number first i j : ℕ) (call : Call) (backs : List ℕ) (calls : List Call)
+    → 0 < number → number < 4 → TakesFrame core places.frames number i j → first ≤ 2 ^ 20 → m' (group_word (length calls) number) ≡ address_of first
+    → ((k other : ℕ) → k ≤ length calls → other < 4 → ((k ≡ length calls) × (other ≡ number) → ⊥) → m' (group_word k other) ≡ m (group_word k other))
+    → HaveGroupFrames places.frames m address (i ∷ backs) (call ∷ calls)
+    → HaveGroupFrames places.frames m' address (j ∷ backs) (taking_call call number first ∷ calls)
+groups_more core places m m' address number first i j call backs calls part known takes small written same held =
+    let frames = places.frames in
+    let n = length calls in
+    let w = group_word n 0 in
+    let frame : put call.frames number first number ≡ first = same_word call.frames number first in
+    let none : (number == 0) ≡ false = ne_eqb number 0 (λ e. omega (arith, e, part)) in
+    let own : frames.group j 0 ≡ frames.group i 0 = takes.own ∙ ap (λ b. b || frames.group i 0) none in
+    let others : put call.frames number first 0 ≡ call.frames 0 = other_word call.frames number first 0 (λ e. omega (arith, e, part)) in
+    (
+      subst (λ x. TellsFrame x address (taking_call call number first)) (sym own) (own_stays (has_own frames i) address others held.0),
+      (λ told some is. by_told told some is (told == number) refl),
+      subst (λ x. HaveGroupFrames frames m' (before_call x address (m' w)) backs calls) (sym own)
+          (subst (λ a. HaveGroupFrames frames m' (before_call (has_own frames i) address a) backs calls) (sym (same n 0 (omega arith) (omega arith) (λ e. let here = e.1 in omega (arith, here, part))))
+          (groups_kept frames m m' (before_call (has_own frames i) address (m w)) backs calls (λ k other lt low. same k other (omega arith) low (λ e. let here = e.0 in omega (arith, here, lt))) held.2)),
+    )
+  where
+    own_stays : (own : Bool) (address : ℕ) → put call.frames number first 0 ≡ call.frames 0 → TellsFrame own address call → TellsFrame own address (taking_call call number first)
+    own_stays false address e tells = tt
+    own_stays true address e tells = subst (IsGroupFrame address) (sym e) tells
+
+    by_told : (told : ℕ) → 0 < told → places.frames.group j told ≡ true → (here : Bool) → (told == number) ≡ here
+        → (told < 4) × IsGroupFrame (m' (group_word (length calls) told)) (put call.frames number first told)
+    by_told told some is true e =
+        let same_number : told ≡ number = eqb-true told number e in
+        let frame : put call.frames number first told ≡ first = ap (put call.frames number first) same_number ∙ same_word call.frames number first in
+        (
+          omega (arith, same_number, known),
+          record {
+            within = subst (λ x. x ≤ 2 ^ 20) (sym frame) small;
+            is = ap (λ k. m' (group_word (length calls) k)) same_number ∙ written ∙ ap address_of (sym frame);
+          },
+        )
+    by_told told some is false e =
+        others_told core places m m' (length calls) number first i j call takes (λ other low apart. same (length calls) other (omega arith) low (λ both. apart both.1)) held.1 told
+        (eqb-false told number e) some is
+
+-- ---- words
 
 -- one word of many is written, in memory and in what stands there from a word on
 true_false : true ≡ false → ⊥
@@ -122,29 +253,32 @@ word_here m base x v words y old = word_by m base x v words y (y == x) refl (λ 
 
 -- ---- a processor in memory
 
-pub record InMemory (places : Places) (memory : Memory) (p : Owner) : Type 0 where
+-- the register with the address of a group frame has this one
+pub record InMemory (places : Places) (memory : Memory) (address : ℕ) (p : Owner) : Type 0 where
   pub running : FrameInMemory places memory (length p.runner.has.callers) p.runner.left.at p.runner.has.call
   pub waiting : HasWaiting places memory p.runner.left.callers p.runner.has.callers
+  pub groups : HaveGroupFrames places.frames memory address (p.runner.left.at ∷ p.runner.left.callers) (p.runner.has.call ∷ p.runner.has.callers)
   pub own : (i : ℕ) → i < places.frames.of_file → memory (7 + i) ≡ p.runner.has.own i
   pub heap : (i : ℕ) → i < 16384 → memory (16384 + i) ≡ p.heap.words i
   pub full : memory full_word ≡ from_bool p.heap.full
 
-pub in_memory : (places : Places) (p : Owner) (h : Hart) → StandsFor places p h → InMemory places h.local p
-in_memory places p h s = record { running = s.running; waiting = s.waiting; own = s.own; heap = s.heap; full = s.full }
+pub in_memory : (places : Places) (p : Owner) (h : Hart) → StandsFor places p h → InMemory places h.local (h.registers group_frame_register) p
+in_memory places p h s = record { running = s.running; waiting = s.waiting; groups = s.groups; own = s.own; heap = s.heap; full = s.full }
 
--- the registers that blocks keep. `top` is told by itself
-abbrev pub SameRegisters : Hart → Hart → Type 0
-SameRegisters h h' =
+-- the registers that blocks keep, but that of group frames. `top` is told by itself
+abbrev pub SameMost : Hart → Hart → Type 0
+SameMost h h' =
     (h'.registers zero_register ≡ h.registers zero_register) × (h'.registers frame_register ≡ h.registers frame_register) × (h'.registers end_register ≡ h.registers end_register)
     × (h'.registers number_register ≡ h.registers number_register) × (h'.registers rank_register ≡ h.registers rank_register) × (h'.registers size_register ≡ h.registers size_register)
     × (h'.registers local_register ≡ h.registers local_register) × (h'.registers shared_register ≡ h.registers shared_register) × (h'.registers heap_register ≡ h.registers heap_register)
     × (h'.registers shared_mask_register ≡ h.registers shared_mask_register) × (h'.registers device_register ≡ h.registers device_register) × (h'.registers heap_mask_register ≡ h.registers heap_mask_register)
 
--- a hart that keeps them stands for a processor of the same level, with as many calls waiting, that it has in memory
-pub stands_with : (places : Places) (p p' : Owner) (h h' : Hart) → StandsFor places p h → SameRegisters h h'
+-- a hart that keeps them stands for a processor of the same level, with as many calls waiting, that it has in memory and in
+-- the register of group frames
+pub stands_as : (places : Places) (p p' : Owner) (h h' : Hart) → StandsFor places p h → SameMost h h'
     → p'.runner.has.level ≡ p.runner.has.level → length p'.runner.has.callers ≡ length p.runner.has.callers
-    → h'.registers top_register ≡ p'.runner.has.top → InMemory places h'.local p' → StandsFor places p' h'
-stands_with places p p' h h' s r level calls top m = record {
+    → h'.registers top_register ≡ p'.runner.has.top → InMemory places h'.local (h'.registers group_frame_register) p' → StandsFor places p' h'
+stands_as places p p' h h' s r level calls top m = record {
   nought = r.0 ∙ s.nought;
   frame = r.1 ∙ s.frame ∙ ap (λ n. 0x20000000 + 4 * frame_start places n) (sym calls);
   behind = r.2 ∙ s.behind ∙ ap (λ n. 0x20000000 + 4 * frame_end n) (sym calls);
@@ -160,10 +294,27 @@ stands_with places p p' h h' s r level calls top m = record {
   heap_mask = r.11 ∙ s.heap_mask;
   running = m.running;
   waiting = m.waiting;
+  groups = m.groups;
   own = m.own;
   heap = m.heap;
   full = m.full;
 }
+
+-- one that keeps that register too
+abbrev pub SameRegisters : Hart → Hart → Type 0
+SameRegisters h h' =
+    (h'.registers zero_register ≡ h.registers zero_register) × (h'.registers frame_register ≡ h.registers frame_register) × (h'.registers end_register ≡ h.registers end_register)
+    × (h'.registers number_register ≡ h.registers number_register) × (h'.registers rank_register ≡ h.registers rank_register) × (h'.registers size_register ≡ h.registers size_register)
+    × (h'.registers local_register ≡ h.registers local_register) × (h'.registers shared_register ≡ h.registers shared_register) × (h'.registers heap_register ≡ h.registers heap_register)
+    × (h'.registers shared_mask_register ≡ h.registers shared_mask_register) × (h'.registers device_register ≡ h.registers device_register) × (h'.registers heap_mask_register ≡ h.registers heap_mask_register)
+    × (h'.registers group_frame_register ≡ h.registers group_frame_register)
+
+pub stands_with : (places : Places) (p p' : Owner) (h h' : Hart) → StandsFor places p h → SameRegisters h h'
+    → p'.runner.has.level ≡ p.runner.has.level → length p'.runner.has.callers ≡ length p.runner.has.callers
+    → h'.registers top_register ≡ p'.runner.has.top → InMemory places h'.local (h.registers group_frame_register) p' → StandsFor places p' h'
+stands_with places p p' h h' s r level calls top m =
+    stands_as places p p' h h' s (r.0, r.1, r.2, r.3, r.4, r.5, r.6, r.7, r.8, r.9, r.10, r.11) level calls top
+    (subst (λ a. InMemory places h'.local a p') (sym r.12) m)
 
 -- nothing tells the space of a processor's group
 abbrev pub in_space : Space → Owner → Owner
@@ -186,6 +337,7 @@ stands_in_space places p h space s = record {
   heap_mask = s.heap_mask;
   running = s.running;
   waiting = s.waiting;
+  groups = s.groups;
   own = s.own;
   heap = s.heap;
   full = s.full;
@@ -202,15 +354,16 @@ module _ (core : List CoreOp) (places : Places) where
   }
 
   -- the last words of the frame, where so many values have room, are written to
-  pub values_changed : (m m' : Memory) (p : Owner) (i i' count : ℕ) (vs : List ℕ) → places.frames.of_file ≤ 56 → length p.runner.has.callers < 256
-      → p.runner.left.at ≡ i → HasRoom places.frames i count → Flows core places.frames nothing i i' → InMemory places m p
+  pub values_changed : (m m' : Memory) (a : ℕ) (p : Owner) (i i' count : ℕ) (vs : List ℕ) → places.frames.of_file ≤ 56 → length p.runner.has.callers < 256
+      → p.runner.left.at ≡ i → HasRoom places.frames i count → Flows core places.frames nothing i i' → InMemory places m a p
       → ((j : ℕ) → j < frame_end (length p.runner.has.callers) - count → m' j ≡ m j)
       → ((j : ℕ) → frame_end (length p.runner.has.callers) ≤ j → m' j ≡ m j)
       → HasValues (value_of m' (length p.runner.has.callers)) vs
-      → InMemory places m' (with_list i' vs p)
-  values_changed m m' p i i' count vs few waiting at room flows held below above values' =
+      → InMemory places m' a (with_list i' vs p)
+  values_changed m m' a p i i' count vs few waiting at room flows held below above values' =
       let n = length p.runner.has.callers in
-      let running = subst (λ a. FrameInMemory places m n a p.runner.has.call) at held.running in
+      let running = subst (λ x. FrameInMemory places m n x p.runner.has.call) at held.running in
+      let groups = subst (λ x. HaveGroupFrames places.frames m a (x ∷ p.runner.left.callers) (p.runner.has.call ∷ p.runner.has.callers)) at held.groups in
       let l = lies_in places n i count few running.home room in
       let start = l.start in
       let low = l.values in
@@ -223,46 +376,47 @@ module _ (core : List CoreOp) (places : Places) where
               let kept = flows.kept x e refl in
               let k = l.kept x kept in
               below (frame_start places n + 7 + x) (omega arith) ∙ running.privates x kept;
-          group = λ number told.
-              frame_stays m m' n number (p.runner.has.call.frames number) (λ known. below (group_word n number) (omega arith)) (running.group number (flows.group number told));
         };
-        waiting = waiting_kept places m m' p.runner.left.callers p.runner.has.callers few (λ j le lt. below j (omega arith)) (λ j le lt. below j (omega arith)) held.waiting;
+        waiting = waiting_kept places m m' p.runner.left.callers p.runner.has.callers few (λ j le lt. below j (omega arith)) held.waiting;
+        groups = groups_on core places nothing m m' a i i' p.runner.has.call (with_list i' vs p).runner.has.call p.runner.left.callers p.runner.has.callers flows refl
+            (λ k number le known. below (group_word k number) (omega arith)) groups;
         own = λ x lt. below (7 + x) (omega arith) ∙ held.own x lt;
         heap = λ x lt. above (16384 + x) (omega arith) ∙ held.heap x lt;
         full = below 2 (omega arith) ∙ held.full;
       }
 
   -- the k-th value is written, so that the frame has these values
-  pub value_written : (m : Memory) (p : Owner) (i i' k v : ℕ) (vs : List ℕ) → places.frames.of_file ≤ 56 → length p.runner.has.callers < 256
-      → p.runner.left.at ≡ i → HasRoom places.frames i k → 0 < k → Flows core places.frames nothing i i' → InMemory places m p
+  pub value_written : (m : Memory) (a : ℕ) (p : Owner) (i i' k v : ℕ) (vs : List ℕ) → places.frames.of_file ≤ 56 → length p.runner.has.callers < 256
+      → p.runner.left.at ≡ i → HasRoom places.frames i k → 0 < k → Flows core places.frames nothing i i' → InMemory places m a p
       → HasValues (value_of (put m (frame_end (length p.runner.has.callers) - k) v) (length p.runner.has.callers)) vs
-      → InMemory places (put m (frame_end (length p.runner.has.callers) - k) v) (with_list i' vs p)
-  value_written m p i i' k v vs few waiting at room some flows held values' =
+      → InMemory places (put m (frame_end (length p.runner.has.callers) - k) v) a (with_list i' vs p)
+  value_written m a p i i' k v vs few waiting at room some flows held values' =
       let n = length p.runner.has.callers in
       let header = room.header in
-      values_changed m (put m (frame_end n - k) v) p i i' k vs few waiting at room flows held
+      values_changed m (put m (frame_end n - k) v) a p i i' k vs few waiting at room flows held
       (λ j lt. other_word m (frame_end n - k) v j (λ e. omega arith))
       (λ j le. other_word m (frame_end n - k) v j (λ e. omega arith))
       values'
 
   -- nothing is written
-  pub nothing_written : (m : Memory) (p : Owner) (i i' count : ℕ) (vs : List ℕ) → places.frames.of_file ≤ 56 → length p.runner.has.callers < 256
-      → p.runner.left.at ≡ i → HasRoom places.frames i count → Flows core places.frames nothing i i' → InMemory places m p
-      → HasValues (value_of m (length p.runner.has.callers)) vs → InMemory places m (with_list i' vs p)
-  nothing_written m p i i' count vs few waiting at room flows held values' =
-      values_changed m m p i i' count vs few waiting at room flows held (λ j lt. refl) (λ j le. refl) values'
+  pub nothing_written : (m : Memory) (a : ℕ) (p : Owner) (i i' count : ℕ) (vs : List ℕ) → places.frames.of_file ≤ 56 → length p.runner.has.callers < 256
+      → p.runner.left.at ≡ i → HasRoom places.frames i count → Flows core places.frames nothing i i' → InMemory places m a p
+      → HasValues (value_of m (length p.runner.has.callers)) vs → InMemory places m a (with_list i' vs p)
+  nothing_written m a p i i' count vs few waiting at room flows held values' =
+      values_changed m m a p i i' count vs few waiting at room flows held (λ j lt. refl) (λ j le. refl) values'
 
   -- a private word is written
-  pub private_written : (m : Memory) (p : Owner) (i i' x v count : ℕ) → places.frames.of_file ≤ 56 → length p.runner.has.callers < 256
+  pub private_written : (m : Memory) (a : ℕ) (p : Owner) (i i' x v count : ℕ) → places.frames.of_file ≤ 56 → length p.runner.has.callers < 256
       → p.runner.left.at ≡ i → HasRoom places.frames i count → length (values p.runner.has) ≤ count
-      → ahead places.frames (places.frames.is_main i) + 7 + x + count < 64 → Flows core places.frames (λ word. word == x) i i' → InMemory places m p
-      → InMemory places (put m (frame_start places (length p.runner.has.callers) + 7 + x) v)
+      → ahead places.frames (places.frames.is_main i) + 7 + x + count < 64 → Flows core places.frames (λ word. word == x) i i' → InMemory places m a p
+      → InMemory places (put m (frame_start places (length p.runner.has.callers) + 7 + x) v) a
       (record { runner = record { left = position i' p.runner.left.callers; has = stored v (Private x) p.runner.has }; heap = p.heap })
-  private_written m p i i' x v count few waiting at room within place flows held =
+  private_written m a p i i' x v count few waiting at room within place flows held =
       let n = length p.runner.has.callers in
       let w = frame_start places n + 7 + x in
       let m' = put m w v in
-      let running = subst (λ a. FrameInMemory places m n a p.runner.has.call) at held.running in
+      let running = subst (λ x. FrameInMemory places m n x p.runner.has.call) at held.running in
+      let groups = subst (λ x. HaveGroupFrames places.frames m a (x ∷ p.runner.left.callers) (p.runner.has.call ∷ p.runner.has.callers)) at held.groups in
       let l = lies_in places n i count few running.home room in
       let start = l.start in
       let low = l.values in
@@ -273,10 +427,10 @@ module _ (core : List CoreOp) (places : Places) where
           home = flows.main ∙ running.home;
           values = values_kept m m' n (values p.runner.has) (λ j le lt. other_word m w v j (λ e. omega arith)) running.values;
           privates = λ y e. word_here m (frame_start places n + 7) x v p.runner.has.call.privates y (λ other. running.privates y (flows.kept y e other));
-          group = λ number told.
-              frame_stays m m' n number (p.runner.has.call.frames number) (λ known. other_word m w v (group_word n number) (λ e. omega arith)) (running.group number (flows.group number told));
         };
-        waiting = waiting_kept places m m' p.runner.left.callers p.runner.has.callers few (λ j le lt. other_word m w v j (λ e. omega arith)) (λ j le lt. other_word m w v j (λ e. omega arith)) held.waiting;
+        waiting = waiting_kept places m m' p.runner.left.callers p.runner.has.callers few (λ j le lt. other_word m w v j (λ e. omega arith)) held.waiting;
+        groups = groups_on core places (λ word. word == x) m m' a i i' p.runner.has.call (stored v (Private x) p.runner.has).call p.runner.left.callers p.runner.has.callers flows refl
+            (λ k number le known. other_word m w v (group_word k number) (λ e. omega arith)) groups;
         own = λ y lt. other_word m w v (7 + y) (λ e. omega arith) ∙ held.own y lt;
         heap = λ y lt. other_word m w v (16384 + y) (λ e. omega arith) ∙ held.heap y lt;
         full = other_word m w v 2 (λ e. omega arith) ∙ held.full;
@@ -294,15 +448,16 @@ module _ (core : List CoreOp) (places : Places) where
       starts (suc n) x = omega arith
 
   -- a private variable of file scope is written
-  pub own_written : (m : Memory) (p : Owner) (i i' x v count : ℕ) → places.frames.of_file ≤ 56 → length p.runner.has.callers < 256
+  pub own_written : (m : Memory) (a : ℕ) (p : Owner) (i i' x v count : ℕ) → places.frames.of_file ≤ 56 → length p.runner.has.callers < 256
       → p.runner.left.at ≡ i → HasRoom places.frames i count → length (values p.runner.has) ≤ count
-      → x < places.frames.of_file → Flows core places.frames nothing i i' → InMemory places m p
-      → InMemory places (put m (7 + x) v)
+      → x < places.frames.of_file → Flows core places.frames nothing i i' → InMemory places m a p
+      → InMemory places (put m (7 + x) v) a
       (record { runner = record { left = position i' p.runner.left.callers; has = stored v (OfFile x) p.runner.has }; heap = p.heap })
-  own_written m p i i' x v count few waiting at room within place flows held =
+  own_written m a p i i' x v count few waiting at room within place flows held =
       let n = length p.runner.has.callers in
       let m' = put m (7 + x) v in
-      let running = subst (λ a. FrameInMemory places m n a p.runner.has.call) at held.running in
+      let running = subst (λ x. FrameInMemory places m n x p.runner.has.call) at held.running in
+      let groups = subst (λ x. HaveGroupFrames places.frames m a (x ∷ p.runner.left.callers) (p.runner.has.call ∷ p.runner.has.callers)) at held.groups in
       let l = lies_in places n i count few running.home room in
       let start = l.start in
       let low = l.values in
@@ -311,18 +466,16 @@ module _ (core : List CoreOp) (places : Places) where
           home = flows.main ∙ running.home;
           values = values_kept m m' n (values p.runner.has) (λ j le lt. other_word m (7 + x) v j (λ e. omega arith)) running.values;
           privates = λ y e. other_word m (7 + x) v (frame_start places n + 7 + y) (λ f. omega arith) ∙ running.privates y (flows.kept y e refl);
-          group = λ number told.
-              frame_stays m m' n number (p.runner.has.call.frames number) (λ known. other_word m (7 + x) v (group_word n number) (λ e. omega arith))
-              (running.group number (flows.group number told));
         };
-        waiting = waiting_kept places m m' p.runner.left.callers p.runner.has.callers few (λ j le lt. other_word m (7 + x) v j (λ e. omega arith))
-            (λ j le lt. other_word m (7 + x) v j (λ e. omega arith)) held.waiting;
+        waiting = waiting_kept places m m' p.runner.left.callers p.runner.has.callers few (λ j le lt. other_word m (7 + x) v j (λ e. omega arith)) held.waiting;
+        groups = groups_on core places nothing m m' a i i' p.runner.has.call p.runner.has.call p.runner.left.callers p.runner.has.callers flows refl
+            (λ k number le known. other_word m (7 + x) v (group_word k number) (λ e. omega arith)) groups;
         own = λ y lt. word_here m 7 x v p.runner.has.own y (λ other. held.own y lt);
         heap = λ y lt. other_word m (7 + x) v (16384 + y) (λ e. omega arith) ∙ held.heap y lt;
         full = other_word m (7 + x) v 2 (λ e. omega arith) ∙ held.full;
       }
 
-  -- the header gets the address of a group frame that is taken
+  -- a group frame is taken
   abbrev pub with_frame : (i number first : ℕ) → Owner → Owner
   with_frame i number first p = record {
     runner = record {
@@ -332,52 +485,18 @@ module _ (core : List CoreOp) (places : Places) where
     heap = p.heap;
   }
 
-  -- in `main` no call waits
-  waiting_kept_by : (m : Memory) (w v number : ℕ) (backs : List ℕ) (calls : List Call) → places.frames.of_file ≤ 56 → number < 4 → w ≡ group_word (length calls) number
-      → HasWaiting places m backs calls → HasWaiting places (put m w v) backs calls
-  waiting_kept_by m w v number [] [] few known e held = tt
-  waiting_kept_by m w v number (b ∷ backs) (c ∷ calls) few known e held =
-      waiting_kept places m (put m w v) (b ∷ backs) (c ∷ calls) few (λ j le lt. other_word m w v j (λ f. omega arith)) (λ j le lt. other_word m w v j (λ f. omega arith)) held
-  waiting_kept_by m w v number backs calls few known e held = absurd (assumption held)
-
-  -- the group frames of which the header has the addresses, once it gets that of one more
-  module _ (m frames : Memory) (n number first : ℕ) (known : number < 4) (small : first ≤ 2 ^ 20) where
-    abbrev HasTaken : (told : ℕ) → Type 0
-    HasTaken told = HasGroupFrame (put m (group_word n number) (address_of first)) n told (put frames number first told)
-
-    taken : (told : ℕ) → told ≡ number → HasTaken told
-    taken told same =
-        let there : put frames number first told ≡ first = ap (put frames number first) same ∙ same_word frames number first in
-        record {
-          few = subst (λ x. x < 4) (sym same) known;
-          within = subst (λ x. x ≤ 2 ^ 20) (sym there) small;
-          address = ap (λ k. put m (group_word n number) (address_of first) (group_word n k)) same ∙ same_word m (group_word n number) (address_of first) ∙ ap address_of (sym there);
-        }
-
-    by_told : (told : ℕ) (Before : Type 0) → (Before → HasGroupFrame m n told (frames told)) → (told ≡ number) ⊎ Before → (same : Bool) → (told == number) ≡ same → HasTaken told
-    by_told told Before old either true e = taken told (eqb-true told number e)
-    by_told told Before old (inl same) false e = taken told same
-    by_told told Before old (inr before) false e =
-        let has = old before in
-        let low = has.few in
-        let apart : told ≡ number → ⊥ = λ f. eqb-false told number e f in
-        let kept : put frames number first told ≡ frames told = other_word frames number first told apart in
-        record {
-          few = low;
-          within = subst (λ x. x ≤ 2 ^ 20) (sym kept) has.within;
-          address = other_word m (group_word n number) (address_of first) (group_word n told) (λ same. apart (omega (arith, same, low, known))) ∙ has.address ∙ ap address_of (sym kept);
-        }
-
-  pub frame_written : (m : Memory) (p : Owner) (i i' number first count : ℕ) → places.frames.of_file ≤ 56 → length p.runner.has.callers < 256
-      → p.runner.left.at ≡ i → HasRoom places.frames i count → length (values p.runner.has) ≤ count → number < 4 → TakesFrame core places.frames number i i' → first ≤ 2 ^ 20
-      → InMemory places m p
-      → InMemory places (put m (group_word (length p.runner.has.callers) number) (address_of first)) (with_frame i' number first p)
-  frame_written m p i i' number first count few waiting at room within known takes small held =
+  -- a word of its header is written, and what its group frames are is told
+  frame_put : (m : Memory) (a v : ℕ) (p : Owner) (i i' number first count : ℕ) → places.frames.of_file ≤ 56 → length p.runner.has.callers < 256
+      → p.runner.left.at ≡ i → HasRoom places.frames i count → length (values p.runner.has) ≤ count → number < 4 → TakesFrame core places.frames number i i'
+      → FrameInMemory places m (length p.runner.has.callers) p.runner.left.at p.runner.has.call → HasWaiting places m p.runner.left.callers p.runner.has.callers
+      → ((x : ℕ) → x < places.frames.of_file → m (7 + x) ≡ p.runner.has.own x) → ((x : ℕ) → x < 16384 → m (16384 + x) ≡ p.heap.words x) → m full_word ≡ from_bool p.heap.full
+      → HaveGroupFrames places.frames (put m (group_word (length p.runner.has.callers) number) v) a (i' ∷ p.runner.left.callers) ((with_frame i' number first p).runner.has.call ∷ p.runner.has.callers)
+      → InMemory places (put m (group_word (length p.runner.has.callers) number) v) a (with_frame i' number first p)
+  frame_put m a v p i i' number first count few waiting at room within known takes running' held_waiting held_own held_heap held_full groups =
       let n = length p.runner.has.callers in
       let w = group_word n number in
-      let v = address_of first in
       let m' = put m w v in
-      let running = subst (λ a. FrameInMemory places m n a p.runner.has.call) at held.running in
+      let running = subst (λ x. FrameInMemory places m n x p.runner.has.call) at running' in
       let l = lies_in places n i count few running.home room in
       let short = l.few in
       record {
@@ -387,29 +506,57 @@ module _ (core : List CoreOp) (places : Places) where
           privates = λ y e.
               let above = above_group n known in
               other_word m w v (frame_start places n + 7 + y) (λ f. omega arith) ∙ running.privates y (takes.kept y e);
-          group = λ told e. by_told m p.runner.has.call.frames n number first known small told (places.frames.group i told ≡ true) (running.group told) (takes.group told e) (told == number) refl;
         };
-        waiting = waiting_kept_by m w v number p.runner.left.callers p.runner.has.callers few known refl held.waiting;
-        own = λ y lt. other_word m w v (7 + y) (λ e. omega arith) ∙ held.own y lt;
-        heap = λ y lt. other_word m w v (16384 + y) (λ e. omega arith) ∙ held.heap y lt;
-        full = other_word m w v 2 (λ e. omega arith) ∙ held.full;
+        waiting = waiting_kept places m m' p.runner.left.callers p.runner.has.callers few (λ j le lt. other_word m w v j (λ e. omega arith)) held_waiting;
+        groups = groups;
+        own = λ y lt. other_word m w v (7 + y) (λ e. omega arith) ∙ held_own y lt;
+        heap = λ y lt. other_word m w v (16384 + y) (λ e. omega arith) ∙ held_heap y lt;
+        full = other_word m w v 2 (λ e. omega arith) ∙ held_full;
       }
     where
       above_group : (n : ℕ) → number < 4 → group_word n number < frame_start places n + 7
       above_group zero low = omega arith
       above_group (suc n) low = omega arith
 
+  -- its own group frame is taken: the header keeps what the register had, which gets the address of the frame
+  pub frame_written : (m : Memory) (a : ℕ) (p : Owner) (i i' first count : ℕ) → places.frames.of_file ≤ 56 → length p.runner.has.callers < 256
+      → p.runner.left.at ≡ i → HasRoom places.frames i count → length (values p.runner.has) ≤ count → TakesFrame core places.frames 0 i i' → first ≤ 2 ^ 20
+      → InMemory places m a p
+      → InMemory places (put m (group_word (length p.runner.has.callers) 0) a) (address_of first) (with_frame i' 0 first p)
+  frame_written m a p i i' first count few waiting at room within takes small held =
+      let n = length p.runner.has.callers in
+      let w = group_word n 0 in
+      let groups = subst (λ x. HaveGroupFrames places.frames m a (x ∷ p.runner.left.callers) (p.runner.has.call ∷ p.runner.has.callers)) at held.groups in
+      frame_put m (address_of first) a p i i' 0 first count few waiting at room within (omega arith) takes held.running held.waiting held.own held.heap held.full
+      (groups_with core places m (put m w a) a first i i' p.runner.has.call p.runner.left.callers p.runner.has.callers takes small (same_word m w a)
+      (λ k number le known apart. other_word m w a (group_word k number) (λ e. apart (omega (arith, e, le, known), omega (arith, e, le, known)))) groups)
+
+  -- one of a part is taken: the header gets its address
+  pub part_written : (m : Memory) (a : ℕ) (p : Owner) (i i' number first count : ℕ) → places.frames.of_file ≤ 56 → length p.runner.has.callers < 256
+      → p.runner.left.at ≡ i → HasRoom places.frames i count → length (values p.runner.has) ≤ count → 0 < number → number < 4 → TakesFrame core places.frames number i i' → first ≤ 2 ^ 20
+      → InMemory places m a p
+      → InMemory places (put m (group_word (length p.runner.has.callers) number) (address_of first)) a (with_frame i' number first p)
+  part_written m a p i i' number first count few waiting at room within part known takes small held =
+      let n = length p.runner.has.callers in
+      let w = group_word n number in
+      let groups = subst (λ x. HaveGroupFrames places.frames m a (x ∷ p.runner.left.callers) (p.runner.has.call ∷ p.runner.has.callers)) at held.groups in
+      frame_put m a (address_of first) p i i' number first count few waiting at room within known takes held.running held.waiting held.own held.heap held.full
+      (groups_more core places m (put m w (address_of first)) a number first i i' p.runner.has.call p.runner.left.callers p.runner.has.callers part known takes small (same_word m w (address_of first))
+      (λ k other le low apart. other_word m w (address_of first) (group_word k other) (λ e. apart (omega (arith, e, le, low, known), omega (arith, e, le, low, known)))) groups)
+
   -- a word of the private heap is written
-  pub heap_written : (m : Memory) (p : Owner) (i x v count : ℕ) → places.frames.of_file ≤ 56 → length p.runner.has.callers < 256
-      → p.runner.left.at ≡ i → HasRoom places.frames i count → length (values p.runner.has) ≤ count → x < 16384 → InMemory places m p
-      → InMemory places (put m (16384 + x) v) (record p { heap = record (p.heap) { words = put p.heap.words x v } })
-  heap_written m p i x v count few waiting at room within place held =
+  pub heap_written : (m : Memory) (a : ℕ) (p : Owner) (i x v count : ℕ) → places.frames.of_file ≤ 56 → length p.runner.has.callers < 256
+      → p.runner.left.at ≡ i → HasRoom places.frames i count → length (values p.runner.has) ≤ count → x < 16384 → InMemory places m a p
+      → InMemory places (put m (16384 + x) v) a (record p { heap = record (p.heap) { words = put p.heap.words x v } })
+  heap_written m a p i x v count few waiting at room within place held =
       let n = length p.runner.has.callers in
       let m' = put m (16384 + x) v in
-      let room' = subst (λ a. HasRoom places.frames a count) (sym at) room in
+      let room' = subst (λ x. HasRoom places.frames x count) (sym at) room in
       record {
-        running = frame_kept places m m' n p.runner.left.at count p.runner.has.call few room' within (λ j le lt. other_word m (16384 + x) v j (λ e. omega arith)) (λ j le lt. other_word m (16384 + x) v j (λ e. omega arith)) held.running;
-        waiting = waiting_kept places m m' p.runner.left.callers p.runner.has.callers few (λ j le lt. other_word m (16384 + x) v j (λ e. omega arith)) (λ j le lt. other_word m (16384 + x) v j (λ e. omega arith)) held.waiting;
+        running = frame_kept places m m' n p.runner.left.at count p.runner.has.call few room' within (λ j le lt. other_word m (16384 + x) v j (λ e. omega arith)) held.running;
+        waiting = waiting_kept places m m' p.runner.left.callers p.runner.has.callers few (λ j le lt. other_word m (16384 + x) v j (λ e. omega arith)) held.waiting;
+        groups = groups_kept places.frames m m' a (p.runner.left.at ∷ p.runner.left.callers) (p.runner.has.call ∷ p.runner.has.callers)
+            (λ k number lt known. other_word m (16384 + x) v (group_word k number) (λ e. omega arith)) held.groups;
         own = λ y lt. other_word m (16384 + x) v (7 + y) (λ e. omega arith) ∙ held.own y lt;
         heap = λ y lt. word_here m 16384 x v p.heap.words y (λ other. held.heap y lt);
         full = other_word m (16384 + x) v 2 (λ e. omega arith) ∙ held.full;

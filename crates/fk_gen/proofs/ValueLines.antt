@@ -61,16 +61,16 @@ pub result_keeps : (told : Told) (register n k : ℕ) (h : Hart) (j : ℕ) → j
 result_keeps told register n k h j lt = other_word h.local (frame_end n - k) (h.registers register) j (λ e. omega arith)
 
 -- with it the hart has in memory the processor that has it in place of the last so many values
-pub result_stands : (core : List CoreOp) (places : Places) (told : Told) (p : Owner) (i i' register dropped k v : ℕ) (h : Hart)
+pub result_stands : (core : List CoreOp) (places : Places) (told : Told) (a : ℕ) (p : Owner) (i i' register dropped k v : ℕ) (h : Hart)
     → places.frames.of_file ≤ 56 → length p.runner.has.callers < 256 → p.runner.left.at ≡ i → HasRoom places.frames i k
     → dropped ≤ length (values p.runner.has) → k ≡ suc (length (values p.runner.has)) - dropped → Flows core places.frames nothing i i'
-    → h.registers register ≡ v → InMemory places h.local p
-    → InMemory places (after told (result register k) (place_reached (length p.runner.has.callers) k) h).local
+    → h.registers register ≡ v → InMemory places h.local a p
+    → InMemory places (after told (result register k) (place_reached (length p.runner.has.callers) k) h).local a
     (with_list core places i' (v ∷ before dropped (values p.runner.has)) p)
-result_stands core places told p i i' register dropped k v h few waiting at room enough top flows e held =
+result_stands core places told a p i i' register dropped k v h few waiting at room enough top flows e held =
     let n = length p.runner.has.callers in
     let vs = values p.runner.has in
     let header = room.header in
-    subst (λ x. InMemory places (put h.local (frame_end n - k) x) (with_list core places i' (v ∷ before dropped vs) p)) (sym e)
-    (value_written core places h.local p i i' k v (v ∷ before dropped vs) few waiting at room (omega arith) flows held
+    subst (λ x. InMemory places (put h.local (frame_end n - k) x) a (with_list core places i' (v ∷ before dropped vs) p)) (sym e)
+    (value_written core places h.local a p i i' k v (v ∷ before dropped vs) few waiting at room (omega arith) flows held
     (values_put dropped k h.local n v vs enough top (omega arith) held.running.values))

@@ -4,7 +4,7 @@ use Rattle.fk_gen.specs.declared.placed.Levels.{Levels}
 
 -- Where nothing is told the frame has none.
 abbrev pub told_levels : Option Levels → Levels
-told_levels None = record { count = 0; behind = 0; nest = 0 }
+told_levels None = record { count = 0; behind = 0; nest = 0; fork = None }
 told_levels (Some levels) = levels
 
 abbrev pub levels_in : List Levels → (index : ℕ) → Levels

@@ -57,8 +57,7 @@ at_value k = (2 ^ 32 - 4 * k) % 2 ^ 32
 abbrev pub at_private : (i : ℕ) → ℕ
 at_private i = 4 * (7 + i)
 
--- The offset of the header's word with the address of the group frame with a number, from the word
--- after the frame.
+-- The offset of the header's word for the group frame with a number, from the word after the frame.
 abbrev pub at_group_frame : (number : ℕ) → ℕ
 at_group_frame number = at_value (61 - number)
 
@@ -102,7 +101,7 @@ add_number n register = add_by (high_part n == 0) n register
 abbrev pub copy_label : (arguments : ℕ) → ℕ
 copy_label arguments = arguments
 
--- The label at which the code that all calls share clears this many of the last private words of a
+-- The label at which the code that all calls share clears this many of the first private words of a
 -- frame, 0 to 56.
 abbrev pub clear_label : (words : ℕ) → ℕ
 clear_label words = 64 + words

@@ -20,3 +20,9 @@ t3 = 28
 
 abbrev pub t4 : ℕ
 t4 = 29
+
+abbrev pub t5 : ℕ
+t5 = 30
+
+abbrev pub t6 : ℕ
+t6 = 31

@@ -30,8 +30,8 @@ pub const TO_CONTROL: u32 = 0x0_8000;
 /// with the same index.
 pub const TO_DATA: u32 = 0xf_8000;
 
-/// The offset of the header's word with the address of the group frame with a number, from the word
-/// after the frame, in bytes.
+/// The offset of the header's word for the group frame with a number, from the word after the frame,
+/// in bytes.
 pub fn at_group_frame(number: u32) -> u32
     ensures exact { result ≡ at_group_frame number }
     ensures short { IsShort 12 result }

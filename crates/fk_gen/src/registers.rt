@@ -4,7 +4,7 @@
 pub const ZERO: u8 = 0;
 /// `ra`: what a call stores in its frame to return by.
 pub const RA: u8 = 1;
-/// `t0` to `t4` are free in each block.
+/// `t0` to `t6` are free in each block.
 pub const T0: u8 = 5;
 
 pub const T1: u8 = 6;
@@ -14,12 +14,19 @@ pub const T2: u8 = 7;
 pub const T3: u8 = 28;
 
 pub const T4: u8 = 29;
+
+pub const T5: u8 = 30;
+
+pub const T6: u8 = 31;
 /// The address of the running call's frame.
 pub const FRAME: u8 = 8;
 /// The address of the word after the running call's frame.
 pub const END: u8 = 9;
 /// `@`.
 pub const NUMBER: u8 = 18;
+/// The address of the running call's group frame, or, if that call has none, of the group frame of
+/// the last waiting call that has one.
+pub const GROUP_FRAME: u8 = 14;
 /// `$`.
 pub const RANK: u8 = 19;
 /// The size of the group.

@@ -72,7 +72,7 @@ module _ (core : List CoreOp) (image : Image) (places : Places) (i : ℕ) (op : 
         can = λ told. (some.place, tt);
         at = refl;
         stands = λ told. stands_on places p i (suc i) op.depth p.runner.has.top (v ∷ before 1 vs) p.heap.words h (walk_straight told b.behind (writes committing t0 v)) stands en.index fits.room some.some core (fits.goes_on true)
-            (record { nought = refl; frame = refl; behind = refl; number = refl; rank = refl; size = refl; local = refl; shared_data = refl; private_heap = refl; shared_mask = refl; devices = refl; heap_mask = refl; node = refl; body = refl; frames = refl; blocks = refl })
+            (record { nought = refl; frame = refl; behind = refl; number = refl; rank = refl; size = refl; local = refl; shared_data = refl; private_heap = refl; shared_mask = refl; devices = refl; heap_mask = refl; node = refl; body = refl; frames = refl; blocks = refl; group_frame = refl })
             stands.top (below_put h.local (place_word n op.depth) word v (omega arith))
             (value_put h.local n word v v (before 1 vs) (omega arith) (omega arith) refl (values_before 1 (value_in h n) vs stands.running.values))
             (λ k lt. other_word h.local word v (16384 + k) (λ e. omega arith) ∙ stands.heap k lt);
@@ -95,7 +95,7 @@ module _ (core : List CoreOp) (image : Image) (places : Places) (i : ℕ) (op : 
       let held = values_before 1 (value_in h n) (before 1 vs) (values_before 1 (value_in h n) vs stands.running.values) in
       let held' = values_kept h.local m.local n (before 1 (before 1 vs)) (λ k from lt. low k (omega arith)) held in
       stands_on places p i j d top (w ∷ before 1 (before 1 vs)) heap h (record m { local = put m.local word v; pc = word_sum m.pc 4 }) stands at room (omega arith) core flows
-      (record { nought = same.nought; frame = same.frame; behind = same.behind; number = same.number; rank = same.rank; size = same.size; local = same.local; shared_data = same.shared_data; private_heap = same.private_heap; shared_mask = same.shared_mask; devices = same.devices; heap_mask = same.heap_mask; node = same.node; body = same.body; frames = same.frames; blocks = same.blocks })
+      (record { nought = same.nought; frame = same.frame; behind = same.behind; number = same.number; rank = same.rank; size = same.size; local = same.local; shared_data = same.shared_data; private_heap = same.private_heap; shared_mask = same.shared_mask; devices = same.devices; heap_mask = same.heap_mask; node = same.node; body = same.body; frames = same.frames; blocks = same.blocks; group_frame = same.group_frame })
       top' (record { same = λ k lt. other_word m.local word v k (λ e. omega arith) ∙ low k (omega arith) })
       (value_put m.local n word v w (before 1 (before 1 vs)) (omega arith) (omega arith) e held')
       (λ k lt. other_word m.local word v (16384 + k) (λ e. omega arith) ∙ high k lt)
@@ -144,7 +144,7 @@ module _ (core : List CoreOp) (image : Image) (places : Places) (i : ℕ) (op : 
         at = refl;
         stands = λ told. replaced (suc i) op.depth p.runner.has.top (committing.registers t1) v p.heap.words (moves committing) stands en.index fits.room en.ready.depth (let l = first.some in omega arith)
             (fits.goes_on true)
-            (record { nought = refl; frame = refl; behind = refl; number = refl; rank = refl; size = refl; local = refl; shared_data = refl; private_heap = refl; shared_mask = refl; devices = refl; heap_mask = refl; node = refl; body = refl; frames = refl; blocks = refl })
+            (record { nought = refl; frame = refl; behind = refl; number = refl; rank = refl; size = refl; local = refl; shared_data = refl; private_heap = refl; shared_mask = refl; devices = refl; heap_mask = refl; node = refl; body = refl; frames = refl; blocks = refl; group_frame = refl })
             stands.top (λ k lt. refl) stands.heap first.calls second.value _ first.index;
       }
   write_commits en fits first second (inr (_, at)) s =
@@ -177,7 +177,7 @@ module _ (core : List CoreOp) (image : Image) (places : Places) (i : ℕ) (op : 
         at = refl;
         stands = λ told. replaced (suc i) op.depth p.runner.has.top (committing.registers t1) v (put p.heap.words x v) m stands en.index fits.room en.ready.depth (let l = first.some in omega arith)
             (fits.goes_on true)
-            (record { nought = refl; frame = refl; behind = refl; number = refl; rank = refl; size = refl; local = refl; shared_data = refl; private_heap = refl; shared_mask = refl; devices = refl; heap_mask = refl; node = refl; body = refl; frames = refl; blocks = refl })
+            (record { nought = refl; frame = refl; behind = refl; number = refl; rank = refl; size = refl; local = refl; shared_data = refl; private_heap = refl; shared_mask = refl; devices = refl; heap_mask = refl; node = refl; body = refl; frames = refl; blocks = refl; group_frame = refl })
             stands.top (λ k lt. other_word h.local (16384 + x) (committing.registers t1) k (λ e. omega arith))
             (λ k lt. heap_put h.local p.heap.words x (committing.registers t1) stands.heap k lt ∙ ap (λ w. put p.heap.words x w k) second.value)
             first.calls second.value _ first.index;
@@ -249,7 +249,7 @@ module _ (core : List CoreOp) (image : Image) (places : Places) (i : ℕ) (op : 
         at = refl;
         stands = λ told. replaced (suc i) op.depth p.runner.has.top (s.words x) (s.words x) p.heap.words (writes committing t0 (s.words x)) stands en.index fits.room en.ready.depth (let l = first.some in omega arith)
             flows
-            (record { nought = refl; frame = refl; behind = refl; number = refl; rank = refl; size = refl; local = refl; shared_data = refl; private_heap = refl; shared_mask = refl; devices = refl; heap_mask = refl; node = refl; body = refl; frames = refl; blocks = refl })
+            (record { nought = refl; frame = refl; behind = refl; number = refl; rank = refl; size = refl; local = refl; shared_data = refl; private_heap = refl; shared_mask = refl; devices = refl; heap_mask = refl; node = refl; body = refl; frames = refl; blocks = refl; group_frame = refl })
             stands.top (λ k lt. refl) stands.heap first.calls refl _ first.index;
       }
 

@@ -13,7 +13,7 @@ use Rattle.fk_machine.proofs.Performs.{writes, moves}
 use Rattle.fk_sim_nodes.specs.Alone.{in_cycles, later}
 use Rattle.fk_sim_heap.specs.Count.{asked_word, added_by, is_past, block_at}
 use Rattle.fk_sim_block.specs.Owner.{Owner, number_of, idle}
-use Rattle.fk_sim_block.specs.Stands.{Places, StandsFor, local_address, zero_register, frame_register, end_register, number_register, rank_register, size_register, top_register, local_register, shared_register, heap_register, shared_mask_register, device_register, heap_mask_register, value_in}
+use Rattle.fk_sim_block.specs.Stands.{Places, StandsFor, local_address, zero_register, frame_register, end_register, number_register, rank_register, size_register, top_register, local_register, shared_register, heap_register, shared_mask_register, device_register, heap_mask_register, group_frame_register, value_in}
 use Rattle.fk_sim_block.specs.Next.{OpAt}
 use Rattle.fk_sim_block.specs.Suits.{Fits, nothing}
 use Rattle.fk_sim_block.specs.Block.{Enters}
@@ -108,6 +108,7 @@ module _ (core : List CoreOp) (image : Image) (places : Places) (i : ℕ) (op : 
         body = goes.registers body_register refl;
         frames = goes.registers frames_register refl;
         blocks = goes.registers blocks_register refl;
+        group_frame = goes.registers group_frame_register refl;
       })
       (goes.registers top_register refl ∙ stands.top)
       (λ j lt apart. other_word h3.local word (h3.registers t0) j (λ e. omega arith) ∙ goes.words j apart)

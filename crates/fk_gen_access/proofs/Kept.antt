@@ -8,11 +8,11 @@ use Rattle.fk_core.specs.declared.op.CoreOp.{CoreOp}
 use Rattle.fk_core.specs.Next.{position}
 use Rattle.fk_machine.specs.Hart.{Hart}
 use Rattle.fk_sim_block.specs.Owner.{Owner}
-use Rattle.fk_sim_block.specs.Stands.{Places, HasValues, HasRoom, HasWaiting, StandsFor, frame_start, group_word, ahead, frame_register, end_register, number_register, rank_register, size_register, top_register, local_register, shared_register, heap_register, shared_mask_register, device_register, heap_mask_register, full_word, zero_register, value_in, FrameInHart, FrameInMemory}
+use Rattle.fk_sim_block.specs.Stands.{Places, HasValues, HasRoom, HasWaiting, StandsFor, frame_start, group_word, ahead, frame_register, end_register, number_register, rank_register, size_register, top_register, local_register, shared_register, heap_register, shared_mask_register, device_register, heap_mask_register, group_frame_register, full_word, zero_register, value_in, FrameInHart, FrameInMemory, HaveGroupFrames}
 use Rattle.fk_sim_block.specs.Suits.{Flows, nothing}
 use Rattle.fk_gen.specs.Keeps.{Keeps}
 use Rattle.fk_gen.proofs.Values.{other_word}
-use Rattle.fk_gen.proofs.Standing.{lies_in, frame_stays, waiting_kept, stands_with}
+use Rattle.fk_gen.proofs.Standing.{lies_in, waiting_kept, groups_on, stands_with}
 use Rattle.fk_sim_block.specs.Node.{node_register, body_register, frames_register, blocks_register}
 use Rattle.fk_gen.proofs.ValueLines.{place_word}
 
@@ -62,6 +62,7 @@ module _ (places : Places) where
     pub body : h'.registers body_register ≡ h.registers body_register
     pub frames : h'.registers frames_register ≡ h.registers frames_register
     pub blocks : h'.registers blocks_register ≡ h.registers blocks_register
+    pub group_frame : h'.registers group_frame_register ≡ h.registers group_frame_register
 
   -- a processor that has gone on to an index, with other values, another private heap and another top of it
   abbrev pub went : Owner → (index : ℕ) → (values : List ℕ) → (heap : Memory) → (top : ℕ) → Owner
@@ -101,6 +102,7 @@ module _ (places : Places) where
           same.shared_mask,
           same.devices,
           same.heap_mask,
+          same.group_frame,
         ) refl refl top' (record {
           running = record {
             home = flows.main ∙ frame.home;
@@ -109,11 +111,11 @@ module _ (places : Places) where
                 let kept' = flows.kept word kept refl in
                 let lt = l.kept word kept' in
                 below (frame_start places n + 7 + word) (omega arith) (λ e. omega arith) ∙ frame.privates word kept';
-            group = λ number told.
-                frame_stays h.local h'.local n number (p.runner.has.call.frames number) (λ known. below (group_word n number) (omega arith) (λ e. omega arith)) (frame.group number (flows.group number told));
           };
-          waiting = waiting_kept places h.local h'.local p.runner.left.callers p.runner.has.callers few (λ k le lt. below k (omega arith) (λ e. omega arith))
-              (λ k le lt. below k (omega arith) (λ e. omega arith)) stands.waiting;
+          waiting = waiting_kept places h.local h'.local p.runner.left.callers p.runner.has.callers few (λ k le lt. below k (omega arith) (λ e. omega arith)) stands.waiting;
+          groups = groups_on core places nothing h.local h'.local (h.registers group_frame_register) i j p.runner.has.call (noted p j vs heap top full).runner.has.call
+              p.runner.left.callers p.runner.has.callers flows refl (λ k number le known. below (group_word k number) (omega arith) (λ e. omega arith))
+              (subst (λ x. HaveGroupFrames places.frames h.local (h.registers group_frame_register) (x ∷ p.runner.left.callers) (p.runner.has.call ∷ p.runner.has.callers)) at stands.groups);
           own = λ k lt. below (7 + k) (omega arith) (λ e. omega arith) ∙ stands.own k lt;
           heap = heap';
           full = full';

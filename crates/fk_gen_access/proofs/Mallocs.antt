@@ -81,7 +81,7 @@ module _ (core : List CoreOp) (image : Image) (places : Places) (i : ℕ) (op : 
         can = λ told. (tt, (tt, (tt, (tt, (tt, (tt, (tt, (tt, (tt, (tt, (tt, (some.place, (tt, (tt, tt))))))))))))));
         at = refl;
         stands = λ told. stands_on places p i (suc i) op.depth (top_word (last vs) top) (take_word (last vs) top ∷ before 1 vs) p.heap.words h m stands en.index fits.room some.some core (fits.goes_on true)
-            (record { nought = refl; frame = refl; behind = refl; number = refl; rank = refl; size = refl; local = refl; shared_data = refl; private_heap = refl; shared_mask = refl; devices = refl; heap_mask = refl; node = refl; body = refl; frames = refl; blocks = refl })
+            (record { nought = refl; frame = refl; behind = refl; number = refl; rank = refl; size = refl; local = refl; shared_data = refl; private_heap = refl; shared_mask = refl; devices = refl; heap_mask = refl; node = refl; body = refl; frames = refl; blocks = refl; group_frame = refl })
             more (below_put h.local (place_word n op.depth) found_at v (omega arith))
             (value_put h.local n found_at v (take_word (last vs) top) (before 1 vs) (omega arith) (omega arith) answer (values_before 1 (value_in h n) vs stands.running.values))
             (λ k lt. other_word h.local found_at v (16384 + k) (λ e. omega arith) ∙ stands.heap k lt);

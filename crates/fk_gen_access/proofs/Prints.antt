@@ -77,7 +77,7 @@ print_does core image places i op operation setting t p h device bytes bound op_
       can = λ told. tt;
       at = refl;
       stands = λ told. stands_on places p i (suc i) op.depth p.runner.has.top (before 1 (values p.runner.has)) p.heap.words h (moves committing) stands en.index fits.room some core flows
-          (record { nought = refl; frame = refl; behind = refl; number = refl; rank = refl; size = refl; local = refl; shared_data = refl; private_heap = refl; shared_mask = refl; devices = refl; heap_mask = refl; node = refl; body = refl; frames = refl; blocks = refl })
+          (record { nought = refl; frame = refl; behind = refl; number = refl; rank = refl; size = refl; local = refl; shared_data = refl; private_heap = refl; shared_mask = refl; devices = refl; heap_mask = refl; node = refl; body = refl; frames = refl; blocks = refl; group_frame = refl })
           stands.top (record { same = λ j lt. refl })
           (values_before 1 (value_in h (length p.runner.has.callers)) (values p.runner.has) stands.running.values)
           stands.heap;

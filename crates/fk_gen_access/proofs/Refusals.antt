@@ -117,7 +117,7 @@ is_tested : (places : Places) (told : Told) (h : Hart) (short alone : Bool) (d s
 is_tested places told h true true d site w a is small nought shared heap at v = record {
   can = (tt, (at, (tt, tt)));
   site = short_site (h.registers zero_register) site nought is small;
-  same = record { nought = refl; frame = refl; behind = refl; number = refl; rank = refl; size = refl; local = refl; shared_data = refl; private_heap = refl; shared_mask = refl; devices = refl; heap_mask = refl; node = refl; body = refl; frames = refl; blocks = refl };
+  same = record { nought = refl; frame = refl; behind = refl; number = refl; rank = refl; size = refl; local = refl; shared_data = refl; private_heap = refl; shared_mask = refl; devices = refl; heap_mask = refl; node = refl; body = refl; frames = refl; blocks = refl; group_frame = refl };
   top = refl;
   local = λ k. refl;
   live = refl;
@@ -127,7 +127,7 @@ is_tested places told h true true d site w a is small nought shared heap at v = 
 is_tested places told h true false d site w a is small nought shared heap at v = record {
   can = (tt, (at, (tt, (tt, tt))));
   site = short_site (h.registers zero_register) site nought is small;
-  same = record { nought = refl; frame = refl; behind = refl; number = refl; rank = refl; size = refl; local = refl; shared_data = refl; private_heap = refl; shared_mask = refl; devices = refl; heap_mask = refl; node = refl; body = refl; frames = refl; blocks = refl };
+  same = record { nought = refl; frame = refl; behind = refl; number = refl; rank = refl; size = refl; local = refl; shared_data = refl; private_heap = refl; shared_mask = refl; devices = refl; heap_mask = refl; node = refl; body = refl; frames = refl; blocks = refl; group_frame = refl };
   top = refl;
   local = λ k. refl;
   live = refl;
@@ -137,7 +137,7 @@ is_tested places told h true false d site w a is small nought shared heap at v =
 is_tested places told h false true d site w a is small nought shared heap at v = record {
   can = (tt, (tt, (at, (tt, tt))));
   site = long_site site small;
-  same = record { nought = refl; frame = refl; behind = refl; number = refl; rank = refl; size = refl; local = refl; shared_data = refl; private_heap = refl; shared_mask = refl; devices = refl; heap_mask = refl; node = refl; body = refl; frames = refl; blocks = refl };
+  same = record { nought = refl; frame = refl; behind = refl; number = refl; rank = refl; size = refl; local = refl; shared_data = refl; private_heap = refl; shared_mask = refl; devices = refl; heap_mask = refl; node = refl; body = refl; frames = refl; blocks = refl; group_frame = refl };
   top = refl;
   local = λ k. refl;
   live = refl;
@@ -147,7 +147,7 @@ is_tested places told h false true d site w a is small nought shared heap at v =
 is_tested places told h false false d site w a is small nought shared heap at v = record {
   can = (tt, (tt, (at, (tt, (tt, tt)))));
   site = long_site site small;
-  same = record { nought = refl; frame = refl; behind = refl; number = refl; rank = refl; size = refl; local = refl; shared_data = refl; private_heap = refl; shared_mask = refl; devices = refl; heap_mask = refl; node = refl; body = refl; frames = refl; blocks = refl };
+  same = record { nought = refl; frame = refl; behind = refl; number = refl; rank = refl; size = refl; local = refl; shared_data = refl; private_heap = refl; shared_mask = refl; devices = refl; heap_mask = refl; node = refl; body = refl; frames = refl; blocks = refl; group_frame = refl };
   top = refl;
   local = λ k. refl;
   live = refl;
@@ -212,6 +212,7 @@ module _ (core : List CoreOp) (image : Image) (places : Places) (i : ℕ) (op : 
       body = same.body ∙ c.same.body;
       frames = same.frames ∙ c.same.frames;
       blocks = same.blocks ∙ c.same.blocks;
+      group_frame = same.group_frame ∙ c.same.group_frame;
     };
     top = top ∙ c.top;
     local = λ k. local k ∙ c.local k;
@@ -222,7 +223,7 @@ module _ (core : List CoreOp) (image : Image) (places : Places) (i : ℕ) (op : 
       → IsChecked (before + 1) kc' (goes_to_pc g pc)
   branched before kc kc' pc g c few goes is =
       more before kc kc' g (goes_to_pc g pc) c few goes is refl
-      (record { nought = refl; frame = refl; behind = refl; number = refl; rank = refl; size = refl; local = refl; shared_data = refl; private_heap = refl; shared_mask = refl; devices = refl; heap_mask = refl; node = refl; body = refl; frames = refl; blocks = refl })
+      (record { nought = refl; frame = refl; behind = refl; number = refl; rank = refl; size = refl; local = refl; shared_data = refl; private_heap = refl; shared_mask = refl; devices = refl; heap_mask = refl; node = refl; body = refl; frames = refl; blocks = refl; group_frame = refl })
       refl (λ k. refl) refl
 
   idled : (before kc : ℕ) (g : Hart) → Holds image t → IsChecked before kc g → suc before ≤ 7 → IsAt image kc idle 0 → IsChecked (before + 1) (suc kc) (after told idle Plain g)
@@ -232,7 +233,7 @@ module _ (core : List CoreOp) (image : Image) (places : Places) (i : ℕ) (op : 
       more before kc (suc kc) g (after told idle Plain g) c few
       (private image (in_cycles before t) number kc idle g (after told idle Plain g) (holds_in_cycles image before t holds) at c.pc c.live (λ s. (s.reserved, refl)))
       (omega arith) refl
-      (record { nought = refl; frame = refl; behind = refl; number = refl; rank = refl; size = refl; local = refl; shared_data = refl; private_heap = refl; shared_mask = refl; devices = refl; heap_mask = refl; node = refl; body = refl; frames = refl; blocks = refl })
+      (record { nought = refl; frame = refl; behind = refl; number = refl; rank = refl; size = refl; local = refl; shared_data = refl; private_heap = refl; shared_mask = refl; devices = refl; heap_mask = refl; node = refl; body = refl; frames = refl; blocks = refl; group_frame = refl })
       refl (λ k. refl) refl
 
   asked : (alone : Bool) (s : Commons) (b : Bool) → may_use alone a ≡ b
@@ -255,7 +256,7 @@ module _ (core : List CoreOp) (image : Image) (places : Places) (i : ℕ) (op : 
       let same = c.same in
       let on =
       stands_on places p i (suc i) op.depth p.runner.has.top vs p.heap.words h e stands en.index here.fits.room (let some = here.fits.values in omega arith) core (here.fits.goes_on true)
-      (record { nought = same.nought; frame = same.frame; behind = same.behind; number = same.number; rank = same.rank; size = same.size; local = same.local; shared_data = same.shared_data; private_heap = same.private_heap; shared_mask = same.shared_mask; devices = same.devices; heap_mask = same.heap_mask; node = same.node; body = same.body; frames = same.frames; blocks = same.blocks })
+      (record { nought = same.nought; frame = same.frame; behind = same.behind; number = same.number; rank = same.rank; size = same.size; local = same.local; shared_data = same.shared_data; private_heap = same.private_heap; shared_mask = same.shared_mask; devices = same.devices; heap_mask = same.heap_mask; node = same.node; body = same.body; frames = same.frames; blocks = same.blocks; group_frame = same.group_frame })
       (c.top ∙ stands.top)
       (record { same = λ j lt. c.local j })
       (values_kept h.local e.local n vs (λ j from lt. c.local j) stands.running.values)

@@ -1,8 +1,8 @@
 -- The block of each operation of expressions does it.
-use Rattle.std.proofs.Common.{◌≡◌, ℕ, suc, ◌+◌, ◌-◌, ◌*◌, ◌^◌, ◌<◌, ◌≤◌, List, [], ◌∷◌, ◌++◌, length, Bool, true, false, refl, sym, ap, subst, ◌∙◌, arith}
-use Rattle.std.specs.Prelude.{◌==◌}
+use Rattle.std.proofs.Common.{◌≡◌, ℕ, zero, suc, ◌+◌, ◌-◌, ◌*◌, ◌^◌, ◌<◌, ◌≤◌, List, [], ◌∷◌, ◌++◌, length, Bool, true, false, refl, sym, ap, subst, ◌∙◌, arith}
+use Rattle.std.specs.Prelude.{◌==◌, if◌then◌else◌}
 use Rattle.std.proofs.lemmas.List.{length-append}
-use Rattle.std.proofs.lemmas.Bool.{eqb-true, eq-eqb}
+use Rattle.std.proofs.lemmas.Bool.{eqb-true, eq-eqb, ne_eqb}
 use Rattle.fk_num.specs.Word.{put, word, word_sum}
 use Rattle.fk_num.specs.Op.{applied}
 use Rattle.fk_num.specs.declared.operator.Op.{Op}
@@ -23,7 +23,7 @@ use Rattle.fk_isa.specs.declared.instruction.Instruction.{Instruction}
 use Rattle.fk_isa.specs.declared.instruction.Instruction.TheVariants.{Lui, Addi, Slli, Add, Mul, Lw, Sw}
 use Rattle.fk_machine.specs.Hart.{Hart, Setting as MachineSetting}
 use Rattle.fk_sim_block.specs.Owner.{Owner, number_of, owner_of}
-use Rattle.fk_sim_block.specs.Stands.{Places, HasRoom, frame_start, group_word, value_in, StandsFor, zero_register, frame_register, end_register, local_register, device_register, number_register, rank_register, size_register}
+use Rattle.fk_sim_block.specs.Stands.{Places, HasRoom, IsGroupFrame, TellsFrame, group_word, frame_start, value_in, StandsFor, zero_register, frame_register, end_register, local_register, device_register, number_register, rank_register, size_register, group_frame_register}
 use Rattle.fk_sim_block.specs.Next.{OpAt}
 use Rattle.fk_sim_block.specs.Suits.{Fits, Flows, writes}
 use Rattle.fk_sim_block.specs.Block.{Enters}
@@ -32,7 +32,7 @@ use Rattle.fk_gen.specs.Keeps.{Keeps, DoesAnd, past_first, peak}
 use Rattle.fk_gen.specs.Lines.{first_commits, at_private, high_part, low_part, load_by, load_number, add_by}
 use Rattle.fk_gen.proofs.Walk.{Told, Quiets, Reached, Plain, LocalAt, TellsNumber, TellsHarts, TellsInputs, walk, CanRun, CanWalk, told_of, after}
 use Rattle.fk_gen_expr.specs.Operators.{operator_code, sign_instruction}
-use Rattle.fk_gen_expr.specs.Expressions.{IsExpression, expression_block, load_frame, frame_word, times_size}
+use Rattle.fk_gen_expr.specs.Expressions.{IsExpression, expression_block, load_frame, part_word, own_address, part_address, times_size}
 use Rattle.fk_gen_expr.specs.Law.{ExpressionsDo, ExpressionsKeep}
 use Rattle.fk_gen.specs.Operands.{operand, result}
 use Rattle.fk_gen.proofs.ValueLines.{place_reached, operand_line, result_line, operand_runs, result_runs, operand_is, earlier_is, result_keeps, result_stands}
@@ -82,12 +82,14 @@ module _ (core : List CoreOp) (image : Image) (places : Places) (bound : ℕ →
   abbrev pub IsDone : Operation → Type 0
   IsDone operation = DoesAnd core image places setting t p h 0 (past_first (expression_block globals d operation)) (KeepsMost operation)
 
-  -- behind its code it stands for a processor of the same level, with as many calls waiting, that it has in memory
+  -- behind its code it stands for a processor of the same level, with as many calls waiting, that it has in memory, with the
+  -- same group frame
   stands_after : (operation : Operation) (h2 : Hart) (p2 : Owner) → Here operation → HasSame h h2 → p2.runner.has.level ≡ p.runner.has.level
-      → length p2.runner.has.callers ≡ n → p2.runner.has.top ≡ p.runner.has.top → InMemory places h2.local p2 → StandsFor places p2 h2
+      → length p2.runner.has.callers ≡ n → p2.runner.has.top ≡ p.runner.has.top
+      → InMemory places h2.local (h.registers group_frame_register) p2 → StandsFor places p2 h2
   stands_after operation h2 p2 here same level calls top held =
       stands_with places p p2 h h2 here.enters.at.stands
-      (same.0, same.1, same.2, same.3, same.4, same.5, same.6, same.7, same.8, same.10, same.11, same.12) level calls (same.9 ∙ here.enters.at.stands.top ∙ sym top) held
+      (same.0, same.1, same.2, same.3, same.4, same.5, same.6, same.7, same.8, same.10, same.11, same.12, same.17) level calls (same.9 ∙ here.enters.at.stands.top ∙ sym top) held
 
   -- code that leaves a value in a register, which then is stored in place of the last so many
   value_does : (operation : Operation) (code : Quiets) (register dropped k v : ℕ) → Here operation
@@ -109,9 +111,9 @@ module _ (core : List CoreOp) (image : Image) (places : Places) (bound : ℕ →
       let header = room.header in
       let new = v ∷ before dropped vs in
       let can = can_walk-append told code (store ∷ []) h gives.can (result_runs register n k h1 (gives.same.2 ∙ stands.behind) waiting (omega arith) (omega arith), tt) in
-      let written : InMemory places h2.local (with_list core places (suc i) new p) =
-      result_stands core places told p i (suc i) register dropped k v h1 here.few waiting here.enters.index room enough top flows gives.result
-      (subst (λ m. InMemory places m p) (sym gives.local) (in_memory places p h stands)) in
+      let written : InMemory places h2.local (h.registers group_frame_register) (with_list core places (suc i) new p) =
+      result_stands core places told (h.registers group_frame_register) p i (suc i) register dropped k v h1 here.few waiting here.enters.index room enough top flows gives.result
+      (subst (λ m. InMemory places m (h.registers group_frame_register) p) (sym gives.local) (in_memory places p h stands)) in
       let standing : StandsFor places (with_list core places (suc i) new p) h2 =
       stands_after operation h2 (with_list core places (suc i) new p) here gives.same refl refl refl written in
       let size : length full ≡ length code + 1 = length-append code (store ∷ []) in
@@ -145,7 +147,7 @@ module _ (core : List CoreOp) (image : Image) (places : Places) (bound : ℕ →
   reaches operation register k here first last =
       operand_runs register n k h here.enters.at.stands.behind here.enters.ready.in_range.waiting first last
 
-  -- the header's word with the address of the call's group frame is loaded
+  -- the header's word with the address of a group frame of the call is loaded
   header_runs : (operation : Operation) (register nesting : ℕ) → nesting < 4 → Here operation → CanRun (load_frame register nesting) (LocalAt (group_word n nesting)) h
   header_runs operation register nesting known here =
       value_place (h.registers end_register) n (61 - nesting) here.enters.at.stands.behind here.enters.ready.in_range.waiting (omega arith) (omega arith)
@@ -250,29 +252,68 @@ module _ (core : List CoreOp) (image : Image) (places : Places) (bound : ℕ →
   few_of_sum load true number = omega arith
   few_of_sum load false number = omega arith
 
-  -- the address of a word of a group frame
-  frame_word_does : (nesting w : ℕ) (is_first : Bool) → (w == 0) ≡ is_first → Here (Get (FrameAddress nesting w)) → IsDone (Get (FrameAddress nesting w))
-  frame_word_does nesting w true e here =
-      let stands = here.enters.at.stands in
+  -- the register of group frames and a number
+  own_sum_gives : (short : Bool) (number a : ℕ) → (high_part number == 0) ≡ short → h.registers group_frame_register ≡ a
+      → Gives told (on_registers (add_by short number group_frame_register)) h t0 (word (a + number))
+  own_sum_gives true number a e is = record {
+    can = (tt, tt);
+    same = itself h;
+    local = refl;
+    result = ap (λ x. word_sum x (low_part number)) is ∙ sum_of_low a (low_part number) number (number_of_low_part number e);
+  }
+  own_sum_gives false number a e is = record {
+    can = (tt, (tt, (tt, tt)));
+    same = itself h;
+    local = refl;
+    result =
+        ap (λ x. word_sum (word_sum (high_part number * 4096) (low_part number)) x) is
+        ∙ sum_of_parts a (word_sum (high_part number * 4096) (low_part number)) number (number_of_parts number);
+  }
+
+  few_of_own : (short : Bool) (number : ℕ) → length (on_registers (add_by short number group_frame_register)) ≤ 20
+  few_of_own true number = omega arith
+  few_of_own false number = omega arith
+
+  -- the address of a word of the function's own group frame
+  own_word_does : (w : ℕ) → Here (Get (FrameAddress 0 w)) → IsDone (Get (FrameAddress 0 w))
+  own_word_does w here =
+      let place = here.fits.place in
+      let told_at = ap (λ j. places.frames.group j 0) here.enters.index ∙ place.0.0 in
+      let has : IsGroupFrame (h.registers group_frame_register) (p.runner.has.call.frames 0) =
+      subst (λ o. TellsFrame o (h.registers group_frame_register) p.runner.has.call) told_at here.enters.at.stands.groups.0 in
+      let a = address_of (p.runner.has.call.frames 0) in
+      let number = 4 * w in
+      let short = high_part number == 0 in
+      let code = on_registers (add_by short number group_frame_register) in
+      let same : word (a + number) ≡ word (address_of (p.runner.has.call.frames 0 + w)) = omega arith in
+      get_with (FrameAddress 0 w) code t0 (word (address_of (p.runner.has.call.frames 0 + w))) here
+      (ap (λ is. first_commits is) (instructions_of-append (add_by short number group_frame_register) (result_line t0 n (d + 1) ∷ []))) (few_of_own short number) refl
+      (subst (Gives told code h t0) same (own_sum_gives short number a refl has.is))
+
+  -- that of a word of a part's
+  abbrev AtFrame : (own : Bool) (nesting w : ℕ) → List Instruction
+  AtFrame own nesting w = if own then own_address d w else part_address d nesting w
+
+  part_word_does : (nesting w : ℕ) (is_first : Bool) → (nesting == 0) ≡ false → 0 < nesting → (w == 0) ≡ is_first → Here (Get (FrameAddress nesting w)) → IsDone (Get (FrameAddress nesting w))
+  part_word_does nesting w true of_part part e here =
       let place = here.fits.place in
       let told_at = ap (λ j. places.frames.group j nesting) here.enters.index ∙ place.0.0 in
-      let has = stands.running.group nesting told_at in
-      let small = has.within in
-      let address = has.address in
+      let has = here.enters.at.stands.groups.1 nesting part told_at in
+      let small = has.1.within in
+      let address = has.1.is in
       let none = eqb-true w 0 e in
       get_with (FrameAddress nesting w) ((load_frame t0 nesting, LocalAt (group_word n nesting)) ∷ []) t0 (word (address_of (p.runner.has.call.frames nesting + w))) here
-      (ap (λ b. first_commits (frame_word b nesting w ++ result t0 (d + 1) ∷ [])) (sym e)) (omega arith) refl
+      (ap (λ b. first_commits (part_word b nesting w ++ result t0 (d + 1) ∷ [])) (sym e) ∙ ap (λ b. first_commits (AtFrame b nesting w)) (sym of_part)) (omega arith) refl
       record {
-        can = (header_runs (Get (FrameAddress nesting w)) t0 nesting has.few here, tt);
+        can = (header_runs (Get (FrameAddress nesting w)) t0 nesting has.0 here, tt);
         same = itself h;
         local = refl;
         result = omega arith;
       }
-  frame_word_does nesting w false e here =
-      let stands = here.enters.at.stands in
+  part_word_does nesting w false of_part part e here =
       let place = here.fits.place in
       let told_at = ap (λ j. places.frames.group j nesting) here.enters.index ∙ place.0.0 in
-      let has = stands.running.group nesting told_at in
+      let has = here.enters.at.stands.groups.1 nesting part told_at in
       let a = address_of (p.runner.has.call.frames nesting) in
       let number = 4 * w in
       let short = high_part number == 0 in
@@ -280,12 +321,17 @@ module _ (core : List CoreOp) (image : Image) (places : Places) (bound : ℕ →
       let same : word (a + number) ≡ word (address_of (p.runner.has.call.frames nesting + w)) = omega arith in
       get_with (FrameAddress nesting w) (load ∷ on_registers (add_by short number t1)) t0 (word (address_of (p.runner.has.call.frames nesting + w))) here
       (ap (λ rest. first_commits (load_frame t1 nesting ∷ rest)) (instructions_of-append (add_by short number t1) (result_line t0 n (d + 1) ∷ []))
-      ∙ ap (λ b. first_commits (frame_word b nesting w ++ result t0 (d + 1) ∷ [])) (sym e))
+      ∙ ap (λ b. first_commits (part_word b nesting w ++ result t0 (d + 1) ∷ [])) (sym e) ∙ ap (λ b. first_commits (AtFrame b nesting w)) (sym of_part))
       (few_of_sum load short number) refl
       (subst (Gives told (load ∷ on_registers (add_by short number t1)) h t0) same
       (gives_behind told (load ∷ []) (on_registers (add_by short number t1)) h t0 (word (a + number))
-      (header_runs (Get (FrameAddress nesting w)) t1 nesting has.few here, tt) (itself h) refl
-      (sum_gives short number a refl (after told load.0 load.1 h) has.address)))
+      (header_runs (Get (FrameAddress nesting w)) t1 nesting has.0 here, tt) (itself h) refl
+      (sum_gives short number a refl (after told load.0 load.1 h) has.1.is)))
+
+  frame_word_does : (nesting w : ℕ) → Here (Get (FrameAddress nesting w)) → IsDone (Get (FrameAddress nesting w))
+  frame_word_does zero w here = own_word_does w here
+  frame_word_does (suc nesting) w here =
+      part_word_does (suc nesting) w (w == 0) (ne_eqb (suc nesting) 0 (λ e. omega arith)) (omega arith) refl here
 
   get_does : (known : OwnValue) → Here (Get known) → IsDone (Get known)
   get_does (Value (Private w)) here =
@@ -337,7 +383,7 @@ module _ (core : List CoreOp) (image : Image) (places : Places) (bound : ℕ →
         local = gives.local;
         result = gives.result ∙ whole;
       }
-  get_does (FrameAddress nesting w) here = frame_word_does nesting w (w == 0) refl here
+  get_does (FrameAddress nesting w) here = frame_word_does nesting w here
 
   -- ---- signs, operators and indices
 
@@ -471,7 +517,7 @@ module _ (core : List CoreOp) (image : Image) (places : Places) (bound : ℕ →
       record { kind = refl; onward = refl }
       (tt, tt)
       (stands_after DropLast h1 (with_list core places (suc i) new p) here (itself h) refl refl refl
-      (nothing_written core places h.local p i (suc i) d new here.few here.enters.ready.in_range.waiting here.enters.index here.fits.room flows
+      (nothing_written core places h.local (h.registers group_frame_register) p i (suc i) d new here.few here.enters.ready.in_range.waiting here.enters.index here.fits.room flows
       (in_memory places p h here.enters.at.stands)
       (values_before 1 (value_in h n) vs here.enters.at.stands.running.values)))
       record { node = refl; body = refl; frames = refl; blocks = refl; header = λ j lt apart. refl; words = λ j from lt apart. refl }
@@ -493,8 +539,8 @@ module _ (core : List CoreOp) (image : Image) (places : Places) (bound : ℕ →
       record { kind = refl; onward = refl }
       (reaches (Set (Private w)) t0 d here is.0 is.1, (private_place places (h.registers frame_register) n w stands.frame waiting here.few is.2, tt))
       (stands_after (Set (Private w)) h2 new here (itself h) refl refl refl
-      (subst (λ m. InMemory places m new) found
-      (private_written core places h.local p i (suc i) w (last vs) d here.few waiting here.enters.index here.fits.room (omega arith) here.fits.place flows
+      (subst (λ m. InMemory places m (h.registers group_frame_register) new) found
+      (private_written core places h.local (h.registers group_frame_register) p i (suc i) w (last vs) d here.few waiting here.enters.index here.fits.room (omega arith) here.fits.place flows
       (in_memory places p h stands))))
       record {
         node = refl;
@@ -521,8 +567,8 @@ module _ (core : List CoreOp) (image : Image) (places : Places) (bound : ℕ →
       record { kind = refl; onward = refl }
       (reaches (Set (OfFile w)) t0 d here is.0 is.1, (own_place (h.registers local_register) w stands.local is.2, tt))
       (stands_after (Set (OfFile w)) h2 new here (itself h) refl refl refl
-      (subst (λ m. InMemory places m new) found
-      (own_written core places h.local p i (suc i) w (last vs) d here.few waiting here.enters.index here.fits.room (omega arith) here.fits.place flows
+      (subst (λ m. InMemory places m (h.registers group_frame_register) new) found
+      (own_written core places h.local (h.registers group_frame_register) p i (suc i) w (last vs) d here.few waiting here.enters.index here.fits.room (omega arith) here.fits.place flows
       (in_memory places p h stands))))
       record {
         node = refl;

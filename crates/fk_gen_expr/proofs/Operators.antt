@@ -13,7 +13,7 @@ use Rattle.fk_isa.specs.declared.instruction.Instruction.TheVariants.{Add, Sub, 
 use Rattle.fk_machine.specs.Hart.{Hart}
 use Rattle.fk_machine.proofs.Performs.{writes}
 use Rattle.fk_gen.proofs.Walk.{Told, Quiets, Plain, after, CanRun, walk, CanWalk}
-use Rattle.fk_sim_block.specs.Stands.{zero_register, frame_register, end_register, number_register, rank_register, size_register, top_register, local_register, shared_register, heap_register, shared_mask_register, device_register, heap_mask_register}
+use Rattle.fk_sim_block.specs.Stands.{zero_register, frame_register, end_register, number_register, rank_register, size_register, top_register, local_register, shared_register, heap_register, shared_mask_register, device_register, heap_mask_register, group_frame_register}
 use Rattle.fk_sim_block.specs.Node.{node_register, body_register, frames_register, blocks_register}
 use Rattle.fk_gen.specs.Registers.{t0, t1, t2}
 use Rattle.fk_gen_expr.specs.Operators.{operator_code, sign_instruction, keep_first, take_second}
@@ -28,6 +28,7 @@ HasSame h h' =
     × (h'.registers local_register ≡ h.registers local_register) × (h'.registers shared_register ≡ h.registers shared_register) × (h'.registers heap_register ≡ h.registers heap_register)
     × (h'.registers top_register ≡ h.registers top_register) × (h'.registers shared_mask_register ≡ h.registers shared_mask_register) × (h'.registers device_register ≡ h.registers device_register) × (h'.registers heap_mask_register ≡ h.registers heap_mask_register)
     × (h'.registers node_register ≡ h.registers node_register) × (h'.registers body_register ≡ h.registers body_register) × (h'.registers frames_register ≡ h.registers frames_register) × (h'.registers blocks_register ≡ h.registers blocks_register)
+    × (h'.registers group_frame_register ≡ h.registers group_frame_register)
 
 -- code leaves a value in a register, and all that stands for something as it was
 pub record Gives (told : Told) (code : Quiets) (h : Hart) (register v : ℕ) : Type 0 where
@@ -37,11 +38,11 @@ pub record Gives (told : Told) (code : Quiets) (h : Hart) (register v : ℕ) : T
   pub result : (walk told code h).registers register ≡ v
 
 pub itself : (h : Hart) → HasSame h h
-itself h = (refl, refl, refl, refl, refl, refl, refl, refl, refl, refl, refl, refl, refl, refl, refl, refl, refl)
+itself h = (refl, refl, refl, refl, refl, refl, refl, refl, refl, refl, refl, refl, refl, refl, refl, refl, refl, refl)
 
 in_turn : (h h1 h2 : Hart) → HasSame h h1 → HasSame h1 h2 → HasSame h h2
 in_turn h h1 h2 a b =
-    (b.0 ∙ a.0, b.1 ∙ a.1, b.2 ∙ a.2, b.3 ∙ a.3, b.4 ∙ a.4, b.5 ∙ a.5, b.6 ∙ a.6, b.7 ∙ a.7, b.8 ∙ a.8, b.9 ∙ a.9, b.10 ∙ a.10, b.11 ∙ a.11, b.12 ∙ a.12, b.13 ∙ a.13, b.14 ∙ a.14, b.15 ∙ a.15, b.16 ∙ a.16)
+    (b.0 ∙ a.0, b.1 ∙ a.1, b.2 ∙ a.2, b.3 ∙ a.3, b.4 ∙ a.4, b.5 ∙ a.5, b.6 ∙ a.6, b.7 ∙ a.7, b.8 ∙ a.8, b.9 ∙ a.9, b.10 ∙ a.10, b.11 ∙ a.11, b.12 ∙ a.12, b.13 ∙ a.13, b.14 ∙ a.14, b.15 ∙ a.15, b.16 ∙ a.16, b.17 ∙ a.17)
 
 -- code behind code that only prepares it
 pub gives_behind : (told : Told) (xs ys : Quiets) (h : Hart) (register v : ℕ) → CanWalk told xs h → HasSame h (walk told xs h)

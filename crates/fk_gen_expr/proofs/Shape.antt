@@ -1,6 +1,6 @@
 -- The shape of the blocks: few lines, none of which goes to a label.
 use Rattle.std.proofs.Common.{◌≡◌, ℕ, ◌+◌, ◌-◌, ◌*◌, ◌≤◌, List, [], ◌∷◌, ◌++◌, map, length, Bool, true, false, All, arith, refl}
-use Rattle.std.specs.Prelude.{◌==◌}
+use Rattle.std.specs.Prelude.{◌==◌, if◌then◌else◌}
 use Rattle.std.proofs.lemmas.List.{length-append, length-map}
 use Rattle.std.proofs.lemmas.List.Elements.{All-nil, All-cons}
 use Rattle.fk_meaning_operation.specs.declared.operation.OwnValue.TheVariants.{Value, Rank, GroupNumber, ProcessorNumber, Processors, GroupSize, InputLength, FrameAddress, InputAddress}
@@ -10,11 +10,12 @@ use Rattle.fk_meaning_store.specs.Store.{address_of}
 use Rattle.fk_isa.specs.declared.instruction.Instruction.{Instruction}
 use Rattle.fk_isa.specs.declared.instruction.Instruction.TheVariants.{Add}
 use Rattle.fk_asm.proofs.Straight.{IsUnlabeled}
+use Rattle.fk_sim_block.specs.Stands.{group_frame_register}
 use Rattle.fk_gen.specs.Lines.{quiet, commits, high_part, load_by, add_by, first_commits}
 use Rattle.fk_gen.specs.Registers.{t0, t1}
 use Rattle.fk_gen.specs.Operands.{operand, result}
 use Rattle.fk_gen_expr.specs.Operators.{operator_code}
-use Rattle.fk_gen_expr.specs.Expressions.{IsExpression, expression_block, expression_code, load_frame, frame_word, times_size}
+use Rattle.fk_gen_expr.specs.Expressions.{IsExpression, expression_block, expression_code, load_frame, part_word, own_address, part_address, times_size}
 use Rattle.fk_gen_expr.proofs.Operators.{few_of_operator}
 
 quiet_unlabeled : (is : List Instruction) → All IsUnlabeled (map quiet is)
@@ -57,9 +58,17 @@ sum_short : (short : Bool) (n r : ℕ) (l s : Instruction) → IsShortCode (leng
 sum_short true n r l s = record { some = omega arith; few = omega arith }
 sum_short false n r l s = record { some = omega arith; few = omega arith }
 
-frame_short : (is_first : Bool) (nesting word : ℕ) (s : Instruction) → IsShortCode (length (first_commits (frame_word is_first nesting word ++ s ∷ [])))
-frame_short true nesting word s = record { some = omega arith; few = omega arith }
-frame_short false nesting word s = sum_short (high_part (4 * word) == 0) (4 * word) t1 (load_frame t1 nesting) s
+part_short : (is_first : Bool) (nesting word : ℕ) (s : Instruction) → IsShortCode (length (first_commits (part_word is_first nesting word ++ s ∷ [])))
+part_short true nesting word s = record { some = omega arith; few = omega arith }
+part_short false nesting word s = sum_short (high_part (4 * word) == 0) (4 * word) t1 (load_frame t1 nesting) s
+
+own_short : (short : Bool) (n r : ℕ) (s : Instruction) → IsShortCode (length (first_commits (add_by short n r ++ s ∷ [])))
+own_short true n r s = record { some = omega arith; few = omega arith }
+own_short false n r s = record { some = omega arith; few = omega arith }
+
+frame_short : (own : Bool) (d nesting word : ℕ) → IsShortCode (length (first_commits (if own then own_address d word else part_address d nesting word)))
+frame_short true d nesting word = own_short (high_part (4 * word) == 0) (4 * word) group_frame_register (result t0 (d + 1))
+frame_short false d nesting word = part_short (word == 0) nesting word (result t0 (d + 1))
 
 pub block_short : (globals d : ℕ) (operation : Operation) → IsExpression globals d operation → IsShortCode (length (expression_block globals d operation))
 block_short globals d (Push n) is = number_short (high_part n == 0) n (result t0 (d + 1))
@@ -71,7 +80,7 @@ block_short globals d (Get ProcessorNumber) is = record { some = omega arith; fe
 block_short globals d (Get Processors) is = record { some = omega arith; few = omega arith }
 block_short globals d (Get InputLength) is = record { some = omega arith; few = omega arith }
 block_short globals d (Get InputAddress) is = number_short (high_part (address_of globals) == 0) (address_of globals) (result t0 (d + 1))
-block_short globals d (Get (FrameAddress nesting word)) is = frame_short (word == 0) nesting word (result t0 (d + 1))
+block_short globals d (Get (FrameAddress nesting word)) is = frame_short (nesting == 0) d nesting word
 block_short globals d (Set variable) is = record { some = omega arith; few = omega arith }
 block_short globals d DropLast is = record { some = omega arith; few = omega arith }
 block_short globals d CopyLast is = record { some = omega arith; few = omega arith }

@@ -3,7 +3,7 @@
 -- The first instruction is the commit: a processor does a local operation at once, and its hart
 -- catches up with it.
 use Rattle.std.specs.Prelude.{ℕ, ◌+◌, ◌-◌, ◌*◌, ◌^◌, ◌<◌, ◌≤◌, ◌==◌, List, [], ◌∷◌, ◌++◌, Bool}
-use Rattle.std.specs.Prelude.{true, false, IsSomeAnd}
+use Rattle.std.specs.Prelude.{true, false, IsSomeAnd, if◌then◌else◌}
 use Rattle.std.specs.Option.{option_map_or}
 use Rattle.fk_num.specs.declared.operator.Op.{Op}
 use Rattle.fk_meaning_operation.specs.declared.operation.OwnValue.{OwnValue}
@@ -31,7 +31,7 @@ use Rattle.fk_asm.specs.Block.{MarkedLine}
 use Rattle.fk_sim_block.specs.Stands.{frame_register, end_register, number_register, rank_register}
 use Rattle.fk_sim_block.specs.Stands.{size_register, local_register, device_register}
 use Rattle.fk_gen.specs.declared.placed.Placed.{Placed}
-use Rattle.fk_sim_block.specs.Stands.{zero_register}
+use Rattle.fk_sim_block.specs.Stands.{zero_register, group_frame_register}
 use Rattle.fk_gen.specs.Registers.{t0, t1, t2}
 use Rattle.fk_gen.specs.Operands.{operand, result}
 use Rattle.fk_gen.specs.Lines.{at_private, high_part, low_part}
@@ -65,16 +65,25 @@ push_device d offset = Lw t0 device_register offset ∷ result t0 (d + 1) ∷ []
 abbrev pub push_number : (depth n : ℕ) → List Instruction
 push_number d n = load_number n ++ result t0 (d + 1) ∷ []
 
--- The address of a word of a group frame of the call, in t0. The header has that of the first word.
+-- Pushes the address of a word of the function's own group frame. A register has that of the first
+-- word.
+abbrev pub own_address : (depth word : ℕ) → List Instruction
+own_address d word = add_number (4 * word) group_frame_register ++ result t0 (d + 1) ∷ []
+
+-- Pushes that of a word of a part's. The header has that of the first word.
 abbrev pub load_frame : (register nesting : ℕ) → Instruction
 load_frame register nesting = Lw register end_register (at_group_frame nesting)
 
-abbrev pub frame_word : (is_first : Bool) (nesting word : ℕ) → List Instruction
-frame_word true nesting word = load_frame t0 nesting ∷ []
-frame_word false nesting word = load_frame t1 nesting ∷ add_number (4 * word) t1
+abbrev pub part_word : (is_first : Bool) (nesting word : ℕ) → List Instruction
+part_word true nesting word = load_frame t0 nesting ∷ []
+part_word false nesting word = load_frame t1 nesting ∷ add_number (4 * word) t1
+
+abbrev pub part_address : (depth nesting word : ℕ) → List Instruction
+part_address d nesting word = part_word (word == 0) nesting word ++ result t0 (d + 1) ∷ []
 
 abbrev pub frame_address : (depth nesting word : ℕ) → List Instruction
-frame_address d nesting word = frame_word (word == 0) nesting word ++ result t0 (d + 1) ∷ []
+frame_address d nesting word =
+    if nesting == 0 then own_address d word else part_address d nesting word
 
 abbrev pub get_code : (globals depth : ℕ) → OwnValue → List Instruction
 get_code globals d (Value variable) = load_variable variable ∷ result t0 (d + 1) ∷ []

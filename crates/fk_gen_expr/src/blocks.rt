@@ -11,7 +11,9 @@ ghost use Rattle.fk_gen_expr.specs.Expressions as code;
 
 use fk_asm::{Assembler, Blocks};
 use fk_gen::numbers::{at_group_frame, at_private, high_part, low_part};
-use fk_gen::registers::{DEVICES, END, FRAME, LOCAL, NUMBER, RANK, SIZE, T0, T1, T2, ZERO};
+use fk_gen::registers::{
+    DEVICES, END, FRAME, GROUP_FRAME, LOCAL, NUMBER, RANK, SIZE, T0, T1, T2, ZERO,
+};
 use fk_gen::{BlockLine, Placed, emit_lines, operand, result};
 use fk_isa::Instruction;
 use fk_meaning_operation::{Operation, OwnValue, Unary, Variable};
@@ -132,7 +134,7 @@ fn get(into: &mut Assembler, globals: u32, depth: u32, known: OwnValue) -> Resul
     }
 }
 
-// The address of a word of a group frame of the call. The header has that of the first word.
+// The address of a word of a group frame of the call.
 fn frame_address(
     into: &mut Assembler,
     depth: u32,
@@ -148,6 +150,55 @@ fn frame_address(
         (into.new ≡ with_block into.old (first_commits (code.frame_address depth nesting word))) }
     ensures begun { OnErr result
         (HasBegun (first_commits (code.frame_address depth nesting word)) into.old into.new) }
+{
+    if nesting == 0 {
+        own_address(into, depth, word)
+    } else {
+        part_address(into, depth, nesting, word)
+    }
+}
+
+// That of a word of the function's own. A register has that of the first word.
+fn own_address(into: &mut Assembler, depth: u32, word: u32) -> Result<(), AllocError>
+    requires depth { depth < 64 }
+    requires word { word < 2 ^ 21 }
+    requires room { length into.old.lines
+        + length (first_commits (code.own_address depth word)) < 2 ^ 30 }
+    requires free { AreFollowed into.old }
+    ensures added { OnOk result
+        (into.new ≡ with_block into.old (first_commits (code.own_address depth word))) }
+    ensures begun { OnErr result
+        (HasBegun (first_commits (code.own_address depth word)) into.old into.new) }
+{
+    let high = high_part(4 * word);
+    let low = low_part(4 * word);
+    let store = result(T0, depth + 1);
+    if high == 0 {
+        move_word(into, Instruction::Addi(T0, GROUP_FRAME, low), store)
+    } else {
+        let upper = BlockLine::commits(Instruction::Lui(T0, high));
+        let lower = BlockLine::quiet(Instruction::Addi(T0, T0, low));
+        let sum = BlockLine::quiet(Instruction::Add(T0, T0, GROUP_FRAME));
+        emit_lines(into, &[upper, lower, sum, BlockLine::quiet(store)])
+    }
+}
+
+// That of a word of a part's. The header has that of the first word.
+fn part_address(
+    into: &mut Assembler,
+    depth: u32,
+    nesting: u32,
+    word: u32,
+) -> Result<(), AllocError>
+    requires depth { depth < 64 }
+    requires word { word < 2 ^ 21 }
+    requires room { length into.old.lines
+        + length (first_commits (code.part_address depth nesting word)) < 2 ^ 30 }
+    requires free { AreFollowed into.old }
+    ensures added { OnOk result
+        (into.new ≡ with_block into.old (first_commits (code.part_address depth nesting word))) }
+    ensures begun { OnErr result
+        (HasBegun (first_commits (code.part_address depth nesting word)) into.old into.new) }
 {
     let store = result(T0, depth + 1);
     if word == 0 {

@@ -1,5 +1,5 @@
 -- The opening.
-use Rattle.std.proofs.Common.{◌≡◌, ℕ, zero, suc, ◌+◌, ◌*◌, ◌<◌, ◌≤◌, ◌^◌, List, [], ◌∷◌, ◌++◌, length, All, Some, None, true, false, sym, ap, ◌∙◌, arith, refl, inl, inr}
+use Rattle.std.proofs.Common.{◌≡◌, ℕ, zero, suc, ◌+◌, ◌*◌, ◌<◌, ◌≤◌, ◌^◌, List, [], ◌∷◌, ◌++◌, length, All, None, true, false, sym, ap, subst, ◌∙◌, arith, refl, inl, inr}
 use Rattle.std.specs.Prelude.{◌==◌, slice_index, ◌⊎◌}
 use Rattle.fk_num.specs.Word.{Memory, put, word_sum}
 use Rattle.fk_meaning.specs.Processor.{Setting}
@@ -10,7 +10,7 @@ use Rattle.fk_machine.specs.Hart.{Hart, Setting as MachineSetting}
 use Rattle.fk_machine.specs.Cycle.{first_hart}
 use Rattle.fk_machine.proofs.Performs.{writes, moves}
 use Rattle.fk_sim_nodes.specs.Alone.{RunsPrivately, later, in_cycles}
-use Rattle.fk_sim_block.specs.Stands.{Places, StandsAt, local_address, zero_register, frame_register, end_register, number_register, rank_register, size_register, top_register, local_register, shared_register, heap_register, shared_mask_register, device_register, heap_mask_register}
+use Rattle.fk_sim_block.specs.Stands.{Places, StandsAt, local_address, zero_register, frame_register, end_register, number_register, rank_register, size_register, top_register, local_register, shared_register, heap_register, shared_mask_register, device_register, heap_mask_register, TellsFrame, group_frame_register}
 use Rattle.fk_sim_block.specs.Block.{IsRunning, Begins, beginner}
 use Rattle.fk_gen.specs.Lines.{at_private, high_part, low_part, label_of}
 use Rattle.fk_gen.specs.InPlace.{HasLabels, LinesAt}
@@ -133,9 +133,13 @@ firsts_begin image bound places firsts main labels are is_main none setting t nu
             home = is_main;
             values = tt;
             privates = λ w e. ap (λ m. m (of_file + 7 + w)) memory ∙ filled_other (λ i. 0) 0 firsts (of_file + 7 + w) (inr (omega arith));
-            group = λ number told. let no : false ≡ true = sym (none number) ∙ told in absurd (cc);
           };
           waiting = tt;
+          groups = (
+            subst (λ o. TellsFrame o (h'.registers group_frame_register) (beginner setting (slice_index firsts) main number).runner.has.call) (sym (none 0)) tt,
+            (λ told part is. let no : false ≡ true = sym (none told) ∙ is in absurd (cc)),
+            tt,
+          );
           own = λ j lt. ap (λ m. m (7 + j)) memory ∙ filled_at (λ i. 0) 0 firsts j (7 + j) are.words (λ k le. refl) (omega arith);
           heap = λ j lt. ap (λ m. m (16384 + j)) memory ∙ filled_other (λ i. 0) 0 firsts (16384 + j) (inr (omega arith));
           full = ap (λ m. m 2) memory ∙ filled_other (λ i. 0) 0 firsts 2 (inl (omega arith));

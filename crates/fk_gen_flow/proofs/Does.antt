@@ -1,5 +1,5 @@
 -- A block that begins with its commit, a load of a local word; and blocks of jumps, branches and halts.
-use Rattle.std.proofs.Common.{◌≡◌, ℕ, suc, ◌-◌, ◌*◌, ◌%◌, ◌<◌, ◌≤◌, List, length, Bool, Some, true, false, not, ap, subst, sym, ◌∙◌, arith, refl, inl, eq-eqb}
+use Rattle.std.proofs.Common.{◌≡◌, ℕ, suc, ◌-◌, ◌*◌, ◌%◌, ◌<◌, ◌≤◌, List, ◌∷◌, length, Bool, Some, true, false, not, ap, subst, sym, ◌∙◌, arith, refl, inl, eq-eqb}
 use Rattle.std.specs.Prelude.{◌==◌, if◌then◌else◌}
 use Rattle.fk_num.specs.Word.{word_sum}
 use Rattle.fk_meaning_operation.specs.declared.operation.Operation.TheVariants.{Branch, Halt}
@@ -8,6 +8,7 @@ use Rattle.fk_meaning.specs.Local.{is_onward}
 use Rattle.fk_meaning.specs.Round.{done, taking}
 use Rattle.fk_core.specs.declared.op.CoreOp.{CoreOp}
 use Rattle.fk_image.specs.declared.Image.{Image}
+use Rattle.fk_isa.specs.declared.instruction.Instruction.{Instruction}
 use Rattle.fk_isa.specs.declared.instruction.Instruction.TheVariants.{Lw}
 use Rattle.fk_machine.specs.Hart.{Hart, Shared, Goes, Setting as MachineSetting}
 use Rattle.fk_machine.specs.Place.{place_of}
@@ -19,7 +20,7 @@ use Rattle.fk_sim_nodes.specs.Alone.{Holds, IsAt, later}
 use Rattle.fk_sim_nodes.specs.Source.{Passes}
 use Rattle.fk_sim_nodes.proofs.InPlace.{step_at}
 use Rattle.fk_sim_block.specs.Owner.{Commons, Owner, Doing, owner_of, number_of, part}
-use Rattle.fk_sim_block.specs.Stands.{Places, StandsAt, StandsFor, FrameInHart, value_in, zero_register, end_register, device_register}
+use Rattle.fk_sim_block.specs.Stands.{Places, StandsAt, StandsFor, FrameInHart, value_in, zero_register, end_register, device_register, HaveGroupFrames, group_frame_register}
 use Rattle.fk_sim_block.specs.Next.{OpAt, step_at as step_of}
 use Rattle.fk_sim_block.specs.Suits.{Fits, Flows, nothing, writes as changes}
 use Rattle.fk_sim_block.specs.Block.{HasDone, BlockJumps, BlockHalts, most_behind}
@@ -27,7 +28,7 @@ use Rattle.fk_sim_block.proofs.Standing.{operations_are_next}
 use Rattle.fk_gen.specs.Lines.{label_of, at_value}
 use Rattle.fk_gen.specs.InPlace.{HasBlock, HasLabels}
 use Rattle.fk_gen.specs.Keeps.{Keeps, DoesAnd}
-use Rattle.fk_gen.proofs.Standing.{stands_with}
+use Rattle.fk_gen.proofs.Standing.{groups_go, stands_with}
 use Rattle.fk_gen.proofs.Values.{values_before}
 use Rattle.fk_gen.proofs.Walk.{private}
 use Rattle.fk_gen.proofs.Jumps.{jumps}
@@ -38,12 +39,13 @@ use Rattle.fk_gen_flow.proofs.Walk.{Comes, IsAbout, IsLocal, there, first, writi
 use Rattle.fk_gen.proofs.ValueLines.{place_word, operand_runs, operand_is}
 use Rattle.fk_gen_flow.proofs.Frames.{flows_on}
 
-pub lw_does : (core : List CoreOp) (image : Image) (places : Places) (setting : Setting) (t : MachineSetting) (p : Owner) (h : Hart) (d : Doing) (Also : Hart → Type 0) (k rd rs imm w behind : ℕ)
-    → IsAbout image t k h → IsAt image k (Lw rd rs imm) 1 → IsLocal (word_sum (h.registers rs) imm) w → behind ≤ most_behind
+-- an instruction that touches nothing but its hart commits
+pub alone_does : (core : List CoreOp) (image : Image) (places : Places) (setting : Setting) (t : MachineSetting) (p : Owner) (h h1 : Hart) (d : Doing) (Also : Hart → Type 0) (k : ℕ) (instruction : Instruction) (behind : ℕ)
+    → IsAbout image t k h → IsAt image k instruction 1 → ((sh : Shared) → perform t (number_of p) instruction h sh ≡ Goes h1 sh) → behind ≤ most_behind
     → ((s : Commons) → part core setting 1 s p ≡ Passes s d)
-    → Comes image (later t) (number_of p) behind (writes h rd (h.local w)) (λ h'. HasDone core image places d h' × Also h')
+    → Comes image (later t) (number_of p) behind h1 (λ h'. HasDone core image places d h' × Also h')
     → DoesAnd core image places setting t p h 0 behind Also
-lw_does core image places setting t p h d Also k rd rs imm w behind about at is few part_is rest = record {
+alone_does core image places setting t p h h1 d Also k instruction behind about at goes few part_is rest = record {
   few_before = omega arith;
   few_behind = few;
   does = record {
@@ -53,13 +55,13 @@ lw_does core image places setting t p h d Also k rd rs imm w behind about at is 
       live = about.live;
       counted = ap (count_in image.commits.items) about.at ∙ at.counted;
       does = λ s. inl (record {
-        hart = writes h rd (h.local w);
+        hart = h1;
         store = s;
         done = d;
         part = part_is s;
         goes = λ earlier sh shows. (
           sh,
-          step_at image k 1 _ at t about.code (number_of p) h sh about.at ∙ lw-local t (number_of p) rd rs imm w h sh (omega (arith, is.0)) (place_of-local _ w is.1 is.0),
+          step_at image k 1 _ at t about.code (number_of p) h sh about.at ∙ goes sh,
           shows,
           λ j e. refl,
         );
@@ -68,6 +70,15 @@ lw_does core image places setting t p h d Also k rd rs imm w behind about at is 
     };
   };
 }
+
+pub lw_does : (core : List CoreOp) (image : Image) (places : Places) (setting : Setting) (t : MachineSetting) (p : Owner) (h : Hart) (d : Doing) (Also : Hart → Type 0) (k rd rs imm w behind : ℕ)
+    → IsAbout image t k h → IsAt image k (Lw rd rs imm) 1 → IsLocal (word_sum (h.registers rs) imm) w → behind ≤ most_behind
+    → ((s : Commons) → part core setting 1 s p ≡ Passes s d)
+    → Comes image (later t) (number_of p) behind (writes h rd (h.local w)) (λ h'. HasDone core image places d h' × Also h')
+    → DoesAnd core image places setting t p h 0 behind Also
+lw_does core image places setting t p h d Also k rd rs imm w behind about at is few part_is rest =
+    alone_does core image places setting t p h (writes h rd (h.local w)) d Also k (Lw rd rs imm) behind about at
+    (λ sh. lw-local t (number_of p) rd rs imm w h sh (omega (arith, is.0)) (place_of-local _ w is.1 is.0)) few part_is rest
 
 -- a hart at the block of an index
 pub about_block : (image : Image) (bound : ℕ → ℕ) (places : Places) (t : MachineSetting) (p : Owner) (h : Hart) (i : ℕ) → Holds image t → p.runner.left.at ≡ i → StandsAt places p h
@@ -93,9 +104,10 @@ jump_goes core image bound places i op block flows t p h holds e at =
       at = record {
         live = at.live;
         at = ap (λ k. 4 * k) (block.labels.blocks op.target);
-        stands = stands_with places p _ h _ stands (refl, refl, refl, refl, refl, refl, refl, refl, refl, refl, refl, refl) refl refl stands.top (record {
-          running = flows_on places core nothing _ _ h.local _ i op.target p.runner.has.call p.runner.has.call (λ w. refl) flows refl refl frame.values frame;
+        stands = stands_with places p _ h _ stands (refl, refl, refl, refl, refl, refl, refl, refl, refl, refl, refl, refl, refl) refl refl stands.top (record {
+          running = flows_on places core nothing _ _ _ i op.target p.runner.has.call p.runner.has.call (λ w. refl) flows refl frame.values frame;
           waiting = stands.waiting;
+          groups = groups_go core places nothing p h i op.target p.runner.has.call e flows refl stands;
           own = stands.own;
           heap = stands.heap;
           full = stands.full;
@@ -135,10 +147,14 @@ module _ (core : List CoreOp) (image : Image) (bound : ℕ → ℕ) (places : Pl
       → StandsFor places (owner_of (branched p way)) (record (writes h t0 v) { pc = pc })
   branch_stands p h v j pc e stands flows way f g =
       let frame = subst (λ j. FrameInHart places h (length p.runner.has.callers) j p.runner.has.call) e stands.running in
-      stands_with places p (owner_of (branched p way)) h (record (writes h t0 v) { pc = pc }) stands (refl, refl, refl, refl, refl, refl, refl, refl, refl, refl, refl, refl) refl refl stands.top (record {
+      stands_with places p (owner_of (branched p way)) h (record (writes h t0 v) { pc = pc }) stands (refl, refl, refl, refl, refl, refl, refl, refl, refl, refl, refl, refl, refl) refl refl stands.top (record {
         running = subst (λ j. FrameInHart places h (length p.runner.has.callers) j (drop_last 1 p.runner.has).call) (sym f)
-            (flows_on places core nothing _ _ h.local _ i j p.runner.has.call (drop_last 1 p.runner.has).call (λ w. refl) flows refl refl (values_before 1 (value_in h (length p.runner.has.callers)) (values p.runner.has) frame.values) frame);
+            (flows_on places core nothing _ _ _ i j p.runner.has.call (drop_last 1 p.runner.has).call (λ w. refl) flows refl (values_before 1 (value_in h (length p.runner.has.callers)) (values p.runner.has) frame.values) frame);
         waiting = rw g stands.waiting;
+        groups =
+            subst (λ k. HaveGroupFrames places.frames h.local (h.registers group_frame_register) (k ∷ (branched p way).acting.runner.left.callers) ((drop_last 1 p.runner.has).call ∷ p.runner.has.callers)) (sym f)
+            (subst (λ backs. HaveGroupFrames places.frames h.local (h.registers group_frame_register) (j ∷ backs) ((drop_last 1 p.runner.has).call ∷ p.runner.has.callers)) (sym g)
+            (groups_go core places nothing p h i j (drop_last 1 p.runner.has).call e flows refl stands));
         own = stands.own;
         heap = stands.heap;
         full = stands.full;

@@ -2,7 +2,7 @@
 use Rattle.std.proofs.Common.{◌≡◌, ℕ, zero, suc, ◌+◌, ◌-◌, ◌*◌, ◌<◌, ◌≤◌, ◌^◌, List, ◌∷◌, ◌++◌, length, eq-eqb, Bool, Some, None, true, false, ap, subst, sym, ◌∙◌, arith, refl, inl, inr}
 use Rattle.std.specs.Prelude.{◌==◌, ◌⊎◌, nat_lt, nat_le, if◌then◌else◌}
 use Rattle.std.proofs.lemmas.List.{length-append}
-use Rattle.std.proofs.lemmas.Bool.{lt-ltb, le-ltb, cases_lt, ne_eqb}
+use Rattle.std.proofs.lemmas.Bool.{lt-ltb, le-ltb, cases_lt, eqb-true, ne_eqb}
 use Rattle.fk_num.specs.Word.{Memory, put, word_sum}
 use Rattle.fk_meaning_operation.specs.declared.operation.Operation.TheVariants.{Enter}
 use Rattle.fk_meaning_operation.specs.declared.kinds.FaultKind.TheVariants.{CallDepth}
@@ -24,7 +24,7 @@ use Rattle.fk_sim_nodes.specs.Alone.{later}
 use Rattle.fk_sim_nodes.specs.Source as nodes
 use Rattle.fk_sim_nodes.proofs.InPlace.{step_at}
 use Rattle.fk_sim_block.specs.Owner.{Commons, Owner, Doing, number_of, part, as_part, found}
-use Rattle.fk_sim_block.specs.Stands.{Places, StandsAt, FrameInHart, HasRoom, value_in, frame_end, frame_start, local_address, frame_register, end_register, heap_register, device_register, zero_register, number_register, rank_register, size_register, top_register, local_register, shared_register, shared_mask_register, heap_mask_register}
+use Rattle.fk_sim_block.specs.Stands.{Places, StandsAt, FrameInHart, HasRoom, value_in, frame_end, frame_start, local_address, frame_register, end_register, heap_register, device_register, zero_register, number_register, rank_register, size_register, top_register, local_register, shared_register, shared_mask_register, heap_mask_register, TellsFrame, before_call, HaveGroupFrames, group_word, group_frame_register}
 use Rattle.fk_sim_block.specs.Next.{OpAt, step_at as step_of}
 use Rattle.fk_sim_block.specs.Suits.{Fits, nothing}
 use Rattle.fk_sim_block.specs.Block.{Enters, HasDone}
@@ -33,12 +33,12 @@ use Rattle.fk_gen.specs.Lines.{at_value, high_part, low_part, copy_label, clear_
 use Rattle.fk_gen.specs.InPlace.{HasBlock, LinesAt}
 use Rattle.fk_gen.specs.Keeps.{DoesAnd}
 use Rattle.fk_gen.proofs.Values.{same_word, other_word, values_before, length_before}
-use Rattle.fk_gen.proofs.Standing.{frame_kept, waiting_kept}
+use Rattle.fk_gen.proofs.Standing.{frame_kept, waiting_kept, groups_on}
 use Rattle.fk_gen.proofs.Walk.{private, lines_split}
 use Rattle.fk_gen.proofs.Jumps.{jumps, goes_to_pc, bne_taken, bne_on}
 use Rattle.fk_sim_block.specs.Node.{space_frames, node_register, body_register, frames_register, blocks_register}
 use Rattle.fk_gen.specs.Registers.{t0, t1, t2}
-use Rattle.fk_gen_flow.specs.Calls.{enter_block, own_copies, copies_by, clears_by, word_lines, frame_lines, past_return, most_own, most_privates, HasShared}
+use Rattle.fk_gen_flow.specs.Calls.{enter_block, own_copies, copies_by, clears_by, word_lines, frame_lines, past_return, most_own, HasShared}
 use Rattle.fk_gen_flow.specs.Keeps.{KeepsBelow, BlockKeeps, copying_takes, clearing_takes, call_takes}
 use Rattle.fk_gen_flow.specs.Laws.{ClearsEnough, return_in}
 use Rattle.fk_gen_flow.proofs.Walk.{Comes, IsAbout, first, writing, storing, next_word, words_back, near_word, sw_goes, jal_goes, jalr_goes}
@@ -46,11 +46,11 @@ use Rattle.fk_gen_flow.proofs.Frames.{room_below, flows_on}
 use Rattle.fk_gen_flow.proofs.Does.{about_block}
 use Rattle.fk_gen_flow.proofs.Begins.{number_of_parts}
 use Rattle.fk_gen_flow.proofs.Copies.{Copied, Framed, arguments_at, copies_come, copy_cycles, few_copies, frame_comes, own_are_copies, shared_are_copies}
-use Rattle.fk_gen_flow.proofs.Clears.{arguments_end, clears_come, clear_cycles, few_clears}
+use Rattle.fk_gen_flow.proofs.Clears.{Cleared, arguments_end, clears_come, clear_cycles, few_clears}
 
 -- ---- the processor that has entered
 
-module _ (core : List CoreOp) (image : Image) (bound : ℕ → ℕ) (places : Places) (i : ℕ) (op : CoreOp) (n : ℕ) (clears : Bool) where
+module _ (core : List CoreOp) (image : Image) (bound : ℕ → ℕ) (places : Places) (i : ℕ) (op : CoreOp) (n clears : ℕ) where
   -- where its caller goes on
   abbrev pub onward : ℕ
   onward = behind_jump core (suc i)
@@ -64,7 +64,7 @@ module _ (core : List CoreOp) (image : Image) (bound : ℕ → ℕ) (places : Pl
     pub frame : m' (e + 1) ≡ local_address (frame_start places (length p.runner.has.callers))
     pub result : m' (e + 2) ≡ local_address (s - 1)
     pub copies : (a : ℕ) → a < n → m' (e + 7 + a) ≡ m (s - suc a)
-    pub zeros : clears ≡ true → (a : ℕ) → n ≤ a → a < 56 → m' (e + 7 + a) ≡ 0
+    pub zeros : (a : ℕ) → n ≤ a → a < clears → m' (e + 7 + a) ≡ 0
     pub below : (j : ℕ) → j < e → m' j ≡ m j
     pub above : (j : ℕ) → e + 64 ≤ j → m' j ≡ m j
 
@@ -87,7 +87,7 @@ module _ (core : List CoreOp) (image : Image) (bound : ℕ → ℕ) (places : Pl
       let held = subst (λ j. FrameInHart places h w j p.runner.has.call) e stands.running in
       let left = length_before n vs in
       let call' : Call = record (p.runner.has.call) { values = before n vs } in
-      let flowed = flows_on places core nothing _ _ h.local w i onward p.runner.has.call call' (λ x. refl) calls.back refl refl (values_before n (value_in h w) vs held.values) held in
+      let flowed = flows_on places core nothing _ _ w i onward p.runner.has.call call' (λ x. refl) calls.back refl (values_before n (value_in h w) vs held.values) held in
       let many : length (before n vs) ≡ op.depth - n = omega arith in
       let room = subst (λ d. HasRoom places.frames onward (suc d)) (sym many) calls.room in
       let argument_word : (a : ℕ) → a < n → s - suc a ≡ end - (suc a + (op.depth - n)) = λ a lt. omega arith in
@@ -116,9 +116,8 @@ module _ (core : List CoreOp) (image : Image) (bound : ℕ → ℕ) (places : Pl
               values = tt;
               privates = λ a k. elim (cases_lt a n) [
                 | inl lt ↦ begun.copies a lt ∙ ap h.local (argument_word a lt) ∙ arguments_at (value_in h w) n vs a (suc a + (op.depth - n)) held.values (omega arith) lt (omega arith)
-                | inr le ↦ begun.zeros (enough a k le) a le (calls.kept a k) ∙ sym (arguments_end n vs a le)
+                | inr le ↦ begun.zeros a le (enough.1 a (calls.kept a k) k le) ∙ sym (arguments_end n vs a le)
               ];
-              group = λ number told. let none : false ≡ true = sym (calls.none number) ∙ told in absurd (cc);
             };
             waiting = (
               record {
@@ -130,8 +129,17 @@ module _ (core : List CoreOp) (image : Image) (bound : ℕ → ℕ) (places : Pl
                 result = begun.result ∙ omega arith;
                 room = room;
               },
-              frame_kept places h.local h'.local w onward (length (before n vs)) call' few (room_below places onward (length (before n vs)) (suc (length (before n vs))) (omega arith) room) (omega arith) (λ j a b. begun.below j (omega arith)) (λ j a b. begun.below j b) flowed,
-              waiting_kept places h.local h'.local p.runner.left.callers p.runner.has.callers few (λ j a b. begun.below j (omega arith)) (λ j a b. begun.below j (omega arith)) stands.waiting,
+              frame_kept places h.local h'.local w onward (length (before n vs)) call' few (room_below places onward (length (before n vs)) (suc (length (before n vs))) (omega arith) room) (omega arith) (λ j a b. begun.below j b) flowed,
+              waiting_kept places h.local h'.local p.runner.left.callers p.runner.has.callers few (λ j a b. begun.below j (omega arith)) stands.waiting,
+            );
+            groups = (
+              subst (λ o. TellsFrame o (h'.registers group_frame_register) (entered n p.runner.has).call) (sym (calls.none 0)) tt,
+              (λ told part is. let none : false ≡ true = sym (calls.none told) ∙ is in absurd (cc)),
+              subst (λ o. HaveGroupFrames places.frames h'.local (before_call o (h'.registers group_frame_register) (h'.local (group_word (suc w) 0))) (onward ∷ p.runner.left.callers) (call' ∷ p.runner.has.callers)) (sym (calls.none 0))
+                  (subst (λ a. HaveGroupFrames places.frames h'.local a (onward ∷ p.runner.left.callers) (call' ∷ p.runner.has.callers)) (sym (same group_frame_register refl refl refl refl refl refl))
+                  (groups_on core places nothing h.local h'.local (h.registers group_frame_register) i onward p.runner.has.call call' p.runner.left.callers p.runner.has.callers calls.back refl
+                  (λ k number le known. begun.below (group_word k number) (omega arith))
+                  (subst (λ j. HaveGroupFrames places.frames h.local (h.registers group_frame_register) (j ∷ p.runner.left.callers) (p.runner.has.call ∷ p.runner.has.callers)) e stands.groups))),
             );
             own = λ j lt. begun.below (7 + j) (omega arith) ∙ stands.own j lt;
             heap = λ j lt. begun.above (16384 + j) (omega arith) ∙ stands.heap j lt;
@@ -159,41 +167,45 @@ two_words : (m : Memory) (e a b j : ℕ) → ((j < e) ⊎ (e + 3 ≤ j)) → put
 two_words m e a b j (inl lt) = other_word (put m (e + 1) a) (e + 2) b j (λ f. omega arith) ∙ other_word m (e + 1) a j (λ f. omega arith)
 two_words m e a b j (inr le) = other_word (put m (e + 1) a) (e + 2) b j (λ f. omega arith) ∙ other_word m (e + 1) a j (λ f. omega arith)
 
--- how many cycles the arguments take, and what follows them
+-- how many cycles the arguments take, and what follows
 abbrev argument_cycles : (few : Bool) (n rest : ℕ) → ℕ
 argument_cycles true n rest = copy_cycles n rest
 argument_cycles false n rest = suc (copy_cycles n (suc rest))
 
--- and what is cleared
-abbrev clearing_cycles : (clears : Bool) (n rest : ℕ) → ℕ
-clearing_cycles true n rest = suc (clear_cycles (most_privates - n) (suc rest))
-clearing_cycles false n rest = rest
+-- and those of what is cleared
+abbrev clearing_cycles : (none : Bool) (clears rest : ℕ) → ℕ
+clearing_cycles true clears rest = rest
+clearing_cycles false clears rest = suc (clear_cycles clears (suc rest))
 
 arguments_take : (own : Bool) (n rest : ℕ) → argument_cycles own n rest ≡ copying_takes own n + rest
 arguments_take true n rest = let e = few_copies n rest in omega arith
 arguments_take false n rest = let e = few_copies n (suc rest) in omega arith
 
-clears_take : (clears : Bool) (n rest : ℕ) → clearing_cycles clears n rest ≡ clearing_takes clears n + rest
-clears_take true n rest = let e = few_clears (most_privates - n) (suc rest) in omega arith
-clears_take false n rest = omega arith
+clears_take : (none : Bool) (clears rest : ℕ) → clearing_cycles none clears rest ≡ clearing_takes none clears + rest
+clears_take true clears rest = omega arith
+clears_take false clears rest = let e = few_clears clears (suc rest) in omega arith
 
-few_by : (own clears : Bool) (n : ℕ) → n ≤ 56 → copying_takes own n + clearing_takes clears n + 4 ≤ 183
-few_by true true n le = omega arith
-few_by true false n le = omega arith
-few_by false true n le = omega arith
-few_by false false n le = omega arith
+few_by : (none own : Bool) (clears n : ℕ) → clears ≤ 56 → n ≤ 56 → clearing_takes none clears + copying_takes own n + 4 ≤ 183
+few_by true true clears n few le = omega arith
+few_by true false clears n few le = omega arith
+few_by false true clears n few le = omega arith
+few_by false false clears n few le = omega arith
 
-pub few_take : (clears : Bool) (n : ℕ) → n ≤ 56 → call_takes clears n ≤ 183
-few_take clears n le = few_by (nat_le n (most_own clears)) clears n le
+pub few_take : (clears n : ℕ) → clears ≤ 56 → n ≤ 56 → call_takes clears n ≤ 183
+few_take clears n few le = few_by (clears == 0) (nat_le n (most_own (clears == 0))) clears n few le
 
 -- from the commit on
-all_take : (clears : Bool) (n : ℕ) → argument_cycles (nat_le n (most_own clears)) n (clearing_cycles clears n 4) ≡ call_takes clears n
+abbrev cycles_behind : (clears n : ℕ) → ℕ
+cycles_behind clears n = clearing_cycles (clears == 0) clears (argument_cycles (nat_le n (most_own (clears == 0))) n 4)
+
+all_take : (clears n : ℕ) → cycles_behind clears n ≡ call_takes clears n
 all_take clears n =
-    let e = arguments_take (nat_le n (most_own clears)) n (clearing_cycles clears n 4) in
-    let f = clears_take clears n 4 in
+    let own = nat_le n (most_own (clears == 0)) in
+    let e = clears_take (clears == 0) clears (argument_cycles own n 4) in
+    let f = arguments_take own n 4 in
     omega arith
 
-module _ (core : List CoreOp) (image : Image) (bound : ℕ → ℕ) (places : Places) (i : ℕ) (op : CoreOp) (n : ℕ) (clears : Bool) (back : ℕ)
+module _ (core : List CoreOp) (image : Image) (bound : ℕ → ℕ) (places : Places) (i : ℕ) (op : CoreOp) (n clears back : ℕ)
     (few : places.frames.of_file ≤ 56) (small : op.site < 2 ^ 32) (shared : HasShared image bound)
     (block : HasBlock image bound places i (enter_block clears n op.depth op.site back)) (point : places.returns i ≡ Some (return_in core places.block i))
     (op_at : OpAt core i op (Enter n)) (fits : Fits core places.frames i op (Enter n)) (enough : ClearsEnough places.frames i clears (Enter n)) where
@@ -235,7 +247,7 @@ module _ (core : List CoreOp) (image : Image) (bound : ℕ → ℕ) (places : Pl
     -- the private words of the new frame stand in it, and nothing else has changed
     record HasWords (m m' : Memory) : Type 0 where
       pub copies : (a : ℕ) → a < n → m' (end + 7 + a) ≡ m (s - suc a)
-      pub zeros : clears ≡ true → (a : ℕ) → n ≤ a → a < 56 → m' (end + 7 + a) ≡ 0
+      pub zeros : (a : ℕ) → n ≤ a → a < clears → m' (end + 7 + a) ≡ 0
       pub others : (j : ℕ) → ((j < end + 7) ⊎ (end + 64 ≤ j)) → m' j ≡ m j
 
     -- with them and the frame it has begun its call
@@ -256,7 +268,7 @@ module _ (core : List CoreOp) (image : Image) (bound : ℕ → ℕ) (places : Pl
                 frame = old (end + 1) (λ f. omega arith) ∙ words.others (end + 1) (inl (omega arith)) ∙ stored.frame ∙ stands.frame;
                 result = old (end + 2) (λ f. omega arith) ∙ words.others (end + 2) (inl (omega arith)) ∙ stored.result;
                 copies = λ a lt. old (end + 7 + a) (λ f. omega arith) ∙ words.copies a lt ∙ stored.others (s - suc a) (inl (omega arith));
-                zeros = λ does a le lt. old (end + 7 + a) (λ f. omega arith) ∙ words.zeros does a le lt;
+                zeros = λ a le lt. old (end + 7 + a) (λ f. omega arith) ∙ words.zeros a le lt;
                 below = below;
                 above = λ j le. old j (λ f. omega arith) ∙ words.others j (inr le) ∙ stored.others j (inr (omega arith));
               })
@@ -279,108 +291,113 @@ module _ (core : List CoreOp) (image : Image) (bound : ℕ → ℕ) (places : Pl
         frame_comes image bound (number_of p) end k back Goal t hx lines (omega arith) about (same end_register refl refl ∙ stored.same end_register refl ∙ at.stands.behind)
         (λ hf framed. has_begun k hx hf stored words same framed next)
 
-    -- what is cleared
-    words_come : (b : Bool) (t : MachineSetting) (k : ℕ) (hc : Hart) → clears ≡ b → IsAbout image t k hc → HasStored → LinesAt image bound k (clears_by b n)
-        → LinesAt image bound (k + length (clears_by b n)) (frame_lines back) → Copied h4.local hc.local s end n
-        → ((r : ℕ) → (r == 5) ≡ false → (r == 6) ≡ false → hc.registers r ≡ h4.registers r)
-        → places.block (suc i) ≡ k + length (clears_by b n) + 5 → Comes image t (number_of p) (clearing_cycles b n 4) hc Goal
-    words_come false t k hc does about stored lines frame copied same next =
-        let few_arguments = fits.goes_on.few in
-        let here : k + 0 ≡ k = omega arith in
-        frame_begins t k hc about stored (subst (λ j. LinesAt image bound j (frame_lines back)) here frame)
-        (record {
-          copies = copied.copies;
-          zeros = λ e. absurd (cc);
-          others = λ j out. elim out [
-            | inl lt ↦ copied.others j (inl lt)
-            | inr le ↦ copied.others j (inr (omega arith))
-          ];
-        })
-        same (omega arith)
-    words_come true t k hc does about stored lines frame copied same next =
-        let number = number_of p in
-        let few_arguments = fits.goes_on.few in
-        let l0 = lines.0 in
-        let last = most_privates - n in
-        let entry = bound (clear_label last) in
-        let pc = about.at in
-        let within = l0.within in
-        let h5 = jumps hc t1 (4 * entry) in
-        let begin : IsAbout image (later t) entry h5 = record { code = about.code; live = about.live; at = refl } in
-        let linked : h5.registers t1 + 0 ≡ 4 * suc k = omega arith in
-        let here : k + 1 ≡ suc k = omega arith in
-        first image t number (clear_cycles last 5) k _ hc h5 Goal about l0 (jal_goes t number 6 0 k entry hc about.at l0.within (block.labels.within (clear_label last)))
-        (clears_come image bound number end 5 Goal shared.clearing (omega arith) last (later t) h5 (omega arith) begin
-        (same zero_register refl refl ∙ stored.same zero_register refl ∙ at.stands.nought) (same end_register refl refl ∙ stored.same end_register refl ∙ at.stands.behind)
-        (λ t' h' about' same' cleared.
-        let hx = jumps h' 0 (4 * suc k) in
-        let link : h'.registers t1 + 0 ≡ 4 * suc k = ap (λ v. v + 0) (same' 6) ∙ linked in
-        let there' : IsAbout image (later t') (suc k) hx = record { code = about'.code; live = about'.live; at = refl } in
-        first image t' number 4 (bound (clear_label 0)) _ h' hx Goal about' shared.clearing.back.0 (jalr_goes t' number 0 6 0 (suc k) h' link (omega arith))
-        (frame_begins (later t') (suc k) hx there' stored (subst (λ j. LinesAt image bound j (frame_lines back)) here frame)
-        (record {
-          copies = λ a lt. cleared.others (end + 7 + a) (inl (omega arith)) ∙ copied.copies a lt;
-          zeros = λ e a le lt. cleared.zeros a (omega arith) lt;
-          others = λ j out. elim out [
-            | inl lt ↦ cleared.others j (inl (omega arith)) ∙ copied.others j (inl lt)
-            | inr le ↦ cleared.others j (inr (omega arith)) ∙ copied.others j (inr (omega arith))
-          ];
-        })
-        (λ r a b. same' r ∙ rw b (same r a b)) (omega arith))))
+    -- the arguments come to a frame of which some words are cleared
+    words_stand : (m m1 m' : Memory) → Cleared m m1 end clears → Copied m1 m' s end n → s ≤ end → n ≤ 56 → clears ≤ 56 → HasWords m m'
+    words_stand m m1 m' cleared copied below few_arguments few_clears' = record {
+      copies = λ a lt. copied.copies a lt ∙ cleared.others (s - suc a) (inl (omega arith));
+      zeros = λ a le lt. copied.others (end + 7 + a) (inr (omega arith)) ∙ cleared.zeros a lt;
+      others = λ j out. elim out [
+        | inl lt ↦ copied.others j (inl lt) ∙ cleared.others j (inl lt)
+        | inr le ↦ copied.others j (inr (omega arith)) ∙ cleared.others j (inr (omega arith))
+      ];
+    }
 
-    -- the arguments
-    arguments_come : (own : Bool) (rest : ℕ) (t : MachineSetting) (k7 : ℕ) → IsAbout image t k7 h4 → HasStored → LinesAt image bound k7 (copies_by own n)
-        → ((t' : MachineSetting) (h' : Hart) → IsAbout image t' (k7 + length (copies_by own n)) h' → Copied h4.local h'.local s end n
-        → ((r : ℕ) → (r == 5) ≡ false → (r == 6) ≡ false → h'.registers r ≡ h4.registers r) → Comes image t' (number_of p) rest h' Goal)
-        → Comes image t (number_of p) (argument_cycles own n rest) h4 Goal
-    arguments_come true rest t k7 about stored lines after =
+    -- the arguments, and then the new frame
+    arguments_come : (own : Bool) (t : MachineSetting) (k : ℕ) (hc : Hart) → IsAbout image t k hc → HasStored → LinesAt image bound k (copies_by own n)
+        → LinesAt image bound (k + length (copies_by own n)) (frame_lines back) → Cleared h4.local hc.local end clears
+        → ((r : ℕ) → (r == 6) ≡ false → hc.registers r ≡ h4.registers r)
+        → places.block (suc i) ≡ k + length (copies_by own n) + 5 → Comes image t (number_of p) (argument_cycles own n 4) hc Goal
+    arguments_come true t k hc about stored lines frame cleared same next =
         let number = number_of p in
         let looks = fits.values in
         let header = fits.room.header in
         let few_arguments = fits.goes_on.few in
+        let few_cleared = enough.0 in
         let many = length-own n in
-        let word : ℕ → ℕ = λ m. k7 + 2 * (n - m) in
+        let word : ℕ → ℕ = λ m. k + 2 * (n - m) in
         let at4 = about.at in
-        let begin : IsAbout image t (word n) h4 = record { code = about.code; live = about.live; at = omega arith } in
-        copies_come image bound number s end rest n word Goal (own_are_copies image bound n k7 lines) (omega arith) (omega arith) few_arguments n t h4 (omega arith) (omega arith) begin
-        stored.first (stored.same end_register refl ∙ at.stands.behind)
-        (λ t' h' about' same copied.
+        let begin : IsAbout image t (word n) hc = record { code = about.code; live = about.live; at = omega arith } in
+        copies_come image bound number s end 4 n word Goal (own_are_copies image bound n k lines) (omega arith) (omega arith) few_arguments n t hc (omega arith) (omega arith) begin
+        (same t2 refl ∙ stored.first) (same end_register refl ∙ stored.same end_register refl ∙ at.stands.behind)
+        (λ t' h' about' same' copied.
         let pc = about'.at in
-        let there' : IsAbout image t' (k7 + length (own_copies n)) h' = record { code = about'.code; live = about'.live; at = omega (arith, pc, many) } in
-        after t' h' there' copied (λ r a b. same r a))
-    arguments_come false rest t k7 about stored lines after =
+        let there' : IsAbout image t' (k + length (own_copies n)) h' = record { code = about'.code; live = about'.live; at = omega (arith, pc, many) } in
+        frame_begins t' (k + length (own_copies n)) h' there' stored frame
+        (words_stand h4.local hc.local h'.local cleared copied (omega arith) few_arguments few_cleared)
+        (λ r a b. same' r a ∙ same r b) next)
+    arguments_come false t k hc about stored lines frame cleared same next =
         let number = number_of p in
         let looks = fits.values in
         let header = fits.room.header in
         let few_arguments = fits.goes_on.few in
+        let few_cleared = enough.0 in
         let l0 = lines.0 in
         let within = l0.within in
         let entry = bound (copy_label n) in
         let pc = about.at in
+        let h5 = jumps hc t1 (4 * entry) in
+        let begin : IsAbout image (later t) entry h5 = record { code = about.code; live = about.live; at = refl } in
+        let linked : h5.registers t1 + 0 ≡ 4 * suc k = omega arith in
+        let here : k + 1 ≡ suc k = omega arith in
+        first image t number (copy_cycles n 5) k _ hc h5 Goal about l0 (jal_goes t number 6 0 k entry hc about.at l0.within (block.labels.within (copy_label n)))
+        (copies_come image bound number s end 5 56 (λ m. bound (copy_label m)) Goal (shared_are_copies image bound shared.copying) (omega arith) (omega arith) (omega arith) n (later t) h5 few_arguments (omega arith) begin
+        (same t2 refl ∙ stored.first) (same end_register refl ∙ stored.same end_register refl ∙ at.stands.behind)
+        (λ t' h' about' same' copied.
+        let hx = jumps h' 0 (4 * suc k) in
+        let link : h'.registers t1 + 0 ≡ 4 * suc k = ap (λ v. v + 0) (same' 6 refl) ∙ linked in
+        let there' : IsAbout image (later t') (suc k) hx = record { code = about'.code; live = about'.live; at = refl } in
+        first image t' number 4 (bound (copy_label 0)) _ h' hx Goal about' shared.copying.back.0 (jalr_goes t' number 0 6 0 (suc k) h' link (omega arith))
+        (frame_begins (later t') (suc k) hx there' stored (subst (λ j. LinesAt image bound j (frame_lines back)) here frame)
+        (words_stand h4.local hc.local h'.local cleared copied (omega arith) few_arguments few_cleared)
+        (λ r a b. same' r a ∙ rw b (same r b)) (omega arith))))
+
+    -- what is cleared, and then the arguments
+    words_come : (none own : Bool) (t : MachineSetting) (k : ℕ) → (clears == 0) ≡ none → IsAbout image t k h4 → HasStored → LinesAt image bound k (clears_by none clears)
+        → LinesAt image bound (k + length (clears_by none clears)) (copies_by own n)
+        → LinesAt image bound (k + length (clears_by none clears) + length (copies_by own n)) (frame_lines back)
+        → places.block (suc i) ≡ k + length (clears_by none clears) + length (copies_by own n) + 5
+        → Comes image t (number_of p) (clearing_cycles none clears (argument_cycles own n 4)) h4 Goal
+    words_come true own t k is about stored lines copies frame next =
+        let here : k + 0 ≡ k = omega arith in
+        let nothing_cleared : clears ≡ 0 = eqb-true clears 0 is in
+        arguments_come own t k h4 about stored (subst (λ j. LinesAt image bound j (copies_by own n)) here copies)
+        (subst (λ j. LinesAt image bound (j + length (copies_by own n)) (frame_lines back)) here frame)
+        (record { zeros = λ a lt. absurd (omega arith); others = λ j out. refl })
+        (λ r a. refl) (omega arith)
+    words_come false own t k is about stored lines copies frame next =
+        let number = number_of p in
+        let few_cleared = enough.0 in
+        let l0 = lines.0 in
+        let entry = bound (clear_label clears) in
+        let pc = about.at in
+        let within = l0.within in
+        let rest = argument_cycles own n 4 in
         let h5 = jumps h4 t1 (4 * entry) in
         let begin : IsAbout image (later t) entry h5 = record { code = about.code; live = about.live; at = refl } in
-        let linked : h5.registers t1 + 0 ≡ 4 * suc k7 = omega arith in
-        let here : suc k7 ≡ k7 + 1 = omega arith in
-        first image t number (copy_cycles n (suc rest)) k7 _ h4 h5 Goal about l0 (jal_goes t number 6 0 k7 entry h4 about.at l0.within (block.labels.within (copy_label n)))
-        (copies_come image bound number s end (suc rest) 56 (λ m. bound (copy_label m)) Goal (shared_are_copies image bound shared.copying) (omega arith) (omega arith) (omega arith) n (later t) h5 few_arguments (omega arith) begin
-        stored.first (stored.same end_register refl ∙ at.stands.behind)
-        (λ t' h' about' same copied.
-        let hx = jumps h' 0 (4 * suc k7) in
-        let link : h'.registers t1 + 0 ≡ 4 * suc k7 = ap (λ v. v + 0) (same 6 refl) ∙ linked in
-        let there' : IsAbout image (later t') (suc k7) hx = record { code = about'.code; live = about'.live; at = refl } in
-        first image t' number rest (bound (copy_label 0)) _ h' hx Goal about' shared.copying.back.0 (jalr_goes t' number 0 6 0 (suc k7) h' link (omega arith))
-        (after (later t') hx (subst (λ k. IsAbout image (later t') k hx) here there') copied (λ r a b. same r a ∙ rw b))))
+        let linked : h5.registers t1 + 0 ≡ 4 * suc k = omega arith in
+        let here : k + 1 ≡ suc k = omega arith in
+        first image t number (clear_cycles clears (suc rest)) k _ h4 h5 Goal about l0 (jal_goes t number 6 0 k entry h4 about.at l0.within (block.labels.within (clear_label clears)))
+        (clears_come image bound number end (suc rest) Goal shared.clearing (omega arith) clears (later t) h5 few_cleared begin
+        (stored.same zero_register refl ∙ at.stands.nought) (stored.same end_register refl ∙ at.stands.behind)
+        (λ t' h' about' same cleared.
+        let hx = jumps h' 0 (4 * suc k) in
+        let link : h'.registers t1 + 0 ≡ 4 * suc k = ap (λ v. v + 0) (same 6) ∙ linked in
+        let there' : IsAbout image (later t') (suc k) hx = record { code = about'.code; live = about'.live; at = refl } in
+        first image t' number rest (bound (clear_label 0)) _ h' hx Goal about' shared.clearing.back.0 (jalr_goes t' number 0 6 0 (suc k) h' link (omega arith))
+        (arguments_come own (later t') (suc k) hx there' stored (subst (λ j. LinesAt image bound j (copies_by own n)) here copies)
+        (subst (λ j. LinesAt image bound (j + length (copies_by own n)) (frame_lines back)) here frame) cleared
+        (λ r a. same r ∙ rw a) (omega arith))))
 
-    call_comes : (own : Bool) (t : MachineSetting) (k7 : ℕ) → IsAbout image t k7 h4 → HasStored → LinesAt image bound k7 ((copies_by own n ++ clears_by clears n) ++ frame_lines back)
-        → places.block (suc i) ≡ k7 + length (copies_by own n ++ clears_by clears n) + 5 → Comes image t (number_of p) (argument_cycles own n (clearing_cycles clears n 4)) h4 Goal
-    call_comes own t k7 about stored lines next =
-        let split = lines_split image bound k7 (copies_by own n ++ clears_by clears n) (frame_lines back) lines in
-        let words = lines_split image bound k7 (copies_by own n) (clears_by clears n) split.0 in
-        let total = length-append (copies_by own n) (clears_by clears n) in
-        let there' : k7 + length (copies_by own n ++ clears_by clears n) ≡ k7 + length (copies_by own n) + length (clears_by clears n) = omega arith in
-        arguments_come own (clearing_cycles clears n 4) t k7 about stored words.0
-        (λ t' h' about' copied same.
-        words_come clears t' (k7 + length (copies_by own n)) h' refl about' stored words.1 (subst (λ k. LinesAt image bound k (frame_lines back)) there' split.1) copied same (omega arith))
+    call_comes : (none own : Bool) (t : MachineSetting) (k7 : ℕ) → (clears == 0) ≡ none → IsAbout image t k7 h4 → HasStored
+        → LinesAt image bound k7 ((clears_by none clears ++ copies_by own n) ++ frame_lines back)
+        → places.block (suc i) ≡ k7 + length (clears_by none clears ++ copies_by own n) + 5
+        → Comes image t (number_of p) (clearing_cycles none clears (argument_cycles own n 4)) h4 Goal
+    call_comes none own t k7 is about stored lines next =
+        let split = lines_split image bound k7 (clears_by none clears ++ copies_by own n) (frame_lines back) lines in
+        let words = lines_split image bound k7 (clears_by none clears) (copies_by own n) split.0 in
+        let total = length-append (clears_by none clears) (copies_by own n) in
+        let there' : k7 + length (clears_by none clears ++ copies_by own n) ≡ k7 + length (clears_by none clears) + length (copies_by own n) = omega arith in
+        words_come none own t k7 is about stored words.0 words.1 (subst (λ k. LinesAt image bound k (frame_lines back)) there' split.1) (omega arith)
 
   -- 255 calls wait already
   faults : (setting : Setting) (t : MachineSetting) (p : Owner) (h : Hart) → Enters core image places setting t i op (Enter n) p h → 255 ≤ length p.runner.has.callers
@@ -411,7 +428,7 @@ module _ (core : List CoreOp) (image : Image) (bound : ℕ → ℕ) (places : Pl
       let device : h3.registers device_register ≡ 0x30000000 = stands.devices in
       record {
         few_before = omega arith;
-        few_behind = few_take clears n fits.goes_on.few;
+        few_behind = few_take clears n enough.0 fits.goes_on.few;
         does = record {
           committing = h3;
           runs = (
@@ -440,7 +457,7 @@ module _ (core : List CoreOp) (image : Image) (bound : ℕ → ℕ) (places : Pl
 
   -- else there is room
   begins : (setting : Setting) (t : MachineSetting) (p : Owner) (h : Hart) → Enters core image places setting t i op (Enter n) p h → length p.runner.has.callers < 255
-      → DoesAnd core image places setting t p h 3 (argument_cycles (nat_le n (most_own clears)) n (clearing_cycles clears n 4)) (KeepsBelow (frame_end (length p.runner.has.callers)) (space_frames h) h)
+      → DoesAnd core image places setting t p h 3 (cycles_behind clears n) (KeepsBelow (frame_end (length p.runner.has.callers)) (space_frames h) h)
   begins setting t p h enters lt =
       let number = number_of p in
       let stands = enters.at.stands in
@@ -477,7 +494,7 @@ module _ (core : List CoreOp) (image : Image) (bound : ℕ → ℕ) (places : Pl
       let about4 = storing image cycle3 (suc (suc k4)) h3 m2 about3 l6.within in
       let wait = may_wait w (h.registers end_register) (h.registers heap_register) lt stands.behind stands.private_heap in
       let second = near_word e 2 (e + 2) (h3.registers end_register) 8 stands.behind refl (omega arith) (omega arith) in
-      let short = few_take clears n few_arguments in
+      let short = few_take clears n enough.0 few_arguments in
       let all = all_take clears n in
       let words = word_lines clears n in
       let total = length-append words (frame_lines back) in
@@ -512,7 +529,7 @@ module _ (core : List CoreOp) (image : Image) (bound : ℕ → ℕ) (places : Pl
                 λ j e. refl,
               );
               follows =
-                  let comes = call_comes p h h4 enters.index enters.ready.depth enters.at lt (nat_le n (most_own clears)) (later cycle3) (suc (suc (suc k4))) about4
+                  let comes = call_comes p h h4 enters.index enters.ready.depth enters.at lt (clears == 0) (nat_le n (most_own (clears == 0))) (later cycle3) (suc (suc (suc k4))) refl about4
                   (record {
                     first = first_place;
                     same = λ r f. rw f;

@@ -5,7 +5,7 @@ use Rattle.std.proofs.lemmas.Bool.{ne_eqb}
 use Rattle.fk_num.specs.Word.{Memory}
 use Rattle.fk_meaning.specs.Processor.{Call}
 use Rattle.fk_core.specs.declared.op.CoreOp.{CoreOp}
-use Rattle.fk_sim_block.specs.Stands.{Places, HasValues, HasRoom, HasFrame, FrameInMemory, HasGroupFrame, HasWaiting, Returns, frame_start, ahead}
+use Rattle.fk_sim_block.specs.Stands.{Places, HasValues, HasRoom, HasFrame, FrameInMemory, HasWaiting, Returns, frame_start, ahead}
 use Rattle.fk_sim_block.specs.Suits.{Flows}
 
 module _ (places : Places) where
@@ -20,14 +20,13 @@ module _ (places : Places) where
   }
 
   -- where a call goes on at another index
-  pub flows_on : (core : List CoreOp) (written : ℕ → Bool) (value private : ℕ → ℕ) (m : Memory) (n i j : ℕ) (call call' : Call) → ((w : ℕ) → written w ≡ false)
-      → Flows core places.frames written i j → call'.privates ≡ call.privates → call'.frames ≡ call.frames → HasValues value call'.values
-      → HasFrame places value private m n i call → HasFrame places value private m n j call'
-  flows_on core written value private m n i j call call' never flows same frames values held = record {
+  pub flows_on : (core : List CoreOp) (written : ℕ → Bool) (value private : ℕ → ℕ) (n i j : ℕ) (call call' : Call) → ((w : ℕ) → written w ≡ false)
+      → Flows core places.frames written i j → call'.privates ≡ call.privates → HasValues value call'.values
+      → HasFrame places value private n i call → HasFrame places value private n j call'
+  flows_on core written value private n i j call call' never flows same values held = record {
     home = flows.main ∙ held.home;
     values = values;
     privates = λ w e. held.privates w (flows.kept w e (never w)) ∙ ap (λ f. f w) (sym same);
-    group = λ number told. subst (λ f. HasGroupFrame m n number (f number)) (sym frames) (held.group number (flows.group number told));
   }
 
   -- the call that waits last

@@ -26,10 +26,10 @@ use Rattle.fk_gen_flow.proofs.Begins.{begins_in_root}
 never : {A : Type 0} → false ≡ true → A
 never e = absurd (cc)
 
-pub block_of_jump : (clears : Bool) (back : ℕ) (op : CoreOp) → is_jump op ≡ true → flow_block clears back op ≡ jump_block op.target
+pub block_of_jump : (clears back : ℕ) (op : CoreOp) → is_jump op ≡ true → flow_block clears back op ≡ jump_block op.target
 block_of_jump clears back op e = ap (λ b. if b then jump_block op.target else block_by clears back op (operation_of op.kind op.number)) e
 
-pub block_of_operation : (core : List CoreOp) (i : ℕ) (op : CoreOp) (operation : Operation) (clears : Bool) (back : ℕ) → OpAt core i op operation
+pub block_of_operation : (core : List CoreOp) (i : ℕ) (op : CoreOp) (operation : Operation) (clears back : ℕ) → OpAt core i op operation
     → flow_block clears back op ≡ block_by clears back op (Some operation)
 block_of_operation core i op operation clears back at =
     ap (λ b. if b then jump_block op.target else block_by clears back op (operation_of op.kind op.number)) at.no_jump ∙ ap (block_by clears back op) at.is_read
@@ -45,7 +45,7 @@ pub harts_begin : HartsBegin
 harts_begin core image places bound firsts main opening are is_main none setting t number running =
     (begins_in_root core image bound places firsts main opening are is_main none setting t number running).begins
 
-keeps : (core : List CoreOp) (image : Image) (places : Places) (bound : ℕ → ℕ) (i : ℕ) (op : CoreOp) (operation : Operation) (clears : Bool) (back : ℕ)
+keeps : (core : List CoreOp) (image : Image) (places : Places) (bound : ℕ → ℕ) (i : ℕ) (op : CoreOp) (operation : Operation) (clears back : ℕ)
     → OpAt core i op operation → is_alone operation ≡ true → is_flow operation ≡ true → op.site < 2 ^ 32
     → HasBlock image bound places i (block_by clears back op (Some operation)) → HasShared image bound → CallsReturn core image bound places
     → places.frames.of_file ≤ 56 → Fits core places.frames i op operation → ClearsEnough places.frames i clears operation

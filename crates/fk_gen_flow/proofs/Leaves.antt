@@ -9,13 +9,13 @@ use Rattle.fk_meaning.specs.Local.{handed, to_caller, unframed}
 use Rattle.fk_core.specs.declared.op.CoreOp.{CoreOp}
 use Rattle.fk_core.specs.Next.{Position, position, returned}
 use Rattle.fk_image.specs.declared.Image.{Image}
-use Rattle.fk_isa.specs.declared.instruction.Instruction.TheVariants.{Lw, Sw}
+use Rattle.fk_isa.specs.declared.instruction.Instruction.TheVariants.{Lui, Lw, Sw}
 use Rattle.fk_machine.specs.Hart.{Hart, Setting as MachineSetting}
 use Rattle.fk_machine.proofs.Performs.{writes, moves}
 use Rattle.fk_sim_nodes.specs.Alone.{later}
 use Rattle.fk_sim_nodes.specs.Source.{Passes}
 use Rattle.fk_sim_block.specs.Owner.{Commons, Owner, Doing, number_of, part}
-use Rattle.fk_sim_block.specs.Stands.{Places, StandsAt, HasRoom, HasValues, HasGroupFrame, frame_end, frame_start, group_word, local_address, value_of, value_in, zero_register, frame_register, end_register, number_register, rank_register, size_register, top_register, local_register, shared_register, heap_register, shared_mask_register, device_register, heap_mask_register}
+use Rattle.fk_sim_block.specs.Stands.{Places, StandsAt, HasRoom, HasValues, IsGroupFrame, TellsFrame, has_own, before_call, HaveGroupFrames, frame_end, frame_start, group_word, local_address, value_of, value_in, zero_register, frame_register, end_register, number_register, rank_register, size_register, top_register, local_register, shared_register, heap_register, shared_mask_register, device_register, heap_mask_register, group_frame_register}
 use Rattle.fk_sim_block.specs.Next.{OpAt}
 use Rattle.fk_sim_block.specs.Suits.{Fits}
 use Rattle.fk_sim_block.specs.Node.{control_address, frames_register, node_register, body_register, blocks_register}
@@ -25,7 +25,7 @@ use Rattle.fk_gen.specs.Lines.{quiet, first_commits, label_of, at_value, at_grou
 use Rattle.fk_gen.specs.InPlace.{HasBlock, HasLabels, LinesAt}
 use Rattle.fk_gen.specs.Keeps.{DoesAnd}
 use Rattle.fk_gen.proofs.Values.{same_word, other_word, values_kept, value_place}
-use Rattle.fk_gen.proofs.Standing.{frame_stays, waiting_kept}
+use Rattle.fk_gen.proofs.Standing.{waiting_kept, groups_kept, told_on, parts_on}
 use Rattle.fk_gen.proofs.Jumps.{jumps}
 use Rattle.fk_gen.specs.Registers.{t0, t1, t2}
 use Rattle.fk_gen_flow.specs.Flow.{jump_block, leave_block, giving_back, returning}
@@ -36,7 +36,7 @@ use Rattle.fk_gen.specs.Operands.{operand}
 use Rattle.fk_gen.proofs.Walk.{CanRun}
 use Rattle.fk_gen.proofs.ValueLines.{place_word, place_reached, operand_runs, operand_is}
 use Rattle.fk_gen_flow.proofs.Frames.{Last, last_of, start_of}
-use Rattle.fk_gen_flow.proofs.Does.{lw_does, about_block}
+use Rattle.fk_gen_flow.proofs.Does.{alone_does, lw_does, about_block}
 
 -- ---- the last three instructions, and the jump to which the call returns
 
@@ -67,10 +67,11 @@ returning_comes image bound t number k w word back h Goal about lines jump is li
 
 -- ---- what a processor is then
 
--- all registers but those that are free, those of the frame, and where the frames of the group end
+-- all registers but those that are free, those of the frame, where the frames of the group end, and that of group frames
 pub record IsAfter (h h' : Hart) : Type 0 where
   pub live : h'.ended ≡ h.ended
-  pub same : (r : ℕ) → (r == 5) ≡ false → (r == 6) ≡ false → (r == 7) ≡ false → (r == 8) ≡ false → (r == 9) ≡ false → (r == 12) ≡ false → h'.registers r ≡ h.registers r
+  pub same : (r : ℕ) → (r == 5) ≡ false → (r == 6) ≡ false → (r == 7) ≡ false → (r == 8) ≡ false → (r == 9) ≡ false → (r == 12) ≡ false → (r == 14) ≡ false
+      → h'.registers r ≡ h.registers r
 
 -- the word of a result lies in the frame of the call that waits, behind its header and its private words
 record IsResult (places : Places) (m back : ℕ) (r : ℕ) : Type 0 where
@@ -119,7 +120,22 @@ handed_frames : (gives : Bool) (v : ℕ) (c : Call) → (handed gives v c).frame
 handed_frames true v c = refl
 handed_frames false v c = refl
 
--- where the header has the address of the call's group frame, the frames of the group end there
+-- those of the call that waits last and of the others, where headers stay
+caller_groups : (places : Places) (m m' : Memory) (address : ℕ) (backs : List ℕ) (calls : List Call) (l : Last places m backs calls) (gives : Bool) (v : ℕ)
+    → ((k number : ℕ) → k ≤ length l.calls' → number < 4 → m' (group_word k number) ≡ m (group_word k number))
+    → HaveGroupFrames places.frames m address backs calls → HaveGroupFrames places.frames m' address (l.back ∷ l.backs') (handed gives v l.call ∷ l.calls')
+caller_groups places m m' address backs calls l gives v same held =
+    let frames = places.frames in
+    let here : HaveGroupFrames frames m address (l.back ∷ l.backs') (l.call ∷ l.calls') =
+    subst (λ cs. HaveGroupFrames frames m address (l.back ∷ l.backs') cs) l.are_calls (subst (λ is. HaveGroupFrames frames m address is calls) l.are_backs held) in
+    let kept = groups_kept frames m m' address (l.back ∷ l.backs') (l.call ∷ l.calls') (λ k number lt known. same k number (omega arith) known) here in
+    (
+      told_on (has_own frames l.back) address l.call (handed gives v l.call) (handed_frames gives v l.call) kept.0,
+      parts_on frames m' m' (length l.calls') l.back l.back l.call (handed gives v l.call) (λ number told. told) (handed_frames gives v l.call) (λ number known. refl) kept.1,
+      kept.2,
+    )
+
+-- where an address is that of the call's group frame, the frames of the group end there
 end_of_frames : (a first : ℕ) → a ≡ address_of first → first ≤ 2 ^ 20 → word_sum a (0x08000 * 4096) ≡ control_address first
 end_of_frames a first e few = omega arith
 
@@ -148,8 +164,9 @@ module _ (core : List CoreOp) (image : Image) (bound : ℕ → ℕ) (places : Pl
       → h'.pc ≡ 4 * places.block l.back
       → h'.registers frame_register ≡ local_address (frame_start places (length l.calls'))
       → h'.registers end_register ≡ local_address (frame_end (length l.calls'))
+      → HaveGroupFrames places.frames h.local (h'.registers group_frame_register) p.runner.left.callers p.runner.has.callers
       → HasDone core image places (ended p h.local l) h'
-  ended_stands p h h' l r at after few waiting is others held pc start end =
+  ended_stands p h h' l r at after few waiting is others held pc start end groups =
       let m = length l.calls' in
       let v = last (values p.runner.has) in
       let stands = at.stands in
@@ -164,30 +181,29 @@ module _ (core : List CoreOp) (image : Image) (bound : ℕ → ℕ) (places : Pl
           live = after.live ∙ at.live;
           at = pc;
           stands = record {
-            nought = after.same zero_register refl refl refl refl refl refl ∙ stands.nought;
+            nought = after.same zero_register refl refl refl refl refl refl refl ∙ stands.nought;
             frame = start;
             behind = end;
-            number = after.same number_register refl refl refl refl refl refl ∙ stands.number ∙ sym u.number;
-            rank = after.same rank_register refl refl refl refl refl refl ∙ stands.rank ∙ sym u.rank;
-            size = after.same size_register refl refl refl refl refl refl ∙ stands.size ∙ sym u.size;
-            top = after.same top_register refl refl refl refl refl refl ∙ stands.top ∙ sym u.top;
-            local = after.same local_register refl refl refl refl refl refl ∙ stands.local;
-            shared_data = after.same shared_register refl refl refl refl refl refl ∙ stands.shared_data;
-            private_heap = after.same heap_register refl refl refl refl refl refl ∙ stands.private_heap;
-            shared_mask = after.same shared_mask_register refl refl refl refl refl refl ∙ stands.shared_mask;
-            devices = after.same device_register refl refl refl refl refl refl ∙ stands.devices;
-            heap_mask = after.same heap_mask_register refl refl refl refl refl refl ∙ stands.heap_mask;
+            number = after.same number_register refl refl refl refl refl refl refl ∙ stands.number ∙ sym u.number;
+            rank = after.same rank_register refl refl refl refl refl refl refl ∙ stands.rank ∙ sym u.rank;
+            size = after.same size_register refl refl refl refl refl refl refl ∙ stands.size ∙ sym u.size;
+            top = after.same top_register refl refl refl refl refl refl refl ∙ stands.top ∙ sym u.top;
+            local = after.same local_register refl refl refl refl refl refl refl ∙ stands.local;
+            shared_data = after.same shared_register refl refl refl refl refl refl refl ∙ stands.shared_data;
+            private_heap = after.same heap_register refl refl refl refl refl refl refl ∙ stands.private_heap;
+            shared_mask = after.same shared_mask_register refl refl refl refl refl refl refl ∙ stands.shared_mask;
+            devices = after.same device_register refl refl refl refl refl refl refl ∙ stands.devices;
+            heap_mask = after.same heap_mask_register refl refl refl refl refl refl refl ∙ stands.heap_mask;
             running = record {
               home = l.frame.home;
               values = held;
               privates = λ w e.
                   let below = word.privates w e in
                   others (frame_start places m + 7 + w) (λ f. omega arith) ∙ l.frame.privates w e ∙ ap (λ f. f w) (sym (handed_privates gives v l.call));
-              group = λ number told.
-                  subst (λ f. HasGroupFrame h'.local m number (f number)) (sym (handed_frames gives v l.call))
-                  (frame_stays h.local h'.local m number (l.call.frames number) (λ known. others (group_word m number) (λ f. omega arith)) (l.frame.group number told));
             };
-            waiting = waiting_kept places h.local h'.local l.backs' l.calls' few (λ j a b. others j (λ f. omega arith)) (λ j a b. others j (λ f. omega arith)) l.others;
+            waiting = waiting_kept places h.local h'.local l.backs' l.calls' few (λ j a b. others j (λ f. omega arith)) l.others;
+            groups = caller_groups places h.local h'.local (h'.registers group_frame_register) p.runner.left.callers p.runner.has.callers l gives v
+                (λ k number le known. others (group_word k number) (λ f. omega arith)) groups;
             own = λ j lt. let below = word.own j lt in others (7 + j) (λ f. omega arith) ∙ stands.own j lt ∙ ap (λ f. f j) (sym u.own);
             heap = λ j lt. others (16384 + j) (λ f. omega arith) ∙ stands.heap j lt;
             full = others 2 (λ f. omega arith) ∙ stands.full;
@@ -202,7 +218,7 @@ abbrev moved_to : Hart → (registers : ℕ → ℕ) (pc : ℕ) (local : Memory)
 moved_to h registers pc local = record h { registers = registers; pc = pc; local = local }
 
 abbrev SameButFree : (rs rs' : ℕ → ℕ) → Type 0
-SameButFree rs rs' = (r : ℕ) → (r == 5) ≡ false → (r == 6) ≡ false → (r == 7) ≡ false → (r == 12) ≡ false → rs' r ≡ rs r
+SameButFree rs rs' = (r : ℕ) → (r == 5) ≡ false → (r == 6) ≡ false → (r == 7) ≡ false → (r == 12) ≡ false → (r == 14) ≡ false → rs' r ≡ rs r
 
 module _ (core : List CoreOp) (image : Image) (bound : ℕ → ℕ) (places : Places) (i : ℕ) (op : CoreOp) (gives framed : Bool) (few : places.frames.of_file ≤ 56)
     (calls : CallsReturn core image bound places) (labels : HasLabels bound places) (p : Owner) (h : Hart) (at : StandsAt places p h)
@@ -224,9 +240,10 @@ module _ (core : List CoreOp) (image : Image) (bound : ℕ → ℕ) (places : Pl
 
   comes_back : (t : MachineSetting) (k : ℕ) (rs : ℕ → ℕ) (pc : ℕ) (local : Memory) → IsAbout image t k (moved_to h rs pc local)
       → LinesAt image bound k (map quiet returning) → rs 6 ≡ 4 * l.returns.word → SameButFree h.registers rs → rs 12 ≡ frames_behind framed p.runner.has h
+      → HaveGroupFrames places.frames h.local (rs group_frame_register) p.runner.left.callers p.runner.has.callers
       → ((j : ℕ) → (j ≡ r → ⊥) → local j ≡ h.local j) → HasValues (value_of local (length l.calls')) (handed gives v l.call).values
       → Comes image t (number_of p) 4 (moved_to h rs pc local) Goal
-  comes_back t k rs pc local about lines link same frames others values' =
+  comes_back t k rs pc local about lines link same frames groups others values' =
       let m = length l.calls' in
       let g = moved_to h rs pc local in
       let jump = calls.jumps l.returns.begun_at _ l.returns.point in
@@ -236,17 +253,17 @@ module _ (core : List CoreOp) (image : Image) (bound : ℕ → ℕ) (places : Pl
       let header = word.header in
       let inside = word.inside in
       let many : length p.runner.has.callers ≡ suc m = ap length l.are_calls in
-      let start : rs 8 ≡ local_address w = same frame_register refl refl refl refl ∙ starts in
+      let start : rs 8 ≡ local_address w = same frame_register refl refl refl refl refl ∙ starts in
       returning_comes image bound t (number_of p) k (w + 1) l.returns.word l.back g Goal about lines jump (near_word w 1 (w + 1) (rs 8) 4 start refl (omega arith) (omega arith)) link
       (labels.within (label_of l.back)) (
         ended_stands core image bound places i op gives framed p h (back_to g (w + 1) l.returns.word target) l r at
-            (record { live = refl; same = λ r' a b c d e f. rw (d, e) (same r' a b c f) })
-            few waiting refl others values' (ap (λ k. 4 * k) (labels.blocks l.back)) (others (w + 1) (λ f. omega arith) ∙ l.returns.frame) (omega (arith, start)),
+            (record { live = refl; same = λ r' a b c d e f g. rw (d, e) (same r' a b c f g) })
+            few waiting refl others values' (ap (λ k. 4 * k) (labels.blocks l.back)) (others (w + 1) (λ f. omega arith) ∙ l.returns.frame) (omega (arith, start)) groups,
         record {
-          node = same node_register refl refl refl refl;
-          body = same body_register refl refl refl refl;
+          node = same node_register refl refl refl refl refl;
+          body = same body_register refl refl refl refl refl;
           frames_end = frames;
-          blocks = same blocks_register refl refl refl refl;
+          blocks = same blocks_register refl refl refl refl refl;
           words = λ j lt. others j (λ f. omega arith);
         },
       )
@@ -273,8 +290,23 @@ module _ (core : List CoreOp) (image : Image) (bound : ℕ → ℕ) (places : Pl
   last_call : (gives framed : Bool) → Entered gives framed → Last places h.local p.runner.left.callers p.runner.has.callers
   last_call gives framed enters = last_of places h.local _ _ enters.at.stands.waiting enters.ready.may
 
-  leave_without : HasBlock image bound places i (leave_block false false op.depth) → OpAt core i op (Leave false false) → Entered false false → Ends false false
-  leave_without block op_at enters =
+  -- what it had before the call
+  abbrev Before : (address : ℕ) → Type 0
+  Before address = HaveGroupFrames places.frames h.local address p.runner.left.callers p.runner.has.callers
+
+  before_by : (gives framed : Bool) → Entered gives framed → (own : Bool) → places.frames.group i 0 ≡ own
+      → Before (before_call own (h.registers group_frame_register) (h.local (group_word (length p.runner.has.callers) 0)))
+  before_by gives framed enters told e =
+      subst (λ o. Before (before_call o (h.registers group_frame_register) (h.local (group_word (length p.runner.has.callers) 0)))) (ap (λ j. places.frames.group j 0) enters.index ∙ e) enters.at.stands.groups.2
+
+  before_none : (gives : Bool) → Entered gives false → places.frames.group i 0 ≡ false → Before (h.registers group_frame_register)
+  before_none gives enters none = before_by gives false enters false none
+
+  before_some : (gives : Bool) → Entered gives true → places.frames.group i 0 ≡ true → Before (h.local (group_word (length p.runner.has.callers) 0))
+  before_some gives enters some = before_by gives true enters true some
+
+  leave_without : HasBlock image bound places i (leave_block false false op.depth) → OpAt core i op (Leave false false) → Fits core places.frames i op (Leave false false) → Entered false false → Ends false false
+  leave_without block op_at fits enters =
       let at = enters.at in
       let waiting = enters.ready.in_range.waiting in
       let about = about_block image bound places t p h i enters.running.code enters.index at in
@@ -288,18 +320,19 @@ module _ (core : List CoreOp) (image : Image) (bound : ℕ → ℕ) (places : Pl
       (near_word w 0 w (h.registers frame_register) 0 start refl (omega arith) (omega arith)) (omega arith)
       (ended_part core image bound places i op false false setting p h.local l op_at enters.index)
       (comes_back core image bound places i op false false few calls block.labels p h at l waiting (later t) (suc k) h1.registers h1.pc h.local about1 block.lines.1 l.returns.code
-      (λ r' a b c f. rw b) refl (λ j ne. refl) l.frame.values)
+      (λ r' a b c f g. rw b) refl (before_none false enters fits.place) (λ j ne. refl) l.frame.values)
 
-  -- what the header has of the group frame
-  frame_of_call : (gives : Bool) → Entered gives true → places.frames.group i 0 ≡ true → HasGroupFrame h.local (length p.runner.has.callers) 0 (p.runner.has.call.frames 0)
-  frame_of_call gives enters told = enters.at.stands.running.group 0 (ap (λ j. places.frames.group j 0) enters.index ∙ told)
+  -- what the register has of the group frame
+  frame_of_call : (gives : Bool) → Entered gives true → places.frames.group i 0 ≡ true → IsGroupFrame (h.registers group_frame_register) (p.runner.has.call.frames 0)
+  frame_of_call gives enters told =
+      subst (λ o. TellsFrame o (h.registers group_frame_register) p.runner.has.call) (ap (λ j. places.frames.group j 0) enters.index ∙ told) enters.at.stands.groups.0
 
   -- a hart that has given the frame back
   abbrev given : Hart
   given =
-      let h1 = writes h t1 (h.local (group_word (length p.runner.has.callers) 0)) in
-      let h2 = writes h1 t2 (0x08000 * 4096) in
-      writes h2 frames_register (word_sum (h2.registers t1) (h2.registers t2))
+      let h1 = writes h t2 (0x08000 * 4096) in
+      let h2 = writes h1 frames_register (word_sum (h1.registers group_frame_register) (h1.registers t2)) in
+      writes h2 group_frame_register (h.local (group_word (length p.runner.has.callers) 0))
 
   -- the lines that give it back, and what follows them
   gives_back : (gives : Bool) → OpAt core i op (Leave gives true) → (enters : Entered gives true)
@@ -314,17 +347,16 @@ module _ (core : List CoreOp) (image : Image) (bound : ℕ → ℕ) (places : Pl
       let about = about_block image bound places t p h i enters.running.code enters.index at in
       let l = last_call gives true enters in
       let place = value_place (h.registers end_register) n 61 at.stands.behind waiting (omega arith) (omega arith) in
-      let h1 = writes h t1 (h.local (group_word n 0)) in
-      let h2 = writes h1 t2 (0x08000 * 4096) in
+      let h1 = writes h t2 (0x08000 * 4096) in
+      let h2 = writes h1 frames_register (word_sum (h1.registers group_frame_register) (h1.registers t2)) in
       let Goal : Hart → Type 0 = λ h'. HasDone core image places (ended core image bound places i op gives true p h.local l) h' × Keeps true h' in
-      let about1 = writing image t k h 6 (h.local (group_word n 0)) about lines.0.within in
-      let about2 = writing image (later t) (suc k) h1 7 (0x08000 * 4096) about1 lines.1.0.within in
-      let about3 = writing image (later (later t)) (suc (suc k)) h2 12 (word_sum (h2.registers t1) (h2.registers t2)) about2 lines.1.1.0.within in
-      lw_does core image places setting t p h (ended core image bound places i op gives true p h.local l) (Keeps true) k 6 9 (at_group_frame 0) (group_word n 0) (suc (suc behind)) about lines.0
-      (place.1, place.0) (omega arith)
+      let about1 = writing image t k h 7 (0x08000 * 4096) about lines.0.within in
+      let about2 = writing image (later t) (suc k) h1 12 (word_sum (h1.registers group_frame_register) (h1.registers t2)) about1 lines.1.0.within in
+      let about3 = writing image (later (later t)) (suc (suc k)) h2 14 (h.local (group_word n 0)) about2 lines.1.1.0.within in
+      alone_does core image places setting t p h h1 (ended core image bound places i op gives true p h.local l) (Keeps true) k (Lui t2 0x08000) (suc (suc behind)) about lines.0 (λ sh. refl) (omega arith)
       (ended_part core image bound places i op gives true setting p h.local l op_at enters.index)
       (first image (later t) number (suc behind) (suc k) _ h1 h2 Goal about1 lines.1.0 (λ s. (s.reserved, refl))
-      (first image (later (later t)) number behind (suc (suc k)) _ h2 given Goal about2 lines.1.1.0 (λ s. (s.reserved, refl)) (rest about3)))
+      (first image (later (later t)) number behind (suc (suc k)) _ h2 given Goal about2 lines.1.1.0 (lw_goes (later (later t)) number 14 9 (at_group_frame 0) (group_word n 0) h2 (place.1, place.0)) (rest about3)))
 
   leave_framed : HasBlock image bound places i (leave_block false true op.depth) → OpAt core i op (Leave false true) → Fits core places.frames i op (Leave false true) → Entered false true → Ends false true
   leave_framed block op_at fits enters =
@@ -345,7 +377,7 @@ module _ (core : List CoreOp) (image : Image) (bound : ℕ → ℕ) (places : Pl
       first image cycle3 number 4 k3 _ given h4 Goal about l3 (lw_goes cycle3 number 6 8 0 w given (near_word w 0 w (h.registers frame_register) 0 start refl (omega arith) (omega arith)))
       (comes_back core image bound places i op false true few calls block.labels p h at l waiting (later cycle3) (suc k3) h4.registers h4.pc h.local
       (writing image cycle3 k3 given 6 (h.local w) about l3.within) block.lines.1.1.1.1 l.returns.code
-      (λ r' a b c f. rw (b, f, c)) (end_of_frames _ _ has.address has.within) (λ j ne. refl) l.frame.values))
+      (λ r' a b c f g. rw (b, g, f, c)) (end_of_frames _ _ has.is has.within) (before_some false enters fits.place) (λ j ne. refl) l.frame.values))
 
   -- ---- with one
 
@@ -353,10 +385,10 @@ module _ (core : List CoreOp) (image : Image) (bound : ℕ → ℕ) (places : Pl
   result_comes : (framed : Bool) (labels : HasLabels bound places) (enters : Entered true framed) (t' : MachineSetting) (j : ℕ) (rs : ℕ → ℕ) (pc : ℕ)
       → IsAbout image t' j (moved_to h rs pc h.local)
       → LinesAt image bound j (map quiet (Lw t1 frame_register 0 ∷ Lw t2 frame_register 8 ∷ Sw t2 t0 0 ∷ returning)) → rs 5 ≡ last (values p.runner.has) → SameButFree h.registers rs
-      → rs 12 ≡ frames_behind framed p.runner.has h
+      → rs 12 ≡ frames_behind framed p.runner.has h → Before (rs group_frame_register)
       → Comes image t' number 7 (moved_to h rs pc h.local)
       (λ h'. HasDone core image places (ended core image bound places i op true framed p h.local (last_call true framed enters)) h' × Keeps framed h')
-  result_comes framed labels enters t' j rs pc about lines value same frames =
+  result_comes framed labels enters t' j rs pc about lines value same frames groups =
       let at = enters.at in
       let waiting = enters.ready.in_range.waiting in
       let l = last_call true framed enters in
@@ -364,7 +396,7 @@ module _ (core : List CoreOp) (image : Image) (bound : ℕ → ℕ) (places : Pl
       let many : length p.runner.has.callers ≡ suc m = ap length l.are_calls in
       let w = 64 * suc m in
       let r = 64 * suc m - suc (length l.call.values) in
-      let start : rs 8 ≡ local_address w = same frame_register refl refl refl refl ∙ starts core image bound places i op true framed few calls labels p h at l waiting in
+      let start : rs 8 ≡ local_address w = same frame_register refl refl refl refl refl ∙ starts core image bound places i op true framed few calls labels p h at l waiting in
       let word = is_result places m l.back (length l.call.values) r l.frame.home l.returns.room few refl in
       let low = word.header in
       let high = word.inside in
@@ -384,7 +416,7 @@ module _ (core : List CoreOp) (image : Image) (bound : ℕ → ℕ) (places : Pl
       (first image (later (later t')) number 4 (suc (suc j)) _ g2 g3 Goal about2 lines.1.1.0
       (sw_goes (later (later t')) number 7 5 0 r g2 (near_word r 0 r (g2.registers t2) 0 l.returns.result refl (omega arith) (omega arith)))
       (comes_back core image bound places i op true framed few calls labels p h at l waiting (later (later (later t'))) (suc (suc (suc j))) g3.registers g3.pc m' about3 lines.1.1.1 l.returns.code
-      (λ r' a b c f. rw (c, b) (same r' a b c f)) frames others
+      (λ r' a b c f g. rw (c, b) (same r' a b c f g)) frames groups others
       (stored, values_kept h.local m' m l.call.values (λ x a b. others x (λ f. omega arith)) l.frame.values))))
 
   -- the last value
@@ -412,7 +444,7 @@ module _ (core : List CoreOp) (image : Image) (bound : ℕ → ℕ) (places : Pl
       let about1 = writing image t k h 5 v about block.lines.0.within in
       lw_does core image places setting t p h (ended core image bound places i op true false p h.local l) (Keeps false) k t0 end_register (at_value op.depth) taken 7 about block.lines.0 (value.1.1, value.1.0) (omega arith)
       (ended_part core image bound places i op true false setting p h.local l op_at enters.index)
-      (result_comes false block.labels enters (later t) (suc k) h1.registers h1.pc about1 block.lines.1 value.0 (λ r' a b c f. rw a) refl)
+      (result_comes false block.labels enters (later t) (suc k) h1.registers h1.pc about1 block.lines.1 value.0 (λ r' a b c f g. rw a) refl (before_none true enters fits.place))
 
   leave_framed_with : HasBlock image bound places i (leave_block true true op.depth) → OpAt core i op (Leave true true) → Fits core places.frames i op (Leave true true) → Entered true true → Ends true true
   leave_framed_with block op_at fits enters =
@@ -430,7 +462,7 @@ module _ (core : List CoreOp) (image : Image) (bound : ℕ → ℕ) (places : Pl
       (λ about.
       first image cycle3 number 7 k3 _ given h4 Goal about l3 (lw_goes cycle3 number t0 end_register (at_value op.depth) taken given (value.1.1, value.1.0))
       (result_comes true block.labels enters (later cycle3) (suc k3) h4.registers h4.pc (writing image cycle3 k3 given 5 v about l3.within) block.lines.1.1.1.1 value.0
-      (λ r' a b c f. rw (a, f, c, b)) (end_of_frames _ _ has.address has.within)))
+      (λ r' a b c f g. rw (a, g, f, c)) (end_of_frames _ _ has.is has.within) (before_some true enters fits.place)))
 
 pub leave_keeps : (core : List CoreOp) (image : Image) (bound : ℕ → ℕ) (places : Places) (i : ℕ) (op : CoreOp) (gives framed : Bool) → places.frames.of_file ≤ 56
     → CallsReturn core image bound places → HasBlock image bound places i (leave_block gives framed op.depth) → OpAt core i op (Leave gives framed) → Fits core places.frames i op (Leave gives framed)
@@ -438,4 +470,4 @@ pub leave_keeps : (core : List CoreOp) (image : Image) (bound : ℕ → ℕ) (pl
 leave_keeps core image bound places i op true true few calls block op_at fits setting t p h enters = leave_framed_with core image bound places i op few calls setting t p h block op_at fits enters
 leave_keeps core image bound places i op true false few calls block op_at fits setting t p h enters = leave_with core image bound places i op few calls setting t p h block op_at fits enters
 leave_keeps core image bound places i op false true few calls block op_at fits setting t p h enters = leave_framed core image bound places i op few calls setting t p h block op_at fits enters
-leave_keeps core image bound places i op false false few calls block op_at fits setting t p h enters = leave_without core image bound places i op few calls setting t p h block op_at enters
+leave_keeps core image bound places i op false false few calls block op_at fits setting t p h enters = leave_without core image bound places i op few calls setting t p h block op_at fits enters

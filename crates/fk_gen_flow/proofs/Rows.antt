@@ -49,7 +49,7 @@ opening_joined a b c d of_file firsts main e f g =
     ∙ ap (λ x. with_block x (first_lines 0 firsts ++ jump_block main)) e ∙ with_block-append a (register_lines of_file) (first_lines 0 firsts ++ jump_block main)
 
 -- an operation that is no jump has its block
-pub chosen : (clears : Bool) (back : ℕ) (op : CoreOp) (operation : Option Operation) → is_jump op ≡ false → operation ≡ operation_of op.kind op.number
+pub chosen : (clears back : ℕ) (op : CoreOp) (operation : Option Operation) → is_jump op ≡ false → operation ≡ operation_of op.kind op.number
     → flow_block clears back op ≡ block_by clears back op operation
 chosen clears back op operation e f =
     ap (λ b. if b then jump_block op.target else block_by clears back op (operation_of op.kind op.number)) e ∙ ap (block_by clears back op) (sym f)

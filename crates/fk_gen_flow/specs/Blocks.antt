@@ -10,7 +10,7 @@ use Rattle.fk_core.specs.Numbers.{operation_of}
 use Rattle.fk_asm.specs.Block.{MarkedLine}
 use Rattle.fk_gen.specs.declared.placed.Placed.{Placed}
 use Rattle.fk_gen_flow.specs.Flow.{jump_block, branch_block, leave_block, halt_block}
-use Rattle.fk_gen_flow.specs.Calls.{enter_block}
+use Rattle.fk_gen_flow.specs.Calls.{enter_block, most_privates}
 
 -- The operations of control flow.
 abbrev pub is_flow : Operation → Bool
@@ -20,7 +20,7 @@ is_flow (Enter arguments) = true
 is_flow Halt = true
 is_flow operation = false
 
-abbrev pub block_by : (clears : Bool) (back : ℕ) → CoreOp → Option Operation → List MarkedLine
+abbrev pub block_by : (clears back : ℕ) → CoreOp → Option Operation → List MarkedLine
 block_by clears back op (Some (Branch onward)) = branch_block onward op.depth op.target
 block_by clears back op (Some (Leave gives framed)) = leave_block gives framed op.depth
 block_by clears back op (Some (Enter arguments)) =
@@ -28,9 +28,9 @@ block_by clears back op (Some (Enter arguments)) =
 block_by clears back op (Some Halt) = halt_block
 block_by clears back op operation = []
 
--- The block of a jump or of an operation. A call clears the private words after its arguments if
--- `clears` is true, and its caller goes on at the index `back`.
-abbrev pub flow_block : (clears : Bool) (back : ℕ) → CoreOp → List MarkedLine
+-- The block of a jump or of an operation. A call clears this many private words before its
+-- arguments come there, and its caller goes on at the index `back`.
+abbrev pub flow_block : (clears back : ℕ) → CoreOp → List MarkedLine
 flow_block clears back op = if is_jump op then jump_block op.target
     else block_by clears back op (operation_of op.kind op.number)
 
@@ -45,8 +45,8 @@ abbrev pub is_some_flow : Option Operation → Bool
 is_some_flow (Some operation) = is_flow operation
 is_some_flow None = false
 
--- A jump whose target has a label, or an operation of control flow whose values have room in a
--- frame.
+-- A jump whose target has a label, or an operation of control flow. Its values have room in a
+-- frame, and so have the words that it clears.
 pub record HasFlow (placed : Placed) : Type 0 where
   pub kind : (is_jump placed.op ≡ true)
       ⊎ (is_some_flow (operation_of placed.op.kind placed.op.number) ≡ true)
@@ -54,3 +54,4 @@ pub record HasFlow (placed : Placed) : Type 0 where
   pub jump : is_jump placed.op ≡ true → placed.op.target < 2 ^ 31
   pub operands : HasOperands placed.op.depth placed.op.target placed.back
       (operation_of placed.op.kind placed.op.number)
+  pub clears : placed.clears ≤ most_privates

@@ -1,6 +1,6 @@
 -- The block of a call, and the code that all calls share.
-use Rattle.std.specs.Prelude.{◌≡◌, ℕ, zero, suc, ◌+◌, ◌-◌, ◌<◌, nat_le, Bool, true, false, List, []}
-use Rattle.std.specs.Prelude.{◌∷◌, ◌++◌, if◌then◌else◌}
+use Rattle.std.specs.Prelude.{◌≡◌, ℕ, zero, suc, ◌+◌, ◌-◌, ◌<◌, ◌==◌, nat_le, Bool, true, false}
+use Rattle.std.specs.Prelude.{List, [], ◌∷◌, ◌++◌, if◌then◌else◌}
 use Rattle.fk_image.specs.declared.Image.{Image}
 use Rattle.fk_isa.specs.declared.instruction.Instruction.TheVariants.{Lui, Jal, Jalr, Bne, Lw, Sw}
 use Rattle.fk_isa.specs.declared.instruction.Instruction.TheVariants.{Addi}
@@ -37,15 +37,16 @@ own_copies (suc k) = copy_lines k ++ own_copies k
 
 -- The most arguments that are copied in the block of the call: one, or none if the call clears
 -- words. More are copied by the code that all calls share. So a block has at most 14 words.
-abbrev pub most_own : (clears : Bool) → ℕ
-most_own clears = if clears then 0 else 1
+abbrev pub most_own : (clears_none : Bool) → ℕ
+most_own clears_none = if clears_none then 1 else 0
 
 abbrev pub copies_by : (few : Bool) (arguments : ℕ) → List MarkedLine
 copies_by true arguments = own_copies arguments
 copies_by false arguments = goes_to (Jal t1 0) (copy_label arguments) ∷ []
 
-abbrev pub argument_lines : (clears : Bool) (arguments : ℕ) → List MarkedLine
-argument_lines clears arguments = copies_by (nat_le arguments (most_own clears)) arguments
+abbrev pub argument_lines : (clears arguments : ℕ) → List MarkedLine
+argument_lines clears arguments =
+    copies_by (nat_le arguments (most_own (clears == 0))) arguments
 
 -- Sets up the new frame, and jumps over the line to which the call returns. That line leads to the
 -- index where the caller goes on.
@@ -62,22 +63,23 @@ past_return = 4
 abbrev pub most_privates : ℕ
 most_privates = 56
 
--- If `clears` is true, all private words of the new frame after its arguments become 0.
-abbrev pub clears_by : (clears : Bool) (arguments : ℕ) → List MarkedLine
-clears_by true arguments = goes_to (Jal t1 0) (clear_label (most_privates - arguments)) ∷ []
-clears_by false arguments = []
+-- The first private words of the new frame become 0, as many as the call clears. The arguments come
+-- there afterwards.
+abbrev pub clears_by : (none : Bool) (clears : ℕ) → List MarkedLine
+clears_by true clears = []
+clears_by false clears = goes_to (Jal t1 0) (clear_label clears) ∷ []
 
-abbrev pub word_lines : (clears : Bool) (arguments : ℕ) → List MarkedLine
-word_lines clears arguments = argument_lines clears arguments ++ clears_by clears arguments
+abbrev pub word_lines : (clears arguments : ℕ) → List MarkedLine
+word_lines clears arguments =
+    clears_by (clears == 0) clears ++ argument_lines clears arguments
 
-abbrev pub enter_block : (clears : Bool) (arguments depth site back : ℕ) → List MarkedLine
+abbrev pub enter_block : (clears arguments depth site back : ℕ) → List MarkedLine
 enter_block clears arguments depth site back =
     depth_lines arguments depth site ++ (word_lines clears arguments ++ frame_lines back)
 
 -- The code that all calls share is two chains of parts, the last part first. There is a label
 -- before each part, and one before the chain's end, which goes back to the call. In one chain each
--- part copies an argument. In the other each clears a word of the new frame, the last word in part
--- 0.
+-- part copies an argument. In the other each clears a private word of the new frame.
 abbrev pub back_lines : List MarkedLine
 back_lines = quiet (Jalr zero_register t1 0) ∷ []
 
@@ -86,7 +88,7 @@ chain_lines part zero = back_lines
 chain_lines part (suc k) = part k ++ chain_lines part k
 
 abbrev pub clear_lines : (k : ℕ) → List MarkedLine
-clear_lines k = quiet (Sw end_register zero_register (at_private (most_privates - 1 - k))) ∷ []
+clear_lines k = quiet (Sw end_register zero_register (at_private k)) ∷ []
 
 -- The image has a chain, each of whose parts has this many words, and is at its label.
 pub record HasChain (image : Image) (bound label : ℕ → ℕ) (part : ℕ → List MarkedLine)

@@ -5,7 +5,7 @@ use Rattle.fk_isa.specs.declared.instruction.Instruction.TheVariants.{Jal, Jalr,
 use Rattle.fk_isa.specs.declared.instruction.Instruction.TheVariants.{Addi, Add, Lui}
 use Rattle.fk_asm.specs.Block.{MarkedLine}
 use Rattle.fk_sim_block.specs.Stands.{zero_register, frame_register, end_register}
-use Rattle.fk_sim_block.specs.Stands.{device_register}
+use Rattle.fk_sim_block.specs.Stands.{device_register, group_frame_register}
 use Rattle.fk_sim_block.specs.Node.{frames_register}
 use Rattle.fk_gen.specs.Registers.{t0, t1, t2}
 use Rattle.fk_gen.specs.Operands.{operand}
@@ -29,10 +29,11 @@ branch_block onward depth target =
     commits (operand t0 depth) ∷ quiet (passes onward) ∷ jump_line target ∷ []
 
 -- Gives the words of the call's group frame back: the frames of the group end where that frame
--- begins.
+-- begins. The register with its address has what it had before.
 abbrev pub giving_back : List Instruction
 giving_back =
-    Lw t1 end_register (at_group_frame 0) ∷ Lui t2 to_control ∷ Add frames_register t1 t2 ∷ []
+    Lui t2 to_control ∷ Add frames_register group_frame_register t2
+    ∷ Lw group_frame_register end_register (at_group_frame 0) ∷ []
 
 -- The end of the block that ends a call. The frame of the waiting call is that of the running call
 -- again. The hart returns into the block that began the call, to the address in t1, where a jump

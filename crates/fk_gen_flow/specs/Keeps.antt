@@ -1,7 +1,7 @@
 -- What the blocks of control flow guarantee besides doing their operations: how many cycles they
 -- take, and what they keep of their harts.
-use Rattle.std.specs.Prelude.{◌≡◌, ℕ, suc, ◌+◌, ◌-◌, ◌*◌, ◌<◌, nat_le, List, [], ◌∷◌, length, Bool}
-use Rattle.std.specs.Prelude.{true, false, if◌then◌else◌}
+use Rattle.std.specs.Prelude.{◌≡◌, ℕ, suc, ◌+◌, ◌-◌, ◌*◌, ◌<◌, ◌==◌, nat_le, List, [], ◌∷◌, length}
+use Rattle.std.specs.Prelude.{Bool, true, false, if◌then◌else◌}
 use Rattle.fk_meaning_operation.specs.declared.operation.Operation.{Operation}
 use Rattle.fk_meaning_operation.specs.declared.operation.Operation.TheVariants.{Branch, Leave}
 use Rattle.fk_meaning_operation.specs.declared.operation.Operation.TheVariants.{Enter}
@@ -17,7 +17,7 @@ use Rattle.fk_sim_block.specs.Block.{Enters}
 use Rattle.fk_sim_block.specs.Node.{node_register, body_register, space_frames, space_blocks}
 use Rattle.fk_sim_block.specs.Node.{control_address}
 use Rattle.fk_gen.specs.Keeps.{Keeps, DoesAnd, peak}
-use Rattle.fk_gen_flow.specs.Calls.{most_privates, most_own}
+use Rattle.fk_gen_flow.specs.Calls.{most_own}
 
 -- ---- cycles
 
@@ -27,26 +27,26 @@ abbrev pub before_commit : Operation → ℕ
 before_commit (Enter arguments) = 3
 before_commit operation = 0
 
--- The cycles of a call after its commit: two for each argument, and two more where the code that
--- all calls share copies them; one for each word that it clears, and two more; and four for the new
+-- The cycles of a call after its commit: one for each word that it clears, and two more; two for
+-- each argument, and two more where the code that all calls share copies them; and four for the new
 -- frame.
 abbrev pub copying_takes : (own : Bool) (arguments : ℕ) → ℕ
 copying_takes own arguments = 2 * arguments + (if own then 0 else 2)
 
-abbrev pub clearing_takes : (clears : Bool) (arguments : ℕ) → ℕ
-clearing_takes clears arguments = if clears then most_privates - arguments + 2 else 0
+abbrev pub clearing_takes : (none : Bool) (clears : ℕ) → ℕ
+clearing_takes none clears = if none then 0 else clears + 2
 
-abbrev pub call_takes : (clears : Bool) (arguments : ℕ) → ℕ
+abbrev pub call_takes : (clears arguments : ℕ) → ℕ
 call_takes clears arguments =
-    copying_takes (nat_le arguments (most_own clears)) arguments + clearing_takes clears arguments
-    + 4
+    clearing_takes (clears == 0) clears
+    + copying_takes (nat_le arguments (most_own (clears == 0))) arguments + 4
 
 -- Those of the end of a call: three more where it gives a group frame back.
 abbrev pub leaving_takes : (gives framed : Bool) → ℕ
 leaving_takes gives framed = (if gives then 7 else 4) + (if framed then 3 else 0)
 
 -- The number of cycles after a commit, by the branch that the operation takes.
-abbrev pub behind_commit : (clears : Bool) → Operation → (onward : Bool) → ℕ
+abbrev pub behind_commit : (clears : ℕ) → Operation → (onward : Bool) → ℕ
 behind_commit clears (Branch turned) onward = if onward then 1 else 2
 behind_commit clears (Leave gives framed) onward = leaving_takes gives framed
 behind_commit clears (Enter arguments) onward = call_takes clears arguments

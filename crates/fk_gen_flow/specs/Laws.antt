@@ -1,5 +1,5 @@
 -- What the blocks of control flow do in place.
-use Rattle.std.specs.Prelude.{◌≡◌, ℕ, suc, ◌-◌, ◌^◌, ◌<◌, ◌≤◌, List, Bool, true, false, Some}
+use Rattle.std.specs.Prelude.{◌≡◌, ℕ, suc, ◌-◌, ◌^◌, ◌<◌, ◌≤◌, List, true, false, Some}
 use Rattle.std.specs.Prelude.{slice_get, slice_index}
 use Rattle.fk_meaning_operation.specs.declared.operation.Operation.{Operation}
 use Rattle.fk_meaning_operation.specs.declared.operation.Operation.TheVariants.{Enter, Halt}
@@ -15,7 +15,7 @@ use Rattle.fk_sim_block.specs.Suits.{Flows, Fits, nothing}
 use Rattle.fk_sim_block.specs.Block.{IsRunning, BlockDoes, BlockJumps, BlockHalts, Begins, beginner}
 use Rattle.fk_gen.specs.InPlace.{HasBlock, LinesAt}
 use Rattle.fk_gen_flow.specs.Flow.{jump_block}
-use Rattle.fk_gen_flow.specs.Calls.{HasShared, past_return}
+use Rattle.fk_gen_flow.specs.Calls.{HasShared, most_privates, past_return}
 use Rattle.fk_gen_flow.specs.Opening.{AreFirsts, HasOpening}
 use Rattle.fk_gen_flow.specs.Blocks.{is_flow, flow_block}
 use Rattle.fk_gen_flow.specs.Keeps.{BlockKeeps, before_commit, behind_commit}
@@ -51,10 +51,12 @@ HasJumps core image bound places =
     (i : ℕ) (op : CoreOp) → slice_get core i ≡ Some op → is_jump op ≡ true
     → HasBlock image bound places i (jump_block op.target)
 
--- A call clears if a word after its arguments is kept as it begins.
-abbrev pub ClearsEnough : Frames → (i : ℕ) (clears : Bool) → Operation → Type 0
-ClearsEnough frames i clears (Enter arguments) = (word : ℕ) → frames.keeps (suc i) word ≡ true
-    → arguments ≤ word → clears ≡ true
+-- A call clears each private word after its arguments that is kept as it begins, and no word past
+-- those of its frame.
+abbrev pub ClearsEnough : Frames → (i clears : ℕ) → Operation → Type 0
+ClearsEnough frames i clears (Enter arguments) = (clears ≤ most_privates)
+    × ((word : ℕ) → word < most_privates → frames.keeps (suc i) word ≡ true
+    → arguments ≤ word → word < clears)
 ClearsEnough frames i clears operation = Unit {0}
 
 -- The blocks of branches, calls and ends of calls do their operations, where the image also has the
@@ -62,7 +64,7 @@ ClearsEnough frames i clears operation = Unit {0}
 abbrev pub FlowBlocksDo : Type 0
 FlowBlocksDo =
     (core : List CoreOp) (image : Image) (places : Places) (bound : ℕ → ℕ) (i : ℕ) (op : CoreOp)
-    (operation : Operation) (clears : Bool) (back : ℕ)
+    (operation : Operation) (clears back : ℕ)
     → OpAt core i op operation → is_alone operation ≡ true → is_flow operation ≡ true
     → op.site < 2 ^ 32
     → HasBlock image bound places i (flow_block clears back op) → HasShared image bound
@@ -76,7 +78,7 @@ FlowBlocksDo =
 abbrev pub FlowBlocksKeep : Type 0
 FlowBlocksKeep =
     (core : List CoreOp) (image : Image) (places : Places) (bound : ℕ → ℕ) (i : ℕ) (op : CoreOp)
-    (operation : Operation) (clears : Bool) (back : ℕ)
+    (operation : Operation) (clears back : ℕ)
     → OpAt core i op operation → is_alone operation ≡ true → is_flow operation ≡ true
     → op.site < 2 ^ 32
     → HasBlock image bound places i (flow_block clears back op) → HasShared image bound
@@ -90,7 +92,7 @@ FlowBlocksKeep =
 abbrev pub HaltsEnd : Type 0
 HaltsEnd =
     (core : List CoreOp) (image : Image) (places : Places) (bound : ℕ → ℕ) (i : ℕ) (op : CoreOp)
-    (clears : Bool) (back : ℕ) → OpAt core i op Halt
+    (clears back : ℕ) → OpAt core i op Halt
     → HasBlock image bound places i (flow_block clears back op) → BlockHalts core image places i op
 
 -- From its start each hart comes to the block where `main` begins, with the first values of private

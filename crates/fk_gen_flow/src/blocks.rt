@@ -13,7 +13,7 @@ use crate::calls::emit_enter;
 use crate::registers::FRAMES;
 use fk_asm::{Assembler, Blocks};
 use fk_gen::numbers::{TO_CONTROL, at_group_frame};
-use fk_gen::registers::{DEVICES, END, FRAME, T0, T1, T2, ZERO};
+use fk_gen::registers::{DEVICES, END, FRAME, GROUP_FRAME, T0, T1, T2, ZERO};
 use fk_gen::{BlockLine, Placed, emit_lines, operand};
 use fk_isa::Instruction;
 use fk_meaning_operation::Operation;
@@ -140,9 +140,9 @@ fn emit_giving_back(into: &mut Assembler) -> Result<(), AllocError>
     emit_lines(
         into,
         &[
-            BlockLine::commits(Instruction::Lw(T1, END, at_group_frame(0))),
-            BlockLine::quiet(Instruction::Lui(T2, TO_CONTROL)),
-            BlockLine::quiet(Instruction::Add(FRAMES, T1, T2)),
+            BlockLine::commits(Instruction::Lui(T2, TO_CONTROL)),
+            BlockLine::quiet(Instruction::Add(FRAMES, GROUP_FRAME, T2)),
+            BlockLine::quiet(Instruction::Lw(GROUP_FRAME, END, at_group_frame(0))),
         ],
     )
 }

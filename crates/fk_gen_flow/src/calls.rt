@@ -1,11 +1,12 @@
 //! The block of a call, and the code that all calls share.
 
-ghost use Rattle.std.specs.Prelude.{◌≡◌, ◌+◌, ◌^◌, ◌<◌, ◌≤◌, All, OnOk, OnErr, length, true};
-ghost use Rattle.std.specs.Prelude.{false};
+ghost use Rattle.std.specs.Prelude.{◌≡◌, ◌+◌, ◌^◌, ◌<◌, ◌≤◌, ◌==◌, All, OnOk, OnErr, length};
+ghost use Rattle.std.specs.Prelude.{nat_le};
 ghost use Rattle.fk_asm.specs.Assembly.{AreFollowed};
 ghost use Rattle.fk_asm.specs.Block.{GoesToMade, HasBegun, with_block};
 ghost use Rattle.fk_gen_flow.specs.Calls.{depth_lines, copy_lines, clear_lines, argument_lines};
-ghost use Rattle.fk_gen_flow.specs.Calls.{clears_by, word_lines, frame_lines, enter_block};
+ghost use Rattle.fk_gen_flow.specs.Calls.{clears_by, copies_by, word_lines, frame_lines};
+ghost use Rattle.fk_gen_flow.specs.Calls.{enter_block};
 ghost use Rattle.fk_gen_flow.specs.Calls.{back_lines, most_privates};
 
 use crate::blocks::FIRST_LABEL;
@@ -18,20 +19,19 @@ use std::alloc::AllocError;
 
 /// The offset of the device that ends a run at a site, from the first device, in bytes.
 const FAULT_DEVICE: u32 = 8;
-/// The number of private words that a frame has room for.
-const MOST_PRIVATES: u32 = 56;
 /// The label at which the shared code clears no word of a frame. The labels at which it clears more
 /// words come after it.
 const CLEAR_LABEL: u32 = 64;
 
 pub(crate) fn emit_enter(
     into: &mut Assembler,
-    clears: bool,
+    clears: u32,
     arguments: u32,
     depth: u32,
     site: u32,
     back: u32,
 ) -> Result<(), AllocError>
+    requires clears { clears ≤ 56 }
     requires depth { depth ≤ 56 }
     requires arguments { arguments ≤ depth }
     requires near { back < 2 ^ 31 }
@@ -74,8 +74,9 @@ fn emit_depth(into: &mut Assembler, arguments: u32, depth: u32, site: u32) -> Re
     )
 }
 
-// The private words of the new frame: the arguments, and 0 after them where the call clears.
-fn emit_words(into: &mut Assembler, clears: bool, arguments: u32) -> Result<(), AllocError>
+// The private words of the new frame: first those that become 0, and then the arguments.
+fn emit_words(into: &mut Assembler, clears: u32, arguments: u32) -> Result<(), AllocError>
+    requires clears { clears ≤ 56 }
     requires arguments { arguments ≤ 56 }
     requires labels { All (GoesToMade into.old.bound) (word_lines clears arguments) }
     requires room { length into.old.lines + length (word_lines clears arguments) + 5 < 2 ^ 30 }
@@ -83,28 +84,29 @@ fn emit_words(into: &mut Assembler, clears: bool, arguments: u32) -> Result<(), 
     ensures added { OnOk result (into.new ≡ with_block into.old (word_lines clears arguments)) }
     ensures begun { OnErr result (HasBegun (word_lines clears arguments) into.old into.new) }
 {
-    emit_arguments(into, clears, arguments)?;
-    emit_clears(into, clears, arguments)
+    emit_clears(into, clears)?;
+    emit_arguments(into, clears, arguments)
 }
 
-fn emit_clears(into: &mut Assembler, clears: bool, arguments: u32) -> Result<(), AllocError>
-    requires arguments { arguments ≤ 56 }
-    requires labels { All (GoesToMade into.old.bound) (clears_by clears arguments) }
+fn emit_clears(into: &mut Assembler, clears: u32) -> Result<(), AllocError>
+    requires clears { clears ≤ 56 }
+    requires labels { All (GoesToMade into.old.bound) (clears_by (clears == 0) clears) }
     requires room { length into.old.lines + 1 < 2 ^ 30 }
     requires free { AreFollowed into.old }
-    ensures added { OnOk result (into.new ≡ with_block into.old (clears_by clears arguments)) }
-    ensures begun { OnErr result (HasBegun (clears_by clears arguments) into.old into.new) }
+    ensures added { OnOk result
+        (into.new ≡ with_block into.old (clears_by (clears == 0) clears)) }
+    ensures begun { OnErr result (HasBegun (clears_by (clears == 0) clears) into.old into.new) }
 {
-    if clears {
-        let label = CLEAR_LABEL + (MOST_PRIVATES - arguments);
-        emit_lines(into, &[BlockLine::goes_to(Instruction::Jal(T1, 0), label)])
-    } else {
+    if clears == 0 {
         Ok(())
+    } else {
+        let label = CLEAR_LABEL + clears;
+        emit_lines(into, &[BlockLine::goes_to(Instruction::Jal(T1, 0), label)])
     }
 }
 
 // Copies the arguments into the new frame.
-fn emit_arguments(into: &mut Assembler, clears: bool, arguments: u32) -> Result<(), AllocError>
+fn emit_arguments(into: &mut Assembler, clears: u32, arguments: u32) -> Result<(), AllocError>
     requires arguments { arguments ≤ 56 }
     requires labels { All (GoesToMade into.old.bound) (argument_lines clears arguments) }
     requires room { length into.old.lines + 4 < 2 ^ 30 }
@@ -113,21 +115,24 @@ fn emit_arguments(into: &mut Assembler, clears: bool, arguments: u32) -> Result<
         (into.new ≡ with_block into.old (argument_lines clears arguments)) }
     ensures begun { OnErr result (HasBegun (argument_lines clears arguments) into.old into.new) }
 {
-    if clears {
-        emit_all_copies(into, arguments)
-    } else {
+    if clears == 0 {
         emit_own_copies(into, arguments)
+    } else {
+        emit_all_copies(into, arguments)
     }
 }
 
 // Copies the arguments of a call that clears words.
 fn emit_all_copies(into: &mut Assembler, arguments: u32) -> Result<(), AllocError>
     requires arguments { arguments ≤ 56 }
-    requires labels { All (GoesToMade into.old.bound) (argument_lines true arguments) }
+    requires labels { All (GoesToMade into.old.bound)
+        (copies_by (nat_le arguments 0) arguments) }
     requires room { length into.old.lines + 4 < 2 ^ 30 }
     requires free { AreFollowed into.old }
-    ensures added { OnOk result (into.new ≡ with_block into.old (argument_lines true arguments)) }
-    ensures begun { OnErr result (HasBegun (argument_lines true arguments) into.old into.new) }
+    ensures added { OnOk result
+        (into.new ≡ with_block into.old (copies_by (nat_le arguments 0) arguments)) }
+    ensures begun { OnErr result
+        (HasBegun (copies_by (nat_le arguments 0) arguments) into.old into.new) }
 {
     match arguments {
         0 => Ok(()),
@@ -141,11 +146,14 @@ fn emit_all_copies(into: &mut Assembler, arguments: u32) -> Result<(), AllocErro
 // Copies the arguments of a call that clears no words.
 fn emit_own_copies(into: &mut Assembler, arguments: u32) -> Result<(), AllocError>
     requires arguments { arguments ≤ 56 }
-    requires labels { All (GoesToMade into.old.bound) (argument_lines false arguments) }
+    requires labels { All (GoesToMade into.old.bound)
+        (copies_by (nat_le arguments 1) arguments) }
     requires room { length into.old.lines + 4 < 2 ^ 30 }
     requires free { AreFollowed into.old }
-    ensures added { OnOk result (into.new ≡ with_block into.old (argument_lines false arguments)) }
-    ensures begun { OnErr result (HasBegun (argument_lines false arguments) into.old into.new) }
+    ensures added { OnOk result
+        (into.new ≡ with_block into.old (copies_by (nat_le arguments 1) arguments)) }
+    ensures begun { OnErr result
+        (HasBegun (copies_by (nat_le arguments 1) arguments) into.old into.new) }
 {
     match arguments {
         0 => Ok(()),
@@ -197,16 +205,15 @@ pub fn emit_copy(into: &mut Assembler, argument: u32) -> Result<(), AllocError>
     )
 }
 
-/// Adds the line that clears the private word of the new frame after which `behind` others come. In
-/// the code that calls share, the label of one word more is bound to it.
-pub fn emit_clear(into: &mut Assembler, behind: u32) -> Result<(), AllocError>
-    requires behind { behind < 56 }
+/// Adds the line that clears private word `word` of the new frame. In the code that calls share,
+/// the label of one word more is bound to it.
+pub fn emit_clear(into: &mut Assembler, word: u32) -> Result<(), AllocError>
+    requires word { word < 56 }
     requires room { length into.old.lines + 1 < 2 ^ 30 }
     requires free { AreFollowed into.old }
-    ensures added { OnOk result (into.new ≡ with_block into.old (clear_lines behind)) }
-    ensures begun { OnErr result (HasBegun (clear_lines behind) into.old into.new) }
+    ensures added { OnOk result (into.new ≡ with_block into.old (clear_lines word)) }
+    ensures begun { OnErr result (HasBegun (clear_lines word) into.old into.new) }
 {
-    let word = MOST_PRIVATES - 1 - behind;
     emit_lines(
         into,
         &[BlockLine::quiet(Instruction::Sw(END, ZERO, at_private(word)))],

@@ -18,7 +18,7 @@ use Rattle.fk_sim_nodes.proofs.Runs.{cycle_map}
 use Rattle.fk_sim_nodes.proofs.Members.{cycle_commits}
 use Rattle.fk_sim_nodes.proofs.OnePlace.{private_of_all, loads_of_all, stores_of_all}
 use Rattle.fk_sim_block.specs.Owner.{Owner, Doing, number_of, core_source}
-use Rattle.fk_sim_block.specs.Stands.{Places, end_register, zero_register, frame_register, number_register, rank_register, size_register, top_register, local_register, shared_register, heap_register, shared_mask_register, device_register, heap_mask_register}
+use Rattle.fk_sim_block.specs.Stands.{Places, end_register, zero_register, frame_register, number_register, rank_register, size_register, top_register, local_register, shared_register, heap_register, shared_mask_register, device_register, heap_mask_register, group_frame_register}
 use Rattle.fk_sim_block.specs.Suits.{Flows, nothing}
 use Rattle.fk_sim_block.specs.Block.{Enters}
 use Rattle.fk_gen.proofs.Values.{values_put, other_word}
@@ -185,7 +185,7 @@ module _ (core : List CoreOp) (image : Image) (bound : ℕ → ℕ) (places : Pl
       let local : put m.hart.local (value_word op.depth m.hart) (m.hart.registers t0) ≡ put first_hart.local (place_word n op.depth) v =
       ap (λ l. put l (value_word op.depth m.hart) (m.hart.registers t0)) has.near.local ∙ ap (λ j. put first_hart.local j (m.hart.registers t0)) at.index
       ∙ ap (put first_hart.local (place_word n op.depth)) has.value in
-      let memory = value_written core places first_hart.local p i (suc i) op.depth v (v ∷ before 1 vs) place.few calls here place.fits.room (omega arith) flows (in_memory places p first_hart stands)
+      let memory = value_written core places first_hart.local (first_hart.registers group_frame_register) p i (suc i) op.depth v (v ∷ before 1 vs) place.few calls here place.fits.room (omega arith) flows (in_memory places p first_hart stands)
       (values_put 1 op.depth first_hart.local n v vs (omega arith) (omega arith) (omega arith) stands.running.values) in
       let many = many_callers places nestings first_hart.local p.runner.left.callers p.runner.has.callers stands.waiting in
       let home = ap places.frames.is_main (sym here) ∙ stands.running.home in
@@ -218,8 +218,9 @@ module _ (core : List CoreOp) (image : Image) (bound : ℕ → ℕ) (places : Pl
                   keeps shared_mask_register (λ e. omega arith),
                   keeps device_register (λ e. omega arith),
                   keeps heap_mask_register (λ e. omega arith),
+                  keeps group_frame_register (λ e. omega arith),
                 )
-                refl refl (keeps top_register (λ e. omega arith) ∙ stands.top) (subst (λ l. InMemory places l (stepped core i op Agree v lowest size p)) (sym local) memory);
+                refl refl (keeps top_register (λ e. omega arith) ∙ stands.top) (subst (λ l. InMemory places l (first_hart.registers group_frame_register) (stepped core i op Agree v lowest size p)) (sym local) memory);
           };
           node = record {
             node = keeps node_register (λ e. omega arith) ∙ member.node.node;

@@ -8,7 +8,7 @@ use Rattle.fk_image.specs.declared.Image.{Image}
 use Rattle.fk_machine.specs.Hart.{Hart, Setting as MachineSetting}
 use Rattle.fk_sim_nodes.specs.Node.{Member}
 use Rattle.fk_sim_block.specs.Owner.{Owner, number_of}
-use Rattle.fk_sim_block.specs.Stands.{Places, HasValues, StandsAt, top_register, value_in, zero_register}
+use Rattle.fk_sim_block.specs.Stands.{Places, HasValues, StandsAt, top_register, value_in, zero_register, group_frame_register}
 use Rattle.fk_sim_block.specs.Suits.{Flows, nothing}
 use Rattle.fk_sim_block.specs.Block.{Enters, gone_to}
 use Rattle.fk_gen.proofs.Standing.{InMemory, SameRegisters, in_memory, stands_with, with_list, nothing_written}
@@ -40,6 +40,7 @@ same_registers first h k = (
   kept first h 25 k (omega arith),
   kept first h 26 k (omega arith),
   kept first h 27 k (omega arith),
+  kept first h 14 k (omega arith),
 )
 
 -- what the register of a body tells
@@ -66,7 +67,7 @@ module _ (core : List CoreOp) (image : Image) (bound : ℕ → ℕ) (places : Pl
       let many = many_callers places nestings first.local callers p.runner.has.callers stands.waiting in
       let home = ap places.frames.is_main (sym here) ∙ stands.running.home in
       let below = lies_below places nestings n i op.depth home place.levels in
-      let memory = nothing_written core places first.local p i j op.depth vs place.few calls here place.fits.room flows (in_memory places p first stands) held in
+      let memory = nothing_written core places first.local (first.registers group_frame_register) p i j op.depth vs place.few calls here place.fits.room flows (in_memory places p first stands) held in
       let outer =
       outer_on places nestings setting.processors (number_of p) first.local first.local i j op.depth callers p.runner.has.outer place.few stay
       (subst (λ k. below_values places nestings k i op.depth) (sym many) below) (λ x lt. refl) (omega arith)
@@ -76,7 +77,7 @@ module _ (core : List CoreOp) (image : Image) (bound : ℕ → ℕ) (places : Pl
           at = pc;
           stands =
               stands_with places p (with_list core places j vs p) first h stands same refl refl (top ∙ stands.top)
-              (subst (λ l. InMemory places l (with_list core places j vs p)) (sym local) memory);
+              (subst (λ l. InMemory places l (first.registers group_frame_register) (with_list core places j vs p)) (sym local) memory);
         },
         (subst (λ l. HasOuter places nestings setting.processors (number_of p) l (j ∷ callers) p.runner.has.outer) (sym local) outer, member.node.outer.1),
       )

@@ -19,7 +19,7 @@ use Rattle.fk_machine.specs.Hart.{Hart, Setting as MachineSetting}
 use Rattle.fk_sim_nodes.specs.Node.{Member}
 use Rattle.fk_sim_nodes.specs.Alone.{RunsPrivately}
 use Rattle.fk_sim_block.specs.Owner.{Owner, number_of}
-use Rattle.fk_sim_block.specs.Stands.{Places, HasValues, local_address, frame_start, frame_end, value_in, zero_register}
+use Rattle.fk_sim_block.specs.Stands.{Places, HasValues, local_address, frame_start, frame_end, value_in, zero_register, group_frame_register}
 use Rattle.fk_sim_block.specs.Suits.{Flows, nothing}
 use Rattle.fk_sim_block.specs.Block.{Enters}
 use Rattle.fk_sim_block.specs.Node.{Nestings, HasLevelRoom, HasOuter, first_word, control_address, blocks_register}
@@ -148,7 +148,7 @@ module _ (core : List CoreOp) (image : Image) (bound : ℕ → ℕ) (places : Pl
           let index = v.index in
           omega arith
 
-  pub waits : InMemory places (memory_by by op.depth m.hart) waiting → (h : Hart) → h.ended ≡ false → h.local ≡ memory_by by op.depth m.hart
+  pub waits : InMemory places (memory_by by op.depth m.hart) (m.hart.registers group_frame_register) waiting → (h : Hart) → h.ended ≡ false → h.local ≡ memory_by by op.depth m.hart
       → ((r : ℕ) → r ≢ 1 → r ≢ 5 → r ≢ 6 → r ≢ 7 → r ≢ 28 → r ≢ 29 → h.registers r ≡ m.hart.registers r) → h.pc ≡ 4 * places.block op.target
       → IsMember places nestings setting None (first_word p.runner.has.level p.runner.has.outer) (record m { hart = h }) waiting
   waits memory h live local others pc =
@@ -176,6 +176,7 @@ module _ (core : List CoreOp) (image : Image) (bound : ℕ → ℕ) (places : Pl
         above 25 (omega arith) (omega arith) (omega arith),
         above 26 (omega arith) (omega arith) (omega arith),
         above 27 (omega arith) (omega arith) (omega arith),
+        above 14 (omega arith) (omega arith) (omega arith),
       ) in
       record {
         number = member.number;
@@ -184,7 +185,7 @@ module _ (core : List CoreOp) (image : Image) (bound : ℕ → ℕ) (places : Pl
           at = pc;
           stands =
               stands_with places p waiting m.hart h stands same refl refl (above 21 (omega arith) (omega arith) (omega arith) ∙ stands.top)
-              (subst (λ l. InMemory places l waiting) (sym local) memory);
+              (subst (λ l. InMemory places l (m.hart.registers group_frame_register) waiting) (sym local) memory);
         };
         node = record {
           node = above 10 (omega arith) (omega arith) (omega arith) ∙ member.node.node;
@@ -208,15 +209,15 @@ module _ (core : List CoreOp) (image : Image) (bound : ℕ → ℕ) (places : Pl
   Enter by = Enters core image places setting cycle0 i op (Split by) p m.hart
 
   unwritten : (by : SplitKind) (place : IsInPlace core image bound places nestings i op (Split by)) → Flows core places.frames nothing i op.target → Enter by → (vs : List ℕ)
-      → HasValues (value_in m.hart (length p.runner.has.callers)) vs → InMemory places m.hart.local (with_list core places op.target vs p)
+      → HasValues (value_in m.hart (length p.runner.has.callers)) vs → InMemory places m.hart.local (m.hart.registers group_frame_register) (with_list core places op.target vs p)
   unwritten by place flows en vs held =
-      nothing_written core places m.hart.local p i op.target op.depth vs place.few en.ready.in_range.waiting en.index place.fits.room flows (in_memory places p m.hart en.at.stands) held
+      nothing_written core places m.hart.local (m.hart.registers group_frame_register) p i op.target op.depth vs place.few en.ready.in_range.waiting en.index place.fits.room flows (in_memory places p m.hart en.at.stands) held
 
   left_values : (by : SplitKind) → Enter by → HasValues (value_in m.hart (length p.runner.has.callers)) (before 1 (values p.runner.has))
   left_values by en = values_before 1 (value_in m.hart (length p.runner.has.callers)) (values p.runner.has) en.at.stands.running.values
 
   pub waits_in : (by : SplitKind) (place : IsInPlace core image bound places nestings i op (Split by)) → is_implicit by ≡ true → parts_label by ≡ one_part_label → Flows core places.frames nothing i op.target
-      → Enter by → part_of by p ≡ None → InMemory places (memory_by by op.depth m.hart) (with_list core places op.target (waits_with by (before (taken_by by) (values p.runner.has))) p)
+      → Enter by → part_of by p ≡ None → InMemory places (memory_by by op.depth m.hart) (m.hart.registers group_frame_register) (with_list core places op.target (waits_with by (before (taken_by by) (values p.runner.has))) p)
   waits_in IfAlone place is label flows en none = unwritten IfAlone place flows en (before 1 (values p.runner.has)) (left_values IfAlone en)
   waits_in AndThen place is label flows en none =
       let filled = place.values in
@@ -239,8 +240,8 @@ module _ (core : List CoreOp) (image : Image) (bound : ℕ → ℕ) (places : Pl
       let same : memory_by OrElse op.depth m.hart ≡ put m.hart.local (frame_end n - op.depth) 1 =
       ap (λ w. put m.hart.local w (applied num.LtU (m.hart.registers zero_register) (m.hart.local (value_word op.depth m.hart)))) v.index
       ∙ ap (put m.hart.local (frame_end n - op.depth)) one in
-      subst (λ l. InMemory places l (with_list core places op.target (1 ∷ before 1 vs) p)) (sym same)
-      (value_written core places m.hart.local p i op.target op.depth 1 (1 ∷ before 1 vs) place.few en.ready.in_range.waiting en.index place.fits.room some flows (in_memory places p m.hart en.at.stands)
+      subst (λ l. InMemory places l (m.hart.registers group_frame_register) (with_list core places op.target (1 ∷ before 1 vs) p)) (sym same)
+      (value_written core places m.hart.local (m.hart.registers group_frame_register) p i op.target op.depth 1 (1 ∷ before 1 vs) place.few en.ready.in_range.waiting en.index place.fits.room some flows (in_memory places p m.hart en.at.stands)
       (values_put 1 op.depth m.hart.local n 1 vs (omega arith) (omega arith) (omega arith) en.at.stands.running.values))
   waits_in Loop place is label flows en none = absurd (cc)
   waits_in IfElse place is label flows en none = absurd (omega arith)

@@ -110,7 +110,7 @@ module _ (core : List CoreOp) (image : Image) (bound : ℕ → ℕ) (places : Pl
       let callers = p.runner.left.callers in
       let hx = goes_to_pc first_hart (4 * places.block op.target) in
       let next = goes_behind core image bound places nestings i op End place op.target (place.fits.goes_on true) leads setting cycle0 None first (record m { hart = first_hart }) p hx en member en.at.live refl
-      (refl, refl, refl, refl, refl, refl, refl, refl, refl, refl, refl, refl) refl refl in
+      (refl, refl, refl, refl, refl, refl, refl, refl, refl, refl, refl, refl, refl) refl refl in
       let s = next.0.stands in
       let held = subst (λ o. HasOuter places nestings setting.processors (number_of p) first_hart.local (op.target ∷ callers) o) start.outer next.1.0 in
       let none : NoneSaved nestings (op.target ∷ callers) = (leads.levels ∙ ap nestings.levels (sym en.index) ∙ start.none.0, start.none.1) in
@@ -143,6 +143,7 @@ module _ (core : List CoreOp) (image : Image) (bound : ℕ → ℕ) (places : Pl
             heap_mask = s.heap_mask;
             running = s.running;
             waiting = s.waiting;
+            groups = s.groups;
             own = s.own;
             heap = s.heap;
             full = s.full;

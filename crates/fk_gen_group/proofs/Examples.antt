@@ -100,8 +100,9 @@ stands index level outer node body = record {
     shared_mask = refl;
     devices = refl;
     heap_mask = refl;
-    running = record { home = refl; values = tt; privates = λ i e. absurd (cc); group = λ number told. absurd (cc) };
+    running = record { home = refl; values = tt; privates = λ i e. absurd (cc) };
     waiting = tt;
+    groups = (tt, (λ told part is. absurd (cc)), tt);
     own = λ i lt. absurd (omega (arith, lt));
     heap = λ i lt. refl;
     full = refl;

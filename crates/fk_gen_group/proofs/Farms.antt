@@ -48,7 +48,7 @@ module _ (core : List CoreOp) (image : Image) (bound : ℕ → ℕ) (places : Pl
       let next = place.block.next in
       let size_is = en.at.stands.size ∙ came.size_is in
       let behind = goes_behind core image bound places nestings i op Farm place (suc i) (place.fits.goes_on true) place.stay setting t None first m p (free_hart m) en member en.at.live refl
-      (refl, refl, refl, refl, refl, refl, refl, refl, refl, refl, refl, refl) refl (omega arith) in
+      (refl, refl, refl, refl, refl, refl, refl, refl, refl, refl, refl, refl, refl) refl (omega arith) in
       record {
         is = record {
           number = member.number;

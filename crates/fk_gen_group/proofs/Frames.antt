@@ -1,8 +1,8 @@
 -- A group frame is taken, or has no room.
-use Rattle.std.proofs.Common.{◌≡◌, ℕ, zero, suc, ◌+◌, ◌-◌, ◌*◌, ◌^◌, ◌<◌, ◌≤◌, List, [], ◌∷◌, ◌++◌, length, map, Bool, true, false, Option, Some, None, sym, ap, subst, ◌∙◌, arith, refl, inl, inr, length-append}
+use Rattle.std.proofs.Common.{◌≡◌, ℕ, zero, suc, ◌+◌, ◌-◌, ◌*◌, ◌^◌, ◌<◌, ◌≤◌, List, [], ◌∷◌, ◌++◌, length, map, Bool, true, false, Option, Some, None, sym, ap, subst, ◌∙◌, arith, refl, inl, inr, eq-eqb, length-append}
 use Rattle.std.specs.Prelude.{◌==◌, is_some, if◌then◌else◌}
 use Rattle.std.proofs.lemmas.List.{length-map}
-use Rattle.std.proofs.lemmas.Bool.{cases_lt, lt-ltb, le-ltb, le-leb, lt-leb}
+use Rattle.std.proofs.lemmas.Bool.{cases_lt, lt-ltb, le-ltb, le-leb, lt-leb, ne_eqb}
 use Rattle.fk_num.specs.Word.{put, word, word_sum}
 use Rattle.fk_space.specs.Space.{Space, free, frame}
 use Rattle.fk_meaning_operation.specs.declared.operation.Operation.TheVariants.{Frame}
@@ -20,11 +20,11 @@ use Rattle.fk_machine.specs.Run.{count_in}
 use Rattle.fk_machine.proofs.Performs.{writes, moves, sw-fault}
 use Rattle.fk_machine.proofs.Places.{place_of-fault}
 use Rattle.fk_sim_nodes.specs.Node.{Member}
-use Rattle.fk_sim_nodes.specs.Alone.{Holds, RunsPrivately, later, in_cycles}
+use Rattle.fk_sim_nodes.specs.Alone.{Holds, IsAt, RunsPrivately, later, in_cycles}
 use Rattle.fk_sim_nodes.specs.OneHart.{OneDoes}
 use Rattle.fk_sim_nodes.proofs.InPlace.{step_at}
 use Rattle.fk_sim_block.specs.Owner.{Owner, number_of, core_source}
-use Rattle.fk_sim_block.specs.Stands.{Places, frame_start, frame_end, group_word, local_address, end_register, device_register, zero_register, frame_register, number_register, rank_register, size_register, top_register, local_register, shared_register, heap_register, shared_mask_register, heap_mask_register}
+use Rattle.fk_sim_block.specs.Stands.{Places, frame_start, frame_end, group_word, local_address, end_register, device_register, zero_register, frame_register, number_register, rank_register, size_register, top_register, local_register, shared_register, heap_register, shared_mask_register, heap_mask_register, group_frame_register}
 use Rattle.fk_sim_block.specs.Suits.{TakesFrame}
 use Rattle.fk_sim_block.specs.Block.{Enters}
 use Rattle.fk_sim_block.specs.Node.{Nestings, KnowsSpace, HasOuter, first_word, control_address, saved_at, frames_register, blocks_register, space_frames, node_register}
@@ -35,9 +35,9 @@ use Rattle.fk_gen.proofs.Values.{other_word, value_place, number_of_parts, numbe
 use Rattle.fk_gen.proofs.Walk.{Quiets, Plain, LocalAt, walk, walked, private, runs_join, lines_split, can_run_goes, told_of}
 use Rattle.fk_gen.proofs.Jumps.{goes_to_pc, bgeu_taken, bgeu_on}
 use Rattle.fk_gen.proofs.Does.{holds_in_cycles}
-use Rattle.fk_gen.proofs.Standing.{InMemory, in_memory, stands_with, stands_in_space, with_frame, frame_written}
+use Rattle.fk_gen.proofs.Standing.{InMemory, in_memory, stands_as, stands_in_space, with_frame, frame_written, part_written}
 use Rattle.fk_gen.specs.Registers.{t0, t1}
-use Rattle.fk_gen_group.specs.Blocks.{frame_lines}
+use Rattle.fk_gen_group.specs.Blocks.{frame_lines, first_taking, second_taking}
 use Rattle.fk_gen_group.specs.Laws.{IsInPlace, GroupsTakeFrames}
 use Rattle.fk_gen_group.proofs.Members.{due_part, fault_part}
 use Rattle.fk_gen_group.proofs.Levels.{outer_by, many_callers}
@@ -196,21 +196,18 @@ module _ (core : List CoreOp) (image : Image) (bound : ℕ → ℕ) (places : Pl
         site_is : word op.site ≡ op.site
         site_is = omega arith
 
-    -- else the frames of the group end where it does, and the header has its address
+    -- else the frames of the group end where it does
     abbrev address : ℕ
     address = word_sum (0xf8000 * 4096) (sum.hart.registers frames_register)
 
+    abbrev k5 : ℕ
+    k5 = suc (suc (suc (suc (suc k1))))
+
+    abbrev cycle3 : MachineSetting
+    cycle3 = later (later cycle1)
+
     abbrev h3 : Hart
     h3 = goes_to_pc h2 (word_sum h2.pc 16)
-
-    abbrev h4 : Hart
-    h4 = writes h3 t1 address
-
-    abbrev h5 : Hart
-    h5 = record (moves h4) { local = put sum.hart.local (group_word n nesting) address }
-
-    abbrev h6 : Hart
-    h6 = writes h5 frames_register (word_sum (sum.hart.registers t0) 0)
 
     abbrev larger : Space
     larger = record space { frames = space.frames + words }
@@ -218,6 +215,9 @@ module _ (core : List CoreOp) (image : Image) (bound : ℕ → ℕ) (places : Pl
     -- what the frame makes of its processor
     abbrev taken : Option Space → Owner
     taken o = record { runner = record { left = position (suc i) p.runner.left.callers; has = framed nesting p.runner.has o }; heap = p.heap }
+
+    abbrev as_taken : Owner
+    as_taken = with_frame core places (suc i) nesting space.frames p
 
     address_is : address ≡ address_of space.frames
     address_is =
@@ -229,11 +229,126 @@ module _ (core : List CoreOp) (image : Image) (bound : ℕ → ℕ) (places : Pl
         let same = sum.same frames_register refl in
         omega arith
 
-    memory : put m.hart.local (group_word n nesting) (address_of space.frames) ≡ h5.local
-    memory = sym (ap (λ l. put l (group_word n nesting) address) sum.local ∙ ap (put m.hart.local (group_word n nesting)) address_is)
+    pc3 : h3.pc ≡ 4 * k5
+    pc3 =
+        let at1 = sum.at in
+        let l7 = lines.1.1.1.1.1.1.1.0 in
+        let near = l7.within in
+        omega arith
 
-    stands_behind : words ≤ free space → h6.pc ≡ 4 * places.block (suc i) → IsMember places nestings setting None first (record m { hart = h6 }) (taken (Some larger))
-    stands_behind le pc =
+    -- a hart that has taken it, but for the end of the group's frames
+    record HasTaken : Type 0 where
+      pub hart : Hart
+      pub runs : RunsPrivately image cycle3 m.number 2 h3 hart
+      pub at : hart.pc ≡ 4 * suc (suc k5)
+      pub live : hart.ended ≡ false
+      pub end : hart.registers t0 ≡ sum.hart.registers t0
+      pub same : (r : ℕ) → (r == 5) ≡ false → (r == 6) ≡ false → (r == 14) ≡ false → hart.registers r ≡ m.hart.registers r
+      pub kept : (x : ℕ) → (x ≡ group_word n nesting → ⊥) → hart.local x ≡ m.hart.local x
+      pub written : InMemory places hart.local (hart.registers group_frame_register) as_taken
+
+    -- the function's own: a register has its address, and the header what that register had
+    own_taken : nesting ≡ 0 → HasTaken
+    own_taken own =
+        let few = place.few in
+        let calls = en.ready.in_range.waiting in
+        let depth = en.ready.depth in
+        let stands = en.at.stands in
+        let within = en.ready.may.within in
+        let takes : TakesFrame core places.frames nesting i (suc i) = place.fits.goes_on in
+        let shallow : nesting < 4 = place.fits.place.0 in
+        let w = group_word n nesting in
+        let old = m.hart.registers group_frame_register in
+        let h4 : Hart = record (moves h3) { local = put sum.hart.local w (sum.hart.registers group_frame_register) } in
+        let h5 = writes h4 group_frame_register address in
+        let is : (nesting == 0) ≡ true = eq-eqb nesting 0 own in
+        let l5 = subst (λ b. IsAt image k5 (first_taking b nesting) 0) is lines.1.1.1.1.1.0 in
+        let l6 = subst (λ b. IsAt image (suc k5) (second_taking b nesting) 0) is lines.1.1.1.1.1.1.0 in
+        let near = lines.1.1.1.1.1.1.1.0.within in
+        let e3 = pc3 in
+        let e4 : h4.pc ≡ 4 * suc k5 = omega arith in
+        let e5 : h5.pc ≡ 4 * suc (suc k5) = omega arith in
+        let end : h3.registers end_register ≡ local_address (frame_end n) = sum.same end_register refl ∙ stands.behind in
+        let word_at = value_place (h3.registers end_register) n (61 - nesting) end calls (omega arith) (omega arith) in
+        let memory : put m.hart.local w old ≡ h5.local =
+        sym (ap (λ l. put l w (sum.hart.registers group_frame_register)) sum.local ∙ ap (put m.hart.local w) (sum.same group_frame_register refl)) in
+        let as_own : InMemory places (put m.hart.local (group_word n 0) old) (address_of space.frames) (with_frame core places (suc i) 0 space.frames p) =
+        frame_written core places m.hart.local old p i (suc i) space.frames op.depth few calls en.index place.fits.room (omega arith)
+        (subst (λ x. TakesFrame core places.frames x i (suc i)) own takes) (omega arith) (in_memory places p m.hart stands) in
+        let here : InMemory places (put m.hart.local w old) (address_of space.frames) as_taken =
+        subst (λ x. InMemory places (put m.hart.local (group_word n x) old) (address_of space.frames) (with_frame core places (suc i) x space.frames p)) (sym own) as_own in
+        record {
+          hart = h5;
+          runs = (
+            h4,
+            private image cycle3 m.number k5 (Sw end_register group_frame_register (at_group_frame nesting)) h3 h4 holds1 l5 e3 sum.live
+                (λ s. can_run_goes (Sw end_register group_frame_register (at_group_frame nesting)) (LocalAt w) h3 (word_at.0, word_at.1) cycle3 m.number s),
+            (h5, private image (later cycle3) m.number (suc k5) (Add group_frame_register t1 frames_register) h4 h5 holds1 l6 e4 sum.live (λ s. (s.reserved, refl)), refl),
+          );
+          at = e5;
+          live = sum.live;
+          end = refl;
+          same = λ r a b c. rw (c, b) (sum.same r a);
+          kept = λ x e. ap (λ l. l x) (sym memory) ∙ other_word m.hart.local w old x e;
+          written = subst (λ a. InMemory places h5.local a as_taken) (sym address_is) (subst (λ l. InMemory places l (address_of space.frames) as_taken) memory here);
+        }
+
+    -- that of a part: the header has its address
+    part_taken : 0 < nesting → HasTaken
+    part_taken part =
+        let few = place.few in
+        let calls = en.ready.in_range.waiting in
+        let depth = en.ready.depth in
+        let stands = en.at.stands in
+        let within = en.ready.may.within in
+        let takes : TakesFrame core places.frames nesting i (suc i) = place.fits.goes_on in
+        let shallow : nesting < 4 = place.fits.place.0 in
+        let w = group_word n nesting in
+        let old = m.hart.registers group_frame_register in
+        let h4 = writes h3 t1 address in
+        let h5 : Hart = record (moves h4) { local = put sum.hart.local w address } in
+        let is : (nesting == 0) ≡ false = ne_eqb nesting 0 (λ e. omega (arith, e, part)) in
+        let l5 = subst (λ b. IsAt image k5 (first_taking b nesting) 0) is lines.1.1.1.1.1.0 in
+        let l6 = subst (λ b. IsAt image (suc k5) (second_taking b nesting) 0) is lines.1.1.1.1.1.1.0 in
+        let near = lines.1.1.1.1.1.1.1.0.within in
+        let e3 = pc3 in
+        let e4 : h4.pc ≡ 4 * suc k5 = omega arith in
+        let e5 : h5.pc ≡ 4 * suc (suc k5) = omega arith in
+        let end : h4.registers end_register ≡ local_address (frame_end n) = sum.same end_register refl ∙ stands.behind in
+        let word_at = value_place (h4.registers end_register) n (61 - nesting) end calls (omega arith) (omega arith) in
+        let memory : put m.hart.local w (address_of space.frames) ≡ h5.local = sym (ap (λ l. put l w address) sum.local ∙ ap (put m.hart.local w) address_is) in
+        let here : InMemory places (put m.hart.local w (address_of space.frames)) old as_taken =
+        part_written core places m.hart.local old p i (suc i) nesting space.frames op.depth few calls en.index place.fits.room (omega arith) part shallow takes (omega arith)
+        (in_memory places p m.hart stands) in
+        record {
+          hart = h5;
+          runs = (
+            h4,
+            private image cycle3 m.number k5 (Add t1 t1 frames_register) h3 h4 holds1 l5 e3 sum.live (λ s. (s.reserved, refl)),
+            (
+              h5,
+              private image (later cycle3) m.number (suc k5) (Sw end_register t1 (at_group_frame nesting)) h4 h5 holds1 l6 e4 sum.live
+                  (λ s. can_run_goes (Sw end_register t1 (at_group_frame nesting)) (LocalAt w) h4 (word_at.0, word_at.1) (later cycle3) m.number s),
+              refl,
+            ),
+          );
+          at = e5;
+          live = sum.live;
+          end = refl;
+          same = λ r a b c. rw b (sum.same r a);
+          kept = λ x e. ap (λ l. l x) (sym memory) ∙ other_word m.hart.local w (address_of space.frames) x e;
+          written = subst (λ a. InMemory places h5.local a as_taken) (sym (sum.same group_frame_register refl)) (subst (λ l. InMemory places l old as_taken) memory here);
+        }
+
+    frame_taken : (number : ℕ) → nesting ≡ number → HasTaken
+    frame_taken zero e = own_taken e
+    frame_taken (suc number) e = part_taken (omega (arith, e))
+
+    abbrev at_end : HasTaken → Hart
+    at_end x = writes x.hart frames_register (word_sum (x.hart.registers t0) 0)
+
+    stands_behind : (x : HasTaken) → words ≤ free space → (at_end x).pc ≡ 4 * places.block (suc i) → IsMember places nestings setting None first (record m { hart = at_end x }) (taken (Some larger))
+    stands_behind x le pc =
         let is = en.ready.may in
         let header = is.header in
         let ordered = is.ordered in
@@ -242,56 +357,52 @@ module _ (core : List CoreOp) (image : Image) (bound : ℕ → ℕ) (places : Pl
         let frames = known.0 in
         let blocks = known.1 in
         let total = sum.sum in
+        let end = x.end in
         let few = place.few in
         let calls = en.ready.in_range.waiting in
         let depth = en.ready.depth in
         let stands = en.at.stands in
         let here = en.index in
-        let takes : TakesFrame core places.frames nesting i (suc i) = place.fits.goes_on in
+        let h6 = at_end x in
         let callers = p.runner.left.callers in
         let many = many_callers places nestings m.hart.local callers p.runner.has.callers stands.waiting in
-        let written : InMemory places h5.local (with_frame core places (suc i) nesting space.frames p) =
-        subst (λ l. InMemory places l (with_frame core places (suc i) nesting space.frames p)) memory
-        (frame_written core places m.hart.local p i (suc i) nesting space.frames op.depth few calls here place.fits.room (omega arith) place.fits.place.0 takes (omega arith) (in_memory places p m.hart stands)) in
-        let same : (x : ℕ) → (x ≡ group_word n nesting → ⊥) → h5.local x ≡ m.hart.local x =
-        λ x e. ap (λ l. l x) (sym memory) ∙ other_word m.hart.local (group_word n nesting) (address_of space.frames) x e in
         let below = group_below places n nesting place.fits.place.0 in
         let outer =
-        outer_by places nestings setting.processors (number_of p) m.hart.local h5.local i (suc i) callers p.runner.has.outer few place.stay
-        (λ x from lt. same x (λ e. omega arith))
-        (λ x from lt.
-        let from' = subst (λ c. saved_at places nestings c i ≤ x) many from in
-        same x (λ e. omega arith))
+        outer_by places nestings setting.processors (number_of p) m.hart.local x.hart.local i (suc i) callers p.runner.has.outer few place.stay
+        (λ y from lt. x.kept y (λ e. omega arith))
+        (λ y from lt.
+        let from' = subst (λ c. saved_at places nestings c i ≤ y) many from in
+        x.kept y (λ e. omega arith))
         (subst (λ a. HasOuter places nestings setting.processors (number_of p) m.hart.local (a ∷ callers) p.runner.has.outer) here member.node.outer.0) in
         let frames' : h6.registers frames_register ≡ control_address larger.frames = omega arith in
-        let blocks' : h6.registers blocks_register ≡ control_address larger.blocks = sum.same blocks_register refl ∙ blocks in
+        let blocks' : h6.registers blocks_register ≡ control_address larger.blocks = x.same blocks_register refl refl refl ∙ blocks in
         let level' : Level = record (p.runner.has.level) { space = larger } in
         let first_same : first_word level' p.runner.has.outer ≡ first_word p.runner.has.level p.runner.has.outer =
         ap (first_word level') inside.outer ∙ sym (ap (first_word p.runner.has.level) inside.outer) in
         record {
           number = member.number;
           at = record {
-            live = sum.live;
+            live = x.live;
             at = pc;
             stands =
-                stands_in_space places (with_frame core places (suc i) nesting space.frames p) h6 larger
-                (stands_with places p (with_frame core places (suc i) nesting space.frames p) m.hart h6 stands (
-                  sum.same zero_register refl,
-                  sum.same frame_register refl,
-                  sum.same end_register refl,
-                  sum.same number_register refl,
-                  sum.same rank_register refl,
-                  sum.same size_register refl,
-                  sum.same local_register refl,
-                  sum.same shared_register refl,
-                  sum.same heap_register refl,
-                  sum.same shared_mask_register refl,
-                  sum.same device_register refl,
-                  sum.same heap_mask_register refl,
-                ) refl refl (sum.same top_register refl ∙ stands.top) written);
+                stands_in_space places as_taken h6 larger
+                (stands_as places p as_taken m.hart h6 stands (
+                  x.same zero_register refl refl refl,
+                  x.same frame_register refl refl refl,
+                  x.same end_register refl refl refl,
+                  x.same number_register refl refl refl,
+                  x.same rank_register refl refl refl,
+                  x.same size_register refl refl refl,
+                  x.same local_register refl refl refl,
+                  x.same shared_register refl refl refl,
+                  x.same heap_register refl refl refl,
+                  x.same shared_mask_register refl refl refl,
+                  x.same device_register refl refl refl,
+                  x.same heap_mask_register refl refl refl,
+                ) refl refl (x.same top_register refl refl refl ∙ stands.top) x.written);
           };
           node = record {
-            node = sum.same node_register refl ∙ member.node.node ∙ sym (ap control_address first_same);
+            node = x.same node_register refl refl refl ∙ member.node.node ∙ sym (ap control_address first_same);
             body = tt;
             space = subst (λ o. KnowsSpace level' o h6) (sym inside.outer) (frames', blocks');
             outer = (outer, member.node.outer.1);
@@ -302,7 +413,6 @@ module _ (core : List CoreOp) (image : Image) (bound : ℕ → ℕ) (places : Pl
     takes_frame : words ≤ free space → Done count
     takes_frame le =
         let few = place.fits.place.1 in
-        let shallow : nesting < 4 = place.fits.place.0 in
         let is = en.ready.may in
         let ordered = is.ordered in
         let within = is.within in
@@ -311,51 +421,34 @@ module _ (core : List CoreOp) (image : Image) (bound : ℕ → ℕ) (places : Pl
         let blocks = known.1 in
         let total = sum.sum in
         let at1 = sum.at in
-        let calls = en.ready.in_range.waiting in
         let l0 = lines.0 in
         let l1 = lines.1.0 in
-        let l5 = lines.1.1.1.1.1.0 in
-        let l6 = lines.1.1.1.1.1.1.0 in
         let l7 = lines.1.1.1.1.1.1.1.0 in
         let near = l7.within in
-        let k5 = suc (suc (suc (suc (suc k1)))) in
         let cycle2 = later cycle1 in
-        let cycle3 = later cycle2 in
-        let t4 = later cycle3 in
         let t5 = in_cycles (count + 4) cycle0 in
         let b : h2.registers blocks_register ≡ control_address space.blocks = sum.same blocks_register refl ∙ blocks in
         let e2 : h2.pc ≡ 4 * suc k1 = omega arith in
-        let e3 : h3.pc ≡ 4 * k5 = omega arith in
-        let e4 : h4.pc ≡ 4 * suc k5 = omega arith in
-        let e5 : h5.pc ≡ 4 * suc (suc k5) = omega arith in
+        let x = frame_taken nesting refl in
+        let e5 = x.at in
+        let h6 = at_end x in
         let e6 : h6.pc ≡ 4 * places.block (suc i) = omega arith in
-        let end : h4.registers end_register ≡ local_address (frame_end n) = sum.same end_register refl ∙ en.at.stands.behind in
-        let word_at = value_place (h4.registers end_register) n (61 - nesting) end calls (omega arith) (omega arith) in
         let not_full = le-ltb (free space) words le in
-        let room = ap (λ x. is_some (if x then None else Some larger)) not_full in
-        let is_taken : frame space words ≡ Some larger = ap (λ x. if x then None else Some larger) not_full in
+        let room = ap (λ y. is_some (if y then None else Some larger)) not_full in
+        let is_taken : frame space words ≡ Some larger = ap (λ y. if y then None else Some larger) not_full in
         record {
-          committing = h5;
-          runs = runs_join image cycle0 m.number count 4 m.hart sum.hart h5 sum.runs (
+          committing = x.hart;
+          runs = runs_join image cycle0 m.number count 4 m.hart sum.hart x.hart sum.runs (
             h2,
             private image cycle1 m.number k1 (Lui t1 0xf8000) sum.hart h2 holds1 l0 at1 sum.live (λ s. (s.reserved, refl)),
             (
               h3,
               bgeu_taken image cycle2 m.number (suc k1) 13 5 16 h2 holds1 l1 e2 sum.live (le-leb (h2.registers t0) (h2.registers blocks_register) (omega arith)) (omega arith),
-              (
-                h4,
-                private image cycle3 m.number k5 (Add t1 t1 frames_register) h3 h4 holds1 l5 e3 sum.live (λ s. (s.reserved, refl)),
-                (
-                  h5,
-                  private image t4 m.number (suc k5) (Sw end_register t1 (at_group_frame nesting)) h4 h5 holds1 l6 e4 sum.live
-                      (λ s. can_run_goes (Sw end_register t1 (at_group_frame nesting)) (LocalAt (group_word n nesting)) h4 (word_at.0, word_at.1) t4 m.number s),
-                  refl,
-                ),
-              ),
+              x.runs,
             ),
           );
           commits = record {
-            live = sum.live;
+            live = x.live;
             counted = ap (count_in image.commits.items) e5 ∙ l7.counted;
             does = λ s. inl (record {
               hart = h6;
@@ -364,14 +457,14 @@ module _ (core : List CoreOp) (image : Image) (bound : ℕ → ℕ) (places : Pl
               part = due_part core setting i op (Frame nesting words) s p place.stands refl room en.index;
               goes = λ earlier sh shows. (
                 sh,
-                step_at image (suc (suc k5)) 1 (Addi frames_register t0 0) l7 t5 (holds_in_cycles image (count + 4) cycle0 en.running.code) m.number h5 sh e5,
+                step_at image (suc (suc k5)) 1 (Addi frames_register t0 0) l7 t5 (holds_in_cycles image (count + 4) cycle0 en.running.code) m.number x.hart sh e5,
                 shows,
                 λ j e. refl,
               );
               follows = (
                 h6,
                 refl,
-                (refl, subst (λ o. IsMember places nestings setting None first (record m { hart = h6 }) (taken o)) (sym is_taken) (stands_behind le e6)),
+                (refl, subst (λ o. IsMember places nestings setting None first (record m { hart = h6 }) (taken o)) (sym is_taken) (stands_behind x le e6)),
               );
             });
           };

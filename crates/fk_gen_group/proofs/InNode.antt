@@ -25,11 +25,11 @@ use Rattle.fk_sim_block.specs.Owner.{Commons, Owner, Doing, number_of, owner_of,
 use Rattle.fk_sim_block.specs.Stands.{Places, frame_start, zero_register, FrameInHart}
 use Rattle.fk_sim_block.specs.Next.{OpAt, step_at}
 use Rattle.fk_sim_block.specs.Ready.{is_alone}
-use Rattle.fk_sim_block.specs.Suits.{writes}
+use Rattle.fk_sim_block.specs.Suits.{nothing, writes}
 use Rattle.fk_sim_block.specs.Block.{Enters, HasDone, member_of}
 use Rattle.fk_gen.specs.Keeps.{Keeps, DoesAnd, BlockDoesBy, peak}
 use Rattle.fk_gen.specs.Lines.{label_of}
-use Rattle.fk_gen.proofs.Standing.{stands_with}
+use Rattle.fk_gen.proofs.Standing.{groups_go, stands_with}
 use Rattle.fk_gen.proofs.Jumps.{jumps, jal_private}
 use Rattle.fk_gen.proofs.Does.{local_part, asks, hired_part}
 use Rattle.fk_sim_block.specs.Node.{Nestings, StandsInNode, KnowsSpace, HasOuter, HasNestings, LieBelow, saved_at, first_word, control_address, node_register, body_register, frames_register, blocks_register}
@@ -308,14 +308,14 @@ jumps_stay_in_node core image bound places nestings i op block flows few stay se
       at = record {
         live = member.at.live;
         at = ap (λ k. 4 * k) (block.labels.blocks op.target);
-        stands = stands_with places p _ h _ s (refl, refl, refl, refl, refl, refl, refl, refl, refl, refl, refl, refl) refl refl s.top (record {
+        stands = stands_with places p _ h _ s (refl, refl, refl, refl, refl, refl, refl, refl, refl, refl, refl, refl, refl) refl refl s.top (record {
           running = record {
             home = flows.main ∙ running.home;
             values = running.values;
             privates = λ x kept. running.privates x (flows.kept x kept refl);
-            group = λ number told. running.group number (flows.group number told);
           };
           waiting = s.waiting;
+          groups = groups_go core places nothing p h i op.target p.runner.has.call at flows refl s;
           own = s.own;
           heap = s.heap;
           full = s.full;

@@ -71,7 +71,7 @@ module _ (core : List CoreOp) (image : Image) (bound : ℕ → ℕ) (places : Pl
       record { hart = m.hart; came = came; is = refl; at = omega arith }
 
   same_hart : (h : Hart) → SameRegisters h h
-  same_hart h = (refl, refl, refl, refl, refl, refl, refl, refl, refl, refl, refl, refl)
+  same_hart h = (refl, refl, refl, refl, refl, refl, refl, refl, refl, refl, refl, refl, refl)
 
   runs : (m : Member) (p : Owner) → Holds image cycle0 → (e : Ended m p) → RunsPrivately image (later cycle0) m.number 4 m.hart (gone (later cycle0) m.number e.hart)
   runs m p holds e =

@@ -20,7 +20,7 @@ use Rattle.fk_machine.proofs.Performs.{writes}
 use Rattle.fk_sim_nodes.specs.Node.{Member}
 use Rattle.fk_sim_nodes.specs.Alone.{Holds, RunsPrivately, later, in_cycles}
 use Rattle.fk_sim_block.specs.Owner.{Owner, number_of}
-use Rattle.fk_sim_block.specs.Stands.{Places, HasValues, FrameInMemory, local_address, frame_start, frame_end, group_word, value_of, zero_register, size_register}
+use Rattle.fk_sim_block.specs.Stands.{Places, HasValues, FrameInMemory, local_address, frame_start, frame_end, group_word, value_of, zero_register, size_register, group_frame_register, HaveGroupFrames}
 use Rattle.fk_sim_block.specs.Suits.{Flows, nothing}
 use Rattle.fk_sim_block.specs.Block.{Enters}
 use Rattle.fk_sim_block.specs.Node.{Nestings, HasLevel, HasLevelRoom, HasSaved, HasOuter, KnowsSpace, saved_at, first_word, past_levels, control_address, node_register, frames_register, blocks_register}
@@ -34,7 +34,7 @@ use Rattle.fk_gen.specs.InPlace.{LinesAt, HasLabels}
 use Rattle.fk_gen.proofs.Walk.{Quiets, Plain, LocalAt, CanWalk, Told, walk, told_of, walked, lines_split, private, runs_join}
 use Rattle.fk_gen.proofs.Jumps.{jumps, goes_to_pc, jalr_goes, jal_private, bne_taken, bne_on, bgeu_taken}
 use Rattle.fk_gen.proofs.Does.{holds_in_cycles}
-use Rattle.fk_gen.proofs.Standing.{InMemory, in_memory, frame_stays, waiting_kept, with_list}
+use Rattle.fk_gen.proofs.Standing.{InMemory, in_memory, groups_on, waiting_kept, with_list}
 use Rattle.fk_gen_group.specs.Splits.{HasParts, no_room, part_lines, parts_label, one_part_label, two_parts_label, one_part_place, two_parts_place, counting_lines, waiting_lines, saving_lines, into_one_part, into_two_parts}
 use Rattle.fk_gen_group.specs.Laws.{IsInPlace}
 use Rattle.fk_gen_group.proofs.Last.{value_word, is_value}
@@ -280,27 +280,27 @@ starts_in places zero few = (omega arith, omega arith)
 starts_in places (suc n) few = (omega arith, omega arith)
 
 -- words of a frame are written from a level's first word on: those below are kept, and values above
-pub part_in_memory : (core : List CoreOp) (places : Places) (m m' : Memory) (p : Owner) (i i' low : ℕ) (vs : List ℕ) → places.frames.of_file ≤ 56 → length p.runner.has.callers < 256
-    → p.runner.left.at ≡ i → Flows core places.frames nothing i i' → InMemory places m p
+pub part_in_memory : (core : List CoreOp) (places : Places) (m m' : Memory) (a : ℕ) (p : Owner) (i i' low : ℕ) (vs : List ℕ) → places.frames.of_file ≤ 56 → length p.runner.has.callers < 256
+    → p.runner.left.at ≡ i → Flows core places.frames nothing i i' → InMemory places m a p
     → frame_start places (length p.runner.has.callers) + 7 ≤ low
     → ((word : ℕ) → places.frames.keeps i' word ≡ true → frame_start places (length p.runner.has.callers) + 7 + word < low)
     → ((j : ℕ) → j < low → m' j ≡ m j) → ((j : ℕ) → frame_end (length p.runner.has.callers) ≤ j → m' j ≡ m j)
     → HasValues (value_of m' (length p.runner.has.callers)) vs
-    → InMemory places m' (with_list core places i' vs p)
-part_in_memory core places m m' p i i' low vs few waiting at flows held start words below above values' =
+    → InMemory places m' a (with_list core places i' vs p)
+part_in_memory core places m m' a p i i' low vs few waiting at flows held start words below above values' =
     let n = length p.runner.has.callers in
-    let running = subst (λ a. FrameInMemory places m n a p.runner.has.call) at held.running in
+    let running = subst (λ x. FrameInMemory places m n x p.runner.has.call) at held.running in
+    let groups = subst (λ x. HaveGroupFrames places.frames m a (x ∷ p.runner.left.callers) (p.runner.has.call ∷ p.runner.has.callers)) at held.groups in
     let begins = starts_in places n few in
     record {
       running = record {
         home = flows.main ∙ running.home;
         values = values';
         privates = λ x e. below (frame_start places n + 7 + x) (words x e) ∙ running.privates x (flows.kept x e refl);
-        group = λ number told.
-            frame_stays m m' n number (p.runner.has.call.frames number) (λ known. let g = group_at n number known in below (group_word n number) (omega (arith, g)))
-            (running.group number (flows.group number told));
       };
-      waiting = waiting_kept places m m' p.runner.left.callers p.runner.has.callers few (λ j le lt. below j (omega arith)) (λ j le lt. below j (omega arith)) held.waiting;
+      waiting = waiting_kept places m m' p.runner.left.callers p.runner.has.callers few (λ j le lt. below j (omega arith)) held.waiting;
+      groups = groups_on core places nothing m m' a i i' p.runner.has.call (with_list core places i' vs p).runner.has.call p.runner.left.callers p.runner.has.callers flows refl
+          (λ k number le known. let g = group_at n number known in below (group_word k number) (omega (arith, g, le, start))) groups;
       own = λ x lt. below (7 + x) (omega arith) ∙ held.own x lt;
       heap = λ x lt. above (16384 + x) (omega arith) ∙ held.heap x lt;
       full = below 2 (omega arith) ∙ held.full;
@@ -414,8 +414,8 @@ module _ (core : List CoreOp) (image : Image) (bound : ℕ → ℕ) (places : Pl
       values_kept m.hart.local m' n vs (λ x le lt. high x (omega arith)) (values_before (taken_by by) (value_of m.hart.local n) (values p.runner.has) stands.running.values) in
       let listed = with_list core places j vs p in
       let starts = starts_in places n few in
-      let memory : InMemory places m' listed =
-      part_in_memory core places m.hart.local m' p i j saved_word vs few calls en.index flows (in_memory places p m.hart stands) (omega arith)
+      let memory : InMemory places m' (m.hart.registers group_frame_register) listed =
+      part_in_memory core places m.hart.local m' (m.hart.registers group_frame_register) p i j saved_word vs few calls en.index flows (in_memory places p m.hart stands) (omega arith)
       (λ word keeps. let apart = room.apart (omega arith) word keeps in omega arith)
       low (λ x le. high x (omega arith)) held in
       let many = many_callers places nestings m.hart.local callers p.runner.has.callers stands.waiting in
@@ -459,6 +459,9 @@ module _ (core : List CoreOp) (image : Image) (bound : ℕ → ℕ) (places : Pl
             heap_mask = e.others 27 (λ z. omega arith) (λ z. omega arith) (λ z. omega arith) (λ z. omega arith) (λ z. omega arith) (λ z. omega arith) (λ z. omega arith) (λ z. omega arith) (λ z. omega arith) (λ z. omega arith) ∙ stands.heap_mask;
             running = memory.running;
             waiting = memory.waiting;
+            groups =
+                subst (λ a. HaveGroupFrames places.frames m' a (j ∷ callers) (listed.runner.has.call ∷ p.runner.has.callers)) (sym (e.others 14 (λ z. omega arith) (λ z. omega arith) (λ z. omega arith) (λ z. omega arith) (λ z. omega arith) (λ z. omega arith) (λ z. omega arith) (λ z. omega arith) (λ z. omega arith) (λ z. omega arith)))
+                memory.groups;
             own = memory.own;
             heap = memory.heap;
             full = memory.full;

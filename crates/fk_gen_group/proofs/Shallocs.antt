@@ -27,7 +27,7 @@ use Rattle.fk_sim_nodes.specs.Alone.{later}
 use Rattle.fk_sim_nodes.specs.OneHart.{OneDoes}
 use Rattle.fk_sim_nodes.proofs.InPlace.{step_at}
 use Rattle.fk_sim_block.specs.Owner.{Owner, number_of, core_source}
-use Rattle.fk_sim_block.specs.Stands.{Places, zero_register, value_in}
+use Rattle.fk_sim_block.specs.Stands.{Places, zero_register, value_in, group_frame_register}
 use Rattle.fk_sim_block.specs.Suits.{Flows, nothing}
 use Rattle.fk_sim_block.specs.Block.{Enters}
 use Rattle.fk_sim_block.specs.Node.{Nestings, KnowsSpace, HasOuter, first_word, control_address, frames_register, blocks_register}
@@ -229,9 +229,9 @@ module _ (core : List CoreOp) (image : Image) (bound : ℕ → ℕ) (places : Pl
       ap (λ z. end_by z (h.local w) (h.registers frames_register) (h.registers blocks_register)) stands.nought ∙ ap (λ x. end_by 0 x (h.registers frames_register) (h.registers blocks_register)) value_is ∙ a.end in
       let local : put h.local w answer ≡ last_hart.local = sym (ap (put h.local w) found) in
       let listed = with_list core places (suc i) (answer ∷ before 1 vs) p in
-      let memory : InMemory places last_hart.local listed =
-      subst (λ l. InMemory places l listed) local
-      (value_written core places h.local p i (suc i) op.depth answer (answer ∷ before 1 vs) few calls here place.fits.room (omega arith) flows (in_memory places p h stands)
+      let memory : InMemory places last_hart.local (h.registers group_frame_register) listed =
+      subst (λ l. InMemory places l (h.registers group_frame_register) listed) local
+      (value_written core places h.local (h.registers group_frame_register) p i (suc i) op.depth answer (answer ∷ before 1 vs) few calls here place.fits.room (omega arith) flows (in_memory places p h stands)
       (values_put 1 op.depth h.local n answer vs (omega arith) (omega arith) (omega arith) stands.running.values)) in
       let outer =
       outer_on places nestings setting.processors (number_of p) h.local last_hart.local i (suc i) op.depth callers p.runner.has.outer few place.stay
@@ -249,7 +249,7 @@ module _ (core : List CoreOp) (image : Image) (bound : ℕ → ℕ) (places : Pl
           at = pc;
           stands =
               stands_in_space places listed last_hart smaller
-              (stands_with places p listed h last_hart stands (refl, refl, refl, refl, refl, refl, refl, refl, refl, refl, refl, refl) refl refl stands.top memory);
+              (stands_with places p listed h last_hart stands (refl, refl, refl, refl, refl, refl, refl, refl, refl, refl, refl, refl, refl) refl refl stands.top memory);
         };
         node = record {
           node = member.node.node ∙ sym (ap control_address first_same);

@@ -65,6 +65,7 @@ same_but first h f = (
   f 25 (λ e. omega arith) (λ e. omega arith),
   f 26 (λ e. omega arith) (λ e. omega arith),
   f 27 (λ e. omega arith) (λ e. omega arith),
+  f 14 (λ e. omega arith) (λ e. omega arith),
 )
 
 module _ (core : List CoreOp) (image : Image) (bound : ℕ → ℕ) (places : Places) (nestings : Nestings) (i : ℕ) (op : CoreOp) (place : IsInPlace core image bound places nestings i op Shrink)
@@ -271,6 +272,7 @@ module _ (core : List CoreOp) (image : Image) (bound : ℕ → ℕ) (places : Pl
               heap_mask = s.heap_mask;
               running = s.running;
               waiting = s.waiting;
+              groups = s.groups;
               own = s.own;
               heap = s.heap;
               full = s.full;

@@ -12,7 +12,7 @@ use Rattle.fk_machine.proofs.Performs.{writes}
 use Rattle.fk_sim_nodes.specs.Node.{Member}
 use Rattle.fk_sim_nodes.specs.Alone.{Holds, RunsPrivately}
 use Rattle.fk_sim_block.specs.Owner.{Owner, number_of}
-use Rattle.fk_sim_block.specs.Stands.{Places, HasValues, StandsFor, local_address, frame_start, value_in, zero_register, frame_register, size_register, top_register}
+use Rattle.fk_sim_block.specs.Stands.{Places, HasValues, StandsFor, local_address, frame_start, value_in, zero_register, frame_register, size_register, top_register, group_frame_register}
 use Rattle.fk_sim_block.specs.Suits.{Flows, nothing}
 use Rattle.fk_sim_block.specs.Block.{Enters}
 use Rattle.fk_sim_block.specs.Node.{Nestings, HasLevel, HasSaved, HasOuter, KnowsSpace, past_levels, saved_at, first_word, control_address, node_register, frames_register, blocks_register}
@@ -158,8 +158,8 @@ module _ (core : List CoreOp) (image : Image) (bound : ℕ → ℕ) (places : Pl
         let calls = en.ready.in_range.waiting in
         let header = place.fits.room.header in
         let listed = with_list core places op.target vs p in
-        let memory = nothing_written core places m.hart.local p i op.target op.depth vs place.few calls en.index place.fits.room flows (in_memory places p m.hart stands) held in
-        let s : StandsFor places listed h = stands_with places p listed m.hart h stands same refl refl (top ∙ stands.top) (subst (λ l. InMemory places l listed) (sym local) memory) in
+        let memory = nothing_written core places m.hart.local (m.hart.registers group_frame_register) p i op.target op.depth vs place.few calls en.index place.fits.room flows (in_memory places p m.hart stands) held in
+        let s : StandsFor places listed h = stands_with places p listed m.hart h stands same refl refl (top ∙ stands.top) (subst (λ l. InMemory places l (m.hart.registers group_frame_register) listed) (sym local) memory) in
         let l = level.0 in
         let nought : saved_at places nestings (length callers) i + 4 * nestings.levels op.target + 0 ≡ saved_at places nestings (length callers) i + 4 * nestings.levels op.target = omega arith in
         let size = word_at out_word 0 (omega arith) first_slot ∙ ap m.hart.local nought ∙ l.size in
@@ -187,6 +187,7 @@ module _ (core : List CoreOp) (image : Image) (bound : ℕ → ℕ) (places : Pl
               heap_mask = s.heap_mask;
               running = s.running;
               waiting = s.waiting;
+              groups = s.groups;
               own = s.own;
               heap = s.heap;
               full = s.full;

@@ -22,7 +22,7 @@ use Rattle.fk_sim_nodes.proofs.Members.{cycle_commits}
 use Rattle.fk_sim_nodes.proofs.OnePlace.{loads_of_all, stores_of_all}
 use Rattle.fk_sim_nodes.specs.Phase.{Coming}
 use Rattle.fk_sim_block.specs.Owner.{Owner, number_of, core_source}
-use Rattle.fk_sim_block.specs.Stands.{Places, StandsAt, StandsFor, zero_register, end_register, rank_register, size_register, device_register, value_in, frame_register, number_register, top_register, local_register, shared_register, heap_register, shared_mask_register, heap_mask_register}
+use Rattle.fk_sim_block.specs.Stands.{Places, StandsAt, StandsFor, zero_register, end_register, rank_register, size_register, device_register, value_in, frame_register, number_register, top_register, local_register, shared_register, heap_register, shared_mask_register, heap_mask_register, group_frame_register}
 use Rattle.fk_sim_block.specs.Suits.{Flows, nothing}
 use Rattle.fk_sim_block.specs.Block.{IsRunning, Enters}
 use Rattle.fk_gen.specs.Lines.{quiet, label_of, high_part, low_part}
@@ -63,7 +63,7 @@ under_root places nestings processors number m (i ∷ indices) l is none held = 
 
 -- a hart stands for its processor wherever it goes
 stands_anywhere : (places : Places) (p : Owner) (h : Hart) (pc : ℕ) → StandsFor places p h → StandsFor places p (goes_to_pc h pc)
-stands_anywhere places p h pc s = stands_with places p p h (goes_to_pc h pc) s (refl, refl, refl, refl, refl, refl, refl, refl, refl, refl, refl, refl) refl refl s.top (in_memory places p h s)
+stands_anywhere places p h pc s = stands_with places p p h (goes_to_pc h pc) s (refl, refl, refl, refl, refl, refl, refl, refl, refl, refl, refl, refl, refl) refl refl s.top (in_memory places p h s)
 
 module _ (core : List CoreOp) (image : Image) (bound : ℕ → ℕ) (places : Places) (nestings : Nestings) (i : ℕ) (op : CoreOp) (shared : HasStart image bound)
     (place : IsInPlace core image bound places nestings i op Begin) (leads : LevelsStay nestings i op.target) where
@@ -288,6 +288,7 @@ module _ (core : List CoreOp) (image : Image) (bound : ℕ → ℕ) (places : Pl
         met.met.others shared_mask_register refl,
         met.met.others device_register refl,
         met.met.others heap_mask_register refl,
+        met.met.others group_frame_register refl,
       )
 
       abbrev others_values : List ℕ
@@ -475,6 +476,7 @@ module _ (core : List CoreOp) (image : Image) (bound : ℕ → ℕ) (places : Pl
                 heap_mask = s.heap_mask;
                 running = s.running;
                 waiting = s.waiting;
+                groups = s.groups;
                 own = s.own;
                 heap = s.heap;
                 full = s.full;

@@ -1,7 +1,6 @@
 -- The blocks of the steps of groups.
 use Rattle.std.specs.Prelude.{◌≡◌, ℕ, ◌+◌, ◌*◌, ◌^◌, ◌==◌, ◌<◌, ◌≤◌, List, [], ◌∷◌, ◌++◌, length}
-use Rattle.std.specs.Prelude.{Bool, true, false, Option, Some, map, if◌then◌else◌}
-use Rattle.fk_meaning_operation.specs.declared.operation.SplitKind.TheVariants.{Fork}
+use Rattle.std.specs.Prelude.{Bool, true, false, Option, Some, None, map, if◌then◌else◌}
 use Rattle.fk_meaning_operation.specs.declared.operation.Operation.{Operation}
 use Rattle.fk_meaning_operation.specs.declared.operation.Operation.TheVariants.{Begin, Agree, Farm}
 use Rattle.fk_meaning_operation.specs.declared.operation.Operation.TheVariants.{Seq, End, Resume}
@@ -9,6 +8,7 @@ use Rattle.fk_meaning_operation.specs.declared.operation.Operation.TheVariants.{
 use Rattle.fk_meaning_operation.specs.declared.operation.Operation.TheVariants.{Split, Shrink}
 use Rattle.fk_core.specs.Numbers.{operation_of}
 use Rattle.fk_image.specs.declared.Image.{Image}
+use Rattle.fk_isa.specs.declared.instruction.Instruction.{Instruction}
 use Rattle.fk_isa.specs.declared.instruction.Instruction.TheVariants.{Lui, Jal, Jalr, Beq, Bltu, Bgeu}
 use Rattle.fk_isa.specs.declared.instruction.Instruction.TheVariants.{Lw, Sw, Addi, Sltiu, Slli, Srli}
 use Rattle.fk_isa.specs.declared.instruction.Instruction.TheVariants.{Andi, Add, Sub, Sltu, And, Mul}
@@ -16,7 +16,7 @@ use Rattle.fk_isa.specs.declared.instruction.Instruction.TheVariants.{AmoAddW}
 use Rattle.fk_asm.specs.Block.{MarkedLine}
 use Rattle.fk_sim_block.specs.Stands.{end_register, number_register, rank_register, size_register}
 use Rattle.fk_sim_block.specs.Stands.{device_register}
-use Rattle.fk_sim_block.specs.Stands.{zero_register}
+use Rattle.fk_sim_block.specs.Stands.{zero_register, group_frame_register}
 use Rattle.fk_gen.specs.Registers.{ra, t0, t1, t2, t3}
 use Rattle.fk_gen.specs.Lines.{quiet, commits, goes_to, first_commits, at_group_frame}
 use Rattle.fk_gen.specs.Lines.{label_of, high_part, low_part, add_number, to_data}
@@ -80,11 +80,20 @@ end_block target =
 
 -- ---- frames and blocks
 
--- The two ways of a frame have equally many lines. With room the header gets the address of the
--- frame's first word, and the frames of the group end where the frame does.
+-- The two ways of a frame have equally many lines. With room the frames of the group end where the
+-- frame does. A function's own frame comes to the register of group frames, and the header gets what
+-- that register had. Of a part's frame the header gets the address.
+abbrev pub first_taking : (own : Bool) (nesting : ℕ) → Instruction
+first_taking true nesting = Sw end_register group_frame_register (at_group_frame nesting)
+first_taking false nesting = Add t1 t1 frames_register
+
+abbrev pub second_taking : (own : Bool) (nesting : ℕ) → Instruction
+second_taking true nesting = Add group_frame_register t1 frames_register
+second_taking false nesting = Sw end_register t1 (at_group_frame nesting)
+
 abbrev pub taking_lines : (nesting : ℕ) → List MarkedLine
 taking_lines nesting =
-    quiet (Add t1 t1 frames_register) ∷ quiet (Sw end_register t1 (at_group_frame nesting))
+    quiet (first_taking (nesting == 0) nesting) ∷ quiet (second_taking (nesting == 0) nesting)
     ∷ commits (Addi frames_register t0 0) ∷ []
 
 -- A frame is taken behind those of the group, if it ends where the group's blocks begin, or before.
@@ -218,7 +227,6 @@ is_group_step (Some Resume) = true
 is_group_step (Some (Meet closing)) = true
 is_group_step (Some (Frame nesting words)) = true
 is_group_step (Some Block) = true
-is_group_step (Some (Split Fork)) = false
 is_group_step (Some (Split by)) = true
 is_group_step (Some Shrink) = true
 is_group_step operation = false
@@ -227,11 +235,19 @@ abbrev pub HasWords : Option Operation → Type 0
 HasWords (Some (Frame nesting words)) = words < 2 ^ 21
 HasWords operation = Unit {0}
 
--- The frame has room for the levels, and for one more where a split saves it. Only a part shrinks.
+-- The words of a frame have numbers in lists.
+abbrev pub HasFewWords : Option ℕ → Type 0
+HasFewWords None = Unit {0}
+HasFewWords (Some words) = words < 2 ^ 21
+
+-- The frame has room for the levels, and for one more where a split saves it. Only a part of a loop
+-- shrinks.
 abbrev pub HasLevelWords : Option Operation → Levels → Type 0
 HasLevelWords (Some (Split by)) levels = levels.behind + 4 * (levels.count + 1) ≤ 57
 HasLevelWords (Some Shrink) levels =
-    (levels.behind + 4 * levels.count ≤ 57) × (0 < levels.count)
+    (levels.behind + 4 * levels.count ≤ 57) × (0 < levels.count) × (levels.fork ≡ None)
+HasLevelWords (Some End) levels =
+    (levels.behind + 4 * levels.count ≤ 57) × HasFewWords levels.fork
 HasLevelWords operation levels = levels.behind + 4 * levels.count ≤ 57
 
 -- An operation of a group whose values and levels have room in a frame, and whose target has a

@@ -1,17 +1,20 @@
 //! The blocks of steps of groups.
 
-ghost use Rattle.std.specs.Prelude.{◌≡◌, ◌+◌, ◌*◌, ◌^◌, ◌<◌, ◌≤◌, All, OnOk, OnErr, length};
+ghost use Rattle.std.specs.Prelude.{◌≡◌, ◌+◌, ◌*◌, ◌^◌, ◌<◌, ◌≤◌, ◌==◌, All, OnOk, OnErr, length};
 ghost use Rattle.fk_asm.specs.Assembly.{AreFollowed};
 ghost use Rattle.fk_asm.specs.Block.{GoesToMade, HasBegun, with_block};
 ghost use Rattle.fk_gen_group.specs.Blocks.{meet_block, begin_block, agree_block, farm_block};
 ghost use Rattle.fk_gen_group.specs.Blocks.{seq_block, end_block, frame_block, frame_lines};
-ghost use Rattle.fk_gen_group.specs.Blocks.{shalloc_block, end_by};
+ghost use Rattle.fk_gen_group.specs.Blocks.{first_taking, second_taking, shalloc_block, end_by};
+ghost use Rattle.fk_isa.specs.Fits.{Fits};
 
 use crate::splits::{end_part, shrink, split};
 use crate::start::START_LABEL;
 use fk_asm::{Assembler, Blocks};
 use fk_gen::numbers::{TO_DATA, at_group_frame, high_part, low_part};
-use fk_gen::registers::{DEVICES as DEVICE, END, NUMBER, RA, RANK, SIZE, T0, T1, T2, T3, ZERO};
+use fk_gen::registers::{
+    DEVICES as DEVICE, END, GROUP_FRAME, NUMBER, RA, RANK, SIZE, T0, T1, T2, T3, ZERO,
+};
 use fk_gen::{BlockLine, Levels, Placed, emit_lines, emit_sum, operand, result};
 use fk_gen_flow::registers::{BLOCKS, BODY, FRAMES, NODE};
 use fk_isa::Instruction;
@@ -240,11 +243,35 @@ fn emit_taking(into: &mut Assembler, nesting: u32, site: u32) -> Result<(), Allo
             BlockLine::quiet(Instruction::Lui(T1, high_part(site))),
             BlockLine::quiet(Instruction::Addi(T1, T1, low_part(site))),
             BlockLine::commits(Instruction::Sw(DEVICE, T1, FAULT_DEVICE)),
-            BlockLine::quiet(Instruction::Add(T1, T1, FRAMES)),
-            BlockLine::quiet(Instruction::Sw(END, T1, at_group_frame(nesting))),
+            BlockLine::quiet(first_taking(nesting)),
+            BlockLine::quiet(second_taking(nesting)),
             BlockLine::commits(Instruction::Addi(FRAMES, T0, 0)),
         ],
     )
+}
+
+// The instructions that take the frame. The function's own comes to a register, and that of a part
+// to the header alone.
+fn first_taking(nesting: u32) -> Instruction
+    ensures exact { result ≡ first_taking (nesting == 0) nesting }
+    ensures fits { Fits result }
+{
+    if nesting == 0 {
+        Instruction::Sw(END, GROUP_FRAME, at_group_frame(nesting))
+    } else {
+        Instruction::Add(T1, T1, FRAMES)
+    }
+}
+
+fn second_taking(nesting: u32) -> Instruction
+    ensures exact { result ≡ second_taking (nesting == 0) nesting }
+    ensures fits { Fits result }
+{
+    if nesting == 0 {
+        Instruction::Add(GROUP_FRAME, T1, FRAMES)
+    } else {
+        Instruction::Sw(END, T1, at_group_frame(nesting))
+    }
 }
 
 fn shalloc(into: &mut Assembler, depth: u32) -> Result<(), AllocError>

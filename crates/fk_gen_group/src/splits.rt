@@ -1,17 +1,21 @@
 //! The blocks of splits, of the ends of parts, and of loops that shrink.
 
-ghost use Rattle.std.specs.Prelude.{◌≡◌, ◌+◌, ◌*◌, ◌^◌, ◌<◌, ◌≤◌, All, OnOk, OnErr, length, map};
+ghost use Rattle.std.specs.Prelude.{◌≡◌, ◌+◌, ◌*◌, ◌^◌, ◌<◌, ◌≤◌, All, OnOk, OnErr, None, length, map};
 ghost use Rattle.fk_asm.specs.Assembly.{AreFollowed, straight};
 ghost use Rattle.fk_asm.specs.Block.{GoesToMade, HasBegun, with_block};
 ghost use Rattle.fk_gen.specs.Lines.{quiet};
+ghost use Rattle.fk_gen_group.specs.Blocks.{HasFewWords};
 ghost use Rattle.fk_gen_group.specs.Splits as s;
+ghost use Rattle.fk_meaning.specs.Group.{taken_by};
 ghost use Rattle.fk_meaning_operation.specs.declared.operation.SplitKind.TheVariants as o;
 
-use crate::parts::{ONE_PART_LABEL, TWO_PARTS_LABEL};
+use crate::parts::{FORK_LABEL, ONE_PART_LABEL, TWO_PARTS_LABEL};
 use fk_asm::{Assembler, Line};
-use fk_gen::numbers::{at_private, high_part, low_part};
-use fk_gen::registers::{DEVICES, FRAME, RA, SIZE, T0, T1, T2, T3, ZERO};
-use fk_gen::{BlockLine, Levels, emit_lines, operand, result};
+use fk_gen::numbers::{at_private, at_value, high_part, low_part};
+use fk_gen::registers::{
+    DEVICES, END, FRAME, NUMBER, RA, RANK, SIZE, T0, T1, T2, T3, T4, T5, ZERO,
+};
+use fk_gen::{BlockLine, Levels, emit_lines, emit_sum, operand, result};
 use fk_gen_flow::registers::{BLOCKS, FRAMES, NODE};
 use fk_isa::Instruction;
 use fk_meaning_operation::SplitKind;
@@ -21,6 +25,9 @@ use std::alloc::AllocError;
 const FIRST_LABEL: u32 = 128;
 /// The offset of the device that ends a run at a site, from the first device, in bytes.
 const FAULT_DEVICE: u32 = 8;
+/// How many words before the end of a call's frame its header has the address of the first control
+/// word after the frames of the group that the call's first `fork` divides.
+const FRAMES_PLACE: u32 = 60;
 
 /// A split. Most of its code is shared.
 pub(crate) fn split(
@@ -32,6 +39,7 @@ pub(crate) fn split(
     site: u32,
 ) -> Result<(), AllocError>
     requires depth { depth ≤ 56 }
+    requires values { taken_by by ≤ depth }
     requires near { target < 2 ^ 31 }
     requires levels { levels.behind + 4 * (levels.count + 1) ≤ 57 }
     requires labels { All (GoesToMade into.old.bound) (s.split_block by levels depth target site) }
@@ -45,7 +53,8 @@ pub(crate) fn split(
 {
     let word = levels.behind + 4 * levels.count;
     emit_part(into, by, depth)?;
-    emit_parting(into, parts_label(by), word, target, site)
+    emit_parting(into, parts_label(by), word, target, site)?;
+    emit_heading(into, by, levels)
 }
 
 fn parts_label(by: SplitKind) -> u32
@@ -54,13 +63,15 @@ fn parts_label(by: SplitKind) -> u32
 {
     match by {
         SplitKind::IfElse => TWO_PARTS_LABEL,
+        SplitKind::Fork => FORK_LABEL,
         _ => ONE_PART_LABEL,
     }
 }
 
-// The part of the processor, in `t3`.
+// The part of the processor, in `t3`, or the values of a `fork`.
 fn emit_part(into: &mut Assembler, by: SplitKind, depth: u32) -> Result<(), AllocError>
     requires depth { depth ≤ 56 }
+    requires values { taken_by by ≤ depth }
     requires room { length into.old.lines + length (s.part_lines by depth) < 2 ^ 30 }
     requires free { AreFollowed into.old }
     ensures added { OnOk result
@@ -73,8 +84,29 @@ fn emit_part(into: &mut Assembler, by: SplitKind, depth: u32) -> Result<(), Allo
         SplitKind::IfElse => emit_if_0(into, depth),
         SplitKind::OrElse => emit_or(into, depth),
         SplitKind::Loop => emit_lines(into, &[BlockLine::quiet(Instruction::Addi(T3, ZERO, 1))]),
-        SplitKind::Fork => Ok(()),
+        SplitKind::Fork => emit_values(into, depth),
     }
+}
+
+// The number of parts, the part of the processor, and what `$` is there.
+fn emit_values(into: &mut Assembler, depth: u32) -> Result<(), AllocError>
+    requires depth { depth ≤ 56 }
+    requires values { 3 ≤ depth }
+    requires room { length into.old.lines + 3 < 2 ^ 30 }
+    requires free { AreFollowed into.old }
+    ensures added { OnOk result
+        (into.new ≡ with_block into.old (map quiet (s.part_lines o.Fork depth))) }
+    ensures begun { OnErr result
+        (HasBegun (map quiet (s.part_lines o.Fork depth)) into.old into.new) }
+{
+    emit_lines(
+        into,
+        &[
+            BlockLine::quiet(operand(T3, depth - 2)),
+            BlockLine::quiet(operand(T4, depth - 1)),
+            BlockLine::quiet(operand(T5, depth)),
+        ],
+    )
 }
 
 // 1 where the value isn't 0.
@@ -167,19 +199,129 @@ fn emit_parting(
     )
 }
 
+// Who enters a part of the first `fork` of a call stores where the frames of its group end.
+fn emit_heading(into: &mut Assembler, by: SplitKind, levels: Levels) -> Result<(), AllocError>
+    requires room { length into.old.lines + length (s.heading_lines by levels) < 2 ^ 30 }
+    requires free { AreFollowed into.old }
+    ensures added { OnOk result (into.new ≡ with_block into.old (s.heading_lines by levels)) }
+    ensures begun { OnErr result (HasBegun (s.heading_lines by levels) into.old into.new) }
+{
+    match by {
+        SplitKind::Fork => emit_first_heading(into, levels.count),
+        _ => emit_lines(into, &[]),
+    }
+}
+
+fn emit_first_heading(into: &mut Assembler, count: u32) -> Result<(), AllocError>
+    requires room { length into.old.lines + 1 < 2 ^ 30 }
+    requires free { AreFollowed into.old }
+    ensures added { OnOk result (into.new ≡ with_block into.old (s.heading_by count)) }
+    ensures begun { OnErr result (HasBegun (s.heading_by count) into.old into.new) }
+{
+    if count != 0 {
+        return emit_lines(into, &[]);
+    }
+    let place = at_value(FRAMES_PLACE);
+    emit_lines(into, &[BlockLine::quiet(Instruction::Sw(END, T3, place))])
+}
+
 /// The end of a part.
 pub(crate) fn end_part(into: &mut Assembler, levels: Levels, target: u32) -> Result<(), AllocError>
     requires near { target < 2 ^ 31 }
     requires levels { levels.behind + 4 * levels.count ≤ 57 }
     requires some { 0 < levels.count }
+    requires words { HasFewWords levels.fork }
     requires labels { All (GoesToMade into.old.bound) (s.end_part_block levels target) }
-    requires room { length into.old.lines + 5 < 2 ^ 30 }
+    requires room { length into.old.lines + length (s.end_part_block levels target) < 2 ^ 30 }
     requires free { AreFollowed into.old }
     ensures added { OnOk result (into.new ≡ with_block into.old (s.end_part_block levels target)) }
     ensures begun { OnErr result (HasBegun (s.end_part_block levels target) into.old into.new) }
 {
     let word = levels.behind + 4 * (levels.count - 1);
-    emit_outward(into, true, word, target)
+    match levels.fork {
+        None => emit_outward(into, true, word, target),
+        Some(words) => emit_out_of_fork(into, word, levels.count, words, target),
+    }
+}
+
+// The way to the group around a part of a `fork`, whose level begins at a word after the header.
+fn emit_out_of_fork(
+    into: &mut Assembler,
+    word: u32,
+    count: u32,
+    words: u32,
+    target: u32,
+) -> Result<(), AllocError>
+    requires word { word + 3 < 64 }
+    requires few { words < 2 ^ 21 }
+    requires near { target < 2 ^ 31 }
+    requires labels { All (GoesToMade into.old.bound) (s.out_of_fork word count words target) }
+    requires room { length into.old.lines
+        + length (s.out_of_fork word count words target) < 2 ^ 30 }
+    requires free { AreFollowed into.old }
+    ensures added { OnOk result
+        (into.new ≡ with_block into.old (s.out_of_fork word count words target)) }
+    ensures begun { OnErr result
+        (HasBegun (s.out_of_fork word count words target) into.old into.new) }
+{
+    emit_forked(into, word)?;
+    emit_frames_end(into, count, words)?;
+    emit_lines(
+        into,
+        &[BlockLine::goes_to(
+            Instruction::Jal(ZERO, 0),
+            FIRST_LABEL + target,
+        )],
+    )
+}
+
+// What the frame has of the group around a part of a `fork`, but where the group's frames end.
+fn emit_forked(into: &mut Assembler, word: u32) -> Result<(), AllocError>
+    requires word { word + 3 < 64 }
+    requires room { length into.old.lines + 6 < 2 ^ 30 }
+    requires free { AreFollowed into.old }
+    ensures added { OnOk result (into.new ≡ with_block into.old (s.forked_front word)) }
+    ensures begun { OnErr result (HasBegun (s.forked_front word) into.old into.new) }
+{
+    emit_lines(
+        into,
+        &[
+            BlockLine::commits(Instruction::Lw(SIZE, FRAME, at_private(word))),
+            BlockLine::quiet(Instruction::Srli(NUMBER, SIZE, 11)),
+            BlockLine::quiet(Instruction::Andi(SIZE, SIZE, 2047)),
+            BlockLine::quiet(Instruction::Lw(NODE, FRAME, at_private(word + 1))),
+            BlockLine::quiet(Instruction::Lw(BLOCKS, FRAME, at_private(word + 2))),
+            BlockLine::quiet(Instruction::Lw(RANK, FRAME, at_private(word + 3))),
+        ],
+    )
+}
+
+// Where the frames of that group end: as the header has it at the first level of a call, or after a
+// frame of so many words.
+fn emit_frames_end(into: &mut Assembler, count: u32, words: u32) -> Result<(), AllocError>
+    requires few { words < 2 ^ 21 }
+    requires room { length into.old.lines + length (s.frames_end count words) < 2 ^ 30 }
+    requires free { AreFollowed into.old }
+    ensures added { OnOk result
+        (into.new ≡ with_block into.old (map quiet (s.frames_end count words))) }
+    ensures begun { OnErr result
+        (HasBegun (map quiet (s.frames_end count words)) into.old into.new) }
+{
+    if count == 1 {
+        return emit_header_frames(into);
+    }
+    emit_sum(into, 32 + 4 * words, NODE)?;
+    emit_lines(into, &[BlockLine::quiet(Instruction::Addi(FRAMES, T0, 0))])
+}
+
+fn emit_header_frames(into: &mut Assembler) -> Result<(), AllocError>
+    requires room { length into.old.lines + 1 < 2 ^ 30 }
+    requires free { AreFollowed into.old }
+    ensures added { OnOk result (into.new ≡ with_block into.old (map quiet s.header_frames)) }
+    ensures begun { OnErr result (HasBegun (map quiet s.header_frames) into.old into.new) }
+{
+    let place = at_value(FRAMES_PLACE);
+    emit_lines(into, &[BlockLine::quiet(Instruction::Lw(FRAMES, END, place))])
 }
 
 // A line that may do the operation.

@@ -1,24 +1,14 @@
 -- The operations of a list with what their blocks are made for.
-use Rattle.std.proofs.Common.{◌≡◌, ℕ, zero, suc, ◌+◌, ◌-◌, ◌/◌, ◌^◌, ◌<◌, ◌≤◌, List, [], ◌∷◌, length, Bool, true, false, Option, Some, None, All, IfSome, ap, sym, subst, refl, ◌∙◌, arith}
-use Rattle.std.specs.Prelude.{◌==◌, nat_lt, slice_get, get_or, not, ◌&&◌}
-use Rattle.std.specs.Int.{bit_at}
-use Rattle.std.proofs.lemmas.Bool.{and_from, lt-ltb, eqb-true}
+use Rattle.std.proofs.Common.{◌≡◌, ℕ, zero, suc, ◌+◌, ◌<◌, List, [], ◌∷◌, length, Option, Some, All, IfSome, ap, sym, subst, refl, ◌∙◌, arith}
+use Rattle.std.specs.Prelude.{slice_get, get_or}
 use Rattle.std.proofs.lemmas.List.Elements.{All-nil, All-cons}
 use Rattle.std.proofs.lemmas.Option.{slice_get-get_or}
 use Rattle.fk_asm.specs.Block.{MarkedLine, GoesToMade}
-use Rattle.fk_meaning_operation.specs.declared.operation.Operation.{Operation}
-use Rattle.fk_meaning_operation.specs.declared.operation.Operation.TheVariants.{Enter}
 use Rattle.fk_core.specs.declared.op.CoreOp.{CoreOp}
-use Rattle.fk_sim_block.specs.Stands.{Frames}
 use Rattle.fk_gen.specs.declared.placed.Levels.{Levels}
 use Rattle.fk_gen.specs.declared.placed.Placed.{Placed}
-use Rattle.fk_gen_flow.specs.Laws.{ClearsEnough}
 use Rattle.fk_core_liveness.specs.declared.set.Set.{Set}
-use Rattle.fk_core_liveness.specs.Frames.{kept_in}
-use Rattle.fk_core_liveness.specs.Sets.{is_in}
-use Rattle.fk_core_liveness.proofs.Bits.{is_bit, shifted}
-use Rattle.fk_gen_list.specs.Generable.{AreKept}
-use Rattle.fk_gen_list.specs.Layout.{clears_by, placed, placed_from}
+use Rattle.fk_gen_list.specs.Layout.{placed, placed_from}
 
 -- ---- one after another
 
@@ -58,38 +48,3 @@ placed_here core globals kept saved ops i none p d lt e =
 -- labels that are made are made where there are as many
 pub goes_still : (xs ys : List (Option ℕ)) (ms : List MarkedLine) → length xs ≡ length ys → All (GoesToMade xs) ms → All (GoesToMade ys) ms
 goes_still xs ys ms e all = subst (λ n. All (λ m. IfSome m.line.label (λ label. label < n)) ms) e all
-
--- ---- what calls clear
-
-no_bit : (m n : ℕ) → m ≡ 0 → bit_at m n ≡ 0
-no_bit m n e = ap (λ x. bit_at x n) e ∙ zero_bit n
-  where
-    zero_bit : (n : ℕ) → bit_at 0 n ≡ 0
-    zero_bit n = omega arith
-
--- a set with a word that is no argument is not empty from there on
-has_more : (mask n word : ℕ) → is_in mask word ≡ true → n ≤ word → (nat_lt n 64 && not (mask / 2 ^ n == 0)) ≡ true
-has_more mask n word is le =
-    let bit = is_bit mask word is in
-    let low = bit.low in
-    and_from _ _ (lt-ltb n 64 (omega arith)) (by (mask / 2 ^ n == 0) refl bit.set)
-  where
-    by : (b : Bool) → (mask / 2 ^ n == 0) ≡ b → bit_at mask word ≡ 1 → not b ≡ true
-    by false e set = refl
-    by true e set =
-        let none = no_bit (mask / 2 ^ n) (word - n) (eqb-true (mask / 2 ^ n) 0 e) in
-        let same = shifted mask n (word - n) in
-        let here : n + (word - n) ≡ word = omega arith in
-        let there = ap (bit_at mask) here in
-        absurd (omega (arith, none, same, there, set))
-
-kept_more : (n word : ℕ) (set : Option Set) → kept_in set word ≡ true → n ≤ word → clears_by (Some (Enter n)) set ≡ true
-kept_more n word None e le = absurd (cc)
-kept_more n word (Some set) e le = has_more set.mask n word e le
-
--- a call of a list clears enough
-pub clears_enough : (frames : Frames) (kept : List Set) (i : ℕ) (o : Option Operation) (operation : Operation) → AreKept frames kept → o ≡ Some operation
-    → ClearsEnough frames i (clears_by o (slice_get kept (suc i))) operation
-clears_enough frames kept i o (Enter n) are e = λ word keeps le.
-    ap (λ x. clears_by x (slice_get kept (suc i))) e ∙ kept_more n word (slice_get kept (suc i)) (are (suc i) word keeps) le
-clears_enough frames kept i o operation are e = tt

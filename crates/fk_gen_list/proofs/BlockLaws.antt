@@ -32,7 +32,7 @@ use Rattle.fk_gen_flow.proofs.Law.{block_of_jump, jumps_go, flow_blocks_do, halt
 use Rattle.fk_gen_list.specs.Kinds.{kind_of, kind_by, block_in, block_of}
 use Rattle.fk_gen_list.specs.Generable.{AreKept, return_at}
 use Rattle.fk_gen_list.specs.Layout.{placed}
-use Rattle.fk_gen_list.proofs.AllPlaced.{clears_enough}
+use Rattle.fk_gen_list.proofs.Clears.{clears_enough}
 use Rattle.fk_gen_list.proofs.Suited.{alone_is_no_step, kind_here, has_expression}
 use Rattle.fk_gen_list.proofs.Returns.{calls_return}
 

@@ -1,5 +1,5 @@
 -- A list that code is made of has blocks, and an image with its code does what the law of blocks asks.
-use Rattle.std.proofs.Common.{◌≡◌, ℕ, ◌^◌, ◌<◌, ◌≤◌, List, length, map, Option, Some, None, All, true, false, sym, subst, refl, arith}
+use Rattle.std.proofs.Common.{◌≡◌, ℕ, suc, ◌^◌, ◌<◌, ◌≤◌, List, length, map, Option, Some, None, All, true, false, sym, subst, refl, arith}
 use Rattle.std.specs.Prelude.{slice_get, sum_by, IsSome, Bool}
 use Rattle.std.proofs.lemmas.List.Elements.{All-get_or}
 use Rattle.std.proofs.lemmas.Option.{slice_get_within, get_or_from_slice_get}
@@ -27,6 +27,7 @@ use Rattle.fk_gen_list.specs.Layout.{placed, all_placed, front, place, all_lines
 use Rattle.fk_gen_list.proofs.InImage.{IsAssembled, bound_in}
 use Rattle.fk_gen_list.proofs.Laid.{places, has_labels, has_opening, has_shared, has_start, has_heap, has_one_part, has_two_parts, has_block}
 use Rattle.fk_gen_list.proofs.AllPlaced.{placed_get, all_from}
+use Rattle.fk_gen_list.proofs.Clears.{few_clears}
 use Rattle.fk_gen_list.proofs.Whole.{assembled}
 use Rattle.fk_gen_list.proofs.Suited.{back_within, has_block_of, has_operands, jump_has}
 use Rattle.fk_gen_list.proofs.BlockLaws.{AreInRange, law_of_blocks}
@@ -61,7 +62,7 @@ module _ (core : List CoreOp) (kept : List Set) (saved : List Levels) (main : �
       let here = placed core globals kept saved i op in
       let begins = is.begins in
       let back = back_within core is.blocks i op (operation_of op.kind op.number) at no_jump refl (omega arith) in
-      has_block_of core is.frames i globals op operation here.clears here.back here.levels stands fits is.suits.few (number_few i op at)
+      has_block_of core is.frames i globals op operation here.clears here.back here.levels (few_clears (operation_of op.kind op.number) (slice_get kept (suc i))) stands fits is.suits.few (number_few i op at)
       (has_operands core is.frames i here.back op operation stands fits is.blocks short (omega (arith, back))) (omega arith)
       (λ step. let there : op.target < length core = is.blocks.targets i op operation stands (step_has_target operation step) in omega arith)
       (is.levels i op operation stands)
@@ -70,7 +71,8 @@ module _ (core : List CoreOp) (kept : List Set) (saved : List Levels) (main : �
   has_by : length core < 2 ^ 31 → (i : ℕ) (op : CoreOp) → slice_get core i ≡ Some op → (jump : Bool) → is_jump op ≡ jump → HasBlockOf (placed core globals kept saved i op)
   has_by short i op at true jump =
       let within = is.blocks.jumps i op at jump in
-      jump_has op globals (placed core globals kept saved i op).clears (placed core globals kept saved i op).back (placed core globals kept saved i op).levels jump (omega arith)
+      jump_has op globals (placed core globals kept saved i op).clears (placed core globals kept saved i op).back (placed core globals kept saved i op).levels
+      (few_clears (operation_of op.kind op.number) (slice_get kept (suc i))) jump (omega arith)
   has_by short i op at false jump = operation_has short i op at jump (operation_of op.kind op.number) refl (is.operations i op at jump)
 
   pub all_have : length core < 2 ^ 31 → All HasBlockOf (all_placed globals kept saved core)

@@ -67,7 +67,7 @@ each P a b c d e (suc (suc (suc (suc zero)))) op operation stands reads =
 each P a b c d e (suc (suc (suc (suc (suc i))))) op operation stands reads = absurd (cc)
 
 flows : (i j : ℕ) → Flows core frames (λ word. false) i j
-flows i j = record { main = refl; kept = λ word keeps written. keeps; group = λ number told. told }
+flows i j = record { main = refl; kept = λ word keeps written. keeps; group = λ number told. told; own = refl }
 
 room : (index values : ℕ) → values ≤ 56 → HasRoom frames index values
 room index values few = record { header = omega arith; kept = λ word keeps. absurd (cc) }

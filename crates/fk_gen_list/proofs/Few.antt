@@ -1,5 +1,5 @@
 -- How many cycles the blocks of a list take at most.
-use Rattle.std.proofs.Common.{◌≡◌, ℕ, ◌+◌, ◌*◌, ◌^◌, ◌<◌, ◌≤◌, List, [], ◌∷◌, length, Bool, true, false, Option, Some, None, sym, subst, arith, refl}
+use Rattle.std.proofs.Common.{◌≡◌, ℕ, suc, ◌+◌, ◌*◌, ◌^◌, ◌<◌, ◌≤◌, List, [], ◌∷◌, length, Bool, true, false, Option, Some, None, sym, subst, arith, refl}
 use Rattle.std.specs.Prelude.{◌==◌, slice_get, if◌then◌else◌}
 use Rattle.std.specs.Option.{option_map_or}
 use Rattle.std.proofs.lemmas.Bool.{eqb-true}
@@ -25,9 +25,11 @@ use Rattle.fk_gen_expr.specs.Expressions.{IsExpression, expression_block}
 use Rattle.fk_gen_expr.proofs.Shape.{IsShortCode, block_short}
 use Rattle.fk_gen_access.specs.Blocks.{is_access}
 use Rattle.fk_gen_flow.specs.Blocks.{is_flow}
+use Rattle.fk_gen_flow.specs.Calls.{most_privates}
 use Rattle.fk_gen_flow.proofs.Enters.{few_take}
 use Rattle.fk_gen_group.specs.Splits.{split_goes_on}
 use Rattle.fk_gen_list.specs.Layout.{placed}
+use Rattle.fk_gen_list.proofs.Clears.{few_clears}
 use Rattle.fk_gen_list.proofs.Suited.{has_expression}
 use Rattle.fk_gen_list.specs.Cycles.{before_of, behind_of, before_at, behind_at}
 
@@ -76,7 +78,8 @@ few_parts IfElse false = omega arith
 few_parts by true = omega arith
 few_parts by false = omega arith
 
-module _ (core : List CoreOp) (frames : Frames) (i : ℕ) (here : Placed) (few : frames.of_file ≤ 56) (number : here.op.number < 2 ^ 32) (some : here.globals ≤ 2 ^ 20) where
+module _ (core : List CoreOp) (frames : Frames) (i : ℕ) (here : Placed) (few : frames.of_file ≤ 56) (number : here.op.number < 2 ^ 32) (some : here.globals ≤ 2 ^ 20)
+    (cleared : here.clears ≤ most_privates) where
   of_expression : (operation : Operation) → operation_of here.op.kind here.op.number ≡ Some operation → Fits core frames i here.op operation → is_alone operation ≡ true
       → is_flow operation ≡ false → is_access (Some operation) ≡ false → past_first (expression_block here.globals here.op.depth operation) ≤ most_behind
   of_expression operation read fits alone f a =
@@ -99,7 +102,7 @@ module _ (core : List CoreOp) (frames : Frames) (i : ℕ) (here : Placed) (few :
   few_behind_of (Leave true false) onward read fits = omega arith
   few_behind_of (Leave false true) onward read fits = omega arith
   few_behind_of (Leave false false) onward read fits = omega arith
-  few_behind_of (Enter n) onward read fits = few_take here.clears n fits.goes_on.few
+  few_behind_of (Enter n) onward read fits = few_take here.clears n cleared fits.goes_on.few
   few_behind_of Begin true read fits = omega arith
   few_behind_of Begin false read fits = omega arith
   few_behind_of End onward read fits = few_end (here.levels.count == 0)
@@ -128,14 +131,15 @@ is_op_at core i op operation at read = record { stands = at; no_jump = by (is_ju
 
 module _ (core : List CoreOp) (frames : Frames) (main : ℕ) (suits : Suits core frames main) (globals : ℕ) (some : globals ≤ 2 ^ 20) (kept : List sets.Set) (saved : List Levels)
     (words : (i : ℕ) (op : CoreOp) → slice_get core i ≡ Some op → op.number < 2 ^ 32) where
-  by_operation : (i : ℕ) (op : CoreOp) (here : Placed) (onward : Bool) (o : Option Operation) → here.op ≡ op → here.globals ≡ globals → slice_get core i ≡ Some op → operation_of op.kind op.number ≡ o
+  by_operation : (i : ℕ) (op : CoreOp) (here : Placed) (onward : Bool) (o : Option Operation) → here.op ≡ op → here.globals ≡ globals → here.clears ≤ most_privates → slice_get core i ≡ Some op → operation_of op.kind op.number ≡ o
       → option_map_or (λ operation. behind_of here operation onward) o 0 ≤ most_behind
-  by_operation i op here onward None same many at read = omega arith
-  by_operation i op here onward (Some operation) same many at read =
-      few_behind_of core frames i here suits.few (subst (λ x. x.number < 2 ^ 32) (sym same) (words i op at)) (subst (λ n. n ≤ 2 ^ 20) (sym many) some) operation onward
+  by_operation i op here onward None same many cleared at read = omega arith
+  by_operation i op here onward (Some operation) same many cleared at read =
+      few_behind_of core frames i here suits.few (subst (λ x. x.number < 2 ^ 32) (sym same) (words i op at)) (subst (λ n. n ≤ 2 ^ 20) (sym many) some) cleared operation onward
       (subst (λ (x : CoreOp). operation_of x.kind x.number ≡ Some operation) (sym same) read)
       (subst (λ x. Fits core frames i x operation) (sym same) (suits.fits i op operation (is_op_at core i op operation at read)))
 
   pub few_behind_at : (i : ℕ) (onward : Bool) (o : Option CoreOp) → slice_get core i ≡ o → behind_at core globals kept saved i o onward ≤ most_behind
   few_behind_at i onward None at = omega arith
-  few_behind_at i onward (Some op) at = by_operation i op (placed core globals kept saved i op) onward (operation_of op.kind op.number) refl refl at refl
+  few_behind_at i onward (Some op) at = by_operation i op (placed core globals kept saved i op) onward (operation_of op.kind op.number) refl refl
+      (few_clears (operation_of op.kind op.number) (slice_get kept (suc i))) at refl

@@ -156,7 +156,7 @@ module _ (core : List CoreOp) (image : Image) (bound : ℕ → ℕ) (places : Pl
       → EndsPart core image places nestings i op (λ onward. if start then 6 else 4)
   part_by i op stands false e setting t mine first ms ps own owns all inside =
       parts_end core image bound places nestings i op (in_place i op End stands refl) (levels.ends i op stands).part setting t mine first ms ps own owns all inside
-  part_by i op stands true e setting t mine first [] [] own owns all inside = record { counted = tt; chain = (refl, (tt, refl)) }
+  part_by i op stands true e setting t mine first [] [] own owns all inside = record { counted = tt; chain = (refl, tt, refl) }
   part_by i op stands true e setting t mine first (m ∷ ms) (p ∷ ps) own owns all inside = a_level i p.runner.left.at e inside.0.saved all.0.index
   part_by i op stands true e setting t mine first ms ps own owns all inside = absurd (assumption all)
 

@@ -27,7 +27,7 @@ use Rattle.fk_gen_flow.proofs.Law.{flow_blocks_keep, halts_end}
 use Rattle.fk_gen_list.specs.Kinds.{kind_by, block_in}
 use Rattle.fk_gen_list.specs.Layout.{placed}
 use Rattle.fk_gen_list.specs.Generable.{AreKept}
-use Rattle.fk_gen_list.proofs.AllPlaced.{clears_enough}
+use Rattle.fk_gen_list.proofs.Clears.{clears_enough}
 use Rattle.fk_gen_list.proofs.Suited.{has_expression}
 use Rattle.fk_gen_group.proofs.Alone.{lone_blocks_stay_in_node}
 use Rattle.fk_gen_group.proofs.InNode.{jumps_stay_in_node}

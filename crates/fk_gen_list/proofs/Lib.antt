@@ -3,6 +3,8 @@ pub mod InImage
 pub mod Near
 pub mod Chain
 pub mod AllPlaced
+-- what calls clear
+pub mod Clears
 pub mod Laid
 pub mod Shapes
 pub mod Whole

@@ -32,6 +32,7 @@ use Rattle.fk_gen_access.specs.Heap as heap
 use Rattle.fk_gen_expr.specs.Expressions as expressions
 use Rattle.fk_gen_flow.specs.Blocks as flow
 use Rattle.fk_sim_block.specs.Next.{OpAt}
+use Rattle.fk_sim_block.specs.Stands.{group_frame_register}
 use Rattle.fk_gen_flow.specs.Calls as calls
 use Rattle.fk_gen_flow.specs.Calls.{most_privates}
 use Rattle.fk_gen_flow.specs.Flow as f
@@ -44,6 +45,7 @@ use Rattle.fk_gen_list.specs.declared.kind.Kind.TheVariants.{Flow, Access, Group
 use Rattle.fk_gen_list.specs.Kinds.{kind_of, kind_by, block_in, block_of}
 use Rattle.fk_gen_list.specs.Layout.{back_by, placed, placed_from}
 use Rattle.fk_gen_list.proofs.Chain.{IsUnlabeled}
+use Rattle.fk_gen_list.proofs.Clears.{few_clears}
 use Rattle.fk_gen_list.proofs.Laid.{GoesTo, IsLabel}
 use Rattle.fk_gen_list.proofs.Near.{IsFar}
 use Rattle.fk_gen_list.proofs.Suited.{jump_none}
@@ -122,35 +124,35 @@ arguments_all n true (suc k) le =
     (arguments_all n true k (omega arith))
 arguments_all n false arguments le = All-from_recursion (GoesTo n) (calls.copies_by false arguments) ((inl (omega arith), (6, refl)), tt)
 
-clears_all : (n : ℕ) (clears : Bool) (arguments : ℕ) → All (GoesTo n) (calls.clears_by clears arguments)
-clears_all n true arguments = All-from_recursion (GoesTo n) (calls.clears_by true arguments) ((inr (inl (omega arith, omega arith)), (6, refl)), tt)
-clears_all n false arguments = All-nil (GoesTo n)
+clears_all : (n : ℕ) (none : Bool) (clears : ℕ) → clears ≤ most_privates → All (GoesTo n) (calls.clears_by none clears)
+clears_all n true clears few = All-nil (GoesTo n)
+clears_all n false clears few = All-from_recursion (GoesTo n) (calls.clears_by false clears) ((inr (inl (omega arith, omega arith)), (6, refl)), tt)
 
-flow_all : (n : ℕ) (clears : Bool) (back : ℕ) (op : CoreOp) (operation : Option Operation) → Leads n back op operation → All (GoesTo n) (flow.block_by clears back op operation)
-flow_all n clears back op (Some (o.Branch onward)) leads =
+flow_all : (n clears back : ℕ) (op : CoreOp) (operation : Option Operation) → clears ≤ most_privates → Leads n back op operation → All (GoesTo n) (flow.block_by clears back op operation)
+flow_all n clears back op (Some (o.Branch onward)) few leads =
     All-from_recursion (GoesTo n) (f.branch_block onward op.depth op.target) (tt, (tt, (jump_goes n op.target leads, tt)))
-flow_all n clears back op (Some (o.Leave gives true)) leads =
+flow_all n clears back op (Some (o.Leave gives true)) few leads =
     go_nowhere n (f.leave_block gives true op.depth)
     (All-append IsUnlabeled (first_commits f.giving_back) (f.leaving_lines false gives op.depth) (first_all f.giving_back) (quiet_all (f.leaving gives op.depth)))
-flow_all n clears back op (Some (o.Leave gives false)) leads = go_nowhere n (f.leave_block gives false op.depth) (first_all (f.leaving gives op.depth))
-flow_all n clears back op (Some (o.Enter arguments)) leads =
+flow_all n clears back op (Some (o.Leave gives false)) few leads = go_nowhere n (f.leave_block gives false op.depth) (first_all (f.leaving gives op.depth))
+flow_all n clears back op (Some (o.Enter arguments)) few leads =
     All-append (GoesTo n) (calls.depth_lines arguments op.depth op.site) (calls.word_lines clears arguments ++ calls.frame_lines back)
     (All-from_recursion (GoesTo n) (calls.depth_lines arguments op.depth op.site) (tt, (tt, (tt, (tt, (tt, (tt, (tt, tt))))))))
     (All-append (GoesTo n) (calls.word_lines clears arguments) (calls.frame_lines back)
-    (All-append (GoesTo n) (calls.argument_lines clears arguments) (calls.clears_by clears arguments)
-    (arguments_all n (nat_le arguments (calls.most_own clears)) arguments leads.0) (clears_all n clears arguments))
+    (All-append (GoesTo n) (calls.clears_by (clears == 0) clears) (calls.argument_lines clears arguments)
+    (clears_all n (clears == 0) clears few) (arguments_all n (nat_le arguments (calls.most_own (clears == 0))) arguments leads.0))
     (All-from_recursion (GoesTo n) (calls.frame_lines back) (tt, (jump_goes n back leads.1, (tt, (tt, (tt, tt)))))))
-flow_all n clears back op (Some o.Halt) leads = All-from_recursion (GoesTo n) f.halt_block (tt, tt)
-flow_all n clears back op operation leads = All-nil (GoesTo n)
+flow_all n clears back op (Some o.Halt) few leads = All-from_recursion (GoesTo n) f.halt_block (tt, tt)
+flow_all n clears back op operation few leads = All-nil (GoesTo n)
 
-flow_block_all : (n : ℕ) (clears : Bool) (back : ℕ) (op : CoreOp) → (is_jump op ≡ true → op.target < n)
+flow_block_all : (n clears back : ℕ) (op : CoreOp) → clears ≤ most_privates → (is_jump op ≡ true → op.target < n)
     → (is_jump op ≡ false → Leads n back op (operation_of op.kind op.number)) → All (GoesTo n) (flow.flow_block clears back op)
-flow_block_all n clears back op jumps leads = by (is_jump op) jumps leads
+flow_block_all n clears back op few jumps leads = by (is_jump op) jumps leads
   where
     by : (jump : Bool) → (jump ≡ true → op.target < n) → (jump ≡ false → Leads n back op (operation_of op.kind op.number))
         → All (GoesTo n) (if jump then f.jump_block op.target else flow.block_by clears back op (operation_of op.kind op.number))
     by true jumps leads = jump_all n op.target (jumps refl)
-    by false jumps leads = flow_all n clears back op (operation_of op.kind op.number) (leads refl)
+    by false jumps leads = flow_all n clears back op (operation_of op.kind op.number) few (leads refl)
 
 meet_all : (n word size : ℕ) → All (GoesTo n) (group.meet_block word size)
 meet_all n word size =
@@ -203,12 +205,12 @@ leads_all : (n back : ℕ) (op : CoreOp) (jump : Bool) → is_jump op ≡ jump �
 leads_all n back op true j leads = subst (Leads n back op) (sym (jump_none op j)) tt
 leads_all n back op false j leads = leads j
 
-block_all : (n : ℕ) (p : Placed) → (is_jump p.op ≡ true → p.op.target < n)
+block_all : (n : ℕ) (p : Placed) → p.clears ≤ most_privates → (is_jump p.op ≡ true → p.op.target < n)
     → (is_jump p.op ≡ false → Leads n p.back p.op (operation_of p.op.kind p.op.number)) → All (GoesTo n) (block_of p)
-block_all n p jumps leads = by (kind_of p.op)
+block_all n p few jumps leads = by (kind_of p.op)
   where
     by : (kind : Kind) → All (GoesTo n) (block_in kind p)
-    by Flow = flow_block_all n p.clears p.back p.op jumps leads
+    by Flow = flow_block_all n p.clears p.back p.op few jumps leads
     by Access = access_all n (operation_of p.op.kind p.op.number) p.op.depth p.op.site
     by Group = group_all n p.back p.levels p.op (operation_of p.op.kind p.op.number) (leads_all n p.back p.op (is_jump p.op) refl leads)
     by Expression = go_nowhere n _ (expression_all p.globals p.op.depth (operation_of p.op.kind p.op.number))
@@ -248,7 +250,7 @@ jumps_to core kept saved main firsts i op is e jump = is.blocks.jumps i op e jum
 pub op_goes : (core : List CoreOp) (kept : List Set) (saved : List Levels) (main : ℕ) (firsts : List ℕ) (globals i : ℕ) (op : CoreOp) → IsGenerable core kept saved main firsts
     → slice_get core i ≡ Some op → All (GoesTo (length core)) (block_of (placed core globals kept saved i op))
 op_goes core kept saved main firsts globals i op is e =
-    block_all (length core) (placed core globals kept saved i op) (jumps_to core kept saved main firsts i op is e)
+    block_all (length core) (placed core globals kept saved i op) (few_clears (operation_of op.kind op.number) (slice_get kept (suc i))) (jumps_to core kept saved main firsts i op is e)
     (λ quiet'. leads_by core kept saved main firsts i op (operation_of op.kind op.number) is e quiet' refl)
 
 -- ---- how many words
@@ -310,12 +312,19 @@ sum_few : (short : Bool) (n register : ℕ) → length (add_by short n register)
 sum_few true n register = omega arith
 sum_few false n register = omega arith
 
-frame_word_length : (is_first : Bool) (d nesting word : ℕ) → length (expressions.frame_word is_first nesting word ++ result t0 (d + 1) ∷ []) ≤ 15
-frame_word_length true d nesting word = omega arith
-frame_word_length false d nesting word =
+part_length : (is_first : Bool) (d nesting word : ℕ) → length (expressions.part_word is_first nesting word ++ result t0 (d + 1) ∷ []) ≤ 15
+part_length true d nesting word = omega arith
+part_length false d nesting word =
     let all = length-append (add_number (4 * word) t1) (result t0 (d + 1) ∷ []) in
     let sum = sum_few (high_part (4 * word) == 0) (4 * word) t1 in
     omega arith
+
+frame_length : (own : Bool) (d nesting word : ℕ) → length (if own then expressions.own_address d word else expressions.part_address d nesting word) ≤ 15
+frame_length true d nesting word =
+    let all = length-append (add_number (4 * word) group_frame_register) (result t0 (d + 1) ∷ []) in
+    let sum = sum_few (high_part (4 * word) == 0) (4 * word) group_frame_register in
+    omega arith
+frame_length false d nesting word = part_length (word == 0) d nesting word
 
 get_length : (globals d : ℕ) (which : OwnValue) → length (expressions.get_code globals d which) ≤ 15
 get_length globals d (known.Value variable) = omega arith
@@ -326,7 +335,7 @@ get_length globals d known.ProcessorNumber = omega arith
 get_length globals d known.Processors = omega arith
 get_length globals d known.InputLength = omega arith
 get_length globals d known.InputAddress = push_length d (address_of globals)
-get_length globals d (known.FrameAddress nesting word) = frame_word_length (word == 0) d nesting word
+get_length globals d (known.FrameAddress nesting word) = frame_length (nesting == 0) d nesting word
 
 code_length : (globals d : ℕ) (operation : Operation) → length (expressions.expression_code globals d operation) ≤ words_by (Some operation)
 code_length globals d (o.Push n) = push_length d n
@@ -358,11 +367,11 @@ arguments_few true most arguments le e = let few = leb-true arguments most e in 
 arguments_few false most arguments le e = omega arith
 
 -- a call that clears copies by shared code
-few_words : (clears : Bool) (arguments : ℕ) → length (calls.argument_lines clears arguments) + length (calls.clears_by clears arguments) ≤ 2
-few_words true arguments = let few = arguments_few (nat_le arguments 0) 0 arguments (omega arith) refl in omega arith
-few_words false arguments = let few = arguments_few (nat_le arguments 1) 1 arguments (omega arith) refl in omega arith
+few_words : (none : Bool) (clears arguments : ℕ) → length (calls.clears_by none clears) + length (calls.copies_by (nat_le arguments (calls.most_own none)) arguments) ≤ 2
+few_words true clears arguments = let few = arguments_few (nat_le arguments 1) 1 arguments (omega arith) refl in omega arith
+few_words false clears arguments = let few = arguments_few (nat_le arguments 0) 0 arguments (omega arith) refl in omega arith
 
-flow_words : (clears : Bool) (back : ℕ) (op : CoreOp) (operation : Option Operation) → length (flow.block_by clears back op operation) ≤ words_by operation
+flow_words : (clears back : ℕ) (op : CoreOp) (operation : Option Operation) → length (flow.block_by clears back op operation) ≤ words_by operation
 flow_words clears back op (Some (o.Branch onward)) = omega arith
 flow_words clears back op (Some (o.Leave true true)) = omega arith
 flow_words clears back op (Some (o.Leave true false)) = omega arith
@@ -370,8 +379,8 @@ flow_words clears back op (Some (o.Leave false true)) = omega arith
 flow_words clears back op (Some (o.Leave false false)) = omega arith
 flow_words clears back op (Some (o.Enter arguments)) =
     let all = length-append (calls.word_lines clears arguments) (calls.frame_lines back) in
-    let both = length-append (calls.argument_lines clears arguments) (calls.clears_by clears arguments) in
-    let few = few_words clears arguments in
+    let both = length-append (calls.clears_by (clears == 0) clears) (calls.argument_lines clears arguments) in
+    let few = few_words (clears == 0) clears arguments in
     omega arith
 flow_words clears back op (Some o.Halt) = omega arith
 flow_words clears back op operation = omega arith

@@ -22,6 +22,7 @@ use Rattle.fk_gen_expr.specs.Expressions.{IsExpression}
 use Rattle.fk_gen_access.specs.Blocks.{is_access}
 use Rattle.fk_gen_flow.specs.Blocks.{is_flow, is_some_flow, HasOperands}
 use Rattle.fk_gen.specs.declared.placed.Levels.{Levels}
+use Rattle.fk_gen_flow.specs.Calls.{most_privates}
 use Rattle.fk_gen_group.specs.Blocks.{is_group_step, HasWords, HasLevelWords}
 use Rattle.fk_gen_list.specs.declared.kind.Kind.TheVariants.{Group}
 use Rattle.fk_gen_list.specs.Kinds.{kind_of, kind_by, HasBlockIn, HasBlockOf}
@@ -176,7 +177,7 @@ frame_words : (core : List CoreOp) (frames : Frames) (i : ℕ) (op : CoreOp) (op
 frame_words core frames i op (Frame nesting words) fits = fits.place.1
 frame_words core frames i op operation fits = tt
 
-module _ (core : List CoreOp) (frames : Frames) (i globals : ℕ) (op : CoreOp) (operation : Operation) (clears : Bool) (back : ℕ) (levels : Levels) where
+module _ (core : List CoreOp) (frames : Frames) (i globals : ℕ) (op : CoreOp) (operation : Operation) (clears back : ℕ) (levels : Levels) (few_clears : clears ≤ most_privates) where
   has_by : (flow access : Bool) → is_flow operation ≡ flow → is_access (Some operation) ≡ access → OpAt core i op operation
       → Fits core frames i op operation → frames.of_file ≤ 56 → op.number < 2 ^ 32 → HasOperands op.depth op.target back (Some operation)
       → globals ≤ 2 ^ 20 → (is_alone operation ≡ true) ⊎ (operation ≡ Halt) → HasBlockIn (kind_by flow access false) (record { op = op; globals = globals; clears = clears; back = back; levels = levels })
@@ -185,6 +186,7 @@ module _ (core : List CoreOp) (frames : Frames) (i globals : ℕ) (op : CoreOp) 
     depth = λ e. shallow core frames i op operation fits;
     jump = λ e. never (sym stands.no_jump ∙ e);
     operands = subst (HasOperands op.depth op.target back) (sym stands.is_read) operands;
+    clears = few_clears;
   }
   has_by false true f a stands fits few number operands some alone = record {
     access = ap is_access stands.is_read ∙ a;
@@ -226,8 +228,9 @@ pub jump_none : (op : CoreOp) → is_jump op ≡ true → operation_of op.kind o
 jump_none op jump = ap (λ k. operation_of k op.number) (eqb-true op.kind 0 jump)
 
 -- but it has a block
-pub jump_has : (op : CoreOp) (globals : ℕ) (clears : Bool) (back : ℕ) (levels : Levels) → is_jump op ≡ true → op.target < 2 ^ 31 → HasBlockOf (record { op = op; globals = globals; clears = clears; back = back; levels = levels })
-jump_has op globals clears back levels jump target =
+pub jump_has : (op : CoreOp) (globals clears back : ℕ) (levels : Levels) → clears ≤ most_privates → is_jump op ≡ true → op.target < 2 ^ 31
+    → HasBlockOf (record { op = op; globals = globals; clears = clears; back = back; levels = levels })
+jump_has op globals clears back levels few jump target =
     let e = ap (λ b. kind_by (b || is_some_flow (operation_of op.kind op.number)) (is_access (operation_of op.kind op.number)) (is_group_step (operation_of op.kind op.number))) jump in
     subst (λ k. HasBlockIn k (record { op = op; globals = globals; clears = clears; back = back; levels = levels })) (sym e)
     (record {
@@ -235,4 +238,5 @@ jump_has op globals clears back levels jump target =
       depth = λ no. never (sym no ∙ jump);
       jump = λ yes. target;
       operands = subst (HasOperands op.depth op.target back) (sym (jump_none op jump)) tt;
+      clears = few;
     })

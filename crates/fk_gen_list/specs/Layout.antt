@@ -1,7 +1,7 @@
 -- Blocks one after another, each with its label.
-use Rattle.std.specs.Prelude.{◌≡◌, ℕ, suc, ◌+◌, ◌-◌, ◌*◌, ◌/◌, ◌^◌, ◌==◌, ◌<◌, ◌≤◌, nat_lt, List}
-use Rattle.std.specs.Prelude.{[], ◌∷◌, ◌++◌, length, take, flat_map, Bool, not, false, ◌&&◌, Option}
-use Rattle.std.specs.Prelude.{Some, None, slice_get, slice_index_or, slice_set}
+use Rattle.std.specs.Prelude.{◌≡◌, ℕ, zero, suc, ◌+◌, ◌-◌, ◌*◌, ◌<◌, ◌≤◌, nat_le, List, [], ◌∷◌}
+use Rattle.std.specs.Prelude.{◌++◌, length, take, flat_map, Option, Some, None, slice_get}
+use Rattle.std.specs.Prelude.{slice_index_or, slice_set, if◌then◌else◌}
 use Rattle.fk_meaning_operation.specs.declared.operation.Operation.{Operation}
 use Rattle.fk_meaning_operation.specs.declared.operation.Operation.TheVariants.{Enter}
 use Rattle.fk_core.specs.declared.op.CoreOp.{CoreOp}
@@ -10,6 +10,7 @@ use Rattle.fk_core.specs.Numbers.{operation_of}
 use Rattle.fk_asm.specs.Assembly.{Assembly, empty}
 use Rattle.fk_asm.specs.Block.{MarkedLine, with_block}
 use Rattle.fk_core_liveness.specs.declared.set.Set.{Set}
+use Rattle.fk_core_liveness.specs.Sets.{is_in}
 use Rattle.fk_gen.specs.declared.placed.Levels.{Levels}
 use Rattle.fk_gen.specs.Levels.{levels_in}
 use Rattle.fk_gen.specs.declared.placed.Placed.{Placed}
@@ -20,11 +21,19 @@ use Rattle.fk_gen_group.specs.Blocks.{start_label, start_lines}
 use Rattle.fk_gen_group.specs.Splits.{one_part_label, two_parts_label, one_part_lines}
 use Rattle.fk_gen_group.specs.Splits.{two_parts_lines}
 
--- A call clears where its set has a word that is no argument.
-abbrev pub clears_by : Option Operation → Option Set → Bool
+-- How many words there are up to the last one in a set, of those below `most`.
+unfoldable pub up_to_last : (mask most : ℕ) → ℕ
+up_to_last mask zero = 0
+up_to_last mask (suc k) = if is_in mask k then suc k else up_to_last mask k
+
+-- A call clears the words up to the last one in its set, if that is no argument.
+abbrev pub clears_after : (arguments words : ℕ) → ℕ
+clears_after arguments words = if nat_le words arguments then 0 else words
+
+abbrev pub clears_by : Option Operation → Option Set → ℕ
 clears_by (Some (Enter arguments)) (Some set) =
-    nat_lt arguments 64 && not (set.mask / 2 ^ arguments == 0)
-clears_by operation set = false
+    clears_after arguments (up_to_last set.mask most_privates)
+clears_by operation set = 0
 
 -- The caller of a call goes on after the first jump from the next index on.
 abbrev pub back_by : Option Operation → List CoreOp → (index : ℕ) → ℕ

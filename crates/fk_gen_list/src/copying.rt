@@ -36,8 +36,9 @@ pub(crate) fn emit_copying(into: &mut Assembler) -> Result<(), AllocError>
     emit_back(into)
 }
 
-/// Adds the code that clears private words. A call enters it at the first word after its arguments.
-/// From there on each word of the new frame becomes 0, and then the code goes back to the call.
+/// Adds the code that clears private words. A call that clears n words enters it at label n of that
+/// code. From there on each word becomes 0, the last one first, and then the code goes back to the
+/// call.
 pub(crate) fn emit_clearing(into: &mut Assembler) -> Result<(), AllocError>
     requires room { length into.old.lines < 2 ^ 20 }
     requires followed { AreFollowed into.old }
@@ -47,10 +48,10 @@ pub(crate) fn emit_clearing(into: &mut Assembler) -> Result<(), AllocError>
     ensures added { OnOk result (AddsClearing into.old into.new) }
     ensures followed { OnOk result (AreFollowed into.new) }
 {
-    for word in 0..MOST_PRIVATES {
-        let behind = MOST_PRIVATES - 1 - word;
-        into.bind(CLEAR_LABEL + (behind + 1))?;
-        emit_clear(into, behind)?;
+    for cleared in 0..MOST_PRIVATES {
+        let word = MOST_PRIVATES - 1 - cleared;
+        into.bind(CLEAR_LABEL + (word + 1))?;
+        emit_clear(into, word)?;
     }
     into.bind(CLEAR_LABEL)?;
     emit_back(into)

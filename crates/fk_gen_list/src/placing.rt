@@ -3,6 +3,7 @@
 ghost use Rattle.std.specs.Prelude.{◌≡◌, ◌<◌, ◌^◌, length, suc, slice_get};
 ghost use Rattle.fk_core.specs.Numbers.{operation_of};
 ghost use Rattle.fk_gen.specs.Levels.{levels_in};
+ghost use Rattle.fk_gen_flow.specs.Calls.{most_privates};
 ghost use Rattle.fk_gen_list.specs.Layout as layout;
 
 use fk_core::CoreOp;
@@ -11,18 +12,43 @@ use fk_core_liveness::Set;
 use fk_gen::{Levels, Placed};
 use fk_meaning_operation::Operation;
 
-// Whether a call has private words that are kept as it begins and are no arguments.
-fn clears(op: CoreOp, kept: &[Set], index: usize) -> bool
+/// The number of private words that a frame has room for.
+const MOST_PRIVATES: u32 = 56;
+
+// How many private words there are up to the last one in a set.
+fn up_to_last(set: Set) -> u32
+    ensures { result ≡ layout.up_to_last set.mask most_privates }
+{
+    let mut words = MOST_PRIVATES;
+    'down: while words > 0 {
+        if set.has(words - 1) {
+            return words;
+        }
+        words -= 1;
+    }
+    words
+}
+
+// How many words a call clears, given how many there are up to the last one that has to be 0 if it
+// is no argument.
+fn clears_after(arguments: u32, words: u32) -> u32
+    ensures { result ≡ layout.clears_after arguments words }
+{
+    if words <= arguments { 0 } else { words }
+}
+
+// How many private words a call clears: those up to the last one that is kept as it begins.
+fn clears(op: CoreOp, kept: &[Set], index: usize) -> u32
     requires small { index < 2 ^ 32 }
     ensures { result ≡ layout.clears_by (operation_of op.kind op.number)
         (slice_get kept.now (suc index)) }
 {
     let Some(Operation::Enter(arguments)) = op.operation() else {
-        return false;
+        return 0;
     };
     match kept.get(index + 1) {
-        Some(set) => arguments < 64 && set.mask >> arguments != 0,
-        None => false,
+        Some(set) => clears_after(arguments, up_to_last(*set)),
+        None => 0,
     }
 }
 

@@ -3,7 +3,7 @@ use Rattle.std.proofs.Common.{◌≡◌, ℕ, suc, ◌+◌, Bool, true, List, []
 use Rattle.fk_meaning_operation.specs.declared.operation.Operation.{Operation}
 use Rattle.fk_meaning_forms.specs.Code.{Code, done, perform, choose, while, until, turn, again, quit, break, continue, call, ends, size, numbered}
 use Rattle.fk_compile_text.specs.Built.{operations}
-use Rattle.fk_lower_laws.specs.Unsplit.{AllOf}
+use Rattle.fk_lower_laws.specs.AllOf.{AllOf}
 
 module _ (which : Operation → Bool) where
   -- all of a list are so, told of the first one and the others

@@ -1,5 +1,5 @@
 -- Code has heights where the depths at its sites are those that are told of it.
-use Rattle.std.proofs.Common.{◌≡◌, ℕ, suc, ◌+◌, ◌-◌, true, false, List, [], ◌∷◌, ◌++◌, length, refl, sym, ap, subst, ◌∙◌, arith, length-append}
+use Rattle.std.proofs.Common.{◌≡◌, inl, inr, ℕ, suc, ◌+◌, ◌-◌, true, false, List, [], ◌∷◌, ◌++◌, length, refl, sym, ap, subst, ◌∙◌, arith, length-append}
 use Rattle.fk_meaning_operation.specs.declared.operation.Operation.{Operation}
 use Rattle.fk_layout_sizes.specs.Operations.{takes, pushes}
 use Rattle.fk_layout_sizes.specs.Places.{At, behind_operation, behind_call, behind, beginning}
@@ -10,7 +10,7 @@ use Rattle.fk_core_liveness.specs.declared.places.FunctionKind.{FunctionKind}
 use Rattle.fk_lower_text.specs.Depths.{depths_from, IsStraight, HasOpenings}
 use Rattle.fk_lower_text.proofs.Deep.{many}
 use Rattle.fk_core_typing.specs.Heights.{raised, HasHeights}
-use Rattle.fk_lower_laws.proofs.Low.{Counted, raised_so, called_so, heights}
+use Rattle.fk_lower_laws.proofs.Low.{IsEven, Counted, raised_by, raised_so, called_so, heights}
 
 module _ (depth : (site : ℕ) → ℕ) where
   -- the depths at the sites from one on are these
@@ -46,13 +46,6 @@ module _ (depth : (site : ℕ) → ℕ) where
       let parts = three xs ys zs n m k a b both.0 in
       (parts.0, parts.1, parts.2, both.1)
 
--- what goes straight on leaves what it pushes
-leaves_on : (op : Operation) → leaves op true ≡ pushes op
-leaves_on op = grind arith
-
-rises : (op : Operation) (p : At) {h : ℕ} → h ≡ p.values → raised h op true ≡ (behind_operation p op).values
-rises op p same = ap (λ k. raised k op true) same ∙ ap (λ k. p.values - takes op + k) (leaves_on op)
-
 module _ (functions : (binding : ℕ) → Signature) (place_of : (binding : ℕ) → FunctionKind) (depth : (site : ℕ) → ℕ) where
   abbrev all : At → Coded → List ℕ
   all p code = depths_from functions p code
@@ -63,25 +56,30 @@ module _ (functions : (binding : ℕ) → Signature) (place_of : (binding : ℕ)
   straight : (code : Coded) (p : At) (n : ℕ) {h : ℕ} → h ≡ p.values → IsStraight code → Tell depth n (all p code) → Tall h (numbered n code)
   straight done p n same w l = tt
   straight (perform t op rest) p n same w l =
-      (l.0 ∙ sym same, straight rest (behind_operation p op) (suc n) (rises op p same) w l.1)
+      (l.0 ∙ sym same, straight rest (behind_operation p op) (suc n) (raised_so functions place_of op p same) w l.1)
   straight code p n same w l = absurd w
 
   -- in its parts the sites go on
   next : (code : Coded) (p : At) (n : ℕ) → n + length (all p code) ≡ n + size code
   next code p n = ap (λ k. n + k) (many functions code p)
 
+  -- so it is with the other way of a choice, if anything is done there
+  beside : (h : ℕ) (op : Operation) (y : Coded) (n : ℕ) → IsEven functions place_of op y → (leaves op false ≡ pushes op → Tall (raised h op false) (numbered n y)) → Tall (raised h op false) (numbered n y)
+  beside h op y n (inl e) even = even e
+  beside h op y n (inr e) even = subst (λ (code : Coded). Tall (raised h op false) (numbered n code)) (sym e) tt
+
   pub tall : (code : Coded) (p : At) (n : ℕ) {h : ℕ} → h ≡ p.values → Counted functions place_of code → HasOpenings code → Tell depth n (all p code) → Tall h (numbered n code)
   tall done p n same c w l = tt
-  tall (perform t op rest) p n same c w l = (l.0 ∙ sym same, tall rest (behind_operation p op) (suc n) (rises op p same) c.1 w l.1)
-  tall (choose t op x y rest) p n same c w l =
+  tall (perform t op rest) p n same c w l = (l.0 ∙ sym same, tall rest (behind_operation p op) (suc n) (raised_so functions place_of op p same) c w l.1)
+  tall (choose t op x y rest) p n {h} same c w l =
       let f = behind_operation p op in
       let q : At = record { values = (behind functions f x).values; nesting = p.nesting } in
       let m = suc n + size x in
       let ls = three depth (all f x) (all f y) (all q rest) (suc n) m (m + size y) (next x f (suc n)) (next y f m) l.1 in
-      let onward = rises op p same in (
+      let onward = raised_so functions place_of op p same in (
         l.0 ∙ sym same,
         tall x f (suc n) onward c.1 w.0 ls.0,
-        tall y f m (raised_so functions place_of op false c.0 p same) c.2 w.1 ls.1,
+        beside h op y m c.0 (λ e. tall y f m (raised_by functions place_of op false e p same) c.2 w.1 ls.1),
         tall rest q (m + size y) (heights functions place_of x f (suc n) onward c.1) c.3 w.2 ls.2,
       )
   tall (while test body step rest) p n same c w l =
@@ -110,7 +108,7 @@ module _ (functions : (binding : ℕ) → Signature) (place_of : (binding : ℕ)
       )
   tall (turn test body step rest) p n same c w l = absurd c
   tall (again test body step rest) p n same c w l = absurd c
-  tall (quit t op rest) p n same c w l = (l.0 ∙ sym same, tall rest (behind_operation p op) (suc n) (rises op p same) c.1 w l.1)
+  tall (quit t op rest) p n same c w l = (l.0 ∙ sym same, tall rest (behind_operation p op) (suc n) (raised_so functions place_of op p same) c w l.1)
   tall (break rest) p n same c w l = tall rest p n same c w l
   tall (continue rest) p n same c w l = tall rest p n same c w l
   tall (call t op f opening rest) p n same c w l =
@@ -121,4 +119,4 @@ module _ (functions : (binding : ℕ) → Signature) (place_of : (binding : ℕ)
         straight opening beginning (suc n) refl w.0 ls.0,
         tall rest q m (called_so functions place_of op f c.0 c.1 p same) c.2 w.1 ls.1,
       )
-  tall (ends t op rest) p n same c w l = (l.0 ∙ sym same, tall rest (behind_operation p op) (suc n) (rises op p same) c.1 w l.1)
+  tall (ends t op rest) p n same c w l = (l.0 ∙ sym same, tall rest (behind_operation p op) (suc n) (raised_so functions place_of op p same) c w l.1)

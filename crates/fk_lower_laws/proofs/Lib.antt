@@ -1,6 +1,7 @@
 pub mod Along
-mod Unsplit
-mod Shallow
+pub mod Waiting
+mod Deeper
+mod Nested
 mod TypedOk
 mod Acting
 mod TypedForms

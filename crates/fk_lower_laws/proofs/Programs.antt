@@ -44,7 +44,7 @@ use Rattle.fk_lower_laws.proofs.Valid.{about, all_kept}
 use Rattle.fk_lower_laws.proofs.Calls.{header_same}
 use Rattle.fk_lower_laws.proofs.Statements as st
 use Rattle.fk_lower_laws.proofs.Statements.{IsPlaceOf, statements}
-use Rattle.fk_lower_laws.proofs.Parts.{body_stays}
+use Rattle.fk_lower_laws.proofs.Parts.{body_starts}
 use Rattle.fk_lower_laws.proofs.FrameLevels.{BodyHasLevels, HasLevels, HaveLevels, frames_have_levels}
 use Rattle.fk_lower_names.proofs.OpenPrograms.{names_are_open}
 
@@ -115,7 +115,7 @@ module _ (program : ProgramTree) (facts : Facts) (given : IsGiven program facts)
   AllAsked gs = FunctionsAsked tables functions places gs
 
   with_asked : (g : FunctionTree) (around : List Holder) (o : Option Statements) → g.body ≡ o → BodyHas nonempty_lists o → Each Kept (s.body_tokens thing ◌∷◌ around o) → Each S (body_marks o)
-      → (IsSome g.body → Each One (body_pieces g.result o)) → Each R (r.body_tokens ◌∷◌ (r.holder_of g ∷ []) o) → HasLevels (told_by facts) tables (FunctionItem g) → (others : List FunctionTree) → (FunctionsAreOpen program tables others → AllAsked others)
+      → (IsSome g.body → Each One (body_pieces g.result o)) → Each R (r.body_tokens ◌∷◌ (r.holder_of g ∷ []) o) → HasLevels (told_by facts) tables (λ at. refl) (FunctionItem g) → (others : List FunctionTree) → (FunctionsAreOpen program tables others → AllAsked others)
       → FunctionsAreOpen program tables (with_body g o others) → AllAsked (with_body g o others)
   with_asked g around None has t k m f i v others go w = go w
   with_asked g around (Some body) has t k m f i v others go w = (
@@ -123,7 +123,8 @@ module _ (program : ProgramTree) (facts : Facts) (given : IsGiven program facts)
       statements program facts given (place_by g) g.result (place_for g) around (nests_of g) body
           (subst (λ nests. StatementsAreOpen program tables nests body) (same_nest g) (subst (BodyIsOpen program tables (OfFunction (own_frame program tables g) ∷ [])) has w.0.1)) t k m
           (f (subst IsSome (sym has) refl)),
-      body_stays program facts given.correct tables g body (subst (BodyHasLevels (told_by facts) tables) has v.1) i,
+      subst (BodyHasLevels (told_by facts) tables (λ at. refl)) has v.1,
+      body_starts program facts given.correct g body i,
     ),
     (λ other. record {
       level = v.0;
@@ -134,7 +135,7 @@ module _ (program : ProgramTree) (facts : Facts) (given : IsGiven program facts)
   )
 
   all_asked : (xs : List ItemTree) (n : ℕ) (file : _) → AreFrom program facts given.correct n file xs → ItemsAreTrim xs → Each Kept (s.items_tokens thing ◌∷◌ [] xs) → Each S (items_marks xs)
-      → Each Piece (items_pieces xs) → Each R (r.items_tokens ◌∷◌ [] xs) → HaveLevels (told_by facts) tables xs → FunctionsAreOpen program tables (functions_of xs) → AllAsked (functions_of xs)
+      → Each Piece (items_pieces xs) → Each R (r.items_tokens ◌∷◌ [] xs) → HaveLevels (told_by facts) tables (λ at. refl) xs → FunctionsAreOpen program tables (functions_of xs) → AllAsked (functions_of xs)
   all_asked [] n file h t k m f i v w = tt
   all_asked (StructItem name members ∷ xs) n file h t k m f i v w =
       let x = StructItem name members in all_asked xs (n + length (item_slots (told_by facts) file x)) (behind_item (told_by facts) file x) (from_next program facts given.correct n file x xs h) t.1 k m f i v.1 w

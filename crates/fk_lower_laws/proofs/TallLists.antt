@@ -19,14 +19,13 @@ use Rattle.fk_lower.specs.Depths.{depth_at, AreTold}
 use Rattle.fk_lower_text.specs.Depths.{depths_from, depths_of}
 use Rattle.fk_lower_text.proofs.Deep.{many}
 use Rattle.fk_lower_text.proofs.Opened.{opened}
-use Rattle.fk_compile_text.specs.Built.{operations, operations_in, operations_of}
 use Rattle.fk_core_typing.specs.Values.{with_frame, State, bare}
-use Rattle.fk_core_typing.specs.Typed.{Typed, AreTyped}
+use Rattle.fk_core_typing.specs.Typed.{Loop, Typed, AreTyped}
 use Rattle.fk_core_typing.specs.Heights.{HasHeights}
 use Rattle.fk_core_typing.specs.Laws.{HasHeightsOf}
 use Rattle.fk_lower_laws.specs.Asked.{place_in, place_of, frame_for, frame_of}
-use Rattle.fk_lower_laws.specs.Unsplit.{is_unsplit, AreUnsplit}
-use Rattle.fk_lower_laws.proofs.Along.{EachOf, each_of, front, back, along}
+use Rattle.fk_meaning.specs.Shaped.{BodyShaped, FunctionsShaped, ProgramShaped}
+use Rattle.fk_lower_laws.proofs.Waiting.{function_waiting}
 use Rattle.fk_core_flat.specs.Fitting.{ProgramFits}
 use Rattle.fk_core_flat.proofs.Programs.{forms_are_shaped}
 use Rattle.fk_lower_laws.proofs.Low.{counted}
@@ -68,8 +67,8 @@ module _ (known : ProgramTables) (has_body : ℕ → Bool) where
   abbrev frames : (binding : ℕ) → Option ℕ
   frames b = frame_for tables (signature_in tables everyone) places b
 
-  function_tall : (depth : ℕ → ℕ) (f : FunctionTree) (site : ℕ) (l : Option State) (s e : State)
-      → EachOf is_unsplit (operations (code_of tables everyone f)) → IsShaped has_body false (numbered site (code_of tables everyone f))
+  function_tall : (depth : ℕ → ℕ) (f : FunctionTree) (site : ℕ) (l : Option Loop) (s e : State)
+      → BodyShaped tables (signature_in tables everyone) f.body → IsShaped has_body false (numbered site (code_of tables everyone f))
       → Typed places frames l s (numbered site (code_of tables everyone f)) e
       → Tell depth site (depths_from (signature_in tables everyone) beginning (code_of tables everyone f))
       → HasHeights places depth 0 (numbered site (code_of tables everyone f))
@@ -77,7 +76,7 @@ module _ (known : ProgramTables) (has_body : ℕ → Bool) where
       let code = code_of tables everyone f in
       let functions = signature_in tables everyone in
       tall functions places depth code beginning site refl
-      (counted functions places frames (agree_in tables everyone) has_body code site false l s e shaped typed (along is_unsplit code all))
+      (counted functions places frames (agree_in tables everyone) has_body code site false l s e shaped typed (function_waiting tables everyone f all))
       (opened has_body code site false shaped) told
 
   abbrev code : FunctionTree → Coded
@@ -89,13 +88,13 @@ module _ (known : ProgramTables) (has_body : ℕ → Bool) where
   abbrev behind : FunctionTree → List FunctionTree → (site b : ℕ) → Code ℕ
   behind f fs site b = body_in tables everyone (site + size (code f)) fs b
 
-  bodies_tall : (depth : ℕ → ℕ) (fs : List FunctionTree) (site b : ℕ) (l : Option State) (s e : State) → EachOf is_unsplit (operations_in tables everyone fs)
+  bodies_tall : (depth : ℕ → ℕ) (fs : List FunctionTree) (site b : ℕ) (l : Option Loop) (s e : State) → FunctionsShaped tables (signature_in tables everyone) fs
       → IsShaped has_body false (body_in tables everyone site fs b) → Typed places frames l s (body_in tables everyone site fs b) e
       → Tell depth site (depths_of known fs) → HasHeights places depth 0 (body_in tables everyone site fs b)
   bodies_tall depth [] site b l s e all shaped typed told = tt
   bodies_tall depth (f ∷ fs) site b l s e all shaped typed told =
       by (binding_of tables f == b)
-      (λ shaped typed. bodies_tall depth fs (site + size (code f)) b l s e (back is_unsplit (operations (code f)) (operations_in tables everyone fs) all) shaped typed parts.1)
+      (λ shaped typed. bodies_tall depth fs (site + size (code f)) b l s e all.1 shaped typed parts.1)
       shaped typed
     where
       parts : Tell depth site (own f) × Tell depth (site + size (code f)) (depths_of known fs)
@@ -106,12 +105,12 @@ module _ (known : ProgramTables) (has_body : ℕ → Bool) where
           → Typed places frames l s (if is then numbered site (code f) else behind f fs site b) e
           → HasHeights places depth 0 (if is then numbered site (code f) else behind f fs site b)
       by true more shaped' typed' =
-          function_tall depth f site l s e (front is_unsplit (operations (code f)) (operations_in tables everyone fs) all) shaped' typed' parts.0
+          function_tall depth f site l s e all.0 shaped' typed' parts.0
       by false more shaped' typed' = more shaped' typed'
 
 abbrev Holds : ProgramTables → List CoreOp → ProgramTree → Type 0
 Holds known core program =
-    ProgramFits (tables_of known) program → AreUnsplit (tables_of known) program
+    ProgramFits (tables_of known) program → ProgramShaped (tables_of known) program
     → AreTyped (place_of (tables_of known) program) (frame_of (tables_of known) program) (bodies_of (tables_of known) program)
     → AreTold (depths_of known (functions_in known)) core
     → HasHeightsOf (bodies_of (tables_of known) program) core (place_of (tables_of known) program)
@@ -128,7 +127,7 @@ own_heights known program core fits all typed told =
           let end = typed b in
           let shaped = forms_are_shaped (tables_of known) own fits b in
           bodies_tall known (λ f. is_closed (bodies_of (tables_of known) own f)) (depth_at depths) (functions_in known) 0 b None
-          (bare (with_frame (place_of (tables_of known) own b) (frame_of (tables_of known) own b))) end.0 (each_of is_unsplit (operations_of (tables_of known) own) all) shaped.0 end.1
+          (bare (with_frame (place_of (tables_of known) own b) (frame_of (tables_of known) own b))) end.0 all shaped.0 end.1
           (tell_behind [] depths);
     }
 

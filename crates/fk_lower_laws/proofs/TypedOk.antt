@@ -1,5 +1,5 @@
--- Code of places that is well typed, whichever numbers it gets, in each state that grants one, if no operation splits a group.
-use Rattle.std.proofs.Common.{◌≡◌, ℕ, zero, suc, ◌+◌, ◌≤◌, Bool, true, false, List, [], ◌∷◌, ◌++◌, length, drop, replicate, Option, Some, None, sym, ap, subst, ◌∙◌}
+-- Code of places that is well typed, whichever numbers it gets, in each state that grants one.
+use Rattle.std.proofs.Common.{◌≡◌, ◌⊎◌, ℕ, zero, suc, ◌+◌, ◌≤◌, Bool, true, false, List, [], ◌∷◌, ◌++◌, length, drop, replicate, Option, Some, None, sym, ap, subst, ◌∙◌}
 use Rattle.std.proofs.lemmas.Bool.{false≢true}
 use Rattle.fk_syntax.specs.declared.place.Place as y
 use Rattle.fk_meaning_operation.specs.declared.operation.Operation.{Operation}
@@ -8,15 +8,15 @@ use Rattle.fk_core_typing.specs.LocalDepths.{needs, leaves, results}
 use Rattle.fk_sim_block.specs.Suits.{looks_at}
 use Rattle.fk_meaning_forms.specs.Code.{done, perform, choose, while, until, quit, break, continue, call, ends, size, numbered}
 use Rattle.fk_meaning_forms.specs.Expressions.{Coded}
+use Rattle.fk_core_flat.specs.Shape.{is_done}
 use Rattle.fk_core_liveness.specs.declared.places.FunctionKind.{FunctionKind}
 use Rattle.fk_core_liveness.specs.declared.places.FunctionKind.TheVariants.{Called}
 use Rattle.fk_lockstep_frames.specs.Nests.{Nest}
 use Rattle.fk_core_typing.specs.declared.constants.Constant.{Constant as Address}
 use Rattle.fk_core_typing.specs.declared.constants.Constants.{Constants}
 use Rattle.fk_core_typing.specs.AddressValues.{constants, no_constants}
-use Rattle.fk_lower_laws.specs.Unsplit.{is_unsplit, AllOf}
 use Rattle.fk_core_typing.specs.Values.{Value, Unknown, Shared, Place, with_frame, entered, place_behind, State, bare, changed, values_behind, behind, behind_call, MayBeIn, Asks, May, IsAsGood, AreAsGood, Grants}
-use Rattle.fk_core_typing.specs.Typed.{GrantsLoop, EndsIn, Typed}
+use Rattle.fk_core_typing.specs.Typed.{Loop, GrantsTurn, GrantsLeft, EndsIn, Typed}
 use Rattle.fk_core_typing.proofs.Granting.{none_asked, as_long, grants_itself, grants_both}
 
 -- so many values, and no constants
@@ -30,8 +30,8 @@ noted p c vs = record { place = p; values = Shared ∷ vs; constants = constants
 pub record Acts (onward : Bool) (op : Operation) (t u : State) : Type 0 where
   pub acts : (s : State) → Grants s t → May op s × Grants (behind op onward s) u
 
-pub record Ok (place_of : ℕ → FunctionKind) (frame_of : ℕ → Option ℕ) (l : Option State) (t : State) (code : Coded) (e : State) : Type 0 where
-  pub typed : (s : State) → Grants s t → AllOf is_unsplit code → (n : ℕ) → Typed place_of frame_of l s (numbered n code) e
+pub record Ok (place_of : ℕ → FunctionKind) (frame_of : ℕ → Option ℕ) (l : Option Loop) (t : State) (code : Coded) (e : State) : Type 0 where
+  pub typed : (s : State) → Grants s t → (n : ℕ) → Typed place_of frame_of l s (numbered n code) e
 
 pub as_unknown : (v : Value) → IsAsGood v Unknown
 as_unknown v shared_alone e = absurd (false≢true e)
@@ -78,96 +78,104 @@ less {onward = onward} {op = op} {u = u} {v = v} a g = record {
   acts = λ s h. let both = a.acts s h in (both.0, grants_both (behind op onward s) u v both.1 g);
 }
 
+-- a loop is left where its turns begin, or nothing follows it
+abbrev pub GoesOn : Loop → Coded → Type 0
+GoesOn c rest = (n : ℕ) → (c.left.place ≡ c.turn.place) ⊎ (is_done (numbered n rest) ≡ true)
+
+-- where a loop is left in a state, and where its turns begin in one
+abbrev pub LeftIn : Option Loop → State → Type 0
+LeftIn l t = (c : Loop) × (l ≡ Some c) × (c.left ≡ t)
+
+abbrev pub TurnsIn : Option Loop → State → Type 0
+TurnsIn l t = (c : Loop) × (l ≡ Some c) × (c.turn ≡ t)
+
 module _ {place_of : ℕ → FunctionKind} {frame_of : ℕ → Option ℕ} where
-  pub weaken : {l : Option State} {t u e : State} {code : Coded} → Grants t u → Ok place_of frame_of l u code e → Ok place_of frame_of l t code e
-  weaken {t = t} {u = u} g p = record { typed = λ s h b n. p.typed s (grants_both s t u h g) b n }
+  pub weaken : {l : Option Loop} {t u e : State} {code : Coded} → Grants t u → Ok place_of frame_of l u code e → Ok place_of frame_of l t code e
+  weaken {t = t} {u = u} g p = record { typed = λ s h n. p.typed s (grants_both s t u h g) n }
 
-  pub ended : {l : Option State} {t : State} → Ok place_of frame_of l t done t
-  ended = record { typed = λ s g b n. g }
+  pub ended : {l : Option Loop} {t : State} → Ok place_of frame_of l t done t
+  ended = record { typed = λ s g n. g }
 
-  pub on : {l : Option State} {t u e : State} {tag : y.Place} {op : Operation} {rest : Coded} → Acts true op t u → Ok place_of frame_of l u rest e
+  pub on : {l : Option Loop} {t u e : State} {tag : y.Place} {op : Operation} {rest : Coded} → Acts true op t u → Ok place_of frame_of l u rest e
       → Ok place_of frame_of l t (perform tag op rest) e
-  on {op = op} a p = record { typed = λ s g b n. ((a.acts s g).0, p.typed (behind op true s) (a.acts s g).1 b.1 (suc n)) }
+  on {op = op} a p = record { typed = λ s g n. ((a.acts s g).0, p.typed (behind op true s) (a.acts s g).1 (suc n)) }
 
-  -- no group splits
-  pub splits_not : {l : Option State} {t e : State} {tag : y.Place} {op : Operation} {x z rest : Coded} → is_unsplit op ≡ false
-      → Ok place_of frame_of l t (choose tag op x z rest) e
-  splits_not is = record { typed = λ s g b n. absurd (false≢true (sym is ∙ b.0)) }
-
-  pub shrinks_not : {l : Option State} {t e : State} {tag : y.Place} {op : Operation} {rest : Coded} → is_unsplit op ≡ false → Ok place_of frame_of l t (quit tag op rest) e
-  shrinks_not is = record { typed = λ s g b n. absurd (false≢true (sym is ∙ b.0)) }
-
-  pub branch : {l : Option State} {t u v w e : State} {tag : y.Place} {op : Operation} {x z rest : Coded}
+  -- both ways come together at the place where the choice was made
+  pub branch : {l : Option Loop} {t u v w e : State} {tag : y.Place} {op : Operation} {x z rest : Coded} → w.place ≡ t.place
       → Acts true op t u → Acts false op t v → Ok place_of frame_of l u x w → Ok place_of frame_of l v z w → Ok place_of frame_of l w rest e
       → Ok place_of frame_of l t (choose tag op x z rest) e
-  branch {w = w} {op = op} {x = x} {z = z} a b p q r = record {
-    typed = λ s g k n. (
+  branch {w = w} {op = op} {x = x} {z = z} same a b p q r = record {
+    typed = λ s g n. (
       (a.acts s g).0,
       w,
-      p.typed (behind op true s) (a.acts s g).1 k.1 (suc n),
-      q.typed (behind op false s) (b.acts s g).1 k.2 (suc n + size x),
-      r.typed w (grants_itself w) k.3 (suc n + size x + size z),
+      p.typed (behind op true s) (a.acts s g).1 (suc n),
+      q.typed (behind op false s) (b.acts s g).1 (suc n + size x),
+      r.typed w (grants_itself w) (suc n + size x + size z),
+      same ∙ sym g.place,
     );
   }
 
-  pub looped : {l : Option State} {t e : State} {test body step rest : Coded} → Ok place_of frame_of (Some t) t test t → Ok place_of frame_of (Some t) t body t
-      → Ok place_of frame_of (Some t) t step t → Ok place_of frame_of l t rest e → Ok place_of frame_of l t (while test body step rest) e
-  looped {t = t} {test = test} {body = body} {step = step} a b c p = record {
-    typed = λ s g k n. (
-      t,
+  pub looped : {l : Option Loop} {e : State} (c : Loop) {test body step rest : Coded} → GoesOn c rest → Ok place_of frame_of (Some c) c.turn test c.turn
+      → Ok place_of frame_of (Some c) c.turn body c.turn → Ok place_of frame_of (Some c) c.turn step c.turn → Ok place_of frame_of l c.left rest e
+      → Ok place_of frame_of l c.turn (while test body step rest) e
+  looped c {test = test} {body = body} {step = step} goes x y z p = record {
+    typed = λ s g n. (
+      c,
       g,
-      a.typed t (grants_itself t) k.0 n,
-      b.typed t (grants_itself t) k.1 (n + size test),
-      c.typed t (grants_itself t) k.2 (n + size test + size body),
-      p.typed t (grants_itself t) k.3 (n + size test + size body + size step),
+      x.typed c.turn (grants_itself c.turn) n,
+      y.typed c.turn (grants_itself c.turn) (n + size test),
+      z.typed c.turn (grants_itself c.turn) (n + size test + size body),
+      p.typed c.left (grants_itself c.left) (n + size test + size body + size step),
+      goes (n + size test + size body + size step),
     );
   }
 
-  pub looped_first : {l : Option State} {t e : State} {body test rest : Coded} → Ok place_of frame_of (Some t) t body t → Ok place_of frame_of (Some t) t test t
-      → Ok place_of frame_of l t rest e → Ok place_of frame_of l t (until body test rest) e
-  looped_first {t = t} {body = body} {test = test} a b p = record {
-    typed = λ s g k n. (
-      t,
+  pub looped_first : {l : Option Loop} {e : State} (c : Loop) {body test rest : Coded} → GoesOn c rest → Ok place_of frame_of (Some c) c.turn body c.turn
+      → Ok place_of frame_of (Some c) c.turn test c.turn → Ok place_of frame_of l c.left rest e
+      → Ok place_of frame_of l c.turn (until body test rest) e
+  looped_first c {body = body} {test = test} goes x y p = record {
+    typed = λ s g n. (
+      c,
       g,
-      a.typed t (grants_itself t) k.0 n,
-      b.typed t (grants_itself t) k.1 (n + size body),
-      p.typed t (grants_itself t) k.2 (n + size body + size test),
+      x.typed c.turn (grants_itself c.turn) n,
+      y.typed c.turn (grants_itself c.turn) (n + size body),
+      p.typed c.left (grants_itself c.left) (n + size body + size test),
+      goes (n + size body + size test),
     );
   }
 
-  pub quits : {t u : State} {tag : y.Place} {op : Operation} → Acts true op t u → Acts false op t u → Ok place_of frame_of (Some u) t (quit tag op done) u
-  quits a b = record { typed = λ s g k n. ((a.acts s g).0, (b.acts s g).1, (a.acts s g).1) }
+  pub quits : {t : State} (c : Loop) {tag : y.Place} {op : Operation} → Acts true op t c.turn → Acts false op t c.left → Ok place_of frame_of (Some c) t (quit tag op done) c.turn
+  quits c a b = record { typed = λ s g n. ((a.acts s g).0, (b.acts s g).1, (a.acts s g).1) }
 
-  pub broken : {l : Option State} {t e : State} {rest : Coded} → l ≡ Some t → Ok place_of frame_of l t rest e → Ok place_of frame_of l t (break rest) e
-  broken is p = record { typed = λ s g b n. (subst (λ loop. GrantsLoop loop s) (sym is) g, p.typed s g b n) }
+  pub broken : {l : Option Loop} {t e : State} {rest : Coded} → LeftIn l t → Ok place_of frame_of l t rest e → Ok place_of frame_of l t (break rest) e
+  broken is p = record { typed = λ s g n. (subst (λ loop. GrantsLeft loop s) (sym is.1) (subst (λ u. Grants s u) (sym is.2) g), p.typed s g n) }
 
-  pub continued : {l : Option State} {t e : State} {rest : Coded} → l ≡ Some t → Ok place_of frame_of l t rest e → Ok place_of frame_of l t (continue rest) e
-  continued is p = record { typed = λ s g b n. (subst (λ loop. GrantsLoop loop s) (sym is) g, p.typed s g b n) }
+  pub continued : {l : Option Loop} {t e : State} {rest : Coded} → TurnsIn l t → Ok place_of frame_of l t rest e → Ok place_of frame_of l t (continue rest) e
+  continued is p = record { typed = λ s g n. (subst (λ loop. GrantsTurn loop s) (sym is.1) (subst (λ u. Grants s u) (sym is.2) g), p.typed s g n) }
 
-  pub left : {l : Option State} {t u e : State} {tag : y.Place} {op : Operation} {rest : Coded} → Acts true op t u
+  pub left : {l : Option Loop} {t u e : State} {tag : y.Place} {op : Operation} {rest : Coded} → Acts true op t u
       → ((s : State) → s.place ≡ t.place → EndsIn op s.place) → Ok place_of frame_of l u rest e → Ok place_of frame_of l t (ends tag op rest) e
   left {op = op} a out p = record {
-    typed = λ s g b n. ((a.acts s g).0, out s g.place, p.typed (behind op true s) (a.acts s g).1 b.1 (suc n));
+    typed = λ s g n. ((a.acts s g).0, out s g.place, p.typed (behind op true s) (a.acts s g).1 (suc n));
   }
 
-  pub enters : {l : Option State} {t e : State} {tag : y.Place} {op : Operation} {f : ℕ} {opening rest : Coded} (gives : Bool) → place_of f ≡ Called gives
+  pub enters : {l : Option Loop} {t e : State} {tag : y.Place} {op : Operation} {f : ℕ} {opening rest : Coded} (gives : Bool) → place_of f ≡ Called gives
       → ((s : State) → Grants s t → May op s)
       → Ok place_of frame_of None (bare (entered (Called gives))) opening (bare (with_frame (Called gives) (frame_of f)))
       → Ok place_of frame_of l (level t.place (changed (takes op) (results gives) t.values)) rest e
       → Ok place_of frame_of l t (call tag op f opening rest) e
   enters {t = t} {op = op} {opening = opening} gives is may o p = record {
-    typed = λ s g b n. (
+    typed = λ s g n. (
       may s g,
       gives,
       is,
-      o.typed (bare (entered (Called gives))) (grants_itself (bare (entered (Called gives)))) b.1 (suc n),
+      o.typed (bare (entered (Called gives))) (grants_itself (bare (entered (Called gives)))) (suc n),
       p.typed (behind_call (takes op) gives s)
           (record {
             place = g.place;
             values = changed_good (takes op) (results gives) s.values t.values g.values;
             constants = none_asked no_constants;
           })
-          b.2
           (suc n + size opening),
     );
   }

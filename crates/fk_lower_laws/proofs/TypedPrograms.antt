@@ -4,6 +4,7 @@ use Rattle.std.specs.Prelude.{◌==◌, is_some, if◌then◌else◌}
 use Rattle.fk_syntax.specs.declared.program.Mode.{Mode}
 use Rattle.fk_syntax.specs.Tree.{Named, TypeTree}
 use Rattle.fk_syntax.specs.Program.{DeclaredTree, Statements, FunctionTree}
+use Rattle.fk_meaning.specs.Shaped.{BodyShaped, FunctionsShaped}
 use Rattle.fk_meaning_forms.specs.Code.{size, numbered}
 use Rattle.fk_meaning_forms.specs.Tables.{Tables, frame_at}
 use Rattle.fk_meaning_forms.specs.Statements.{Inside, is_nothing}
@@ -11,15 +12,12 @@ use Rattle.fk_meaning_forms.specs.Program.{functions_of, binding_of, signature_o
 use Rattle.fk_core_liveness.specs.declared.places.FunctionKind.{FunctionKind}
 use Rattle.fk_core_liveness.specs.declared.places.FunctionKind.TheVariants.{Main, Called}
 use Rattle.fk_meaning_forms.specs.Expressions.{Signature}
-use Rattle.fk_compile_text.specs.Built.{operations, operations_in, operations_of}
 use Rattle.fk_core_typing.specs.Values.{Place, with_frame, State, bare}
 use Rattle.fk_core_typing.specs.Typed.{Typed}
 use Rattle.fk_core_typing.proofs.Granting.{grants_itself}
 use Rattle.fk_lower_laws.specs.Parts.{HasLevel}
 use Rattle.fk_lower_laws.specs.Asked.{BodyAsked, place_by, place_in, place_of, frame_with, frame_for, Opens, FunctionsAsked}
 use Rattle.fk_lower_laws.specs.TypedLaws.{FormsAreTyped}
-use Rattle.fk_lower_laws.specs.Unsplit.{is_unsplit}
-use Rattle.fk_lower_laws.proofs.Along.{EachOf, each_of, front, back, along}
 use Rattle.fk_lower_laws.proofs.TypedOk.{level, Ok, ended}
 use Rattle.fk_lower_laws.proofs.TypedStatements.{outermost, body_fine}
 
@@ -50,29 +48,29 @@ module _ (tables : Tables) (everyone : List FunctionTree) (places : (binding : �
 
   function_by : (mode : Mode) (kind : TypeTree) (name : Named) (parameters : List DeclaredTree) (body : Option Statements)
       → let f : FunctionTree = record { mode = mode; result = kind; name = name; parameters = parameters; body = body } in
-      BodyAsked tables (signature_in tables everyone) places (place_by f) (frame_at tables name.at 0) body
+      BodyAsked tables (signature_in tables everyone) places (place_by f) (frame_at tables name.at 0) body → BodyShaped tables (signature_in tables everyone) body
       → Ok places frames None (level (begins f) []) (code_of tables everyone f) (level (begins f) [])
-  function_by mode kind name parameters None asks = ended
-  function_by mode kind name parameters (Some statements) asks =
+  function_by mode kind name parameters None asks shaped = ended
+  function_by mode kind name parameters (Some statements) asks shaped =
       let f : FunctionTree = record { mode = mode; result = kind; name = name; parameters = parameters; body = Some statements } in
       let inside : Inside = record { main = is_main f; framed = is_some (frame_at tables name.at 0) } in
-      body_fine tables (signature_in tables everyone) places opens inside (frame_at tables name.at 0) refl (is_nothing kind) statements asks.0 asks.1
+      body_fine tables (signature_in tables everyone) places opens inside (frame_at tables name.at 0) refl (is_nothing kind) statements asks.0 shaped asks.1 asks.2
 
-  function_fine : (f : FunctionTree) → BodyAsked tables (signature_in tables everyone) places (place_by f) (frame_at tables f.name.at 0) f.body
+  function_fine : (f : FunctionTree) → BodyAsked tables (signature_in tables everyone) places (place_by f) (frame_at tables f.name.at 0) f.body → BodyShaped tables (signature_in tables everyone) f.body
       → Ok places frames None (level (begins f) []) (code_of tables everyone f) (level (begins f) [])
-  function_fine f asks = function_by f.mode f.result f.name f.parameters f.body asks
+  function_fine f asks shaped = function_by f.mode f.result f.name f.parameters f.body asks shaped
 
   -- where the code of a binding begins
   abbrev first_of : List FunctionTree → (binding : ℕ) → State
   first_of fs b = bare (with_frame (place_in tables fs b) (frame_with (place_in tables fs b) (frame_at tables (signature_in tables fs b).at 0)))
 
   bodies : (fs : List FunctionTree) (first binding : ℕ) → FunctionsAsked tables (signature_in tables everyone) places fs
-      → EachOf is_unsplit (operations_in tables everyone fs)
+      → FunctionsShaped tables (signature_in tables everyone) fs
       → (end : State) × Typed places frames None (first_of fs binding) (body_in tables everyone first fs binding) end
   bodies [] first binding asks all = (first_of [] binding, grants_itself (first_of [] binding))
   bodies (f ∷ fs) first binding asks all =
       by (binding_of tables f == binding)
-      (bodies fs (first + size (code_of tables everyone f)) binding asks.2 (back is_unsplit (operations (code_of tables everyone f)) (operations_in tables everyone fs) all))
+      (bodies fs (first + size (code_of tables everyone f)) binding asks.2 all.1)
     where
       by : (is : Bool)
           → (end : State) × Typed places frames None (first_of fs binding) (body_in tables everyone (first + size (code_of tables everyone f)) fs binding) end
@@ -82,12 +80,11 @@ module _ (tables : Tables) (everyone : List FunctionTree) (places : (binding : �
           (if is then numbered first (code_of tables everyone f) else body_in tables everyone (first + size (code_of tables everyone f)) fs binding) end
       by true others = (
         level (begins f) [],
-        (function_fine f asks.0).typed (bare (begins f)) (grants_itself (bare (begins f)))
-            (along is_unsplit (code_of tables everyone f) (front is_unsplit (operations (code_of tables everyone f)) (operations_in tables everyone fs) all)) first,
+        (function_fine f asks.0 all.0).typed (bare (begins f)) (grants_itself (bare (begins f))) first,
       )
       by false others = others
 
 pub forms_are_typed : FormsAreTyped
 forms_are_typed tables program asks all binding =
     let fs = functions_of program.items in
-    bodies tables fs (place_of tables program) (opens_in tables (signature_in tables fs) (place_of tables program) asks.0 fs asks.1) fs 0 binding asks.1 (each_of is_unsplit (operations_of tables program) all)
+    bodies tables fs (place_of tables program) (opens_in tables (signature_in tables fs) (place_of tables program) asks.0 fs asks.1) fs 0 binding asks.1 all

@@ -23,7 +23,7 @@ use Rattle.fk_core_liveness.specs.Frames.{is_main_place}
 use Rattle.fk_lockstep_frames.specs.Nests.{Nest, OfFunction, OfPart, has_word}
 use Rattle.fk_core_typing.specs.AddressValues.{is_address}
 use Rattle.fk_lower_names.specs.OpenFrames.{frame_words}
-use Rattle.fk_lower_laws.specs.Parts.{HasLevel, StatementsStay}
+use Rattle.fk_lower_laws.specs.Parts.{HasLevel, StatementsHaveLevels, AllStartsStay}
 use Rattle.fk_lower_laws.specs.Ways.{Way, Unchecked, Constant, Array, Word, Function}
 use Rattle.fk_lower_laws.specs.Ways.{Valued, gives, named_way, called_way, dotted_way, joined_way}
 use Rattle.fk_lower_laws.specs.Ways.{way}
@@ -263,7 +263,7 @@ abbrev pub frame_of : Tables → ProgramTree → (binding : ℕ) → Option ℕ
 frame_of tables program b =
     frame_for tables (signature_in tables (functions_of program.items)) (place_of tables program) b
 
--- The statements of a function begin in its own nest, outside of each body and of each loop.
+-- The statements of a function begin in its own nest.
 abbrev pub BodyAsked : Tables → (functions : (binding : ℕ) → Signature)
     → (place_of : (binding : ℕ) → FunctionKind) → FunctionKind → Option Region
     → Option Statements → Type 0
@@ -271,7 +271,8 @@ BodyAsked tables functions places place region None = Unit {0}
 BodyAsked tables functions places place region (Some statements) =
     StatementsAsked tables functions places place (OfFunction (frame_with place region) ∷ [])
     statements
-    × StatementsStay tables (is_main_place place) false false statements
+    × StatementsHaveLevels tables 0 statements
+    × AllStartsStay (is_main_place place) true statements
 
 abbrev pub FunctionsAsked : Tables → (functions : (binding : ℕ) → Signature)
     → (place_of : (binding : ℕ) → FunctionKind) → List FunctionTree → Type 0

@@ -11,9 +11,9 @@ use Rattle.fk_sim_block.specs.Suits.{Suits}
 use Rattle.fk_core_liveness.specs.declared.set.Set.{Set}
 use Rattle.fk_core_liveness.specs.Frames.{kept_in}
 use Rattle.fk_lower_laws.specs.FreeLaws.{IsPlain, GoesOnWithin}
+use Rattle.fk_lower_laws.specs.Levels.{HasRooms}
 
--- A list in which no group splits. It goes on within itself, and in every run each operation may be
--- done.
+-- A list of plain operations. It goes on within itself, and in every run each operation may be done.
 pub record IsSteady (core : List CoreOp) (main : ℕ) : Type 0 where
   pub within : GoesOnWithin core main
   pub plain : IsPlain core
@@ -26,11 +26,13 @@ HasEnough core =
     → operation_of op.kind op.number ≡ Some operation
     → needs operation ≤ op.depth
 
--- A list suits frames with this many private variables of file scope.
+-- A list suits frames with this many private variables of file scope, which have room for its
+-- levels.
 pub record HasFrames (core : List CoreOp) (kept : List Set) (main firsts : ℕ) : Type 0 where
   pub frames : Frames
   pub of_file : frames.of_file ≡ firsts
   pub suits : Suits core frames main
+  pub rooms : HasRooms core frames main
   -- In the frames calls keep no words except those of `kept`.
   pub keeps : (index word : ℕ) → frames.keeps index word ≡ true
       → kept_in (slice_get kept index) word ≡ true

@@ -5,6 +5,7 @@ use Rattle.fk_syntax.specs.Program.{ProgramTree}
 use Rattle.fk_meaning_forms.specs.Code.{Code}
 use Rattle.fk_meaning_forms.specs.Tables.{Tables}
 use Rattle.fk_meaning_forms.specs.Program.{bodies_of, main_of}
+use Rattle.fk_meaning.specs.Shaped.{ProgramShaped}
 use Rattle.fk_core.specs.declared.op.CoreOp.{CoreOp}
 use Rattle.fk_core.specs.Numbers.{operation_of}
 use Rattle.fk_core_flat.specs.Flat.{extent}
@@ -12,7 +13,6 @@ use Rattle.fk_core_flat.specs.Shape.{is_closed}
 use Rattle.fk_core_flat.specs.Laws.{AreShaped, IsFlat}
 use Rattle.fk_compile_text.specs.Plain.{is_plain, ArePlain}
 use Rattle.fk_core_typing.specs.Laws.{LeadsWithin}
-use Rattle.fk_lower_laws.specs.Unsplit.{AreUnsplit}
 use Rattle.fk_lower_laws.specs.Asked.{ProgramAsked}
 
 -- An index is in the code of a function that is written from a place on.
@@ -50,7 +50,7 @@ pub record GoesOnWithin (core : List CoreOp) (main : ℕ) : Type 0 where
 abbrev pub ListsGoOnWithin : Type 0
 ListsGoOnWithin =
     (tables : Tables) (program : ProgramTree) (core : List CoreOp) (entry : ℕ → ℕ)
-    → ProgramAsked tables program → AreUnsplit tables program
+    → ProgramAsked tables program → ProgramShaped tables program
     → AreShaped (bodies_of tables program) → IsFlat (bodies_of tables program) core entry
     → is_closed (bodies_of tables program (main_of tables program)) ≡ true
     → GoesOnWithin core (entry (main_of tables program))

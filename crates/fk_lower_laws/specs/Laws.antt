@@ -21,6 +21,9 @@ use Rattle.fk_compile_text.specs.Plain.{ArePlain}
 use Rattle.fk_parse_laws.specs.Trim.{ProgramIsTrim}
 use Rattle.fk_check_laws.specs.Correct.{IsCorrect}
 use Rattle.fk_core_typing.specs.Laws.{HasHeightsOf}
+use Rattle.fk_core_typing.specs.LocalAddresses.{HasKnowledge}
+use Rattle.fk_lockstep_frames.specs.Lists.{HasLocalFrames}
+use Rattle.fk_core_counting.specs.Laws.{TellsLevels}
 use Rattle.fk_lower_laws.specs.Asked.{place_of}
 use Rattle.fk_lower_names.specs.Proper.{ProgramIsProper}
 use Rattle.fk_lower_laws.specs.LoweringLaws.{IsKnownOf}
@@ -59,12 +62,21 @@ CorrectListsHaveFrames =
     → IsLowered tables program core entry kept
     → HasFrames core kept (entry (main_of tables program)) (count_of_file program facts)
 
+-- Each index of a list tells the nests of the running call, and what is known of constants there.
+-- The list counts as many levels.
+pub record TellsNests (core : List CoreOp) (main : ℕ) : Type 0 where
+  pub local : HasLocalFrames core main
+  pub knows : HasKnowledge core main local.nests
+  pub levels : TellsLevels core main local
+
 -- What the list of code with groups needs: its depths are those of all runs, each operation finds
--- its values, and the list is steady and has frames that keep the words that are live in it.
+-- its values, the list is steady and tells its nests, and it has frames that keep the words that are
+-- live in it.
 pub record CanHaveGroups (core : List CoreOp) (main firsts : ℕ) : Type 0 where
   pub depths : HasDepths core main
   pub enough : HasEnough core
   pub steady : IsSteady core main
+  pub nests : TellsNests core main
   pub held : (kept : List Set) → IsLive core (words_in kept) → IsLeast core (words_in kept)
       → HasFrames core kept main firsts
 

@@ -1,6 +1,6 @@
 pub mod Ways
 pub mod Parts
-pub mod Unsplit
+pub mod AllOf
 pub mod Asked
 pub mod Typed
 pub mod TypedLaws
@@ -8,6 +8,7 @@ pub mod LoweringLaws
 pub mod AskedLaws
 pub mod Room
 pub mod Rooms
+pub mod Levels
 pub mod Suiting
 pub mod FreeLaws
 pub mod Named

@@ -1,52 +1,70 @@
--- Where statements lead in the text of a function. Each `start` is in `main` and in no other body,
--- whose frame is on the level of parts of `main`, and no `break`, `continue` or `return` leads out
--- of the body of a `start` or a `fork`.
-use Rattle.std.specs.Prelude.{◌≡◌, ℕ, Bool, true, false, Option, Some, None}
+-- Where the text of a function has group frames, and where it has a `start`.
+use Rattle.std.specs.Prelude.{◌≡◌, ℕ, suc, Bool, true, false, Option, Some, None, if◌then◌else◌}
 use Rattle.fk_syntax.specs.Program as p
 use Rattle.fk_syntax.specs.Program.{Statement, Statements}
 use Rattle.fk_meaning_forms.specs.declared.tables.Region.{Region}
-use Rattle.fk_meaning_forms.specs.Tables.{Tables, frame_at}
+use Rattle.fk_meaning_forms.specs.Tables.{Tables, note, frame_at}
 
 -- A frame is that of the nest at a level.
 abbrev pub HasLevel : (level : ℕ) → Option Region → Type 0
 HasLevel level None = Unit {0}
 HasLevel level (Some region) = region.level ≡ level
 
--- The frame of a `start` is that of a part of `main`.
+-- The frame of each part is on the level after that around the part.
 module _ (tables : Tables) where
-  abbrev pub StartHasLevel : Statement → Type 0
-  StartHasLevel (p.Start spot count body) = HasLevel 1 (frame_at tables spot.at 0)
-  StartHasLevel statement = Unit {0}
+  -- Such is the frame of a part of a token, if the group splits there.
+  abbrev pub PartHasLevel : (level at part : ℕ) → Type 0
+  PartHasLevel level at part = (note tables at).splits ≡ true
+      → HasLevel (suc level) (frame_at tables at part)
 
-  abbrev pub StartsHaveLevel : Statements → Type 0
-  StartsHaveLevel p.no_statements = Unit {0}
-  StartsHaveLevel (p.statement first others) =
-      StartHasLevel first × StartsHaveLevel others
+  abbrev pub level_in : (level at : ℕ) → ℕ
+  level_in level at = if (note tables at).splits then suc level else level
 
--- For a function that is `main` or isn't: a statement that is in such a body or in none, and in a
--- loop of that body or in none.
-module _ (tables : Tables) (in_main : Bool) where
   abbrev mutual
-    pub StatementStays : (in_body in_loop : Bool) → Statement → Type 0
-    StatementStays b l (p.Block statements) = StatementsStay b l statements
-    StatementStays b l (p.If spot condition first) = StatementStays b l first
-    StatementStays b l (p.IfElse spot condition first second) = StatementStays b l first
-        × StatementStays b l second
-    StatementStays b l (p.While spot condition body) = StatementStays b true body
-    StatementStays b l (p.DoWhile spot body condition) = StatementStays b true body
-    StatementStays b l (p.For spot before condition after body) = StatementStays b true body
-    StatementStays b l (p.Start spot count body) = (in_main ≡ true) × (b ≡ false)
-        × HasLevel 1 (frame_at tables spot.at 0)
-        × StatementStays true false body
-    StatementStays b l (p.Farm spot body) = StatementStays b l body
-    StatementStays b l (p.Seq spot body) = StatementStays b l body
-    StatementStays b l (p.Fork spot parts part rank body) = StatementStays true false body
-    StatementStays b l (p.Break spot) = l ≡ true
-    StatementStays b l (p.Continue spot) = l ≡ true
-    StatementStays b l (p.Return spot e) = b ≡ false
-    StatementStays b l statement = Unit {0}
+    pub StatementHasLevels : (level : ℕ) → Statement → Type 0
+    StatementHasLevels l (p.Block statements) = StatementsHaveLevels l statements
+    StatementHasLevels l (p.If spot condition first) = PartHasLevel l spot.at 0
+        × StatementHasLevels (level_in l spot.at) first
+    StatementHasLevels l (p.IfElse spot condition first second) = PartHasLevel l spot.at 0
+        × PartHasLevel l spot.at 1 × StatementHasLevels (level_in l spot.at) first
+        × StatementHasLevels (level_in l spot.at) second
+    StatementHasLevels l (p.While spot condition body) = PartHasLevel l spot.at 0
+        × StatementHasLevels (level_in l spot.at) body
+    StatementHasLevels l (p.DoWhile spot body condition) = PartHasLevel l spot.at 0
+        × StatementHasLevels (level_in l spot.at) body
+    StatementHasLevels l (p.For spot before condition after body) = PartHasLevel l spot.at 0
+        × StatementHasLevels (level_in l spot.at) body
+    StatementHasLevels l (p.Start spot count body) = HasLevel (suc l) (frame_at tables spot.at 0)
+        × StatementHasLevels (suc l) body
+    StatementHasLevels l (p.Fork spot parts part rank body) =
+        HasLevel (suc l) (frame_at tables spot.at 0) × StatementHasLevels (suc l) body
+    StatementHasLevels l (p.Farm spot body) = StatementHasLevels l body
+    StatementHasLevels l (p.Seq spot body) = StatementHasLevels l body
+    StatementHasLevels l statement = Unit {0}
 
-    pub StatementsStay : (in_body in_loop : Bool) → Statements → Type 0
-    StatementsStay b l p.no_statements = Unit {0}
-    StatementsStay b l (p.statement first others) = StatementStays b l first
-        × StatementsStay b l others
+    pub StatementsHaveLevels : (level : ℕ) → Statements → Type 0
+    StatementsHaveLevels l p.no_statements = Unit {0}
+    StatementsHaveLevels l (p.statement first others) = StatementHasLevels l first
+        × StatementsHaveLevels l others
+
+-- Each `start` is one of the statements of `main`, and in no other one. For a function that is
+-- `main` or isn't: a statement that is one of its own, or in one.
+module _ (in_main : Bool) where
+  abbrev mutual
+    pub StartsStay : (outermost : Bool) → Statement → Type 0
+    StartsStay o (p.Block statements) = AllStartsStay false statements
+    StartsStay o (p.If spot condition first) = StartsStay false first
+    StartsStay o (p.IfElse spot condition first second) = StartsStay false first
+        × StartsStay false second
+    StartsStay o (p.While spot condition body) = StartsStay false body
+    StartsStay o (p.DoWhile spot body condition) = StartsStay false body
+    StartsStay o (p.For spot before condition after body) = StartsStay false body
+    StartsStay o (p.Start spot count body) = (in_main ≡ true) × (o ≡ true) × StartsStay false body
+    StartsStay o (p.Farm spot body) = StartsStay false body
+    StartsStay o (p.Seq spot body) = StartsStay false body
+    StartsStay o (p.Fork spot parts part rank body) = StartsStay false body
+    StartsStay o statement = Unit {0}
+
+    pub AllStartsStay : (outermost : Bool) → Statements → Type 0
+    AllStartsStay o p.no_statements = Unit {0}
+    AllStartsStay o (p.statement first others) = StartsStay o first × AllStartsStay o others

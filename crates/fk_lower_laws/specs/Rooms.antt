@@ -1,6 +1,6 @@
 -- Functions whose private words and values have room in frames of 64 words, by the structure of
 -- code.
-use Rattle.std.specs.Prelude.{ℕ, ◌+◌, ◌^◌, ◌<◌, ◌≤◌, true}
+use Rattle.std.specs.Prelude.{ℕ, ◌+◌, ◌*◌, ◌^◌, ◌<◌, ◌≤◌, true}
 use Rattle.fk_meaning_operation.specs.declared.operation.Operation.{Operation}
 use Rattle.fk_meaning_operation.specs.declared.operation.Operation.TheVariants.{Get, Set, Frame}
 use Rattle.fk_meaning_operation.specs.declared.operation.OwnValue.TheVariants.{Value, FrameAddress}
@@ -11,7 +11,7 @@ use Rattle.fk_meaning_forms.specs.Code.{continue, call, ends}
 use Rattle.fk_core_liveness.specs.declared.places.FunctionKind.{FunctionKind}
 use Rattle.fk_core_liveness.specs.declared.places.FunctionKind.TheVariants.{Main, Called}
 use Rattle.fk_core_typing.specs.Heights.{raised}
-use Rattle.fk_lower_laws.specs.Room.{HasFew}
+use Rattle.fk_lower_laws.specs.Room.{HasFew, HasParts}
 
 -- For this many private variables of file scope, and private words of a function.
 module _ (firsts words : ℕ) where
@@ -58,13 +58,15 @@ abbrev pub ahead_in : (firsts : ℕ) → FunctionKind → ℕ
 ahead_in firsts Main = firsts
 ahead_in firsts (Called gives) = 0
 
--- The private words of each function and its values have room beside the words before them and the
--- 8 words that a layout counts for each frame: a header of 7, and one for a result after each call,
--- also if the called function gives none.
+-- The private words of each function, its values and the levels of its parts have room beside the
+-- words before them and the 8 words that a layout counts for each frame: a header of 7, and one for
+-- a result after each call, also if the called function gives none.
 pub record HaveRoom (bodies : (binding : ℕ) → Code ℕ) (place_of : (binding : ℕ) → FunctionKind)
     (firsts : ℕ) : Type 0 where
   pub words : (binding : ℕ) → ℕ
   pub most : (binding : ℕ) → ℕ
-  pub room : (f : ℕ) → ahead_in firsts (place_of f) + 8 + words f + most f ≤ 64
+  pub nested : (binding : ℕ) → ℕ
+  pub room : (f : ℕ) → ahead_in firsts (place_of f) + 8 + words f + most f + 4 * nested f ≤ 64
   pub own : (f : ℕ) → HasWords firsts words most (words f) (bodies f)
   pub few : (f : ℕ) → HasFew place_of (most f) 0 (bodies f)
+  pub parts : (f : ℕ) → HasParts (nested f) 0 (bodies f)

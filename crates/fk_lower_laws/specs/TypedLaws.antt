@@ -1,17 +1,18 @@
--- Programs that are as well typed code asks, and in which no group splits, have well typed code. `main` is where it begins.
+-- Programs that are as well typed code asks, and whose parts and loops are nested, have well typed
+-- code. `main` is where it begins.
 use Rattle.std.specs.Prelude.{◌≡◌, ◌⊎◌, ℕ, ◌==◌, true, List, [], ◌∷◌}
 use Rattle.fk_syntax.specs.Program.{FunctionTree, ProgramTree}
 use Rattle.fk_meaning_forms.specs.Tables.{Tables}
+use Rattle.fk_meaning.specs.Shaped.{ProgramShaped}
 use Rattle.fk_meaning_forms.specs.Program.{functions_of, binding_of, is_main, bodies_of, main_of}
 use Rattle.fk_core_liveness.specs.declared.places.FunctionKind.TheVariants.{Main}
 use Rattle.fk_core_typing.specs.Typed.{AreTyped}
-use Rattle.fk_lower_laws.specs.Unsplit.{AreUnsplit}
 use Rattle.fk_lower_laws.specs.Asked.{place_of, frame_of, ProgramAsked}
 
 abbrev pub FormsAreTyped : Type 0
 FormsAreTyped =
     (tables : Tables) (program : ProgramTree) → ProgramAsked tables program
-    → AreUnsplit tables program
+    → ProgramShaped tables program
     → AreTyped (place_of tables program) (frame_of tables program) (bodies_of tables program)
 
 -- There is a `main`, and no other function has its binding.

@@ -13,7 +13,7 @@ use Rattle.fk_core.specs.declared.op.CoreOp.{CoreOp}
 use Rattle.fk_core.specs.Next.{is_jump, follows}
 use Rattle.fk_core.specs.Numbers.{operation_of}
 use Rattle.fk_sim_block.specs.Next.{OpAt}
-use Rattle.fk_sim_block.specs.Stands.{Frames, Places, HasRoom, FrameInMemory, ahead, group_word}
+use Rattle.fk_sim_block.specs.Stands.{Frames, Places, HasRoom, FrameInMemory, HaveGroupFrames, ahead}
 use Rattle.fk_sim_block.specs.Suits.{Flows, TakesFrame, Calls, Fits, Suits, nothing, writes}
 
 abbrev pushes : CoreOp
@@ -54,7 +54,7 @@ of_main i = (i == 0) || ((i == 1) || ((i == 6) || (i == 7)))
 abbrev has_argument : ℕ → Bool
 has_argument i = (i == 2) || ((i == 3) || ((i == 4) || ((i == 5) || (i == 8))))
 
--- where the header has the address of the function's group frame
+-- where the function has its group frame
 abbrev has_address : ℕ → Bool
 has_address i = (i == 3) || ((i == 4) || ((i == 5) || ((i == 8) || (i == 9))))
 
@@ -136,27 +136,27 @@ each P a b c d e f g h j (suc (suc (suc (suc (suc (suc (suc (suc (suc zero))))))
 each P a b c d e f g h j (suc (suc (suc (suc (suc (suc (suc (suc (suc (suc i)))))))))) op operation at = absurd (let s = at.stands in cc)
 
 pushes_on : (onward : Bool) → Flows core frames (writes (Push 7)) 0 (follows core (Push 7) 0 0 [] onward).at
-pushes_on true = record { main = refl; kept = λ word k free. absurd (cc); group = λ number told. absurd (cc) }
-pushes_on false = record { main = refl; kept = λ word k free. absurd (cc); group = λ number told. absurd (cc) }
+pushes_on true = record { main = refl; kept = λ word k free. absurd (cc); group = λ number told. absurd (cc); own = refl }
+pushes_on false = record { main = refl; kept = λ word k free. absurd (cc); group = λ number told. absurd (cc); own = refl }
 
 takes_on : TakesFrame core frames 0 2 3
-takes_on = record { main = refl; kept = λ word k. k; group = λ number told. inl (eqb-true number 0 told) }
+takes_on = record { main = refl; kept = λ word k. k; none = refl; group = λ number told. inl (eqb-true number 0 told); own = refl }
 
 addresses_on : (onward : Bool) → Flows core frames (writes (Get (FrameAddress 0 1))) 3 (follows core (Get (FrameAddress 0 1)) 3 0 [] onward).at
-addresses_on true = record { main = refl; kept = λ word k free. k; group = λ number told. told }
-addresses_on false = record { main = refl; kept = λ word k free. k; group = λ number told. told }
+addresses_on true = record { main = refl; kept = λ word k free. k; group = λ number told. told; own = refl }
+addresses_on false = record { main = refl; kept = λ word k free. k; group = λ number told. told; own = refl }
 
 drops_on : (onward : Bool) → Flows core frames (writes DropLast) 4 (follows core DropLast 4 0 [] onward).at
-drops_on true = record { main = refl; kept = λ word k free. k; group = λ number told. told }
-drops_on false = record { main = refl; kept = λ word k free. k; group = λ number told. told }
+drops_on true = record { main = refl; kept = λ word k free. k; group = λ number told. told; own = refl }
+drops_on false = record { main = refl; kept = λ word k free. k; group = λ number told. told; own = refl }
 
 result_goes : (onward : Bool) → Flows core frames (writes DropLast) 6 (follows core DropLast 6 0 [] onward).at
-result_goes true = record { main = refl; kept = λ word k free. absurd (cc); group = λ number told. absurd (cc) }
-result_goes false = record { main = refl; kept = λ word k free. absurd (cc); group = λ number told. absurd (cc) }
+result_goes true = record { main = refl; kept = λ word k free. absurd (cc); group = λ number told. absurd (cc); own = refl }
+result_goes false = record { main = refl; kept = λ word k free. absurd (cc); group = λ number told. absurd (cc); own = refl }
 
 gives_on : (onward : Bool) → Flows core frames (writes (Get (Value (Private 0)))) 8 (follows core (Get (Value (Private 0))) 8 0 [] onward).at
-gives_on true = record { main = refl; kept = λ word k free. absurd (cc); group = λ number told. told }
-gives_on false = record { main = refl; kept = λ word k free. absurd (cc); group = λ number told. told }
+gives_on true = record { main = refl; kept = λ word k free. absurd (cc); group = λ number told. told; own = refl }
+gives_on false = record { main = refl; kept = λ word k free. absurd (cc); group = λ number told. told; own = refl }
 
 -- the opening runs in the frame of the function
 calls : Calls core frames 1 1 1
@@ -165,7 +165,7 @@ calls = record {
   inside = refl;
   none = λ number. refl;
   kept = λ word k. (let first : word ≡ 0 = eqb-true word 0 k in omega (arith, first));
-  back = record { main = refl; kept = λ word k free. absurd (cc); group = λ number told. absurd (cc) };
+  back = record { main = refl; kept = λ word k free. absurd (cc); group = λ number told. absurd (cc); own = refl };
   room = room 6 1 (omega arith);
 }
 
@@ -177,7 +177,7 @@ jumps_flow (suc (suc (suc zero))) op e f = let same : addresses ≡ op = cc in l
 jumps_flow (suc (suc (suc (suc zero)))) op e f = let same : drops ≡ op = cc in let g : false ≡ true = ap is_jump same ∙ f in absurd (cc)
 jumps_flow (suc (suc (suc (suc (suc zero))))) op e f =
     let same : jumps ≡ op = cc in
-    subst (λ o. Flows core frames nothing 5 o.target) same (record { main = refl; kept = λ word k free. k; group = λ number told. told })
+    subst (λ o. Flows core frames nothing 5 o.target) same (record { main = refl; kept = λ word k free. k; group = λ number told. told; own = refl })
 jumps_flow (suc (suc (suc (suc (suc (suc zero)))))) op e f = let same : drops ≡ op = cc in let g : false ≡ true = ap is_jump same ∙ f in absurd (cc)
 jumps_flow (suc (suc (suc (suc (suc (suc (suc zero))))))) op e f = let same : halts ≡ op = cc in let g : false ≡ true = ap is_jump same ∙ f in absurd (cc)
 jumps_flow (suc (suc (suc (suc (suc (suc (suc (suc zero)))))))) op e f = let same : gets ≡ op = cc in let g : false ≡ true = ap is_jump same ∙ f in absurd (cc)
@@ -203,13 +203,13 @@ suits = record {
       (record { values = omega arith; few = omega arith; room = room 9 1 (omega arith); place = refl; goes_on = refl });
 }
 
--- ---- in memory, behind the frame: the header of the call has the address of word 21, and its argument is 5
+-- ---- in memory, behind the frame: the register has the address of word 21, and the argument of the call is 5
 
 abbrev pub places : Places
 places = record { block = λ index. index; returns = λ index. None; frames = frames }
 
 abbrev pub memory : Memory
-memory word = if word == 67 then address_of 21 else if word == 71 then 5 else 0
+memory word = if word == 71 then 5 else 0
 
 abbrev pub call : Call
 call = record { values = []; privates = λ word. 5; frames = λ number. 21 }
@@ -219,8 +219,12 @@ in_frame = record {
   home = refl;
   values = tt;
   privates = λ word k. (let first : word ≡ 0 = eqb-true word 0 k in ap (λ w. memory (71 + w)) first);
-  group = λ number told. (
-      let first : number ≡ 0 = eqb-true number 0 told in
-      record { few = omega (arith, first); within = omega arith; address = ap (λ k. memory (group_word 1 k)) first }
-      );
 }
+
+-- `main` has no group frame, and waits at index 6
+pub has_group_frame : HaveGroupFrames frames memory (address_of 21) (4 ∷ 6 ∷ []) (call ∷ call ∷ [])
+has_group_frame = (
+  record { within = omega arith; is = refl },
+  (λ number part told. (let first : number ≡ 0 = eqb-true number 0 told in absurd (omega (arith, first, part)))),
+  (tt, (λ number part told. absurd (cc)), tt),
+)

@@ -24,8 +24,8 @@ use Rattle.fk_machine.proofs.Places.{place_of-local, place_of-halt}
 use Rattle.fk_sim_nodes.specs.Alone.{Holds, IsAt, GoesAlone, IsPrivateIn}
 use Rattle.fk_sim_nodes.proofs.InPlace.{step_at}
 use Rattle.fk_sim_block.specs.Owner.{number_of}
-use Rattle.fk_sim_block.specs.Stands.{Places, HasValues, HasWaiting, frame_end, value_of, value_in}
-use Rattle.fk_sim_block.specs.Stands.{zero_register, frame_register, end_register, rank_register, size_register, local_register, shared_register, heap_register, shared_mask_register, device_register, heap_mask_register}
+use Rattle.fk_sim_block.specs.Stands.{Places, HasValues, HasWaiting, HaveGroupFrames, frame_end, value_of, value_in}
+use Rattle.fk_sim_block.specs.Stands.{zero_register, frame_register, end_register, rank_register, size_register, local_register, shared_register, heap_register, shared_mask_register, device_register, heap_mask_register, group_frame_register}
 use Rattle.fk_sim_block.specs.Next.{OpAt, step_at as step_of}
 use Rattle.fk_sim_block.specs.Ready.{is_alone}
 use Rattle.fk_sim_block.specs.Block.{IsRunning, Begins, BlockDoes, BlockHalts, BlockLaw, beginner}
@@ -135,8 +135,9 @@ begins image code setting t number running =
           shared_mask = refl;
           devices = refl;
           heap_mask = refl;
-          running = record { home = refl; values = tt; privates = λ i e. never e; group = λ number told. absurd (cc) };
+          running = record { home = refl; values = tt; privates = λ i e. never e };
           waiting = tt;
+          groups = (tt, (λ number part told. never told), tt);
           own = λ i lt. absurd (omega arith);
           heap = λ i lt. refl;
           full = refl;
@@ -174,11 +175,16 @@ waiting_kept m m' (i ∷ backs) (c ∷ calls) same held = (
     home = held.1.home;
     values = values_kept m m' (length calls) c.values (λ j lt. same j (omega arith)) held.1.values;
     privates = λ w e. never e;
-    group = λ number told. absurd (cc);
   },
   waiting_kept m m' backs calls (λ j lt. same j (omega arith)) held.2,
 )
 waiting_kept m m' backs calls same held = absurd (assumption held)
+
+-- no call has a group frame
+none_told : (m m' : Memory) (address : ℕ) (indices : List ℕ) (calls : List Call) → HaveGroupFrames places.frames m address indices calls → HaveGroupFrames places.frames m' address indices calls
+none_told m m' address [] calls held = tt
+none_told m m' address (i ∷ indices) [] held = tt
+none_told m m' address (i ∷ indices) (c ∷ calls) held = (tt, (λ number part told. never told), none_told m m' address indices calls held.2)
 
 values_before : (at : ℕ → ℕ) (vs : List ℕ) → HasValues at vs → HasValues at (before 1 vs)
 values_before at [] held = tt
@@ -247,8 +253,9 @@ push_does image code at setting t p h en =
                     shared_mask = stands.shared_mask;
                     devices = stands.devices;
                     heap_mask = stands.heap_mask;
-                    running = record { home = stands.running.home; values = values_pushed (value_of m' n) 5 (values p.runner.has) en.ready.depth (same_word h.local word _ ∙ five); privates = λ w e. never e; group = λ number told. absurd (cc) };
+                    running = record { home = stands.running.home; values = values_pushed (value_of m' n) 5 (values p.runner.has) en.ready.depth (same_word h.local word _ ∙ five); privates = λ w e. never e };
                     waiting = waiting_kept h.local m' p.runner.left.callers p.runner.has.callers (λ j l. lower_word h.local word _ j (ne_eqb j word (λ e. omega arith))) stands.waiting;
+                    groups = (tt, (λ number part told. never told), none_told h.local m' (h.registers group_frame_register) p.runner.left.callers p.runner.has.callers stands.groups.2);
                     own = λ j l. absurd (omega arith);
                     heap = λ j l. lower_word h.local word _ (16384 + j) (ne_eqb (16384 + j) word (λ e. omega arith)) ∙ stands.heap j l;
                     full = lower_word h.local word _ 2 (ne_eqb 2 word (λ e. omega arith)) ∙ stands.full;
@@ -306,8 +313,9 @@ drop_does image code at setting t p h en =
                     shared_mask = stands.shared_mask;
                     devices = stands.devices;
                     heap_mask = stands.heap_mask;
-                    running = record { home = stands.running.home; values = values_before (value_in h (length p.runner.has.callers)) (values p.runner.has) stands.running.values; privates = λ w e. never e; group = λ number told. absurd (cc) };
+                    running = record { home = stands.running.home; values = values_before (value_in h (length p.runner.has.callers)) (values p.runner.has) stands.running.values; privates = λ w e. never e };
                     waiting = stands.waiting;
+                    groups = (tt, (λ number part told. never told), stands.groups.2);
                     own = stands.own;
                     heap = stands.heap;
                     full = stands.full;

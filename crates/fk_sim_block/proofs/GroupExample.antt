@@ -53,6 +53,7 @@ nestings = record {
   levels = λ i. 0;
   behind = λ i. 0;
   nest = λ i. 0;
+  forks = λ i l. None;
   start = record { there = λ i. record { at = 0; changes = λ r. false }; coming = λ i h. h };
 }
 
@@ -149,8 +150,9 @@ begins image code setting t number running =
             shared_mask = refl;
             devices = refl;
             heap_mask = refl;
-            running = record { home = refl; values = tt; privates = λ i e. never e; group = λ number told. absurd (cc) };
+            running = record { home = refl; values = tt; privates = λ i e. never e };
             waiting = tt;
+            groups = (tt, (λ number part told. absurd (cc)), tt);
             own = λ i lt. absurd (omega arith);
             heap = λ i lt. refl;
             full = refl;
@@ -205,8 +207,9 @@ drop_does image code at setting t runs first m p en member finds =
                     shared_mask = stands.shared_mask;
                     devices = stands.devices;
                     heap_mask = stands.heap_mask;
-                    running = record { home = stands.running.home; values = values_before (value_in h (length p.runner.has.callers)) (values p.runner.has) stands.running.values; privates = λ w e. never e; group = λ number told. absurd (cc) };
+                    running = record { home = stands.running.home; values = values_before (value_in h (length p.runner.has.callers)) (values p.runner.has) stands.running.values; privates = λ w e. never e };
                     waiting = stands.waiting;
+                    groups = (tt, (λ number part told. absurd (cc)), stands.groups.2);
                     own = stands.own;
                     heap = stands.heap;
                     full = stands.full;
@@ -325,8 +328,8 @@ law_of image code = record {
   steps = λ i op operation lowest size at e. absurd (neither stays_in_step refl refl i op operation at e);
   parts = λ i op operation lowest size at e. absurd (neither sets_apart refl refl i op operation at e);
   ends = λ i op lowest size at. absurd (no_end i op at);
-  divides = λ i op by at implicit. absurd (no_split i op by at);
-  lacks = λ i op by at implicit. absurd (no_split i op by at);
+  divides = λ i op by at. absurd (no_split i op by at);
+  lacks = λ i op by at. absurd (no_split i op by at);
   shrinks = λ i op at. absurd (no_shrink i op at);
   ends_part = λ i op at. absurd (no_end i op at);
   meets = λ i op operation at e. absurd (neither is_meeting refl refl i op operation at e);

@@ -30,8 +30,7 @@ use Rattle.fk_sim_block.specs.Found.{FindsFrame}
 use Rattle.fk_sim_block.specs.Lockstep.{IsMember, StepTogether, PartTogether, EndTogether}
 use Rattle.fk_sim_block.specs.Lockstep.{AreInGroup, AreOfSize, IsLowest, one_runs}
 use Rattle.fk_sim_block.specs.Joint.{most_to_meet, is_meeting, BlockMeets}
-use Rattle.fk_sim_block.specs.Parts.{is_implicit, DividesTogether, FaultsTogether, ShrinksTogether}
-use Rattle.fk_sim_block.specs.Parts.{EndsPart}
+use Rattle.fk_sim_block.specs.Parts.{DividesTogether, FaultsTogether, ShrinksTogether, EndsPart}
 use Rattle.fk_sim_block.specs.Start.{most_united, most_to_start, BlockStarts}
 
 -- Which branch an operation takes, known before it is done. All but local operations go on.
@@ -131,7 +130,7 @@ module _ (core : List CoreOp) (image : Image) (places : Places) (nestings : Nest
         (cycles.behind i (way_of operation p.runner.has)) m p
         (λ h d. HasDoneInNode setting runs d h)
 
-    -- The law of blocks for groups. It covers all operations but `fork`.
+    -- The law of blocks for groups.
     pub record GroupLaw (firsts : List ℕ) (main : ℕ) : Type 0 where
       pub few_before : (i : ℕ) → cycles.before i ≤ most_before
       pub few_behind : (i : ℕ) (onward : Bool) → cycles.behind i onward ≤ most_behind
@@ -159,10 +158,9 @@ module _ (core : List CoreOp) (image : Image) (places : Places) (nestings : Nest
           → EndTogether core image places nestings i op (cycles.behind i true) lowest size
       -- Parts begin, shrink and end. A split without room is the fault of the lowest.
       pub divides : (i : ℕ) (op : CoreOp) (by : SplitKind) → OpAt core i op (Split by)
-          → is_implicit by ≡ true → DividesTogether core image places nestings i op by
-          (cycles.before i) (cycles.behind i)
+          → DividesTogether core image places nestings i op by (cycles.before i) (cycles.behind i)
       pub lacks : (i : ℕ) (op : CoreOp) (by : SplitKind) → OpAt core i op (Split by)
-          → is_implicit by ≡ true → FaultsTogether core image places nestings i op by
+          → FaultsTogether core image places nestings i op by
       pub shrinks : (i : ℕ) (op : CoreOp) → OpAt core i op Shrink
           → ShrinksTogether core image places nestings i op (cycles.before i) (cycles.behind i)
       pub ends_part : (i : ℕ) (op : CoreOp) → OpAt core i op End

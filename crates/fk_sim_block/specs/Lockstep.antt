@@ -1,5 +1,5 @@
 -- Steps of the tree that all members of a group do in lockstep.
-use Rattle.std.specs.Prelude.{◌≡◌, ℕ, suc, ◌+◌, ◌==◌, List, [], ◌∷◌, map, Bool, true, false}
+use Rattle.std.specs.Prelude.{◌≡◌, ℕ, suc, ◌+◌, ◌<◌, ◌==◌, List, [], ◌∷◌, map, Bool, true, false}
 use Rattle.std.specs.Prelude.{Option, Some, None, if◌then◌else◌}
 use Rattle.fk_num.specs.Word.{Memory}
 use Rattle.fk_meaning_operation.specs.declared.operation.Operation.{Operation}
@@ -39,12 +39,14 @@ highest_value ps = last_or 0 (map (λ p. last (values p.runner.has)) ps)
 pub record LevelsStay (nestings : Nestings) (i j : ℕ) : Type 0 where
   pub levels : nestings.levels j ≡ nestings.levels i
   pub behind : nestings.behind j ≡ nestings.behind i
+  pub forks : (n : ℕ) → n < nestings.levels i → nestings.forks j n ≡ nestings.forks i n
 
 -- At the second index the frame of the call has one level more, after the same words. Such a level
 -- is saved where a part begins, and given back where the part ends.
 pub record LevelOpens (nestings : Nestings) (i j : ℕ) : Type 0 where
   pub levels : nestings.levels j ≡ suc (nestings.levels i)
   pub behind : nestings.behind j ≡ nestings.behind i
+  pub forks : (n : ℕ) → n < nestings.levels i → nestings.forks j n ≡ nestings.forks i n
 
 -- All processors are in groups of this size.
 abbrev pub AreOfSize : (size : ℕ) → List Owner → Type 0

@@ -1,6 +1,6 @@
 -- Where a hart finds the control words of its node, and what it keeps of the groups around it.
-use Rattle.std.specs.Prelude.{◌≡◌, ℕ, zero, suc, ◌+◌, ◌*◌, ◌^◌, ◌<◌, ◌≤◌, ◌==◌, List, [], ◌∷◌}
-use Rattle.std.specs.Prelude.{length, Bool, true, Option, IfSome}
+use Rattle.std.specs.Prelude.{◌≡◌, ℕ, zero, suc, ◌+◌, ◌-◌, ◌*◌, ◌^◌, ◌<◌, ◌≤◌, ◌==◌, List, [], ◌∷◌}
+use Rattle.std.specs.Prelude.{length, Bool, true, Option, Some, None, IfSome}
 use Rattle.fk_num.specs.Word.{Memory}
 use Rattle.fk_space.specs.Space.{Space}
 use Rattle.fk_meaning.specs.Processor.{Call, Level, Setting}
@@ -89,6 +89,9 @@ pub record Nestings : Type 0 where
   pub behind : (index : ℕ) → ℕ
   -- In how many parts the call is, with the group of `start` among them.
   pub nest : (index : ℕ) → ℕ
+  -- Whether a `fork` left the level with a number, the first of them having the number 0; and of how
+  -- many words is the frame of the group that it divided, if that group is a part of this call.
+  pub forks : (index level : ℕ) → Option ℕ
   -- Where processors meet that begin the group of `start`.
   pub start : Gathering
 
@@ -114,12 +117,44 @@ pub record HasLevel (memory : Memory) (at : ℕ) (level : Level) (outer : List L
   pub blocks : memory (at + 2) ≡ control_address level.space.blocks
   pub frames : memory (at + 3) ≡ control_address level.space.frames
 
--- `count` levels of a frame from a word on. The innermost level has the highest words.
-abbrev pub HasSaved : Memory → (at count : ℕ) → List Level → Type 0
-HasSaved memory at zero levels = Unit {0}
-HasSaved memory at (suc n) [] = ⊥
-HasSaved memory at (suc n) (l ∷ levels) = HasLevel memory (at + 4 * n) l levels
-    × HasSaved memory at n levels
+-- The word of the header of a call where a `fork` that is in no part of this call saves the address
+-- of the first control word after the frames.
+abbrev pub frames_word : (waiting : ℕ) → ℕ
+frames_word waiting = frame_end waiting - 60
+
+-- Where the frames end of a group that a `fork` divided. The first level of a call has a word of the
+-- header for it. The group of any other is a part of the call. It has one frame, of so many words.
+abbrev pub HasFramesEnd : Memory → (header number words : ℕ) → Level → (outer : List Level) → Type 0
+HasFramesEnd memory header zero words level outer =
+    memory header ≡ control_address level.space.frames
+HasFramesEnd memory header (suc n) words level outer =
+    level.space.frames ≡ first_word level outer + 8 + words
+
+-- Where a `fork` leaves a level, that also has `@` and `$`: the first beside the size, which is below
+-- 2048, and the second in place of where the frames end.
+pub record HasForked (memory : Memory) (header at number words : ℕ) (level : Level)
+    (outer : List Level) : Type 0 where
+  pub size : memory at ≡ level.size + 2048 * level.number
+  pub few : level.size < 2048
+  pub node : memory (at + 1) ≡ control_address (first_word level outer)
+  pub blocks : memory (at + 2) ≡ control_address level.space.blocks
+  pub rank : memory (at + 3) ≡ level.rank
+  pub frames : HasFramesEnd memory header number words level outer
+
+abbrev pub HasLevelBy : Option ℕ → Memory → (header at number : ℕ) → Level → (outer : List Level)
+    → Type 0
+HasLevelBy None memory header at number level outer = HasLevel memory at level outer
+HasLevelBy (Some words) memory header at number level outer =
+    HasForked memory header at number words level outer
+
+-- `count` levels of a frame from a word on. The innermost level has the highest words and the highest
+-- number.
+abbrev pub HasSaved : Memory → (forks : ℕ → Option ℕ) → (header at count : ℕ) → List Level → Type 0
+HasSaved memory forks header at zero levels = Unit {0}
+HasSaved memory forks header at (suc n) [] = ⊥
+HasSaved memory forks header at (suc n) (l ∷ levels) =
+    HasLevelBy (forks n) memory header (at + 4 * n) n l levels
+    × HasSaved memory forks header at n levels
 
 abbrev pub past_levels : (count : ℕ) → List Level → List Level
 past_levels zero levels = levels
@@ -157,7 +192,8 @@ module _ (places : Places) (nestings : Nestings) where
   HasOuter processors number memory [] levels = IsOutermost processors number levels
   HasOuter processors number memory (i ∷ indices) levels =
       (saved_at (length indices) i + 4 * nestings.levels i ≤ frame_end (length indices))
-      × HasSaved memory (saved_at (length indices) i) (nestings.levels i) levels
+      × HasSaved memory (nestings.forks i) (frames_word (length indices))
+      (saved_at (length indices) i) (nestings.levels i) levels
       × HasOuter processors number memory indices (past_levels (nestings.levels i) levels)
 
   -- The levels in the frame of a waiting call lie below its values and the word that takes its

@@ -1,7 +1,7 @@
 -- Splits, shrinks and the ends of parts: steps after which the members of a group are in two nodes
 -- or more.
-use Rattle.std.specs.Prelude.{◌≡◌, ℕ, ◌<◌, ◌≤◌, List, [], ◌∷◌, length, map, filter, Bool, true}
-use Rattle.std.specs.Prelude.{false, Option, Some, None}
+use Rattle.std.specs.Prelude.{◌≡◌, ℕ, zero, suc, ◌+◌, ◌-◌, ◌^◌, ◌<◌, ◌≤◌, List, [], ◌∷◌, length, map}
+use Rattle.std.specs.Prelude.{filter, Bool, true, false, Option, Some, None}
 use Rattle.fk_num.specs.Word.{Memory}
 use Rattle.fk_space.specs.Space.{Space, IsSpace}
 use Rattle.fk_tree.specs.Tree.{is_in}
@@ -23,11 +23,6 @@ use Rattle.fk_sim_block.specs.Block.{most_before}
 use Rattle.fk_sim_block.specs.Node.{Nestings, OwnsHeader, OwnsSpace, IsAtRest, first_word}
 use Rattle.fk_sim_block.specs.Lockstep.{IsInGroup, AllEnter, AllComeByWay, is_due, stepped}
 use Rattle.fk_sim_block.specs.Lockstep.{highest_value}
-
--- In the parts of a `fork` members have a new `@` and `$`. All other splits are implicit.
-abbrev pub is_implicit : SplitKind → Bool
-is_implicit Fork = false
-is_implicit by = true
 
 -- ---- who goes where
 
@@ -55,35 +50,64 @@ size_behind operation ps p = 0
 
 -- ---- what is asked
 
+-- In a group that is a part of the running call, with so many levels in its frame, frames have taken
+-- as many words as are told.
+abbrev pub HasFrameWords : (levels : ℕ) → Option ℕ → Level → Type 0
+HasFrameWords zero told level = Unit {0}
+HasFrameWords (suc n) None level = ⊥
+HasFrameWords (suc n) (Some words) level = level.space.frames ≡ level.space.low + 8 + words
+
+-- What a `fork` saves of a level has room: `@` and the size in one word. It is told how many words
+-- the frames have taken.
+pub record IsToFork (nestings : Nestings) (p : Owner) : Type 0 where
+  pub number : p.runner.has.level.number < 2 ^ 16
+  pub size : p.runner.has.level.size ≤ 1024
+  pub frames : let i = p.runner.left.at in
+      HasFrameWords (nestings.levels i) (nestings.forks (suc i) (nestings.levels i))
+      p.runner.has.level
+
+abbrev pub IsAskedToSplit : SplitKind → Nestings → Owner → Type 0
+IsAskedToSplit Fork nestings p = IsToFork nestings p
+IsAskedToSplit by nestings p = Unit {0}
+
 -- A processor is in a group with this space, which it is about to divide into so many parts.
-pub record IsToDivide (by : SplitKind) (space : Space) (count : ℕ) (p : Owner) : Type 0 where
+pub record IsToDivide (nestings : Nestings) (by : SplitKind) (space : Space) (count : ℕ)
+    (p : Owner) : Type 0 where
   pub group : IsInGroup p
   pub space_is : p.runner.has.level.space ≡ space
   pub count_is : parts_of by p ≡ count
+  pub asked : IsAskedToSplit by nestings p
 
-abbrev pub AllAreToDivide : SplitKind → Space → (count : ℕ) → List Owner → Type 0
-AllAreToDivide by space count [] = Unit {0}
-AllAreToDivide by space count (p ∷ ps) = IsToDivide by space count p
-    × AllAreToDivide by space count ps
+module _ (nestings : Nestings) where
+  abbrev pub AllAreToDivide : SplitKind → Space → (count : ℕ) → List Owner → Type 0
+  AllAreToDivide by space count [] = Unit {0}
+  AllAreToDivide by space count (p ∷ ps) = IsToDivide nestings by space count p
+      × AllAreToDivide by space count ps
 
--- All processors are about to divide one space.
-pub record AreToDivide (by : SplitKind) (space : Space) (count : ℕ) (ps : List Owner) : Type 0 where
-  pub some : 1 ≤ length ps
-  pub few : length ps ≤ 1024
-  pub is_space : IsSpace space
-  pub all : AllAreToDivide by space count ps
+  -- All processors are about to divide one space.
+  pub record AreToDivide (by : SplitKind) (space : Space) (count : ℕ)
+      (ps : List Owner) : Type 0 where
+    pub some : 1 ≤ length ps
+    pub few : length ps ≤ 1024
+    pub is_space : IsSpace space
+    pub all : AllAreToDivide by space count ps
 
--- A processor is in a part of an implicit split: it has the `@` and `$` of the level around it.
--- That is the level of a group with a space, and the frame of the call has it.
+-- In a part a processor has the `@` and `$` of the level around it, unless a `fork` left that level.
+abbrev pub HasNumbersBy : Option ℕ → (around own : Level) → Type 0
+HasNumbersBy None around own = (around.number ≡ own.number) × (around.rank ≡ own.rank)
+HasNumbersBy (Some words) around own = Unit {0}
+
+-- A processor is in a part. Around it is the level of a group with a space, and the frame of the
+-- call has that level.
 pub record IsInPart (nestings : Nestings) (p : Owner) : Type 0 where
   pub around : Level
   pub beyond : Level
   pub further : List Level
   pub outer : p.runner.has.outer ≡ around ∷ beyond ∷ further
-  pub number : around.number ≡ p.runner.has.level.number
-  pub rank : around.rank ≡ p.runner.has.level.rank
   pub is_space : IsSpace around.space
   pub saved : 0 < nestings.levels p.runner.left.at
+  pub numbers : let i = p.runner.left.at in
+      HasNumbersBy (nestings.forks i (nestings.levels i - 1)) around p.runner.has.level
 
 abbrev pub AreInPart : Nestings → List Owner → Type 0
 AreInPart nestings [] = Unit {0}
@@ -119,7 +143,8 @@ module _ (core : List CoreOp) (image : Image) (places : Places) (nestings : Nest
       (count : ℕ) (ms : List Member) (ps : List Owner) (own : Memory)
       → OwnsHeader mine first → OwnsSpace mine space
       → AllEnter core image places nestings i op (Split by) setting t None first ms ps
-      → AreToDivide by space count ps → has_parts space count ≡ true → IsAtRest first own
+      → AreToDivide nestings by space count ps → has_parts space count ≡ true
+      → IsAtRest first own
       → Together (core_source core setting) image mine t 1 before ms ps own
       (λ ms' ds own'. (ds ≡ map (is_due core i op (Split by)) ps)
       × AllMove (Split by) setting (later (in_cycles before t)) behind (λ p. None) 0 ms' ps
@@ -134,7 +159,7 @@ module _ (core : List CoreOp) (image : Image) (places : Places) (nestings : Nest
         (count : ℕ) (ms : List Member) (ps : List Owner) (own : Memory)
         → OwnsHeader mine first
         → AllEnter core image places nestings i op (Split by) setting t None first ms ps
-        → AreToDivide by space count ps → has_parts space count ≡ false
+        → AreToDivide nestings by space count ps → has_parts space count ≡ false
         → Together (core_source core setting) image mine t 1 before ms ps own (λ ms' ds own'. ⊥)
 
   -- The members of a part who stay in a loop are a group of as many as they are, and the others go

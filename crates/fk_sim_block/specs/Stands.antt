@@ -3,9 +3,9 @@
 -- Calls have frames of 64 words on the 16,384 stack words, that of `main` lowest. A frame has a
 -- header of 7 words, then the private words of its call. Its values are at the frame's end, the
 -- first value highest. In the frame of `main` the private variables of file scope lie between the
--- two. The header of a call may have the addresses of group frames that the call took: its own, and
--- those of parts. One word of the header of `main` has a note about the global heap, and the others
--- are free for any use.
+-- two. The header of a call may have the addresses of group frames that the call took in parts. If
+-- the call took its own, the header keeps the address of the one before it. One word of the header
+-- of `main` has a note about the global heap, and the others are free for any use.
 use Rattle.std.specs.Prelude.{◌≡◌, ℕ, zero, suc, ◌+◌, ◌-◌, ◌*◌, ◌^◌, ◌<◌, ◌≤◌, ◌==◌, List, []}
 use Rattle.std.specs.Prelude.{◌∷◌, length, true, false, Bool, Option, Some}
 use Rattle.std.specs.Int.{from_bool}
@@ -23,8 +23,8 @@ pub record Frames : Type 0 where
   pub keeps : (index word : ℕ) → Bool
   -- Whether an index is in `main`.
   pub is_main : (index : ℕ) → Bool
-  -- Whether the header of the call has, at an index, the address of the group frame with a number
-  -- among those of the running call.
+  -- Whether the call has taken, at an index, the group frame with a number. The function's own has
+  -- number 0, and others are those of parts.
   pub group : (index number : ℕ) → Bool
   -- The number of private variables of file scope.
   pub of_file : ℕ
@@ -92,6 +92,11 @@ device_register = 26
 abbrev pub heap_mask_register : ℕ
 heap_mask_register = 27
 
+-- The register with the address of a function's own group frame: that of the running call, or, if
+-- it has none, that of the last waiting call that has one.
+abbrev pub group_frame_register : ℕ
+group_frame_register = 14
+
 -- The word of local memory that is 1 once the hart has found the global heap full. It lies in the
 -- header of the frame of `main`.
 abbrev pub full_word : ℕ
@@ -128,17 +133,49 @@ pub record HasRoom (frames : Frames) (index values : ℕ) : Type 0 where
   pub kept : (word : ℕ) → frames.keeps index word ≡ true
       → ahead frames (frames.is_main index) + 7 + word + values < 64
 
--- The word of the header that has the address of the group frame with a number. There are four such
--- words.
+-- The word of the header for the group frame with a number. There are four such words. The first
+-- one keeps what the register had before the call took its own frame, and the others have the
+-- addresses of those of parts.
 abbrev pub group_word : (waiting number : ℕ) → ℕ
 group_word waiting number = frame_end waiting - (61 - number)
 
--- The header of a call has the address of the group frame with a number, whose first word has this
--- index.
-pub record HasGroupFrame (memory : Memory) (waiting number first : ℕ) : Type 0 where
-  pub few : number < 4
+-- An address is that of a group frame, whose first word has this index.
+pub record IsGroupFrame (address first : ℕ) : Type 0 where
   pub within : first ≤ 2 ^ 20
-  pub address : memory (group_word waiting number) ≡ address_of first
+  pub is : address ≡ address_of first
+
+-- Whether the call has its own group frame at an index.
+abbrev pub has_own : Frames → (index : ℕ) → Bool
+has_own frames index = frames.group index 0
+
+-- The address is that of the call's own group frame, if the call has one.
+abbrev pub TellsFrame : (own : Bool) → (address : ℕ) → Call → Type 0
+TellsFrame true address call = IsGroupFrame address (call.frames 0)
+TellsFrame false address call = Unit {0}
+
+-- What the register had before a call: what it has, or, where the call took its own group frame,
+-- what its header keeps.
+abbrev pub before_call : (own : Bool) → (address kept : ℕ) → ℕ
+before_call true address kept = kept
+before_call false address kept = address
+
+-- The header of a call has the addresses of its group frames in parts.
+abbrev pub HasPartFrames : Frames → Memory → (waiting at : ℕ) → Call → Type 0
+HasPartFrames frames memory waiting at call =
+    (number : ℕ) → 0 < number → frames.group at number ≡ true
+    → (number < 4) × IsGroupFrame (memory (group_word waiting number)) (call.frames number)
+
+-- The register has the address of the own group frame of the first of these calls, and it had those
+-- of the others before. Headers have those of parts. The calls are the running one and those that
+-- wait, the last one first, each with the index where it goes on.
+abbrev pub HaveGroupFrames : Frames → Memory → (address : ℕ) → (indices : List ℕ) → List Call
+    → Type 0
+HaveGroupFrames frames memory address [] calls = Unit {0}
+HaveGroupFrames frames memory address (i ∷ indices) [] = Unit {0}
+HaveGroupFrames frames memory address (i ∷ indices) (c ∷ calls) =
+    TellsFrame (has_own frames i) address c × HasPartFrames frames memory (length calls) i c
+    × HaveGroupFrames frames memory
+    (before_call (has_own frames i) address (memory (group_word (length calls) 0))) indices calls
 
 module _ (places : Places) where
   -- The word 7 words before the private words of a call for which `waiting` other calls wait. It is
@@ -156,14 +193,11 @@ module _ (places : Places) where
   private_in h waiting = private_of h.local waiting
 
   -- The frame of a call that goes on at an index, and for which `waiting` other calls wait. Its
-  -- values and private words are where these functions find them, and all else is in memory.
-  pub record HasFrame (value private : ℕ → ℕ) (memory : Memory) (waiting at : ℕ)
-      (call : Call) : Type 0 where
+  -- values and private words are where these functions find them.
+  pub record HasFrame (value private : ℕ → ℕ) (waiting at : ℕ) (call : Call) : Type 0 where
     pub home : places.frames.is_main at ≡ (waiting == 0)
     pub values : HasValues value call.values
     pub privates : (i : ℕ) → places.frames.keeps at i ≡ true → private i ≡ call.privates i
-    pub group : (number : ℕ) → places.frames.group at number ≡ true
-        → HasGroupFrame memory waiting number (call.frames number)
 
   -- The header of a call: the address to which it returns, the frame of the call that waits for it,
   -- and the word where that call takes the result. The waiting call goes on at the index `back`,
@@ -182,12 +216,12 @@ module _ (places : Places) where
   -- The frame of a call that waits is in memory.
   abbrev pub FrameInMemory : Memory → (waiting at : ℕ) → Call → Type 0
   FrameInMemory memory waiting at call =
-      HasFrame (value_of memory waiting) (private_of memory waiting) memory waiting at call
+      HasFrame (value_of memory waiting) (private_of memory waiting) waiting at call
 
   -- The frame of the running call is in a hart.
   abbrev pub FrameInHart : Hart → (waiting at : ℕ) → Call → Type 0
   FrameInHart h waiting at call =
-      HasFrame (value_in h waiting) (private_in h waiting) h.local waiting at call
+      HasFrame (value_in h waiting) (private_in h waiting) waiting at call
 
   -- The frames and headers of the waiting calls, the last call first, each with the index where it
   -- goes on.
@@ -217,6 +251,8 @@ module _ (places : Places) where
     pub heap_mask : h.registers heap_mask_register ≡ 0xffff0003
     pub running : FrameInHart h (length p.runner.has.callers) p.runner.left.at p.runner.has.call
     pub waiting : HasWaiting h.local p.runner.left.callers p.runner.has.callers
+    pub groups : HaveGroupFrames places.frames h.local (h.registers group_frame_register)
+        (p.runner.left.at ∷ p.runner.left.callers) (p.runner.has.call ∷ p.runner.has.callers)
     pub own : (i : ℕ) → i < places.frames.of_file → h.local (7 + i) ≡ p.runner.has.own i
     pub heap : (i : ℕ) → i < 16384 → h.local (16384 + i) ≡ p.heap.words i
     pub full : h.local full_word ≡ from_bool p.heap.full

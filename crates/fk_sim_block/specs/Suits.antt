@@ -1,7 +1,7 @@
 -- Lists that suit frames: words that are read were kept or written, and values have room beside the
 -- words that are kept.
 use Rattle.std.specs.Prelude.{◌≡◌, ℕ, suc, ◌+◌, ◌-◌, ◌^◌, ◌==◌, ◌<◌, ◌≤◌, List, [], slice_get}
-use Rattle.std.specs.Prelude.{Bool, true, false, Some, ◌⊎◌}
+use Rattle.std.specs.Prelude.{Bool, true, false, Some, ◌||◌, ◌⊎◌}
 use Rattle.fk_meaning_operation.specs.declared.operation.OwnValue.{OwnValue}
 use Rattle.fk_meaning_operation.specs.declared.operation.OwnValue.TheVariants.{Value, FrameAddress}
 use Rattle.fk_meaning_operation.specs.declared.operation.Operation.{Operation}
@@ -53,20 +53,23 @@ nothing word = false
 
 module _ (core : List CoreOp) (frames : Frames) where
   -- The call goes on from index i at index j. What is kept at j was kept at i, or is written
-  -- meanwhile. A group frame whose address the header has at j was there at i.
+  -- meanwhile. The group frames that it has at j it had at i, and its own one it has still.
   pub record Flows (written : (word : ℕ) → Bool) (i j : ℕ) : Type 0 where
     pub main : frames.is_main j ≡ frames.is_main i
     pub kept : (word : ℕ) → frames.keeps j word ≡ true → written word ≡ false
         → frames.keeps i word ≡ true
     pub group : (number : ℕ) → frames.group j number ≡ true → frames.group i number ≡ true
+    pub own : frames.group j 0 ≡ frames.group i 0
 
-  -- The call takes the group frame with a number at index i, and goes on at index j. The header has
-  -- the address of that frame afterwards, and of those of which it had it.
+  -- The call takes the group frame with a number at index i, where it has none with this number, and
+  -- goes on at index j. There it has that frame and no other that it didn't have.
   pub record TakesFrame (number i j : ℕ) : Type 0 where
     pub main : frames.is_main j ≡ frames.is_main i
     pub kept : (word : ℕ) → frames.keeps j word ≡ true → frames.keeps i word ≡ true
+    pub none : frames.group i number ≡ false
     pub group : (told : ℕ) → frames.group j told ≡ true
         → (told ≡ number) ⊎ (frames.group i told ≡ true)
+    pub own : frames.group j 0 ≡ ((number == 0) || frames.group i 0)
 
   -- A call begins at the next index. Its frame has room for the private words that are kept there:
   -- its arguments, and others, which begin as 0. The caller goes on after the first jump from there
@@ -88,9 +91,9 @@ module _ (core : List CoreOp) (frames : Frames) where
   GoesOn operation i target depth = (onward : Bool)
       → Flows (writes operation) i (follows core operation i target [] onward).at
 
-  -- A word that is read is there, and so is the address of a group frame that is used or given
-  -- back. A word that is written lies below the values, and there is room for a value that is
-  -- pushed (`HasPlace`). The words of frames have numbers in lists.
+  -- A word that is read is there, and so is a group frame that is used. A call that ends gives its own
+  -- one back, if it has one. A word that is written lies below the values, and there is room for a
+  -- value that is pushed (`HasPlace`). The words of frames have numbers in lists.
   abbrev pub IsThere : OwnValue → (i : ℕ) → Type 0
   IsThere (Value (Private word)) i = frames.keeps i word ≡ true
   IsThere (Value (OfFile word)) i = word < frames.of_file
@@ -103,7 +106,7 @@ module _ (core : List CoreOp) (frames : Frames) where
   HasPlace (Get known) i depth = IsThere known i × HasRoom frames i (suc depth)
   HasPlace (Set (Private word)) i depth = ahead frames (frames.is_main i) + 7 + word + depth < 64
   HasPlace (Set (OfFile word)) i depth = word < frames.of_file
-  HasPlace (Leave gives true) i depth = frames.group i 0 ≡ true
+  HasPlace (Leave gives framed) i depth = frames.group i 0 ≡ framed
   HasPlace (Frame number words) i depth = (number < 4) × (words < 2 ^ 21)
   HasPlace operation i depth = Unit {0}
 

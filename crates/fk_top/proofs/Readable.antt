@@ -109,7 +109,7 @@ same_words source one other by with checked again =
     ap (λ (t : ProgramTree). words_by t by) same
     ∙ (ap (λ (ns : List Note). words (told ns by.kinds.items) other.items) facts.notes ∙ ap (λ (ks : List Kind). words (told with.notes.items ks) other.items) facts.kinds)
 
--- a text that is built has no split
+-- a text that is built has no `fork`
 built_or_not : (source : List ℕ) → IsText source → IsNotBuilt source → ⊥
 built_or_not source text other =
     let tree = other.laid.tree in
@@ -119,7 +119,7 @@ built_or_not source text other =
     let tables = same_tables tree laid.facts other.laid.facts (one_facts tree laid.facts other.laid.facts known other.laid.checked.known) in
     let built = subst (λ (t : ProgramTree). ArePlain (tables_by t laid.facts) t) same text.built.built in
     let here = subst (λ (t : Tables). ArePlain t tree) tables built in
-    let is = All-contains (λ op. is_plain op ≡ true) (operations_of (tables_by tree other.laid.facts) tree) _ here other.among in
+    let is = All-contains (λ op. is_plain op ≡ true) (operations_of (tables_by tree other.laid.facts) tree) _ here other.forks in
     let bad : true ≡ false = sym is in
     absurd (cc)
 

@@ -6,7 +6,7 @@ use Rattle.fk_layout.specs.Refusal.{Fits}
 use Rattle.fk_compile_text.specs.declared.refusal.Refusal.TheVariants.{NotBuilt}
 use Rattle.fk_compile_text.specs.Refusal.{IsRefusedText}
 use Rattle.fk_compile_text.specs.Text.{IsChecked}
-use Rattle.fk_compile_text.proofs.Watched.{one_splits}
+use Rattle.fk_compile_text.proofs.Watched.{one_forks}
 use Rattle.fk_compile_text.proofs.built.test_built.Goals as goal
 
 pub returns-clause-refused : goal.returns-clause-refused
@@ -16,8 +16,8 @@ returns-clause-refused c =
     IfErr-weaker c.told_by.result (λ refusal. (c.are_built.result ≡ false) × (refusal ≡ NotBuilt))
     (λ refusal. (source : List ℕ) → length source ≤ 1048576 → IsChecked source tree facts → Fits (tables_by tree facts) tree.items → IsRefusedText source refusal)
     (λ refusal told source short checked fits.
-    let found =
-    one_splits c.tables.result (tables_by tree facts) tree c.tables.ensures.tables c.tables.ensures.items (sym c.are_built.ensures ∙ told.0) in
+    let forks =
+    one_forks c.tables.result (tables_by tree facts) tree c.tables.ensures.tables c.tables.ensures.items (sym c.are_built.ensures ∙ told.0) in
     subst (IsRefusedText source) (sym told.1)
-    (short, record { laid = record { tree = tree; facts = facts; checked = checked; fits = fits }; by = found.0; among = found.1 }))
+    (short, record { laid = record { tree = tree; facts = facts; checked = checked; fits = fits }; forks = forks }))
     c.told_by.ensures.not_built

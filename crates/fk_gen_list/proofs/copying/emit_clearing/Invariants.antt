@@ -5,5 +5,5 @@ use Rattle.fk_gen_list.specs.Layout.{clear_offset}
 use Rattle.fk_gen_list.proofs.Chain.{IsSoFar, clearing_chain}
 use Rattle.fk_gen_list.proofs.copying.emit_clearing.Given as goal
 
-abbrev pub invariant-loop-word : goal.invariant-loop-word
-invariant-loop-word l = IsSoFar clear_label clear_offset clear_lines 1 clearing_chain (most_privates - l.word) l.fn.into l.into
+abbrev pub invariant-loop-cleared : goal.invariant-loop-cleared
+invariant-loop-cleared l = IsSoFar clear_label clear_offset clear_lines 1 clearing_chain (most_privates - l.cleared) l.fn.into l.into

@@ -17,6 +17,9 @@ emit_leave-requires-clause-depth c = c.requires.known.depth (sym c.is_jump.ensur
 pub emit_enter-requires-clause-depth : goal.emit_enter-requires-clause-depth
 emit_enter-requires-clause-depth c = c.requires.known.depth (sym c.is_jump.ensures ∙ c.if-is_jump.false)
 
+pub emit_enter-requires-clause-clears : goal.emit_enter-requires-clause-clears
+emit_enter-requires-clause-clears c = c.requires.known.clears
+
 pub emit_branch-requires-clause-near : goal.emit_branch-requires-clause-near
 emit_branch-requires-clause-near c =
     subst (HasOperands c.args.op.now.op.depth c.args.op.now.op.target c.args.op.now.back) (sym (ap Some (sym c.in-Some-Branch.field-0-is) ∙ c.in-Some-Branch.ensures)) c.requires.known.operands

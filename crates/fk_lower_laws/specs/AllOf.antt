@@ -1,23 +1,9 @@
--- Texts in which no group splits.
-use Rattle.std.specs.Prelude.{◌≡◌, Bool, true, false, All}
-use Rattle.fk_syntax.specs.Program.{ProgramTree}
+-- Code of which all operations are of some kind.
+use Rattle.std.specs.Prelude.{◌≡◌, Bool, true}
 use Rattle.fk_meaning_operation.specs.declared.operation.Operation.{Operation}
-use Rattle.fk_meaning_operation.specs.declared.operation.Operation.TheVariants.{Split, Shrink}
 use Rattle.fk_meaning_forms.specs.Code.{Code, done, perform, choose, while, until, turn, again}
 use Rattle.fk_meaning_forms.specs.Code.{quit, break, continue, call, ends}
-use Rattle.fk_meaning_forms.specs.Tables.{Tables}
-use Rattle.fk_compile_text.specs.Built.{operations_of}
 
--- All operations except splits, and tests of loops that split.
-abbrev pub is_unsplit : Operation → Bool
-is_unsplit (Split split) = false
-is_unsplit Shrink = false
-is_unsplit operation = true
-
-abbrev pub AreUnsplit : Tables → ProgramTree → Type 0
-AreUnsplit tables program = All (λ op. is_unsplit op ≡ true) (operations_of tables program)
-
--- All operations of code are of some kind.
 module _ (which : Operation → Bool) where
   abbrev pub AllOf : {A : Type 0} → Code A → Type 0
   AllOf done = Unit {0}

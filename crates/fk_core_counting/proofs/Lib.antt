@@ -1,0 +1,4 @@
+pub mod Folding
+pub mod Ways
+pub mod Walk
+pub mod Lists

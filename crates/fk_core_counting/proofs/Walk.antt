@@ -1,0 +1,445 @@
+-- Along code, as it is written into a list, the counts of the list are the levels of the states at its indices.
+use Rattle.std.proofs.Common.{◌≡◌, ◌⊎◌, ℕ, zero, suc, ◌+◌, ◌-◌, ◌<◌, ◌≤◌, Bool, true, false, true≢false, List, [], ◌∷◌, ◌++◌, length, slice_get, Option, Some, None, inl, inr, refl, sym, ap, ◌∙◌, subst, arith, length-append}
+use Rattle.std.specs.Prelude.{◌==◌, ◌&&◌, ◌||◌, is_some, if◌then◌else◌}
+use Rattle.fk_meaning_operation.specs.declared.operation.Operation.{Operation}
+use Rattle.fk_meaning_operation.specs.declared.operation.Operation.TheVariants as o
+use Rattle.fk_meaning_forms.specs.Code.{Code, done, perform, choose, while, until, turn, again, quit, break, continue, call, ends}
+use Rattle.fk_meaning.specs.Shape as sh
+use Rattle.fk_meaning.specs.Shape.{Exits, of_way, of_test, of_turn, splits, has_two_parts, waits, is_quit, ends_part, Either, Shape}
+use Rattle.fk_meaning.specs.Behind.{opens_body}
+use Rattle.fk_meaning.proofs.Spine.{untrue}
+use Rattle.fk_core.specs.declared.op.CoreOp.{CoreOp}
+use Rattle.fk_core.specs.Next.{is_jump}
+use Rattle.fk_core.specs.CodeAt.{Around}
+use Rattle.fk_core_flat.specs.Items as w
+use Rattle.fk_core_flat.specs.Items.{Item, jump, act, IsItem, Has, Way, way_of, goes_away, aim}
+use Rattle.fk_core_flat.specs.Flat.{begins_here, skip, gap, extent, behind, label, flat}
+use Rattle.fk_core_flat.specs.Shape.{is_done, IsOpening, IsShaped}
+use Rattle.fk_core_flat.proofs.Having.{has_front, has_back}
+use Rattle.fk_core_flat.proofs.Lengths.{skips, flat_length}
+use Rattle.fk_core_flat.proofs.Parts.{choice_at, turns_at, rounds_at, entering_at, has_choice, has_turns, has_rounds, has_entering}
+use Rattle.fk_core_flat.proofs.CodeAt.{opening_begins}
+use Rattle.fk_core_liveness.specs.declared.places.FunctionKind.{FunctionKind}
+use Rattle.fk_core_liveness.specs.declared.places.FunctionKind.TheVariants.{Called}
+use Rattle.fk_core_liveness.specs.Frames.{is_main_place}
+use Rattle.fk_core_typing.specs.Values.{Place, with_frame, entered, place_behind, MayBeIn}
+use Rattle.fk_core_typing.proofs.Done.{by_done}
+use Rattle.fk_core_typing.proofs.System.{System, Loop, Judged}
+use Rattle.fk_core_typing.proofs.Marks.{skip_mark, skip_length, marks, mark_length}
+use Rattle.fk_lockstep_structure.specs.Placed.{Who, OfBody, is_main, inner, who_in, callee_of, may_perform, may_choose, Placed}
+use Rattle.fk_core_levels.specs.Count.{read, enters}
+use Rattle.fk_core_counting.specs.Laws.{under, ShrinksIn}
+use Rattle.fk_core_counting.proofs.Folding.{Parts, none, at, past, Fold, fold, step, told_by, after_operation, told_of_operation, none_read, after_jump, told_of_jump, opening_goes_on}
+use Rattle.fk_core_counting.proofs.Ways.{parts_at, Stand, stand_at, stand_inner, stand_begun, Enters, Says, says_straight, says_onto, says_into, says_out, straight_on, quit_on, says_quit, out_on, here_of, resume_of, after_straight, after_quit, no_enter, either_here, out_here, into_here, Ways, ways}
+
+-- the places of states, and how they change
+pub record KeepsPlaces (sys : System) (place : sys.State → Place) (place_of : ℕ → FunctionKind) : Type 0 where
+  pub grants : (s t : sys.State) → sys.Grants s t → place s ≡ place t
+  pub stands : (s t : sys.State) → sys.Stands s t → place s ≡ place t
+  pub behind : (op : Operation) (onward : Bool) (s : sys.State) → place (sys.behind op onward s) ≡ place_behind op onward (place s)
+  pub begins : (op : Operation) (f : ℕ) (gives : Bool) → place (sys.begin op f gives) ≡ entered (Called gives)
+  pub enters : (op : Operation) (f : ℕ) (gives : Bool) → (frame : Option ℕ) × (place (sys.entered op f gives) ≡ with_frame (Called gives) frame)
+  pub calls : (op : Operation) (gives : Bool) (s : sys.State) → place (sys.behind_call op gives s) ≡ place s
+  pub may : (op : Operation) (s : sys.State) → sys.May op s → MayBeIn op (place s)
+  pub first : (f : ℕ) → (frame : Option ℕ) × (place (sys.first f) ≡ with_frame (place_of f) frame)
+
+module _ (core : List CoreOp) (entry : ℕ → ℕ) (may_call : (in_group : Bool) → (function : ℕ) → Bool) (has_body : ℕ → Bool) (sys : System) (place : sys.State → Place) (place_of : ℕ → FunctionKind)
+    (keeps : KeepsPlaces sys place place_of) (come : ℕ → Fold) (goes : (i : ℕ) → come (suc i) ≡ step (slice_get core i) (come i)) where
+  abbrev pub told : ℕ → Parts
+  told i = told_by (slice_get core i) (come i)
+
+  abbrev pub parts_of : sys.State → Parts
+  parts_of s = parts_at (place s)
+
+  abbrev Stands : Who → sys.State → Parts → Type 0
+  Stands who s k = Stand who (place s) k
+
+  -- what is said of the operation at an index
+  abbrev pub SaysAt : ℕ → sys.State → Type 0
+  SaysAt i s = (op : CoreOp) (operation : Operation) → slice_get core i ≡ Some op → read op ≡ Some operation → Says operation (place s)
+
+  abbrev pub AreRight : ℕ → List sys.State → Type 0
+  AreRight i [] = Unit {0}
+  AreRight i (s ∷ more) = ((told i ≡ parts_of s) × SaysAt i s) × AreRight (suc i) more
+
+  right_both : (i r : ℕ) (xs ys : List sys.State) → r ≡ i + length xs → AreRight i xs → AreRight r ys → AreRight i (xs ++ ys)
+  right_both i r [] ys e a b = let f : r ≡ i = omega arith in subst (λ j. AreRight j ys) f b
+  right_both i r (x ∷ xs) ys e a b = let f : r ≡ suc i + length xs = omega arith in (a.0, right_both (suc i) r xs ys f a.1 b)
+
+  -- what is so behind code that ends before an index
+  abbrev Behind : (r : ℕ) → (k : Parts) → Type 0
+  Behind r k = come r ≡ fold k false
+
+  moved : (i r : ℕ) (k : Parts) → r ≡ i → Behind i k → Behind r k
+  moved i r k e h = ap come e ∙ h
+
+  -- ---- one item
+
+  abbrev Stood : ℕ → Item → Type 0
+  Stood i item = (c : CoreOp) × (slice_get core i ≡ Some c) × IsItem item c
+
+  same_op : (a b : CoreOp) (x : Option CoreOp) → x ≡ Some a → x ≡ Some b → a ≡ b
+  same_op a b x p q = cc
+
+  same_operation : (a b : Operation) (x : Option Operation) → x ≡ Some a → x ≡ Some b → a ≡ b
+  same_operation a b x p q = cc
+
+  act_told : (i site : ℕ) (k : Parts) (op : Operation) (target : ℕ) → (h : Stood i (act site op target)) → Behind i k → told i ≡ at (Some op) k
+  act_told i site k op target h e =
+      ap (λ x. told_by x (come i)) h.1 ∙ ap (told_by (Some h.0)) e ∙ told_of_operation h.0 op h.2.0 k
+
+  act_goes : (i site : ℕ) (k : Parts) (b : Bool) (op : Operation) (target : ℕ) → (h : Stood i (act site op target)) → come i ≡ fold k b
+      → come (suc i) ≡ fold (past (Some op) (at (Some op) k)) (enters b (Some op))
+  act_goes i site k b op target h e =
+      goes i ∙ ap (λ x. step x (come i)) h.1 ∙ ap (step (Some h.0)) e ∙ after_operation h.0 op h.2.0 k b
+
+  act_says : (i site : ℕ) (op : Operation) (target : ℕ) (s : sys.State) → Stood i (act site op target) → Says op (place s) → SaysAt i s
+  act_says i site op target s h says = λ c operation there is.
+      let same = same_op h.0 c (slice_get core i) h.1 there in
+      let own = subst (λ (x : CoreOp). read x ≡ Some op) same h.2.0 in
+      subst (λ (x : Operation). Says x (place s)) (same_operation op operation (read c) own is) says
+
+  jump_told : (i : ℕ) (k : Parts) (target : ℕ) → (h : Stood i (jump target)) → Behind i k → told i ≡ k
+  jump_told i k target h e = ap (λ x. told_by x (come i)) h.1 ∙ ap (told_by (Some h.0)) e ∙ told_of_jump h.0 h.2.0 k
+
+  jump_goes : (i : ℕ) (k : Parts) (target : ℕ) (b : Bool) → (h : Stood i (jump target)) → come i ≡ fold k b → come (suc i) ≡ fold k false
+  jump_goes i k target b h e = goes i ∙ ap (λ x. step x (come i)) h.1 ∙ ap (step (Some h.0)) e ∙ after_jump h.0 h.2.0 k b
+
+  jump_says : (i target : ℕ) (s : sys.State) → Stood i (jump target) → SaysAt i s
+  jump_says i target s h = λ c operation there is.
+      let same = same_op h.0 c (slice_get core i) h.1 there in
+      let jumps = subst (λ (x : CoreOp). is_jump x ≡ true) same h.2.0 in
+      absurd (let clash = sym (none_read c jumps) ∙ is in cc)
+
+  opening_told : (i : ℕ) (k : Parts) (item : Item) → (h : Stood i item) → come i ≡ fold k true → told i ≡ none
+  opening_told i k item h e = ap (λ x. told_by x (come i)) h.1 ∙ ap (told_by (Some h.0)) e
+
+  skipped : (b : Bool) (j target : ℕ) (s : sys.State) (k : Parts) → parts_of s ≡ k → Has core j (skip b target) → Behind j k → AreRight j (skip_mark b s) × Behind (j + gap b) k
+  skipped true j target s k e h f = (tt, moved j (j + gap true) k (omega arith) f)
+  skipped false j target s k e h f = (
+    ((jump_told j k target h.0 f ∙ sym e, jump_says j target s h.0), tt),
+    moved (suc j) (j + gap false) k (omega arith) (jump_goes j k target false h.0 f),
+  )
+
+  -- ---- the opening of a call
+
+  abbrev IsOutside : sys.State → Type 0
+  IsOutside s = Stands OfBody s none
+
+  outside : (frame : Option ℕ) (gives : Bool) (s : sys.State) → place s ≡ with_frame (Called gives) frame → IsOutside s
+  outside frame gives s e = stand_at OfBody (place s) (with_frame (Called gives) frame) none e (stand_begun OfBody (Called gives) frame (λ f. refl))
+
+  opened : (code : Code ℕ) (l : Option (Loop sys)) (s e : sys.State) (i k : ℕ) (n : Parts) (who : Who) → IsOpening code → Placed may_call who false code → (t : Judged sys l s code e)
+      → Has core i (flat entry true None i k code) → IsOutside s → come i ≡ fold n true
+      → AreRight i (marks sys true l s code e t) × (come (i + extent true code) ≡ fold n true)
+  opened done l s e i k n who shape placed t h stand f = (tt, ap come (let g : i + 0 ≡ i = omega arith in g) ∙ f)
+  opened (perform m op rest) l s e i k n who shape placed t h stand f =
+      let here' = goes_away (way_of op) || begins_here true rest in
+      let g : here' ≡ true = ap (λ x. goes_away x || begins_here true rest) shape.0 ∙ opening_begins rest shape.1 in
+      let r = sys.behind op true s in
+      let others = subst (λ (b : Bool). Has core (suc i) (skip b (label None (suc i + gap b) k rest) ++ flat entry true None (suc i + gap b) k rest)) g h.1 in
+      let next : suc i + 0 ≡ suc i = omega arith in
+      let there = subst (λ j. Has core (suc i) (flat entry true None j k rest)) next others in
+      let onward = act_goes i m n true op (aim (way_of op) k) h.0 f
+      ∙ ap (λ x. fold (past (Some op) x) (enters true (Some op))) (here_of op n placed.0) ∙ ap (λ x. fold x (enters true (Some op))) (after_straight op n (inl shape.0)) ∙ ap (fold n) (opening_goes_on op) in
+      let stand' = stand_at OfBody (place r) (place_behind op true (place s)) none (keeps.behind op true s) (straight_on OfBody op (place s) none shape.0 stand) in
+      let more = opened rest l r e (suc i) k n who shape.1 placed.1 t.1 there stand' onward in
+      let far : i + suc (0 + extent true rest) ≡ suc i + extent true rest = omega arith in (
+        ((opening_told i n (act m op (aim (way_of op) k)) h.0 f ∙ sym stand.is, act_says i m op (aim (way_of op) k) s h.0 (says_straight op (place s) shape.0)),
+        subst (λ (b : Bool). AreRight (suc i) (skip_mark b r ++ marks sys true l r rest e t.1)) (sym g) more.0),
+        ap (λ (b : Bool). come (i + suc (gap b + extent true rest))) g ∙ ap come far ∙ more.1,
+      )
+  opened (choose m op x y rest) l s e i k n who shape placed t h stand f = absurd shape
+  opened (while a b c rest) l s e i k n who shape placed t h stand f = absurd shape
+  opened (until a b rest) l s e i k n who shape placed t h stand f = absurd shape
+  opened (turn a b c rest) l s e i k n who shape placed t h stand f = absurd shape
+  opened (again a b c rest) l s e i k n who shape placed t h stand f = absurd shape
+  opened (quit m op rest) l s e i k n who shape placed t h stand f = absurd shape
+  opened (break rest) l s e i k n who shape placed t h stand f = absurd shape
+  opened (continue rest) l s e i k n who shape placed t h stand f = absurd shape
+  opened (call m op f' opening rest) l s e i k n who shape placed t h stand f = absurd shape
+  opened (ends m op rest) l s e i k n who shape placed t h stand f = absurd shape
+
+  -- ---- code
+
+  -- what code comes to: the counts at its indices, and what is open behind it
+  abbrev Counted : (near : Bool) (l : Option (Loop sys)) (s : sys.State) (code : Code ℕ) (e : sys.State) → Judged sys l s code e → (i : ℕ) (n : Parts) → Type 0
+  Counted near l s code e t i n = AreRight i (marks sys near l s code e t) × Behind (i + extent near code) n
+
+  counted_done : (code : Code ℕ) → is_done code ≡ true → (near : Bool) (l : Option (Loop sys)) (s e : sys.State) (t : Judged sys l s code e) (i : ℕ) (n : Parts) → Behind i n → Counted near l s code e t i n
+  counted_done code is near l s e t i n f =
+      by_done (λ x. (t' : Judged sys l s x e) → Counted near l s x e t' i n) code is (λ t'. (tt, moved i (i + 0) n (omega arith) f)) t
+
+  -- code behind an operation, after a jump to it if that is somewhere else
+  abbrev Goes : (rest : Code ℕ) (near : Bool) (c : Around) (l : Option (Loop sys)) (s e : sys.State) → Judged sys l s rest e → (k : ℕ) (n : Parts) → Type 0
+  Goes rest near c l s e t k n = (j : ℕ) → Has core j (flat entry near c j k rest) → Behind j n → Counted near l s rest e t j n
+
+  falls : (b : Bool) (rest : Code ℕ) (near : Bool) (c : Around) (l : Option (Loop sys)) (s e : sys.State) (t : Judged sys l s rest e) (j k : ℕ) (n : Parts) → parts_of s ≡ n
+      → Has core j (skip b (label c (j + gap b) k rest) ++ flat entry near c (j + gap b) k rest) → Behind j n → Goes rest near c l s e t k n
+      → AreRight j (skip_mark b s ++ marks sys near l s rest e t) × Behind (j + (gap b + extent near rest)) n
+  falls b rest near c l s e t j k n stand h f more =
+      let target = label c (j + gap b) k rest in
+      let r = j + gap b in
+      let a = skips b target in
+      let to : r ≡ j + length (skip b target) = ap (λ x. j + x) (sym a) in
+      let first = skipped b j target s n stand (has_front core j (skip b target) (flat entry near c r k rest) h) f in
+      let others = more r (has_back core j r (skip b target) (flat entry near c r k rest) to h) first.1 in
+      let far : j + (gap b + extent near rest) ≡ r + extent near rest = omega arith in (
+        right_both j r (skip_mark b s) (marks sys near l s rest e t) (ap (λ x. j + x) (sym (skip_length b s))) first.0 others.0,
+        moved (r + extent near rest) (j + (gap b + extent near rest)) n far others.1,
+      )
+
+  not_into : (op : Operation) → (way_of op ≡ w.straight) ⊎ (way_of op ≡ w.onto) → way_of op ≡ w.into → ⊥
+  not_into op (inl e) f = let clash = sym e ∙ f in cc
+  not_into op (inr e) f = let clash = sym e ∙ f in cc
+
+  either_into : (op : Operation) → way_of op ≡ w.either → way_of op ≡ w.into → ⊥
+  either_into op e f = let clash = sym e ∙ f in cc
+
+  out_into : (op : Operation) → way_of op ≡ w.out → way_of op ≡ w.into → ⊥
+  out_into op e f = let clash = sym e ∙ f in cc
+
+  -- an operation by itself
+  one : (resuming : Bool) (op : Operation) (m n : Parts) → may_perform resuming op ≡ true → Enters resuming m n → at (Some op) m ≡ n
+  one true op m n may e = subst (λ (x : Operation). at (Some x) m ≡ n) (sym (resume_of op may)) e
+  one false op m n may e = here_of op m may ∙ e
+
+  not_resuming : (resuming : Bool) (m n : Parts) → resuming ≡ false → Enters resuming m n → m ≡ n
+  not_resuming true m n e f = absurd (true≢false e)
+  not_resuming false m n e f = f
+
+  walk : (code : Code ℕ) (near : Bool) (c : Around) (l : Option (Loop sys)) (s e : sys.State) (i k : ℕ) (m n : Parts) (who : Who) (resuming in_loop part closing : Bool) (x : Exits) (in_split : Bool)
+      → IsShaped has_body in_loop code → Shape part closing x code → Placed may_call who resuming code → (t : Judged sys l s code e) → Has core i (flat entry near c i k code)
+      → ShrinksIn in_split code → (in_split ≡ true → 1 ≤ n.levels) → Stands who s n → Enters resuming m n → Behind i m → Counted near l s code e t i n
+  walk done near c l s e i k m n who resuming in_loop part closing x in_split shaped shape placed t h shrinks deep stand fits f =
+      (tt, moved i (i + 0) n (omega arith) (f ∙ ap (λ z. fold z false) (not_resuming resuming m n placed fits)))
+  walk (perform site op rest) near c l s e i k m n who resuming in_loop part closing x in_split shaped shape placed t h shrinks deep stand fits f =
+      let here' = goes_away (way_of op) || begins_here near rest in
+      let r = sys.behind op true s in
+      let ways' = performs_by shaped.0 in
+      let mine = one resuming op m n placed.0 fits in
+      let onward : Behind (suc i) n = act_goes i site m false op (aim (way_of op) k) h.0 f ∙ ap (λ z. fold (past (Some op) z) (enters false (Some op))) mine
+      ∙ ap (λ z. fold z (enters false (Some op))) (after_straight op n ways') ∙ ap (fold n) (no_enter op false (not_into op ways')) in
+      let both = by shaped.0 onward in
+      let far : i + suc (gap here' + extent near rest) ≡ suc i + (gap here' + extent near rest) = omega arith in (
+        ((act_told i site m op (aim (way_of op) k) h.0 f ∙ mine ∙ sym stand.is, act_says i site op (aim (way_of op) k) s h.0 (says ways')), both.0),
+        moved (suc i + (gap here' + extent near rest)) (i + suc (gap here' + extent near rest)) n far both.1,
+      )
+    where
+      performs_by : (way_of op ≡ w.straight) ⊎ ((way_of op ≡ w.onto) × (is_done rest ≡ true)) → (way_of op ≡ w.straight) ⊎ (way_of op ≡ w.onto)
+      performs_by (inl a) = inl a
+      performs_by (inr a) = inr a.0
+
+      says : (way_of op ≡ w.straight) ⊎ (way_of op ≡ w.onto) → Says op (place s)
+      says (inl a) = says_straight op (place s) a
+      says (inr a) = says_onto op (place s) a
+
+      no_end : (op' : Operation) → way_of op' ≡ w.straight → ends_part op' ≡ false
+      no_end o.End a = absurd (cc)
+      no_end op' a = refl
+
+      goes_on : (b : Bool) → b ≡ false → Either b ((part ≡ true) × (x.tests ≡ false) × (rest ≡ done)) (Shape part false x rest) → Shape part false x rest
+      goes_on true a either = absurd (true≢false a)
+      goes_on false a either = either
+
+      by : (way_of op ≡ w.straight) ⊎ ((way_of op ≡ w.onto) × (is_done rest ≡ true)) → Behind (suc i) n
+          → AreRight (suc i) (skip_mark (goes_away (way_of op) || begins_here near rest) (sys.behind op true s) ++ marks sys near l (sys.behind op true s) rest e t.1)
+          × Behind (suc i + (gap (goes_away (way_of op) || begins_here near rest) + extent near rest)) n
+      by (inl a) g =
+          let r = sys.behind op true s in
+          let stand' = stand_at who (place r) (place_behind op true (place s)) n (keeps.behind op true s) (straight_on who op (place s) n a stand) in
+          falls (goes_away (way_of op) || begins_here near rest) rest near c l r e t.1 (suc i) k n stand'.is h.1 g
+          (λ j there b. walk rest near c l r e j k n n who false in_loop part false x in_split shaped.1 (goes_on (ends_part op) (no_end op a) shape.2) placed.1 t.1 there shrinks deep stand' refl b)
+      by (inr a) g =
+          let r = sys.behind op true s in
+          let b : (goes_away (way_of op) || begins_here near rest) ≡ true = ap (λ z. goes_away z || begins_here near rest) a.0 in
+          let more = counted_done rest a.1 near l r e t.1 (suc i) n g in
+          let far : suc i + (0 + extent near rest) ≡ suc i + extent near rest = omega arith in (
+            subst (λ z. AreRight (suc i) (skip_mark z r ++ marks sys near l r rest e t.1)) (sym b) more.0,
+            ap (λ z. come (suc i + (gap z + extent near rest))) b ∙ moved (suc i + extent near rest) (suc i + (0 + extent near rest)) n far more.1,
+          )
+  walk (choose site op x' y rest) near c l s e i k m n who resuming in_loop part closing x in_split shaped shape placed t h shrinks deep stand fits f =
+      let q = choice_at entry x' y rest near c i k in
+      let has = has_choice entry core x' y rest near c i k h.1 in
+      let u = t.1 in
+      let a = sys.behind op true s in
+      let b = sys.behind op false s in
+      let js = skip_mark q.here a in
+      let xs = marks sys q.beside l a x' u t.2 in
+      let ys = marks sys q.after l b y u t.3 in
+      let zs = marks sys near l u rest e t.4 in
+      let lj = skip_length q.here a in
+      let lx = mark_length sys q.beside l a x' u t.2 in
+      let ly = mark_length sys q.after l b y u t.3 in
+      let e1 = length-append js xs in
+      let e2 = length-append (js ++ xs) ys in
+      let m' = not_resuming resuming m n placed.0 fits in
+      let mine = either_here op m shaped.0 ∙ m' in
+      let n' = past (Some op) n in
+      let two = ways (place s) n who op placed.1 (keeps.may op s t.0) stand in
+      let onward : Behind (suc i) n' = act_goes i site m false op (label c q.second q.next y) h.0 f ∙ ap (λ z. fold (past (Some op) z) (enters false (Some op))) mine
+      ∙ ap (fold n') (no_enter op false (either_into op shaped.0)) in
+      let stand_a = stand_at (who_in who op) (place a) (place_behind op true (place s)) n' (keeps.behind op true s) two.first in
+      let before = skipped q.here (suc i) (label c q.first q.next x') a n' stand_a.is (has_front core (suc i) q.jumps q.firsts has.begins) onward in
+      let firsts = walk x' q.beside c l a u q.first q.next n' n' (who_in who op) false in_loop (splits op) false (of_way op x) (under op in_split) shaped.1 shape.2 placed.2 t.2 has.first shrinks.0 (two.deep in_split deep) stand_a refl before.1 in
+      let seconds = second n' (two.deep in_split deep) two.second q.after q.second q.next has.second firsts.1 in
+      let stand_u = stand_at who (place u) (place s) n (keeps.stands u s t.5) stand in
+      let others = walk rest near c l u e q.behind k n' n who (splits op) in_loop part (opens_body op) x in_split shaped.3 shape.6 placed.5 t.4 has.others shrinks.2 deep stand_u two.behind seconds.1 in
+      let far : i + suc (gap q.here + extent q.beside x' + extent q.after y + extent near rest) ≡ q.behind + extent near rest = omega arith in (
+        ((act_told i site m op (label c q.second q.next y) h.0 f ∙ mine ∙ sym stand.is, act_says i site op (label c q.second q.next y) s h.0 two.says),
+        right_both (suc i) q.behind ((js ++ xs) ++ ys) zs (omega arith)
+            (right_both (suc i) q.second (js ++ xs) ys (omega arith) (right_both (suc i) q.first js xs (omega arith) before.0 firsts.0) seconds.0) others.0),
+        moved (q.behind + extent near rest) (i + suc (gap q.here + extent q.beside x' + extent q.after y + extent near rest)) n far others.1,
+      )
+    where
+      is_nothing : (code : Code ℕ) → code ≡ done → is_done code ≡ true
+      is_nothing code a = ap is_done a
+
+      second : (n' : Parts) → (under op in_split ≡ true → 1 ≤ n'.levels) → Stand (who_in who op) (place_behind op false (place s)) n' ⊎ (waits op ≡ true) → (after' : Bool) (r next : ℕ) → Has core r (flat entry after' c r next y) → Behind r n'
+          → Counted after' l (sys.behind op false s) y t.1 t.3 r n'
+      second n' deeper (inl a) after' r next there g =
+          let b = sys.behind op false s in
+          let stand_b = stand_at (who_in who op) (place b) (place_behind op false (place s)) n' (keeps.behind op false s) a in
+          walk y after' c l b t.1 r next n' n' (who_in who op) false in_loop (has_two_parts op) false (of_way op x) (under op in_split) shaped.2 shape.3 placed.3 t.3 there shrinks.1 deeper stand_b refl g
+      second n' deeper (inr a) after' r next there g = counted_done y (is_nothing y (shape.4 a)) after' l (sys.behind op false s) t.1 t.3 r n' g
+  walk (while test body last rest) near c l s e i k m n who resuming in_loop part closing x in_split shaped shape placed t h shrinks deep stand fits f =
+      let q = turns_at entry test body last rest near c i k in
+      let has = has_turns entry core test body last rest near c i k h in
+      let round = t.0 in
+      let b = round.turn in
+      let ts = marks sys q.enters (Some round) b test b t.2 in
+      let bs = marks sys q.steps (Some round) b body b t.3 in
+      let ss = marks sys false (Some round) b last b t.4 in
+      let rs = marks sys near l round.left rest e t.5 in
+      let lt = mark_length sys q.enters (Some round) b test b t.2 in
+      let lb = mark_length sys q.steps (Some round) b body b t.3 in
+      let ls = mark_length sys false (Some round) b last b t.4 in
+      let e1 = length-append ts bs in
+      let e2 = length-append (ts ++ bs) ss in
+      let g = f ∙ ap (λ z. fold z false) (not_resuming resuming m n placed.0 fits) in
+      let turns = stand_at (inner who) (place b) (place s) n (sym (keeps.grants s b t.1)) (stand_inner who (place s) n stand) in
+      let tests = walk test q.enters (Some q.loop) (Some round) b b i q.enter n n (inner who) false true false false (of_test shape.1) in_split shaped.2 shape.2 placed.1 t.2 has.test shrinks.0 deep turns refl g in
+      let bodies = walk body q.steps (Some q.loop) (Some round) b b q.body q.loop.onward n n (inner who) false true false false (of_turn shape.1 x) in_split shaped.3 shape.3 placed.2 t.3 has.body shrinks.1 deep turns refl tests.1 in
+      let lasts = walk last false (Some q.loop) (Some round) b b q.step i n n (inner who) false true false false sh.none in_split shaped.4 shape.4 placed.3 t.4 has.step shrinks.2 deep turns refl bodies.1 in
+      let others = left t.6 q.behind has.others lasts.1 in
+      let far : i + (extent q.enters test + extent q.steps body + extent false last + extent near rest) ≡ q.behind + extent near rest = omega arith in (
+        right_both i q.behind ((ts ++ bs) ++ ss) rs (omega arith)
+            (right_both i q.step (ts ++ bs) ss (omega arith) (right_both i q.body ts bs (omega arith) tests.0 bodies.0) lasts.0) others.0,
+        moved (q.behind + extent near rest) (i + (extent q.enters test + extent q.steps body + extent false last + extent near rest)) n far others.1,
+      )
+    where
+      onward : Either shape.1 ((part ≡ true) × (x.tests ≡ false) × (rest ≡ done)) (Shape part false x rest) → (Shape part false x rest) ⊎ (is_done rest ≡ true)
+      onward a = by shape.1 a
+        where
+          by : (b : Bool) → Either b ((part ≡ true) × (x.tests ≡ false) × (rest ≡ done)) (Shape part false x rest) → (Shape part false x rest) ⊎ (is_done rest ≡ true)
+          by true a' = inr (ap is_done a'.2)
+          by false a' = inl a'
+
+      left : sys.Stands t.0.left t.0.turn ⊎ (is_done rest ≡ true) → (r : ℕ) → Has core r (flat entry near c r k rest) → Behind r n → Counted near l t.0.left rest e t.5 r n
+      left (inr a) r there g = counted_done rest a near l t.0.left e t.5 r n g
+      left (inl a) r there g = by (onward shape.5)
+        where
+          by : (Shape part false x rest) ⊎ (is_done rest ≡ true) → Counted near l t.0.left rest e t.5 r n
+          by (inr b) = counted_done rest b near l t.0.left e t.5 r n g
+          by (inl b) =
+              let there' = stand_at who (place t.0.left) (place s) n (keeps.stands t.0.left t.0.turn a ∙ sym (keeps.grants s t.0.turn t.1)) stand in
+              walk rest near c l t.0.left e r k n n who false in_loop part false x in_split shaped.5 b placed.4 t.5 there shrinks.3 deep there' refl g
+  walk (until body test rest) near c l s e i k m n who resuming in_loop part closing x in_split shaped shape placed t h shrinks deep stand fits f =
+      let q = rounds_at entry body test rest near c i k in
+      let has = has_rounds entry core body test rest near c i k h in
+      let round = t.0 in
+      let b = round.turn in
+      let bs = marks sys true (Some round) b body b t.2 in
+      let ts = marks sys false (Some round) b test b t.3 in
+      let rs = marks sys near l round.left rest e t.4 in
+      let lb = mark_length sys true (Some round) b body b t.2 in
+      let lt = mark_length sys false (Some round) b test b t.3 in
+      let e1 = length-append bs ts in
+      let g = f ∙ ap (λ z. fold z false) (not_resuming resuming m n placed.0 fits) in
+      let turns = stand_at (inner who) (place b) (place s) n (sym (keeps.grants s b t.1)) (stand_inner who (place s) n stand) in
+      let bodies = walk body true (Some q.loop) (Some round) b b i q.test n n (inner who) false true false false (of_turn shape.1 x) in_split shaped.1 shape.3 placed.1 t.2 has.body shrinks.0 deep turns refl g in
+      let tests = walk test false (Some q.loop) (Some round) b b q.test q.enter n n (inner who) false true false false (of_test shape.1) in_split shaped.2 shape.2 placed.2 t.3 has.test shrinks.1 deep turns refl bodies.1 in
+      let others = left t.5 q.behind has.others tests.1 in
+      let far : i + (extent true body + extent false test + extent near rest) ≡ q.behind + extent near rest = omega arith in (
+        right_both i q.behind (bs ++ ts) rs (omega arith) (right_both i q.test bs ts (omega arith) bodies.0 tests.0) others.0,
+        moved (q.behind + extent near rest) (i + (extent true body + extent false test + extent near rest)) n far others.1,
+      )
+    where
+      onward : Either shape.1 ((part ≡ true) × (x.tests ≡ false) × (rest ≡ done)) (Shape part false x rest) → (Shape part false x rest) ⊎ (is_done rest ≡ true)
+      onward a = by shape.1 a
+        where
+          by : (b : Bool) → Either b ((part ≡ true) × (x.tests ≡ false) × (rest ≡ done)) (Shape part false x rest) → (Shape part false x rest) ⊎ (is_done rest ≡ true)
+          by true a' = inr (ap is_done a'.2)
+          by false a' = inl a'
+
+      left : sys.Stands t.0.left t.0.turn ⊎ (is_done rest ≡ true) → (r : ℕ) → Has core r (flat entry near c r k rest) → Behind r n → Counted near l t.0.left rest e t.4 r n
+      left (inr a) r there g = counted_done rest a near l t.0.left e t.4 r n g
+      left (inl a) r there g = by (onward shape.4)
+        where
+          by : (Shape part false x rest) ⊎ (is_done rest ≡ true) → Counted near l t.0.left rest e t.4 r n
+          by (inr b) = counted_done rest b near l t.0.left e t.4 r n g
+          by (inl b) =
+              let there' = stand_at who (place t.0.left) (place s) n (keeps.stands t.0.left t.0.turn a ∙ sym (keeps.grants s t.0.turn t.1)) stand in
+              walk rest near c l t.0.left e r k n n who false in_loop part false x in_split shaped.3 b placed.3 t.4 there shrinks.2 deep there' refl g
+  walk (turn a b d rest) near c l s e i k m n who resuming in_loop part closing x in_split shaped shape placed t h shrinks deep stand fits f = absurd shape
+  walk (again a b d rest) near c l s e i k m n who resuming in_loop part closing x in_split shaped shape placed t h shrinks deep stand fits f = absurd shape
+  walk (quit site op rest) near c l s e i k m n who resuming in_loop part closing x in_split shaped shape placed t h shrinks deep stand fits f =
+      let b = begins_here near rest in
+      let r = sys.behind op true s in
+      let mine = either_here op m shaped.1 ∙ not_resuming resuming m n placed.0 fits in
+      let onward : Behind (suc i) n = act_goes i site m false op (behind c) h.0 f ∙ ap (λ z. fold (past (Some op) z) (enters false (Some op))) mine
+      ∙ ap (λ z. fold z (enters false (Some op))) (after_quit op n shape.1) ∙ ap (fold n) (no_enter op false (either_into op shaped.1)) in
+      let stand' = stand_at who (place r) (place_behind op true (place s)) n (keeps.behind op true s) (quit_on who op (place s) n shape.1 stand) in
+      let both = falls b rest near c l r e t.2 (suc i) k n stand'.is h.1 onward (λ j there g. counted_done rest (ap is_done shape.5) near l r e t.2 j n g) in
+      let far : i + suc (gap b + extent near rest) ≡ suc i + (gap b + extent near rest) = omega arith in (
+        ((act_told i site m op (behind c) h.0 f ∙ mine ∙ sym stand.is, act_says i site op (behind c) s h.0 (says_quit who op (place s) n shape.1 (λ is. deep (shrinks.0 is)) stand)), both.0),
+        moved (suc i + (gap b + extent near rest)) (i + suc (gap b + extent near rest)) n far both.1,
+      )
+  walk (break rest) near c l s e i k m n who resuming in_loop part closing x in_split shaped shape placed t h shrinks deep stand fits f =
+      walk rest near c l s e i k n n who false in_loop part false x in_split shaped.1 shape.2 placed.1 t.1 h shrinks deep stand refl (f ∙ ap (λ z. fold z false) (not_resuming resuming m n placed.0 fits))
+  walk (continue rest) near c l s e i k m n who resuming in_loop part closing x in_split shaped shape placed t h shrinks deep stand fits f =
+      walk rest near c l s e i k n n who false in_loop part false x in_split shaped.1 shape.2 placed.1 t.1 h shrinks deep stand refl (f ∙ ap (λ z. fold z false) (not_resuming resuming m n placed.0 fits))
+  walk (call site op function opening rest) near c l s e i k m n who resuming in_loop part closing x in_split shaped shape placed t h shrinks deep stand fits f =
+      let q = entering_at entry function opening rest near c i k in
+      let has = has_entering entry core function opening rest near c i k h.1 in
+      let begin = sys.begin op function t.1 in
+      let en = sys.entered op function t.1 in
+      let r = sys.behind_call op t.1 s in
+      let os = marks sys true None begin opening en t.3 in
+      let rs = marks sys near l r rest e t.4 in
+      let lo = mark_length sys true None begin opening en t.3 in
+      let mine = into_here op m true shaped.0 in
+      let into = into_here op n false shaped.0 in
+      let same = not_resuming resuming m n placed.0 fits in
+      let onward : come (suc i) ≡ fold n true = act_goes i site m false op (entry function) h.0 f ∙ ap (λ z. fold (past (Some op) z) (enters false (Some op))) (mine.0 ∙ same)
+      ∙ ap (λ z. fold z (enters false (Some op))) into.1 ∙ ap (fold n) into.2 in
+      let begun = outside None t.1 begin (keeps.begins op function t.1) in
+      let openings = opened opening None begin en (suc i) q.back n (callee_of who) shaped.2 placed.3 t.3 has.opening begun onward in
+      let entered' = keeps.enters op function t.1 in
+      let inside' = outside entered'.0 t.1 en entered'.1 in
+      let jumps = jump_goes q.back n (entry function) true has.jumps.0 openings.1 in
+      let stand' = stand_at who (place r) (place s) n (keeps.calls op t.1 s) stand in
+      let before = skipped q.here (suc q.back) q.next r n stand'.is has.jumps.1 jumps in
+      let others = walk rest near c l r e q.behind k n n who false in_loop part false x in_split shaped.3 shape.3 placed.4 t.4 has.others shrinks deep stand' refl before.1 in
+      let ls = skip_length q.here r in
+      let e1 = length-append os (en ∷ skip_mark q.here r) in
+      let far : i + suc (suc (extent true opening + gap q.here + extent near rest)) ≡ q.behind + extent near rest = omega arith in (
+        ((act_told i site m op (entry function) h.0 f ∙ mine.0 ∙ same ∙ sym stand.is, act_says i site op (entry function) s h.0 (says_into op (place s) shaped.0)),
+        right_both (suc i) q.behind (os ++ (en ∷ skip_mark q.here r)) rs (omega arith)
+            (right_both (suc i) q.back os (en ∷ skip_mark q.here r) (omega arith) openings.0 ((opening_told q.back n (jump (entry function)) has.jumps.0 openings.1 ∙ sym inside'.is, jump_says q.back (entry function) en has.jumps.0), before.0))
+            others.0),
+        moved (q.behind + extent near rest) (i + suc (suc (extent true opening + gap q.here + extent near rest))) n far others.1,
+      )
+  walk (ends site op rest) near c l s e i k m n who resuming in_loop part closing x in_split shaped shape placed t h shrinks deep stand fits f =
+      let r = sys.behind op true s in
+      let first = out_here op m shaped.0 in
+      let same = not_resuming resuming m n placed.0 fits in
+      let mine = first.0 ∙ same in
+      let onward : Behind (suc i) n = act_goes i site m false op 0 h.0 f ∙ ap (λ z. fold (past (Some op) z) (enters false (Some op))) mine
+      ∙ ap (λ z. fold z (enters false (Some op))) (out_here op n shaped.0).1 ∙ ap (fold n) (no_enter op false (out_into op shaped.0)) in
+      let stand' = stand_at who (place r) (place_behind op true (place s)) n (keeps.behind op true s) (out_on who op (place s) n shaped.0 stand) in
+      let others = walk rest near c l r e (suc i) k n n who false in_loop part false x in_split shaped.1 shape.3 placed.2 t.2 h.1 shrinks deep stand' refl onward in
+      let far : i + suc (extent near rest) ≡ suc i + extent near rest = omega arith in (
+        ((act_told i site m op 0 h.0 f ∙ mine ∙ sym stand.is, act_says i site op 0 s h.0 (says_out op (place s) shaped.0)), others.0),
+        moved (suc i + extent near rest) (i + suc (extent near rest)) n far others.1,
+      )

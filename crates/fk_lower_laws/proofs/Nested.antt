@@ -1,0 +1,219 @@
+-- How operations change the levels of a call, and the group frames that it has.
+use Rattle.std.proofs.Common.{◌≡◌, ◌⊎◌, inl, inr, ℕ, suc, ◌+◌, ◌-◌, ◌≤◌, Bool, true, false, List, [], ◌∷◌, Option, Some, None, refl, sym, ap, ◌∙◌, subst, arith, eq-eqb}
+use Rattle.std.specs.Prelude.{◌==◌, ◌||◌, is_some, if◌then◌else◌}
+use Rattle.std.proofs.lemmas.Bool.{false≢true, eqb-true, ne_eqb}
+use Rattle.fk_meaning_operation.specs.declared.operation.Operation.{Operation}
+use Rattle.fk_meaning_operation.specs.declared.operation.Operation.TheVariants as o
+use Rattle.fk_meaning_operation.specs.declared.operation.SplitKind.TheVariants as k
+use Rattle.fk_meaning.specs.Behind.{tail}
+use Rattle.fk_meaning.specs.Shape.{is_quit}
+use Rattle.fk_layout_sizes.specs.Operations.{nests}
+use Rattle.fk_core_flat.specs.Items as w
+use Rattle.fk_core_flat.specs.Items.{Way, way_of}
+use Rattle.fk_core_liveness.specs.Frames.{is_main_place}
+use Rattle.fk_lockstep_frames.specs.Nests.{Nest, OfFunction, OfPart, nesting, levels_of, frame_at, frame_has, has_word, take_frame, MayTake, IsInPart}
+use Rattle.fk_core_typing.specs.Values.{Place, place_behind, MayBeIn}
+use Rattle.fk_lower_laws.specs.Levels.{levels_in, IsInGroup}
+
+-- ---- levels
+
+deeper : (main : Bool) (nests : List Nest) → levels_of main (OfPart None ∷ nests) ≤ levels_of main nests + 1
+deeper true nests = omega arith
+deeper false nests = omega arith
+
+out_of_part : (main : Bool) (nests : List Nest) → IsInPart nests → levels_of main (tail nests) ≤ levels_of main nests
+out_of_part main [] part = absurd part
+out_of_part main (OfFunction frame ∷ nests) part = absurd part
+out_of_part main (OfPart frame ∷ []) part = absurd part
+out_of_part true (OfPart frame ∷ nest ∷ nests) part = omega arith
+out_of_part false (OfPart frame ∷ nest ∷ nests) part = omega arith
+
+as_deep : (words : ℕ) (nests : List Nest) → nesting (take_frame words nests) ≡ nesting nests
+as_deep words [] = refl
+as_deep words (OfFunction frame ∷ nests) = refl
+as_deep words (OfPart frame ∷ nests) = refl
+
+-- an operation adds as many levels as a layout counts at most
+pub levels_behind : (op : Operation) (onward : Bool) (p : Place) → MayBeIn op p → levels_in (place_behind op onward p) ≤ levels_in p + nests op
+levels_behind (o.Frame number words) onward p may = let same = as_deep words p.nests in by (is_main_place p.function) same
+  where
+    by : (main : Bool) → nesting (take_frame words p.nests) ≡ nesting p.nests → levels_of main (take_frame words p.nests) ≤ levels_of main p.nests + 0
+    by true same = omega (arith, same)
+    by false same = omega (arith, same)
+levels_behind o.Begin true p may = deeper (is_main_place p.function) p.nests
+levels_behind o.Begin false p may = omega arith
+levels_behind (o.Split k.IfElse) onward p may = deeper (is_main_place p.function) p.nests
+levels_behind (o.Split k.IfAlone) true p may = deeper (is_main_place p.function) p.nests
+levels_behind (o.Split k.AndThen) true p may = deeper (is_main_place p.function) p.nests
+levels_behind (o.Split k.OrElse) true p may = deeper (is_main_place p.function) p.nests
+levels_behind (o.Split k.Loop) true p may = deeper (is_main_place p.function) p.nests
+levels_behind (o.Split k.Fork) true p may = deeper (is_main_place p.function) p.nests
+levels_behind (o.Split k.IfAlone) false p may = omega arith
+levels_behind (o.Split k.AndThen) false p may = omega arith
+levels_behind (o.Split k.OrElse) false p may = omega arith
+levels_behind (o.Split k.Loop) false p may = omega arith
+levels_behind (o.Split k.Fork) false p may = omega arith
+levels_behind o.Shrink true p may = omega arith
+levels_behind o.Shrink false p may = let low = out_of_part (is_main_place p.function) p.nests may in omega (arith, low)
+levels_behind o.End onward p may = let low = out_of_part (is_main_place p.function) p.nests may in omega (arith, low)
+levels_behind op onward p may = omega arith
+
+-- which operations add none
+pub adds_none : (op : Operation) → ((way_of op ≡ w.either) → is_quit op ≡ true) → nests op ≡ 0
+adds_none (o.Split by) quits = absurd (false≢true (quits refl))
+adds_none o.Begin quits = absurd (false≢true (quits refl))
+adds_none o.Farm quits = absurd (false≢true (quits refl))
+adds_none o.Seq quits = absurd (false≢true (quits refl))
+adds_none op quits = refl
+
+pub not_either : (op : Operation) (way : Way) → way_of op ≡ way → (way ≡ w.either → ⊥) → nests op ≡ 0
+not_either op way is no = adds_none op (λ e. absurd (no (sym is ∙ e)))
+
+pub in_group : (op : Operation) (p : Place) → nests op ≡ 0 → IsInGroup op p
+in_group (o.Split by) p none = absurd (cc)
+in_group op p none = tt
+
+-- ---- group frames
+
+-- whether a call has the frame with a number
+abbrev pub has_frame : List Nest → (number : ℕ) → Bool
+has_frame nests number = is_some (frame_at nests number)
+
+pub low_frame : (nests : List Nest) (number : ℕ) → has_frame nests number ≡ true → number ≤ nesting nests
+low_frame [] number has = absurd (false≢true has)
+low_frame (OfFunction frame ∷ nests) number has = by (number == 0) refl has
+  where
+    by : (b : Bool) → (number == 0) ≡ b → is_some (if b then frame else None) ≡ true → number ≤ 0
+    by true is has' = let zero = eqb-true number 0 is in omega (arith, zero)
+    by false is has' = absurd (false≢true has')
+low_frame (OfPart frame ∷ nests) number has = by (number == suc (nesting nests)) refl has (low_frame nests number)
+  where
+    by : (b : Bool) → (number == suc (nesting nests)) ≡ b → is_some (if b then frame else frame_at nests number) ≡ true
+        → (has_frame nests number ≡ true → number ≤ nesting nests) → number ≤ suc (nesting nests)
+    by true is has' below = let same = eqb-true number (suc (nesting nests)) is in omega (arith, same)
+    by false is has' below = let low = below has' in omega (arith, low)
+
+-- it has one of which a word is named
+pub frame_named : (nests : List Nest) (number word : ℕ) → has_word nests number word ≡ true → has_frame nests number ≡ true
+frame_named nests number word has = by (frame_at nests number) has
+  where
+    by : (frame : Option ℕ) → frame_has frame word ≡ true → is_some frame ≡ true
+    by None has' = absurd (false≢true has')
+    by (Some words) has' = refl
+
+-- a part has no frame yet, and a function that begins has none
+in_part : (nests : List Nest) (number : ℕ) → has_frame (OfPart None ∷ nests) number ≡ true → has_frame nests number ≡ true
+in_part nests number has = by (number == suc (nesting nests)) has
+  where
+    by : (b : Bool) → is_some (if b then None else frame_at nests number) ≡ true → has_frame nests number ≡ true
+    by true has' = absurd (false≢true has')
+    by false has' = has'
+
+pub none_begins : (number : ℕ) → has_frame (OfFunction None ∷ []) number ≡ false
+none_begins number = by (number == 0)
+  where
+    by : (b : Bool) → is_some (if b then None else None) ≡ false
+    by true = refl
+    by false = refl
+
+-- what it has outside of a part it has in it
+around_part : (nests : List Nest) → IsInPart nests → (number : ℕ) → has_frame (tail nests) number ≡ true → has_frame nests number ≡ true
+around_part [] part number has = absurd part
+around_part (OfFunction frame ∷ nests) part number has = absurd part
+around_part (OfPart frame ∷ []) part number has = absurd part
+around_part (OfPart frame ∷ nest ∷ nests) part number has = by (number == suc (nesting (nest ∷ nests))) refl
+  where
+    by : (b : Bool) → (number == suc (nesting (nest ∷ nests))) ≡ b → is_some (if b then frame else frame_at (nest ∷ nests) number) ≡ true
+    by true is = absurd (let same = eqb-true number (suc (nesting (nest ∷ nests))) is in let low = low_frame (nest ∷ nests) number has in omega (arith, same, low))
+    by false is = has
+
+-- a frame that is taken is the one with the number, or it was there
+pub frame_taken : (number words : ℕ) (nests : List Nest) → MayTake number nests → (other : ℕ) → has_frame (take_frame words nests) other ≡ true
+    → (other ≡ number) ⊎ (has_frame nests other ≡ true)
+frame_taken number words [] may other has = absurd may
+frame_taken number words (OfFunction frame ∷ nests) may other has = by (other == 0) refl has
+  where
+    by : (b : Bool) → (other == 0) ≡ b → is_some (if b then Some words else None) ≡ true → (other ≡ number) ⊎ (is_some (if b then frame else None) ≡ true)
+    by true is has' = inl (eqb-true other 0 is ∙ sym may.0)
+    by false is has' = absurd (false≢true has')
+frame_taken number words (OfPart frame ∷ nests) may other has = by (other == suc (nesting nests)) refl has
+  where
+    by : (b : Bool) → (other == suc (nesting nests)) ≡ b → is_some (if b then Some words else frame_at nests other) ≡ true
+        → (other ≡ number) ⊎ (is_some (if b then frame else frame_at nests other) ≡ true)
+    by true is has' = inl (eqb-true other (suc (nesting nests)) is ∙ sym may.0)
+    by false is has' = inr has'
+
+abbrev pub takes_frame : Operation → Bool
+takes_frame (o.Frame number words) = true
+takes_frame op = false
+
+-- behind another operation it has no frame that it hadn't
+pub had_before : (op : Operation) → takes_frame op ≡ false → (onward : Bool) (p : Place) → MayBeIn op p → (number : ℕ)
+    → has_frame (place_behind op onward p).nests number ≡ true → has_frame p.nests number ≡ true
+had_before (o.Frame own words) other onward p may number has = absurd (false≢true (sym other))
+had_before o.Begin other true p may number has = in_part p.nests number has
+had_before o.Begin other false p may number has = has
+had_before (o.Split k.IfElse) other onward p may number has = in_part p.nests number has
+had_before (o.Split k.IfAlone) other true p may number has = in_part p.nests number has
+had_before (o.Split k.AndThen) other true p may number has = in_part p.nests number has
+had_before (o.Split k.OrElse) other true p may number has = in_part p.nests number has
+had_before (o.Split k.Loop) other true p may number has = in_part p.nests number has
+had_before (o.Split k.Fork) other true p may number has = in_part p.nests number has
+had_before (o.Split k.IfAlone) other false p may number has = has
+had_before (o.Split k.AndThen) other false p may number has = has
+had_before (o.Split k.OrElse) other false p may number has = has
+had_before (o.Split k.Loop) other false p may number has = has
+had_before (o.Split k.Fork) other false p may number has = has
+had_before o.Shrink other true p may number has = has
+had_before o.Shrink other false p may number has = around_part p.nests may number has
+had_before o.End other onward p may number has = around_part p.nests may number has
+had_before op other onward p may number has = has
+
+-- ---- the function's own group frame
+
+-- a part has it as what is around it
+own_in_part : (frame : Option ℕ) (nests : List Nest) → has_frame (OfPart frame ∷ nests) 0 ≡ has_frame nests 0
+own_in_part frame nests = ap (λ b. is_some (if b then frame else frame_at nests 0)) (ne_eqb 0 (suc (nesting nests)) (λ e. omega (arith, e)))
+
+own_around : (nests : List Nest) → IsInPart nests → has_frame (tail nests) 0 ≡ has_frame nests 0
+own_around [] part = absurd part
+own_around (OfFunction frame ∷ nests) part = absurd part
+own_around (OfPart frame ∷ []) part = absurd part
+own_around (OfPart frame ∷ nest ∷ nests) part = sym (own_in_part frame (nest ∷ nests))
+
+-- where a frame is taken, there was none with its number
+pub none_taken : (number : ℕ) (nests : List Nest) → MayTake number nests → has_frame nests number ≡ false
+none_taken number [] may = absurd may
+none_taken number (OfFunction frame ∷ nests) may = ap (λ b. is_some (if b then frame else None)) (eq-eqb number 0 may.0) ∙ ap is_some may.1
+none_taken number (OfPart frame ∷ nests) may =
+    ap (λ b. is_some (if b then frame else frame_at nests number)) (eq-eqb number (suc (nesting nests)) may.0) ∙ ap is_some may.1
+
+-- and the function has its own behind it, if it is that one or was there
+pub own_taken : (number words : ℕ) (nests : List Nest) → MayTake number nests → has_frame (take_frame words nests) 0 ≡ ((number == 0) || has_frame nests 0)
+own_taken number words [] may = absurd may
+own_taken number words (OfFunction frame ∷ nests) may = sym (ap (λ b. b || has_frame (OfFunction frame ∷ nests) 0) (eq-eqb number 0 may.0))
+own_taken number words (OfPart frame ∷ nests) may =
+    let part : (number == 0) ≡ false = ne_eqb number 0 (λ e. let is = may.0 in omega (arith, e, is)) in
+    own_in_part (Some words) nests ∙ sym (ap (λ b. b || has_frame (OfPart frame ∷ nests) 0) part ∙ own_in_part frame nests)
+
+-- other operations leave it as it was
+pub own_before : (op : Operation) → takes_frame op ≡ false → (onward : Bool) (p : Place) → MayBeIn op p
+    → has_frame (place_behind op onward p).nests 0 ≡ has_frame p.nests 0
+own_before (o.Frame own words) other onward p may = absurd (false≢true (sym other))
+own_before o.Begin other true p may = own_in_part None p.nests
+own_before o.Begin other false p may = refl
+own_before (o.Split k.IfElse) other onward p may = own_in_part None p.nests
+own_before (o.Split k.IfAlone) other true p may = own_in_part None p.nests
+own_before (o.Split k.AndThen) other true p may = own_in_part None p.nests
+own_before (o.Split k.OrElse) other true p may = own_in_part None p.nests
+own_before (o.Split k.Loop) other true p may = own_in_part None p.nests
+own_before (o.Split k.Fork) other true p may = own_in_part None p.nests
+own_before (o.Split k.IfAlone) other false p may = refl
+own_before (o.Split k.AndThen) other false p may = refl
+own_before (o.Split k.OrElse) other false p may = refl
+own_before (o.Split k.Loop) other false p may = refl
+own_before (o.Split k.Fork) other false p may = refl
+own_before o.Shrink other true p may = refl
+own_before o.Shrink other false p may = own_around p.nests may
+own_before o.End other onward p may = own_around p.nests may
+own_before op other onward p may = refl
