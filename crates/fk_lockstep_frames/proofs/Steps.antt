@@ -282,10 +282,10 @@ with_block_taken words nests p h = by (words == 0)
 
 -- a part
 entering_part : (numbered : Bool) (nests : List Nest) (level : Level) (p : Processor) → HasTaken 0 level.space → level.number < 2 ^ 16
-    → (numbered ≡ false → (level.number, level.rank) ≡ (p.level.number, p.level.rank)) → HasNests nests p → HasNests (OfPart numbered None ∷ nests) (enter_level level p)
+    → (numbered ≡ false → ◌≡◌ {A = ℕ × ℕ} (level.number, level.rank) (p.level.number, p.level.rank)) → HasNests nests p → HasNests (OfPart numbered None ∷ nests) (enter_level level p)
 entering_part numbered nests level p empty few same h = record { spaces = (empty, h.spaces); frames = (tt, h.frames); numbers = (few, same, h.numbers) }
 
-pub part_below : (by : SplitKind) (vs : List ℕ) (i : ℕ) → part by vs ≡ Some i → i < parts by vs
+part_below : (by : SplitKind) (vs : List ℕ) (i : ℕ) → part by vs ≡ Some i → i < parts by vs
 part_below s.IfAlone vs i e = one (last vs == 0) e
   where
     one : (b : Bool) → (if b then None else Some 0) ≡ Some i → i < 1
@@ -349,7 +349,7 @@ part_few s.AndThen old i was is = was
 part_few s.OrElse old i was is = was
 part_few s.Loop old i was is = was
 
-part_same : (by : SplitKind) (old i rank v : ℕ) → numbers by ≡ false → (part_number by old i, part_rank by rank v) ≡ (old, rank)
+part_same : (by : SplitKind) (old i rank v : ℕ) → numbers by ≡ false → ◌≡◌ {A = ℕ × ℕ} (part_number by old i, part_rank by rank v) (old, rank)
 part_same s.Fork old i rank v e = never e
 part_same s.IfAlone old i rank v e = refl
 part_same s.IfElse old i rank v e = refl

@@ -19,7 +19,7 @@ use Rattle.fk_meaning.specs.Schedule.{first_level}
 use Rattle.fk_meaning.specs.Group.{not_negative, is_taken, start_level, parts, part, part_level, divided, with_size, stays, enters, does, goes_onward}
 use Rattle.fk_meaning.specs.Round.{Step, Runner, State, Round, Acting, lowest, agreed, settled_by, settled, body_of, result}
 use Rattle.fk_lockstep.specs.Untouched.{changes_tree}
-use Rattle.fk_lockstep_frames.proofs.Steps.{part_below}
+use Rattle.fk_lockstep.proofs.Changes.{few}
 use Rattle.fk_lockstep.proofs.Rounds.{gone, settled_as, settled_at}
 use Rattle.fk_lockstep.proofs.Nodes.{gone as leaves, still, new_nodes, old_nodes, split_places}
 use Rattle.fk_lockstep.proofs.Round.{first_is, lowest_member, at_below, settled_length, who_is}
@@ -31,7 +31,7 @@ use Rattle.fk_lockstep_tree.specs.Steps.{StepFits}
 use Rattle.fk_lockstep_tree.specs.Rounds.{IsRound, IsRoundInSpaces}
 use Rattle.fk_lockstep_tree.proofs.Moves.{SameLevel, SameLevels, as_taken, keeps_place, keeps_tree, does_same, goes_on}
 use Rattle.fk_lockstep_tree.proofs.Acts.{IsDue, result_is}
-use Rattle.fk_lockstep_tree.proofs.Known.{Act, act, many, placed, member_at, each_steps}
+use Rattle.fk_lockstep_tree.proofs.Known.{Act, act, many, placed, member_at, each_steps, parts_as_many}
 use Rattle.fk_lockstep_tree.proofs.Paths.{root_outer, root_first, at_root, at_node, waiting_place, InLockstep, lockstep_place, body_place, in_body, HasBodyThere, SameBelow, above, changed}
 use Rattle.fk_lockstep_tree.proofs.Stepped as trees
 
@@ -668,18 +668,13 @@ module _ {W : Type 0} (next : W → Option (Step W)) (set : Setting) (round : Ro
             (waits_there h a lt g at (o.Split by) e all (split_by by e all) (divided by size it None) (into_is None is') refl refl refl)
         by_part to size size_is (Some i) is' goes' =
             let l = low_has (o.Split by) e all in
-            let due' = due h a lt g at (o.Split by) e all in
-            let d = due'.0 in
-            let op_is : d.step.operation ≡ o.Split by = subst (λ (x : Option (Step W)). Does (o.Split by) x) (ap (λ (x : Acting W). x.due) d.is) due'.1 in
-            let together = base.one_program g h (lowest (members old g)) a.runner l.0.runner locked in_node l.1 a.is l.0.is in
             let same_parts : parts by (values it) ≡ parts by (values (whose (lowest (members old g))))
-            = together.divide d.step by d.next_is op_is ∙ ap (λ (q : Processor). parts by (values q)) (sym l.2) in
+            = ap (λ (q : Processor). parts by (values q)) (sym (known_has h a lt g at (o.Split by) e all)) ∙ parts_as_many next set round s base g h by e in_node in
             let space : it.level.space ≡ (whose (lowest (members old g))).level.space
             = (is.one_space g h (lowest (members old g)) a.runner l.0.runner locked in_node l.1 a.is l.0.is).0.space ∙ ap (λ (q : Processor). q.level.space) (sym l.2) in
-            let few = part_below by (values it) i is' in
             let index : i ≡ first g + i - first g = omega arith in
             subst (λ (q : Where). Arrives h q (divided by size it (Some i))) (ap (λ (m : ℕ). InGroup m) n.above_is ∙ sym (enters_to by n.depth i to goes'))
-            (enters_there h a lt g at (o.Split by) e all (split_by by e all) i (divided by size it (Some i)) (into_is (Some i) is') (omega (arith, few, same_parts)) refl refl
+            (enters_there h a lt g at (o.Split by) e all (split_by by e all) i (divided by size it (Some i)) (into_is (Some i) is') (few by (values it) (values (whose (lowest (members old g)))) i same_parts is') refl refl
             (child_same it.level.space (whose (lowest (members old g))).level.space (parts by (values it)) (parts by (values (whose (lowest (members old g))))) i (first g + i - first g) space
             same_parts index)
             size_is)

@@ -5,7 +5,11 @@ use Rattle.fk_tree.specs.Tree as t
 use Rattle.fk_tree.specs.Tree.{Tree}
 use Rattle.fk_meaning_operation.specs.declared.operation.Operation.{Operation}
 use Rattle.fk_meaning_operation.specs.declared.operation.Operation.TheVariants as o
-use Rattle.fk_meaning.specs.Round.{Acting}
+use Rattle.fk_tree.specs.Sound.{Has}
+use Rattle.fk_meaning_operation.specs.declared.operation.SplitKind.{SplitKind}
+use Rattle.fk_meaning.specs.Processor.{values}
+use Rattle.fk_meaning.specs.Group.{parts}
+use Rattle.fk_meaning.specs.Round.{Acting, lowest, who}
 use Rattle.fk_lockstep_nodes.specs.Steps.{StepsBy, MayStep}
 
 -- the nodes at which steps may change the tree: all processors begin in the root; those who wait
@@ -31,3 +35,7 @@ module _ {W : Type 0} (tree : Tree) (actings : List (Acting W)) where
     pub steps : StepsBy tree does 0 actings
     pub may : (g : ℕ) (operation : Operation) → does g ≡ Some operation → MayStep tree g operation
     pub fits : (g : ℕ) (operation : Operation) → does g ≡ Some operation → StepFits tree g operation
+    -- the members of a group that splits make as many parts
+    pub divide : (g h : ℕ) (by : SplitKind) → does g ≡ Some (o.Split by) → Has tree g h
+        → parts by (values (who actings h))
+        ≡ parts by (values (who actings (lowest (t.members tree g))))
