@@ -11,7 +11,7 @@ use Rattle.fk_meaning_operation.specs.declared.kinds.Class.TheVariants.{Local, R
 use Rattle.fk_meaning_operation.specs.Kinds.{class_of}
 use Rattle.fk_meaning_store.specs.Store.{Store}
 use Rattle.fk_meaning_store.specs.Serve.{Served, serve, may_use}
-use Rattle.fk_space.specs.Space.{IsSpace}
+use Rattle.fk_space.specs.Space.{Space, IsSpace}
 use Rattle.fk_meaning.specs.Behind.{tail}
 use Rattle.fk_meaning.specs.Processor.{Processor, Setting, setting_of, group_space}
 use Rattle.fk_meaning.specs.Local.{local as local_of, is_onward, known}
@@ -21,8 +21,8 @@ use Rattle.fk_meaning.specs.Round.{Step, Runner}
 use Rattle.fk_meaning.specs.Schedule.{beginners, first_processor}
 use Rattle.fk_core.specs.declared.op.CoreOp.{CoreOp}
 use Rattle.fk_core.specs.Next.{Position, position, is_jump, through, led_by, landing_by, landing, behind_jump, follows, next, list_opening}
-use Rattle.fk_lockstep_frames.specs.Nests.{Nest, OfFunction, OfPart, nesting, frame_at, frame_has, has_word, outward, take_frame, behind, MayLeave, MayTake, IsInPart, May, TellsOn}
-use Rattle.fk_lockstep_frames.specs.Taken.{numbers_of, AreNumbered, KeepsNumbers, HasNests, IsFirstFrame}
+use Rattle.fk_lockstep_frames.specs.Nests.{Nest, OfFunction, OfPart, nesting, frame_at, frame_has, has_word, taken, outward, take_frame, behind, MayLeave, MayTake, IsInPart, May, TellsOn}
+use Rattle.fk_lockstep_frames.specs.Taken.{numbers_of, HasTaken, TakesInPart, AreNumbered, KeepsNumbers, HasNests, IsFirstFrame}
 use Rattle.fk_lockstep_frames.specs.Lists.{nests_of, told, IsOutermost, Leads, Calls, Returns, Asks, GoesOn, HasLocalFrames, ListsTellFrames}
 use Rattle.fk_lockstep_frames.proofs.Rounds.{AllAre, all_at, RunnerFits, runs}
 use Rattle.fk_lockstep_frames.proofs.Runs.{local_on, request_on, tree_on, first_nests}
@@ -63,6 +63,12 @@ keeps_numbers (OfPart true f ∷ ns) more numbers h = tt
 keeps_numbers (OfPart false f ∷ ns) more [] h = tt
 keeps_numbers (OfPart false f ∷ ns) more (n ∷ []) h = tt
 keeps_numbers (OfPart false f ∷ ns) more (n ∷ around ∷ numbers) h = h.1 refl
+
+-- and the words that are taken in the innermost one
+takes_in_part : (ns more : List Nest) (s : Space) → HasTaken (taken (ns ++ more)) s → TakesInPart ns s
+takes_in_part [] more s h = tt
+takes_in_part (OfFunction f ∷ ns) more s h = tt
+takes_in_part (OfPart b f ∷ ns) more s h = h.frames
 
 -- the operations that go on in their call
 abbrev IsOrdinary : Operation → Type 0
@@ -352,6 +358,13 @@ module _ (core : List CoreOp) (main : ℕ) (local : HasLocalFrames core main) wh
       keeps_numbers (nests (landing core w.at)) (others w.callers) (numbers_of p)
       (subst (λ (ns : List Nest). AreNumbered (ns ++ others w.callers) (numbers_of p)) (sym lands.same) h.numbers)
 
+  taken_at : (w : Position) (p : Processor) → FitsList w p → TakesInPart (nests (landing core w.at)) p.level.space
+  taken_at w p fits =
+      let lands = landed w.at w.callers fits.0 in
+      let spaces = fits.1.spaces in
+      takes_in_part (nests (landing core w.at)) (others w.callers) p.level.space
+      (subst (λ (ns : List Nest). HasTaken (taken (ns ++ others w.callers)) p.level.space) (sym lands.same) spaces.0)
+
   -- the beginning
   pub begins_list : (set : Setting) (firsts : Memory) (h : ℕ) → IsSpace (group_space set) → FitsList (position main []) (first_processor set firsts h)
   begins_list set firsts h space =
@@ -380,4 +393,5 @@ lists_tell_frames core main local words firsts input p schedule space h r here =
       begins = λ part word has. begins_at core main local r.left r.has part word fits has;
       small = (let h = fits.1 in all_small _ (numbers_of r.has) h.numbers);
       numbers = numbers_at core main local r.left r.has fits;
+      taken = taken_at core main local r.left r.has fits;
     }

@@ -9,8 +9,8 @@ use Rattle.fk_meaning.specs.Processor.{Level, Processor, Setting, setting_of, gr
 use Rattle.fk_meaning.specs.Local.{known}
 use Rattle.fk_meaning.specs.Round.{Step, Runner}
 use Rattle.fk_meaning.specs.Schedule.{Schedule, opening, run}
-use Rattle.fk_lockstep_frames.specs.Nests.{Nest, OfFunction, OfPart, nesting, is_numbered}
-use Rattle.fk_lockstep_frames.specs.Nests.{has_word, taken, outward, IsTold}
+use Rattle.fk_lockstep_frames.specs.Nests.{Nest, OfFunction, OfPart, nesting, words_in}
+use Rattle.fk_lockstep_frames.specs.Nests.{is_numbered, has_word, taken, outward, IsTold}
 
 -- the spaces of a processor's groups, the first word of each, their `@` and `$`, and the first words
 -- of the frames of its calls by their numbers; the innermost ones come first
@@ -60,7 +60,12 @@ AreNumbered nests (n ∷ around ∷ numbers) =
     (n.0 < 2 ^ 16) × (is_numbered nests ≡ false → n ≡ around)
     × AreNumbered (outward nests) (around ∷ numbers)
 
--- in such a part, of the call itself
+-- in the innermost part of a call frames have taken the words of its own frame
+abbrev pub TakesInPart : List Nest → Space → Type 0
+TakesInPart (OfPart numbered frame ∷ nests) s = s.frames ≡ s.low + 8 + words_in frame
+TakesInPart nests s = Unit {0}
+
+-- in a part of the call that isn't numbered `@` and `$` are those of the group around
 abbrev pub KeepsNumbers : List Nest → List (ℕ × ℕ) → Type 0
 KeepsNumbers (OfPart false frame ∷ nests) (n ∷ around ∷ numbers) = n ≡ around
 KeepsNumbers nests numbers = Unit {0}

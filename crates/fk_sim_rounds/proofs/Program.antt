@@ -12,11 +12,9 @@ use Rattle.fk_meaning_operation.specs.declared.kinds.Class.{Class}
 use Rattle.fk_meaning_operation.specs.declared.kinds.Class.TheVariants.{Local, Request, Tree}
 use Rattle.fk_meaning_operation.specs.declared.operation.Multiprefix.{Multiprefix}
 use Rattle.fk_meaning_operation.specs.declared.operation.SplitKind.{SplitKind}
-use Rattle.fk_meaning_operation.specs.declared.operation.SplitKind.TheVariants.{IfElse, Fork}
 use Rattle.fk_meaning_operation.specs.declared.operation.Operation.{Operation}
 use Rattle.fk_meaning_operation.specs.declared.operation.Operation.TheVariants as o
 use Rattle.fk_meaning.specs.Processor.{Processor, values, last}
-use Rattle.fk_meaning.specs.Group.{parts}
 use Rattle.fk_meaning.specs.Round.{State}
 use Rattle.fk_core.specs.declared.op.CoreOp.{CoreOp}
 use Rattle.fk_core.specs.Next.{Position, landing, step_by, step_of, next}
