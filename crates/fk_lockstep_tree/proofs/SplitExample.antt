@@ -1,6 +1,7 @@
 -- Code of a group that splits:
 -- if ($) { if ($) ; } else ; while (1) ; in a `start`, and fork (3; @=$%3; $=$/3) 1; in one.
-use Rattle.std.proofs.Common.{◌≡◌, ◌≢◌, ℕ, suc, ◌-◌, ◌^◌, ◌<◌, Bool, true, false, List, [], ◌∷◌, Option, Some, None, refl, ap, ◌∙◌}
+use Rattle.std.proofs.Common.{◌≡◌, ◌≢◌, ℕ, suc, ◌-◌, ◌^◌, ◌<◌, Bool, true, false, List, [], ◌∷◌, Option, Some, None, refl, ap, ◌∙◌, arith, if◌then◌else◌}
+use Rattle.std.proofs.lemmas.Bool.{le-ltb}
 use Rattle.fk_meaning_operation.specs.declared.operation.SplitKind.TheVariants.{IfAlone, IfElse, Loop, Fork}
 use Rattle.fk_meaning_operation.specs.declared.operation.Operation.TheVariants as o
 use Rattle.fk_meaning_operation.specs.declared.operation.OwnValue.TheVariants.{Rank}
@@ -81,10 +82,16 @@ group_leads n = (
 
 -- ---- a `fork`
 
+abbrev in_fork : Code ℕ
+in_fork = perform 25 (o.Push 1) (perform 26 o.DropLast (perform 27 o.End done))
+
+abbrev behind_fork : Code ℕ
+behind_fork = perform 28 o.Resume ending
+
 abbrev forked : Code ℕ
 forked =
     perform 20 (o.Push 3) (perform 21 o.Agree (perform 22 (o.Get Rank) (perform 23 (o.Get Rank)
-    (choose 24 (o.Split Fork) (perform 25 (o.Push 1) (perform 26 o.DropLast (perform 27 o.End done))) done (perform 28 o.Resume ending)))))
+    (choose 24 (o.Split Fork) in_fork done behind_fork))))
 
 -- whatever the number of parts is, each member enters one, or waits
 forked_leads : (n : ℕ) → Leads may_call InRoot None (InGroup n) forked (Waits n)
@@ -106,10 +113,10 @@ forked_leads n = (
   ),
 )
   where
-    body : Leads may_call InRoot None (InGroup (suc n)) (perform 25 (o.Push 1) (perform 26 o.DropLast (perform 27 o.End done))) (Waits (suc n))
+    body : Leads may_call InRoot None (InGroup (suc n)) in_fork (Waits (suc n))
     body = (InGroup (suc n), (λ w. refl), (InGroup (suc n), (λ w. refl), (Waits (suc n), (λ w. refl), refl)))
 
-    behind : Leads may_call InRoot None (Waits (suc n)) (perform 28 o.Resume ending) (Waits n)
+    behind : Leads may_call InRoot None (Waits (suc n)) behind_fork (Waits n)
     behind = (InGroup n, (λ w. refl), (Waits n, (λ w. refl), refl))
 
 -- 7 members in 3 parts: member h has `@` = h % 3 there, and `$` = h / 3
@@ -121,7 +128,7 @@ into_three = (refl, refl, refl)
 
 -- with no part or with fewer than none all wait, and no words are needed; a member whose number is no part waits
 none_enters : (number rank : ℕ) (s : Space) → (part Fork (asks_for 0 number rank) ≡ None) × (parts Fork (asks_for (2 ^ 32 - 1) number rank) ≡ 0) × (has_parts s 0 ≡ true)
-none_enters number rank s = (refl, refl, refl)
+none_enters number rank s = (ap (λ b. if b then Some number else None) (le-ltb number 0 (omega arith)), refl, refl)
 
 others_wait : (part Fork (asks_for 2 2 0) ≡ None) × (part Fork (asks_for 2 (2 ^ 32 - 1) 0) ≡ None)
 others_wait = (refl, refl)
