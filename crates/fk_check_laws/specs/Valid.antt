@@ -63,8 +63,8 @@ pub record IsValid (program : ProgramTree) (facts : Facts) : Type 0 where
   pub valued : ForksAreValued (tables_by program facts) (signature_in (tables_by program facts)
       (functions_of program.items)) (functions_of program.items)
 
--- the parts, bodies and loops of a program are nested, and only groups split. Nothing is said of the
--- values of a `fork`
+-- the parts, bodies and loops of a program are nested, and only groups split. Nothing is said of
+-- the values of a `fork`
 pub record StandsInPlace (tables : Tables) (program : ProgramTree)
     (may_call : (in_group : Bool) → (function : ℕ) → Bool) : Type 0 where
   pub shaped : ProgramShaped tables program

@@ -19,8 +19,8 @@ pub fn conditions_begin()
     ensures { ConditionsOfLoopsBegin }
 {}
 
-/// The parts, bodies and loops of a program that keeps the forty rules are nested, only groups split,
-/// and no name denotes a function that may not be called there.
+/// The parts, bodies and loops of a program that keeps the forty rules are nested, only groups
+/// split, and no name denotes a function that may not be called there.
 pub fn correct_programs_stand_in_place()
     ensures { CorrectProgramsStandInPlace }
 {}

@@ -101,8 +101,8 @@ fn test_built(text: &Built) -> Result<(), Refusal>
 /// refused by the first of these: `TooManySites`, with their number, if it has more than 16,000
 /// operations; `FrameTooLarge`, with the name of the first such function and its words, if a
 /// private frame has more than 64 words; `GlobalsTooLarge`, with their number, if its shared
-/// variables of file scope have more than 524,288 words; `NotBuilt` if it has a layout and a `fork`.
-/// `Memory` if there isn't enough memory, which no clause can say.
+/// variables of file scope have more than 524,288 words; `NotBuilt` if it has a layout and a
+/// `fork`. `Memory` if there isn't enough memory, which no clause can say.
 pub fn built_text<'a>(alloc: Global, source: &'a [u8]) -> Result<Built<'a>, Refusal>
     ensures checked { IfOk result (λ text. IsChecked source.now (program_of text.tree) text.facts) }
     ensures laid { IfOk result (λ text. IsLayout (program_of text.tree) text.facts text.layout) }

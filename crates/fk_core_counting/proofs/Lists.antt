@@ -69,32 +69,29 @@ module _ (bodies : (binding : ℕ) → Code ℕ) (core : List CoreOp) (entry : �
       omega (arith, lt)
 
   -- so it is where the first function is written, and where another one ends
-  closed : (fuel f : ℕ) → begins f ≤ fuel → 0 < long f → here (begins f) ≡ fold none false
-  closed fuel f few some = by fuel few (cases_lt 0 (begins f))
-    where
-      by : (fuel' : ℕ) → begins f ≤ fuel' → (0 < begins f) ⊎ (begins f ≤ 0) → here (begins f) ≡ fold none false
-      by fuel' few' (inr none) = ap here (let e : begins f ≡ 0 = omega (arith, none) in e)
-      by zero few' (inl lt) = absurd (let z : ⊥ = omega (arith, few', lt) in z)
-      by (suc fuel') few' (inl lt) =
-          let within = inside f some in
-          let c = typed.flat.covers (begins f - 1) (omega (arith, within)) in
-          let g = c.0 in
-          let low = c.1 in
-          let high = c.2 in
-          let more : begins f ≤ begins g + long g = omega (arith, lt, high) in
-          by_end g low high more (cases_lt (begins f) (begins g + long g))
-        where
-          by_end : (g : ℕ) → begins g ≤ begins f - 1 → begins f - 1 < begins g + long g → begins f ≤ begins g + long g → (begins f < begins g + long g) ⊎ (begins g + long g ≤ begins f)
-              → here (begins f) ≡ fold none false
-          by_end g low high more (inl less) =
-              let one : LiesIn bodies core entry place_of frame_of begins (begins f) f = (omega arith, omega (arith, some)) in
-              let other : LiesIn bodies core entry place_of frame_of begins (begins f) g = (omega (arith, low, lt), less) in
-              let same = typed.apart (begins f) g f other one in
-              let far : begins g ≡ begins f = ap begins same in
-              absurd (let z : ⊥ = omega (arith, far, low, lt) in z)
-          by_end g low high more (inr end) =
-              let e : begins f ≡ begins g + long g = omega (arith, more, end) in
-              ap here e ∙ (along g (closed fuel' g (omega (arith, few', low, lt)) (omega (arith, low, high)))).1
+  behind_another : (f g : ℕ) → 0 < long f → 0 < begins f → begins g ≤ begins f - 1 → begins f - 1 < begins g + long g → (begins f < begins g + long g) ⊎ (begins g + long g ≤ begins f)
+      → here (begins g) ≡ fold none false → here (begins f) ≡ fold none false
+  behind_another f g some lt low high (inl less) h =
+      let one : LiesIn bodies core entry place_of frame_of begins (begins f) f = (omega arith, omega (arith, some)) in
+      let other : LiesIn bodies core entry place_of frame_of begins (begins f) g = (omega (arith, low, lt), less) in
+      let far : begins g ≡ begins f = ap begins (typed.apart (begins f) g f other one) in
+      absurd (let z : ⊥ = omega (arith, far, low, lt) in z)
+  behind_another f g some lt low high (inr end) h =
+      let e : begins f ≡ begins g + long g = omega (arith, lt, high, end) in
+      ap here e ∙ (along g h).1
+
+  behind_others : (f : ℕ) → 0 < long f → (0 < begins f) ⊎ (begins f ≤ 0) → ((g : ℕ) → begins g < begins f → 0 < long g → here (begins g) ≡ fold none false) → here (begins f) ≡ fold none false
+  behind_others f some (inr first) others = ap here (let e : begins f ≡ 0 = omega (arith, first) in e)
+  behind_others f some (inl lt) others =
+      let within = inside f some in
+      let c = typed.flat.covers (begins f - 1) (omega (arith, within)) in
+      let low = c.1 in
+      let high = c.2 in
+      behind_another f c.0 some lt low high (cases_lt (begins f) (begins c.0 + long c.0)) (others c.0 (omega (arith, lt, low)) (omega (arith, low, high)))
+
+  closed : (fuel f : ℕ) → begins f < fuel → 0 < long f → here (begins f) ≡ fold none false
+  closed zero f few some = absurd (let z : ⊥ = omega (arith, few) in z)
+  closed (suc fuel) f few some = behind_others f some (cases_lt 0 (begins f)) (λ g low some'. closed fuel g (omega (arith, few, low)) some')
 
   abbrev there : ℕ → sys.State
   there i = state bodies core entry place_of frame_of typed sys lawful judged nothing i
@@ -121,7 +118,7 @@ module _ (bodies : (binding : ℕ) → Code ℕ) (core : List CoreOp) (entry : �
       let d = i - begins f in
       let e : begins f + d ≡ i = omega (arith, low) in
       let l = mark_length sys false None (sys.first f) (bodies f) (judged f).0 (judged f).1 in
-      let empty = closed (begins f) f (omega arith) (omega (arith, low, high)) in
+      let empty = closed (suc (begins f)) f (omega arith) (omega (arith, low, high)) in
       subst Tells e (right_at (begins f) (states f) d (omega (arith, l, low, high)) (along f empty).0 (noted bodies core entry place_of frame_of typed sys lawful judged nothing f))
 
   pub levels_told : (i : ℕ) → i < length core → slice_get (counts core) i ≡ Some (levels_at (place (there i)))
@@ -162,7 +159,7 @@ typed_lists_tell_levels bodies core entry place_of frame_of may_call typed shape
       },
     )
   where
-    abbrev there : ℕ → State
+    there : ℕ → State
     there i = at bodies core entry place_of frame_of typed i
 
     same : (i : ℕ) → ((typed_lists_know bodies core entry place_of frame_of typed main is none).0.nests i ≡ (there i).place.nests)
@@ -175,7 +172,7 @@ typed_lists_tell_levels bodies core entry place_of frame_of may_call typed shape
         ap (λ b. levels_of b ((typed_lists_know bodies core entry place_of frame_of typed main is none).0.nests i)) (same i).1
         ∙ ap (λ (nests' : List Nest). levels_of (is_main_place (there i).place.function) nests') (same i).0
 
-    abbrev place_in : State → Place
+    place_in : State → Place
     place_in s = s.place
 
     levels : (i : ℕ) → i < length core → slice_get (counts core) i ≡ Some (levels_at (there i).place)

@@ -135,7 +135,7 @@ module _ (core : List CoreOp) (entry : ℕ → ℕ) (may_call : (in_group : Bool
   opened done l s e i k n who shape placed t h stand f = (tt, ap come (let g : i + 0 ≡ i = omega arith in g) ∙ f)
   opened (perform m op rest) l s e i k n who shape placed t h stand f =
       let here' = goes_away (way_of op) || begins_here true rest in
-      let g : here' ≡ true = ap (λ x. goes_away x || begins_here true rest) shape.0 ∙ opening_begins rest shape.1 in
+      let g : here' ≡ true = ap (λ x. goes_away x || begins_here true rest) shape.0 ∙ opening_begins core entry rest shape.1 in
       let r = sys.behind op true s in
       let others = subst (λ (b : Bool). Has core (suc i) (skip b (label None (suc i + gap b) k rest) ++ flat entry true None (suc i + gap b) k rest)) g h.1 in
       let next : suc i + 0 ≡ suc i = omega arith in
@@ -145,8 +145,10 @@ module _ (core : List CoreOp) (entry : ℕ → ℕ) (may_call : (in_group : Bool
       let stand' = stand_at OfBody (place r) (place_behind op true (place s)) none (keeps.behind op true s) (straight_on OfBody op (place s) none shape.0 stand) in
       let more = opened rest l r e (suc i) k n who shape.1 placed.1 t.1 there stand' onward in
       let far : i + suc (0 + extent true rest) ≡ suc i + extent true rest = omega arith in (
-        ((opening_told i n (act m op (aim (way_of op) k)) h.0 f ∙ sym stand.is, act_says i m op (aim (way_of op) k) s h.0 (says_straight op (place s) shape.0)),
-        subst (λ (b : Bool). AreRight (suc i) (skip_mark b r ++ marks sys true l r rest e t.1)) (sym g) more.0),
+        (
+          (opening_told i n (act m op (aim (way_of op) k)) h.0 f ∙ sym stand.is, act_says i m op (aim (way_of op) k) s h.0 (says_straight op (place s) shape.0)),
+          subst (λ (b : Bool). AreRight (suc i) (skip_mark b r ++ marks sys true l r rest e t.1)) (sym g) more.0,
+        ),
         ap (λ (b : Bool). come (i + suc (gap b + extent true rest))) g ∙ ap come far ∙ more.1,
       )
   opened (choose m op x y rest) l s e i k n who shape placed t h stand f = absurd shape
@@ -208,7 +210,67 @@ module _ (core : List CoreOp) (entry : ℕ → ℕ) (may_call : (in_group : Bool
   not_resuming true m n e f = absurd (true≢false e)
   not_resuming false m n e f = f
 
-  walk : (code : Code ℕ) (near : Bool) (c : Around) (l : Option (Loop sys)) (s e : sys.State) (i k : ℕ) (m n : Parts) (who : Who) (resuming in_loop part closing : Bool) (x : Exits) (in_split : Bool)
+  -- ---- the pieces of a walk
+
+  performs_by : (op : Operation) (rest : Code ℕ) → (way_of op ≡ w.straight) ⊎ ((way_of op ≡ w.onto) × (is_done rest ≡ true)) → (way_of op ≡ w.straight) ⊎ (way_of op ≡ w.onto)
+  performs_by op rest (inl a) = inl a
+  performs_by op rest (inr a) = inr a.0
+
+  says_performed : (op : Operation) (p : Place) → (way_of op ≡ w.straight) ⊎ (way_of op ≡ w.onto) → Says op p
+  says_performed op p (inl a) = says_straight op p a
+  says_performed op p (inr a) = says_onto op p a
+
+  no_end : (op : Operation) → way_of op ≡ w.straight → ends_part op ≡ false
+  no_end o.End a = absurd (cc)
+  no_end op a = refl
+
+  goes_on : (b : Bool) (E G : Type 0) → b ≡ false → Either b E G → G
+  goes_on true E G a either = absurd (true≢false a)
+  goes_on false E G a either = either
+
+  performed : (op : Operation) (rest : Code ℕ) (near : Bool) (c : Around) (l : Option (Loop sys)) (s e : sys.State) (t : Judged sys l (sys.behind op true s) rest e) (i k : ℕ) (n : Parts) (who : Who)
+      (part : Bool) (x : Exits) → (way_of op ≡ w.straight) ⊎ ((way_of op ≡ w.onto) × (is_done rest ≡ true))
+      → Either (ends_part op) ((part ≡ true) × (x.tests ≡ false) × (rest ≡ done)) (Shape part false x rest)
+      → Has core (suc i) (skip (goes_away (way_of op) || begins_here near rest) (label c (suc i + gap (goes_away (way_of op) || begins_here near rest)) k rest)
+      ++ flat entry near c (suc i + gap (goes_away (way_of op) || begins_here near rest)) k rest)
+      → Stands who s n → Behind (suc i) n → (Shape part false x rest → Stands who (sys.behind op true s) n → Goes rest near c l (sys.behind op true s) e t k n)
+      → AreRight (suc i) (skip_mark (goes_away (way_of op) || begins_here near rest) (sys.behind op true s) ++ marks sys near l (sys.behind op true s) rest e t)
+      × Behind (suc i + (gap (goes_away (way_of op) || begins_here near rest) + extent near rest)) n
+  performed op rest near c l s e t i k n who part x (inl a) either h stand g more =
+      let r = sys.behind op true s in
+      let stand' = stand_at who (place r) (place_behind op true (place s)) n (keeps.behind op true s) (straight_on who op (place s) n a stand) in
+      falls (goes_away (way_of op) || begins_here near rest) rest near c l r e t (suc i) k n stand'.is h g (more (goes_on (ends_part op) _ _ (no_end op a) either) stand')
+  performed op rest near c l s e t i k n who part x (inr a) either h stand g more =
+      let r = sys.behind op true s in
+      let b : (goes_away (way_of op) || begins_here near rest) ≡ true = ap (λ z. goes_away z || begins_here near rest) a.0 in
+      let others = counted_done rest a.1 near l r e t (suc i) n g in
+      let far : suc i + (0 + extent near rest) ≡ suc i + extent near rest = omega arith in (
+        subst (λ z. AreRight (suc i) (skip_mark z r ++ marks sys near l r rest e t)) (sym b) others.0,
+        ap (λ z. come (suc i + (gap z + extent near rest))) b ∙ moved (suc i + extent near rest) (suc i + (0 + extent near rest)) n far others.1,
+      )
+
+  -- the second way of a choice
+  second_way : (op : Operation) (y : Code ℕ) (after' : Bool) (c : Around) (l : Option (Loop sys)) (s u : sys.State) (t : Judged sys l (sys.behind op false s) y u) (r next : ℕ) (n : Parts) (who : Who)
+      → Stand who (place_behind op false (place s)) n ⊎ (waits op ≡ true) → (waits op ≡ true → y ≡ done) → Behind r n
+      → (Stands who (sys.behind op false s) n → Counted after' l (sys.behind op false s) y u t r n) → Counted after' l (sys.behind op false s) y u t r n
+  second_way op y after' c l s u t r next n who (inl a) empty g more =
+      more (stand_at who (place (sys.behind op false s)) (place_behind op false (place s)) n (keeps.behind op false s) a)
+  second_way op y after' c l s u t r next n who (inr a) empty g more = counted_done y (ap is_done (empty a)) after' l (sys.behind op false s) u t r n g
+
+  -- what stands behind a loop
+  onward_of : (b : Bool) (part : Bool) (x : Exits) (rest : Code ℕ) → Either b ((part ≡ true) × (x.tests ≡ false) × (rest ≡ done)) (Shape part false x rest) → (Shape part false x rest) ⊎ (is_done rest ≡ true)
+  onward_of true part x rest a = inr (ap is_done a.2)
+  onward_of false part x rest a = inl a
+
+  left_behind : (round : Loop sys) (rest : Code ℕ) (near : Bool) (l : Option (Loop sys)) (s e : sys.State) (t : Judged sys l round.left rest e) (r : ℕ) (n : Parts) (who : Who) (part : Bool) (x : Exits)
+      → sys.Grants s round.turn → sys.Stands round.left round.turn ⊎ (is_done rest ≡ true) → (Shape part false x rest) ⊎ (is_done rest ≡ true) → Stands who s n → Behind r n
+      → (Shape part false x rest → Stands who round.left n → Counted near l round.left rest e t r n) → Counted near l round.left rest e t r n
+  left_behind round rest near l s e t r n who part x granted (inr a) shape stand g more = counted_done rest a near l round.left e t r n g
+  left_behind round rest near l s e t r n who part x granted (inl a) (inr b) stand g more = counted_done rest b near l round.left e t r n g
+  left_behind round rest near l s e t r n who part x granted (inl a) (inl b) stand g more =
+      more b (stand_at who (place round.left) (place s) n (keeps.stands round.left round.turn a ∙ sym (keeps.grants s round.turn granted)) stand)
+
+  pub walk : (code : Code ℕ) (near : Bool) (c : Around) (l : Option (Loop sys)) (s e : sys.State) (i k : ℕ) (m n : Parts) (who : Who) (resuming in_loop part closing : Bool) (x : Exits) (in_split : Bool)
       → IsShaped has_body in_loop code → Shape part closing x code → Placed may_call who resuming code → (t : Judged sys l s code e) → Has core i (flat entry near c i k code)
       → ShrinksIn in_split code → (in_split ≡ true → 1 ≤ n.levels) → Stands who s n → Enters resuming m n → Behind i m → Counted near l s code e t i n
   walk done near c l s e i k m n who resuming in_loop part closing x in_split shaped shape placed t h shrinks deep stand fits f =
@@ -216,48 +278,16 @@ module _ (core : List CoreOp) (entry : ℕ → ℕ) (may_call : (in_group : Bool
   walk (perform site op rest) near c l s e i k m n who resuming in_loop part closing x in_split shaped shape placed t h shrinks deep stand fits f =
       let here' = goes_away (way_of op) || begins_here near rest in
       let r = sys.behind op true s in
-      let ways' = performs_by shaped.0 in
+      let ways' = performs_by op rest shaped.0 in
       let mine = one resuming op m n placed.0 fits in
       let onward : Behind (suc i) n = act_goes i site m false op (aim (way_of op) k) h.0 f ∙ ap (λ z. fold (past (Some op) z) (enters false (Some op))) mine
       ∙ ap (λ z. fold z (enters false (Some op))) (after_straight op n ways') ∙ ap (fold n) (no_enter op false (not_into op ways')) in
-      let both = by shaped.0 onward in
+      let both = performed op rest near c l s e t.1 i k n who part x shaped.0 shape.2 h.1 stand onward
+      (λ shape' stand' j there g. walk rest near c l r e j k n n who false in_loop part false x in_split shaped.1 shape' placed.1 t.1 there shrinks deep stand' refl g) in
       let far : i + suc (gap here' + extent near rest) ≡ suc i + (gap here' + extent near rest) = omega arith in (
-        ((act_told i site m op (aim (way_of op) k) h.0 f ∙ mine ∙ sym stand.is, act_says i site op (aim (way_of op) k) s h.0 (says ways')), both.0),
+        ((act_told i site m op (aim (way_of op) k) h.0 f ∙ mine ∙ sym stand.is, act_says i site op (aim (way_of op) k) s h.0 (says_performed op (place s) ways')), both.0),
         moved (suc i + (gap here' + extent near rest)) (i + suc (gap here' + extent near rest)) n far both.1,
       )
-    where
-      performs_by : (way_of op ≡ w.straight) ⊎ ((way_of op ≡ w.onto) × (is_done rest ≡ true)) → (way_of op ≡ w.straight) ⊎ (way_of op ≡ w.onto)
-      performs_by (inl a) = inl a
-      performs_by (inr a) = inr a.0
-
-      says : (way_of op ≡ w.straight) ⊎ (way_of op ≡ w.onto) → Says op (place s)
-      says (inl a) = says_straight op (place s) a
-      says (inr a) = says_onto op (place s) a
-
-      no_end : (op' : Operation) → way_of op' ≡ w.straight → ends_part op' ≡ false
-      no_end o.End a = absurd (cc)
-      no_end op' a = refl
-
-      goes_on : (b : Bool) → b ≡ false → Either b ((part ≡ true) × (x.tests ≡ false) × (rest ≡ done)) (Shape part false x rest) → Shape part false x rest
-      goes_on true a either = absurd (true≢false a)
-      goes_on false a either = either
-
-      by : (way_of op ≡ w.straight) ⊎ ((way_of op ≡ w.onto) × (is_done rest ≡ true)) → Behind (suc i) n
-          → AreRight (suc i) (skip_mark (goes_away (way_of op) || begins_here near rest) (sys.behind op true s) ++ marks sys near l (sys.behind op true s) rest e t.1)
-          × Behind (suc i + (gap (goes_away (way_of op) || begins_here near rest) + extent near rest)) n
-      by (inl a) g =
-          let r = sys.behind op true s in
-          let stand' = stand_at who (place r) (place_behind op true (place s)) n (keeps.behind op true s) (straight_on who op (place s) n a stand) in
-          falls (goes_away (way_of op) || begins_here near rest) rest near c l r e t.1 (suc i) k n stand'.is h.1 g
-          (λ j there b. walk rest near c l r e j k n n who false in_loop part false x in_split shaped.1 (goes_on (ends_part op) (no_end op a) shape.2) placed.1 t.1 there shrinks deep stand' refl b)
-      by (inr a) g =
-          let r = sys.behind op true s in
-          let b : (goes_away (way_of op) || begins_here near rest) ≡ true = ap (λ z. goes_away z || begins_here near rest) a.0 in
-          let more = counted_done rest a.1 near l r e t.1 (suc i) n g in
-          let far : suc i + (0 + extent near rest) ≡ suc i + extent near rest = omega arith in (
-            subst (λ z. AreRight (suc i) (skip_mark z r ++ marks sys near l r rest e t.1)) (sym b) more.0,
-            ap (λ z. come (suc i + (gap z + extent near rest))) b ∙ moved (suc i + extent near rest) (suc i + (0 + extent near rest)) n far more.1,
-          )
   walk (choose site op x' y rest) near c l s e i k m n who resuming in_loop part closing x in_split shaped shape placed t h shrinks deep stand fits f =
       let q = choice_at entry x' y rest near c i k in
       let has = has_choice entry core x' y rest near c i k h.1 in
@@ -282,26 +312,19 @@ module _ (core : List CoreOp) (entry : ℕ → ℕ) (may_call : (in_group : Bool
       let stand_a = stand_at (who_in who op) (place a) (place_behind op true (place s)) n' (keeps.behind op true s) two.first in
       let before = skipped q.here (suc i) (label c q.first q.next x') a n' stand_a.is (has_front core (suc i) q.jumps q.firsts has.begins) onward in
       let firsts = walk x' q.beside c l a u q.first q.next n' n' (who_in who op) false in_loop (splits op) false (of_way op x) (under op in_split) shaped.1 shape.2 placed.2 t.2 has.first shrinks.0 (two.deep in_split deep) stand_a refl before.1 in
-      let seconds = second n' (two.deep in_split deep) two.second q.after q.second q.next has.second firsts.1 in
+      let seconds = second_way op y q.after c l s u t.3 q.second q.next n' (who_in who op) two.second shape.4 firsts.1
+      (λ stand_b. walk y q.after c l b u q.second q.next n' n' (who_in who op) false in_loop (has_two_parts op) false (of_way op x) (under op in_split) shaped.2 shape.3 placed.3 t.3 has.second
+      shrinks.1 (two.deep in_split deep) stand_b refl firsts.1) in
       let stand_u = stand_at who (place u) (place s) n (keeps.stands u s t.5) stand in
       let others = walk rest near c l u e q.behind k n' n who (splits op) in_loop part (opens_body op) x in_split shaped.3 shape.6 placed.5 t.4 has.others shrinks.2 deep stand_u two.behind seconds.1 in
       let far : i + suc (gap q.here + extent q.beside x' + extent q.after y + extent near rest) ≡ q.behind + extent near rest = omega arith in (
-        ((act_told i site m op (label c q.second q.next y) h.0 f ∙ mine ∙ sym stand.is, act_says i site op (label c q.second q.next y) s h.0 two.says),
-        right_both (suc i) q.behind ((js ++ xs) ++ ys) zs (omega arith)
-            (right_both (suc i) q.second (js ++ xs) ys (omega arith) (right_both (suc i) q.first js xs (omega arith) before.0 firsts.0) seconds.0) others.0),
+        (
+          (act_told i site m op (label c q.second q.next y) h.0 f ∙ mine ∙ sym stand.is, act_says i site op (label c q.second q.next y) s h.0 two.says),
+          right_both (suc i) q.behind ((js ++ xs) ++ ys) zs (omega arith)
+              (right_both (suc i) q.second (js ++ xs) ys (omega arith) (right_both (suc i) q.first js xs (omega arith) before.0 firsts.0) seconds.0) others.0,
+        ),
         moved (q.behind + extent near rest) (i + suc (gap q.here + extent q.beside x' + extent q.after y + extent near rest)) n far others.1,
       )
-    where
-      is_nothing : (code : Code ℕ) → code ≡ done → is_done code ≡ true
-      is_nothing code a = ap is_done a
-
-      second : (n' : Parts) → (under op in_split ≡ true → 1 ≤ n'.levels) → Stand (who_in who op) (place_behind op false (place s)) n' ⊎ (waits op ≡ true) → (after' : Bool) (r next : ℕ) → Has core r (flat entry after' c r next y) → Behind r n'
-          → Counted after' l (sys.behind op false s) y t.1 t.3 r n'
-      second n' deeper (inl a) after' r next there g =
-          let b = sys.behind op false s in
-          let stand_b = stand_at (who_in who op) (place b) (place_behind op false (place s)) n' (keeps.behind op false s) a in
-          walk y after' c l b t.1 r next n' n' (who_in who op) false in_loop (has_two_parts op) false (of_way op x) (under op in_split) shaped.2 shape.3 placed.3 t.3 there shrinks.1 deeper stand_b refl g
-      second n' deeper (inr a) after' r next there g = counted_done y (is_nothing y (shape.4 a)) after' l (sys.behind op false s) t.1 t.3 r n' g
   walk (while test body last rest) near c l s e i k m n who resuming in_loop part closing x in_split shaped shape placed t h shrinks deep stand fits f =
       let q = turns_at entry test body last rest near c i k in
       let has = has_turns entry core test body last rest near c i k h in
@@ -321,29 +344,13 @@ module _ (core : List CoreOp) (entry : ℕ → ℕ) (may_call : (in_group : Bool
       let tests = walk test q.enters (Some q.loop) (Some round) b b i q.enter n n (inner who) false true false false (of_test shape.1) in_split shaped.2 shape.2 placed.1 t.2 has.test shrinks.0 deep turns refl g in
       let bodies = walk body q.steps (Some q.loop) (Some round) b b q.body q.loop.onward n n (inner who) false true false false (of_turn shape.1 x) in_split shaped.3 shape.3 placed.2 t.3 has.body shrinks.1 deep turns refl tests.1 in
       let lasts = walk last false (Some q.loop) (Some round) b b q.step i n n (inner who) false true false false sh.none in_split shaped.4 shape.4 placed.3 t.4 has.step shrinks.2 deep turns refl bodies.1 in
-      let others = left t.6 q.behind has.others lasts.1 in
+      let others = left_behind round rest near l s e t.5 q.behind n who part x t.1 t.6 (onward_of shape.1 part x rest shape.5) stand lasts.1
+      (λ shape' there. walk rest near c l round.left e q.behind k n n who false in_loop part false x in_split shaped.5 shape' placed.4 t.5 has.others shrinks.3 deep there refl lasts.1) in
       let far : i + (extent q.enters test + extent q.steps body + extent false last + extent near rest) ≡ q.behind + extent near rest = omega arith in (
         right_both i q.behind ((ts ++ bs) ++ ss) rs (omega arith)
             (right_both i q.step (ts ++ bs) ss (omega arith) (right_both i q.body ts bs (omega arith) tests.0 bodies.0) lasts.0) others.0,
         moved (q.behind + extent near rest) (i + (extent q.enters test + extent q.steps body + extent false last + extent near rest)) n far others.1,
       )
-    where
-      onward : Either shape.1 ((part ≡ true) × (x.tests ≡ false) × (rest ≡ done)) (Shape part false x rest) → (Shape part false x rest) ⊎ (is_done rest ≡ true)
-      onward a = by shape.1 a
-        where
-          by : (b : Bool) → Either b ((part ≡ true) × (x.tests ≡ false) × (rest ≡ done)) (Shape part false x rest) → (Shape part false x rest) ⊎ (is_done rest ≡ true)
-          by true a' = inr (ap is_done a'.2)
-          by false a' = inl a'
-
-      left : sys.Stands t.0.left t.0.turn ⊎ (is_done rest ≡ true) → (r : ℕ) → Has core r (flat entry near c r k rest) → Behind r n → Counted near l t.0.left rest e t.5 r n
-      left (inr a) r there g = counted_done rest a near l t.0.left e t.5 r n g
-      left (inl a) r there g = by (onward shape.5)
-        where
-          by : (Shape part false x rest) ⊎ (is_done rest ≡ true) → Counted near l t.0.left rest e t.5 r n
-          by (inr b) = counted_done rest b near l t.0.left e t.5 r n g
-          by (inl b) =
-              let there' = stand_at who (place t.0.left) (place s) n (keeps.stands t.0.left t.0.turn a ∙ sym (keeps.grants s t.0.turn t.1)) stand in
-              walk rest near c l t.0.left e r k n n who false in_loop part false x in_split shaped.5 b placed.4 t.5 there shrinks.3 deep there' refl g
   walk (until body test rest) near c l s e i k m n who resuming in_loop part closing x in_split shaped shape placed t h shrinks deep stand fits f =
       let q = rounds_at entry body test rest near c i k in
       let has = has_rounds entry core body test rest near c i k h in
@@ -359,28 +366,12 @@ module _ (core : List CoreOp) (entry : ℕ → ℕ) (may_call : (in_group : Bool
       let turns = stand_at (inner who) (place b) (place s) n (sym (keeps.grants s b t.1)) (stand_inner who (place s) n stand) in
       let bodies = walk body true (Some q.loop) (Some round) b b i q.test n n (inner who) false true false false (of_turn shape.1 x) in_split shaped.1 shape.3 placed.1 t.2 has.body shrinks.0 deep turns refl g in
       let tests = walk test false (Some q.loop) (Some round) b b q.test q.enter n n (inner who) false true false false (of_test shape.1) in_split shaped.2 shape.2 placed.2 t.3 has.test shrinks.1 deep turns refl bodies.1 in
-      let others = left t.5 q.behind has.others tests.1 in
+      let others = left_behind round rest near l s e t.4 q.behind n who part x t.1 t.5 (onward_of shape.1 part x rest shape.4) stand tests.1
+      (λ shape' there. walk rest near c l round.left e q.behind k n n who false in_loop part false x in_split shaped.3 shape' placed.3 t.4 has.others shrinks.2 deep there refl tests.1) in
       let far : i + (extent true body + extent false test + extent near rest) ≡ q.behind + extent near rest = omega arith in (
         right_both i q.behind (bs ++ ts) rs (omega arith) (right_both i q.test bs ts (omega arith) bodies.0 tests.0) others.0,
         moved (q.behind + extent near rest) (i + (extent true body + extent false test + extent near rest)) n far others.1,
       )
-    where
-      onward : Either shape.1 ((part ≡ true) × (x.tests ≡ false) × (rest ≡ done)) (Shape part false x rest) → (Shape part false x rest) ⊎ (is_done rest ≡ true)
-      onward a = by shape.1 a
-        where
-          by : (b : Bool) → Either b ((part ≡ true) × (x.tests ≡ false) × (rest ≡ done)) (Shape part false x rest) → (Shape part false x rest) ⊎ (is_done rest ≡ true)
-          by true a' = inr (ap is_done a'.2)
-          by false a' = inl a'
-
-      left : sys.Stands t.0.left t.0.turn ⊎ (is_done rest ≡ true) → (r : ℕ) → Has core r (flat entry near c r k rest) → Behind r n → Counted near l t.0.left rest e t.4 r n
-      left (inr a) r there g = counted_done rest a near l t.0.left e t.4 r n g
-      left (inl a) r there g = by (onward shape.4)
-        where
-          by : (Shape part false x rest) ⊎ (is_done rest ≡ true) → Counted near l t.0.left rest e t.4 r n
-          by (inr b) = counted_done rest b near l t.0.left e t.4 r n g
-          by (inl b) =
-              let there' = stand_at who (place t.0.left) (place s) n (keeps.stands t.0.left t.0.turn a ∙ sym (keeps.grants s t.0.turn t.1)) stand in
-              walk rest near c l t.0.left e r k n n who false in_loop part false x in_split shaped.3 b placed.3 t.4 there shrinks.2 deep there' refl g
   walk (turn a b d rest) near c l s e i k m n who resuming in_loop part closing x in_split shaped shape placed t h shrinks deep stand fits f = absurd shape
   walk (again a b d rest) near c l s e i k m n who resuming in_loop part closing x in_split shaped shape placed t h shrinks deep stand fits f = absurd shape
   walk (quit site op rest) near c l s e i k m n who resuming in_loop part closing x in_split shaped shape placed t h shrinks deep stand fits f =
@@ -424,10 +415,12 @@ module _ (core : List CoreOp) (entry : ℕ → ℕ) (may_call : (in_group : Bool
       let ls = skip_length q.here r in
       let e1 = length-append os (en ∷ skip_mark q.here r) in
       let far : i + suc (suc (extent true opening + gap q.here + extent near rest)) ≡ q.behind + extent near rest = omega arith in (
-        ((act_told i site m op (entry function) h.0 f ∙ mine.0 ∙ same ∙ sym stand.is, act_says i site op (entry function) s h.0 (says_into op (place s) shaped.0)),
-        right_both (suc i) q.behind (os ++ (en ∷ skip_mark q.here r)) rs (omega arith)
-            (right_both (suc i) q.back os (en ∷ skip_mark q.here r) (omega arith) openings.0 ((opening_told q.back n (jump (entry function)) has.jumps.0 openings.1 ∙ sym inside'.is, jump_says q.back (entry function) en has.jumps.0), before.0))
-            others.0),
+        (
+          (act_told i site m op (entry function) h.0 f ∙ mine.0 ∙ same ∙ sym stand.is, act_says i site op (entry function) s h.0 (says_into op (place s) shaped.0)),
+          right_both (suc i) q.behind (os ++ (en ∷ skip_mark q.here r)) rs (omega arith)
+              (right_both (suc i) q.back os (en ∷ skip_mark q.here r) (omega arith) openings.0 ((opening_told q.back n (jump (entry function)) has.jumps.0 openings.1 ∙ sym inside'.is, jump_says q.back (entry function) en has.jumps.0), before.0))
+              others.0,
+        ),
         moved (q.behind + extent near rest) (i + suc (suc (extent true opening + gap q.here + extent near rest))) n far others.1,
       )
   walk (ends site op rest) near c l s e i k m n who resuming in_loop part closing x in_split shaped shape placed t h shrinks deep stand fits f =

@@ -73,6 +73,7 @@ fn levels_at(saved: &[Levels], index: usize) -> Levels
             count: 0,
             behind: 0,
             nest: 0,
+            fork: None,
         },
     }
 }

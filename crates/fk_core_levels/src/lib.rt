@@ -4,6 +4,7 @@
 
 mod behind;
 mod count;
+mod open;
 mod pass;
 #[cfg(test)]
 mod tests;

@@ -5,6 +5,7 @@ ghost use Rattle.fk_core_levels.specs.Levels as l;
 
 use crate::behind::{named, settle};
 use crate::count::{after, here, inside, opens};
+use crate::open::OpenParts;
 use fk_core::CoreOp;
 use fk_gen::Levels;
 use std::alloc::{AllocError, Global};
@@ -25,14 +26,18 @@ fn told(alloc: Global, ops: &[CoreOp]) -> Result<Vec<Levels>, AllocError>
     let mut parts = 0;
     let mut around = 0;
     let mut opening = false;
+    let mut open = OpenParts::new(alloc);
     for op in ops {
         let count = here(parts, *op);
         let nest = here(around, *op);
+        open.come_to(*op);
         saved.push(Levels {
             count: in_call(opening, count),
             behind: named(*op),
             nest: in_call(opening, nest),
+            fork: if opening { None } else { open.fork() },
         })?;
+        open.leave(*op)?;
         parts = after(count, *op);
         around = inside(nest, *op);
         opening = opens(opening, *op);

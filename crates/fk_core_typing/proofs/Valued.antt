@@ -59,7 +59,7 @@ module _ (place_of : ℕ → FunctionKind) (frame_of : ℕ → Option ℕ) where
     none = λ f. refl;
   }
 
-  abbrev loop_of : Option t.Loop → Option (Loop values)
+  abbrev pub loop_of : Option t.Loop → Option (Loop values)
   loop_of None = None
   loop_of (Some loop) = Some (record { turn = loop.turn; left = loop.left; even = loop.even })
 
@@ -78,8 +78,7 @@ module _ (place_of : ℕ → FunctionKind) (frame_of : ℕ → Option ℕ) where
       (h.0, h.1, judged x l (behind op true s) h.1 h.2, judged y l (behind op false s) h.1 h.3, judged rest l h.1 e h.4, h.5)
   judged (while test body step rest) l s e h =
       let c = h.0 in
-      let b = c.turn in
-      (
+      let b = c.turn in (
         record { turn = c.turn; left = c.left; even = c.even },
         h.1,
         judged test (Some c) b b h.2,

@@ -1,9 +1,9 @@
 -- Well typed code, from its beginning on.
 --
--- Each turn of a loop begins with the values with which the loop began, whatever it does in between.
--- Both branches of a choice come together with the same values. After a choice a call is in the
--- parts in which it was before, and so it is after a loop; but nothing follows a private loop in its
--- part. A call takes its arguments, and gives a result or none. The code after a `break`, a
+-- Each turn of a loop begins with the values with which the loop began, whatever it does in
+-- between. Both branches of a choice come together with the same values. After a choice a call is in
+-- the parts in which it was before. The same holds after a loop, but nothing follows a private loop
+-- in its part. A call takes its arguments, and gives a result or none. The code after a `break`, a
 -- `continue` or an end of the function is never reached. It is typed as if the code before it went
 -- on into it.
 use Rattle.std.specs.Prelude.{◌≡◌, ◌⊎◌, ℕ, Bool, true, false, length, Option, Some, None, is_some}
@@ -18,8 +18,8 @@ use Rattle.fk_core_liveness.specs.declared.places.FunctionKind.TheVariants.{Main
 use Rattle.fk_core_typing.specs.Values.{Place, with_frame, entered, State, bare, behind}
 use Rattle.fk_core_typing.specs.Values.{behind_call, May, Grants}
 
--- A loop: the state in which it begins and in which each turn does, and the one in which it is left.
--- Both have as many values. The turns of a private loop are in a part, which it leaves.
+-- A loop: the state in which it begins and in which each turn does, and the one in which it is
+-- left. Both have as many values. The turns of a private loop are in a part, which it leaves.
 pub record Loop : Type 0 where
   pub turn : State
   pub left : State

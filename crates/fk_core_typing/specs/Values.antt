@@ -136,8 +136,8 @@ Asks (Combine by) (v ∷ a ∷ vs) = is_known true a ≡ true
 Asks operation vs = Unit {0}
 
 -- The word whose address an operation gets is in a frame of the call, a `start` is in `main`
--- outside of all others, and frames and parts are taken and left in their order. `EndsIn` says where
--- a function is left.
+-- outside of all others, and frames and parts are taken and left in their order. `EndsIn` says
+-- where a function is left.
 abbrev pub MayBeIn : Operation → Place → Type 0
 MayBeIn (Get (FrameAddress nesting word)) place = has_word place.nests nesting word ≡ true
 MayBeIn Begin place = place ≡ entered Main

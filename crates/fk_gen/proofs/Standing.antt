@@ -1,7 +1,7 @@
 -- What a processor has in local memory stays there, but what is written.
-use Rattle.std.proofs.Common.{◌≡◌, ℕ, zero, suc, ◌+◌, ◌-◌, ◌*◌, ◌^◌, ◌<◌, ◌≤◌, List, [], ◌∷◌, length, Bool, true, false, sym, ap, subst, ◌∙◌, arith, refl, eq-eqb, inl, inr}
-use Rattle.std.specs.Prelude.{◌==◌, ◌||◌, ◌⊎◌}
-use Rattle.std.proofs.lemmas.Bool.{ne_eqb, eqb-true, eqb-false}
+use Rattle.std.proofs.Common.{◌≡◌, ℕ, zero, suc, ◌+◌, ◌-◌, ◌*◌, ◌^◌, ◌<◌, ◌≤◌, List, [], ◌∷◌, length, Bool, true, false, sym, ap, subst, ◌∙◌, arith, refl, eq-eqb}
+use Rattle.std.specs.Prelude.{◌==◌, ◌||◌}
+use Rattle.std.proofs.lemmas.Bool.{ne_eqb, eqb-true}
 use Rattle.std.specs.Int.{from_bool}
 use Rattle.fk_num.specs.Word.{Memory, put}
 use Rattle.fk_meaning_operation.specs.declared.operation.Variable.TheVariants.{Private, OfFile}
@@ -13,7 +13,7 @@ use Rattle.fk_core.specs.declared.op.CoreOp.{CoreOp}
 use Rattle.fk_core.specs.Next.{position}
 use Rattle.fk_machine.specs.Hart.{Hart}
 use Rattle.fk_sim_block.specs.Owner.{Owner}
-use Rattle.fk_sim_block.specs.Stands.{Frames, Places, HasValues, HasRoom, FrameInMemory, HasWaiting, IsGroupFrame, TellsFrame, HasPartFrames, has_own, before_call, HaveGroupFrames, StandsFor, ahead, frame_end, frame_start, group_word, full_word, value_of}
+use Rattle.fk_sim_block.specs.Stands.{Frames, Places, HasValues, HasRoom, FrameInMemory, HasWaiting, IsGroupFrame, TellsFrame, before_call, HaveGroupFrames, StandsFor, ahead, frame_end, frame_start, group_word, full_word, value_of}
 use Rattle.fk_sim_block.specs.Stands.{zero_register, frame_register, end_register, number_register, rank_register, size_register, top_register, local_register, shared_register, heap_register, shared_mask_register, device_register, heap_mask_register, group_frame_register}
 use Rattle.fk_sim_block.specs.Suits.{Flows, TakesFrame, nothing}
 use Rattle.fk_gen.proofs.Values.{same_word, other_word, values_kept}
@@ -85,149 +85,92 @@ waiting_kept places m m' backs calls few same held = absurd (assumption held)
 
 -- ---- group frames stay, where headers and the register do
 
-parts_kept : (frames : Frames) (m m' : Memory) (n i : ℕ) (call : Call) → ((number : ℕ) → number < 4 → m' (group_word n number) ≡ m (group_word n number))
-    → HasPartFrames frames m n i call → HasPartFrames frames m' n i call
-parts_kept frames m m' n i call same held = λ number part told.
-    let has = held number part told in
-    (has.0, record { within = has.1.within; is = same number has.0 ∙ has.1.is })
-
 pub groups_kept : (frames : Frames) (m m' : Memory) (address : ℕ) (indices : List ℕ) (calls : List Call)
-    → ((k number : ℕ) → k < length calls → number < 4 → m' (group_word k number) ≡ m (group_word k number))
+    → ((k : ℕ) → k < length calls → m' (group_word k) ≡ m (group_word k))
     → HaveGroupFrames frames m address indices calls → HaveGroupFrames frames m' address indices calls
 groups_kept frames m m' address [] calls same held = tt
 groups_kept frames m m' address (i ∷ indices) [] same held = tt
 groups_kept frames m m' address (i ∷ indices) (c ∷ calls) same held =
     let n = length calls in (
       held.0,
-      parts_kept frames m m' n i c (λ number known. same n number (omega arith) known) held.1,
-      subst (λ a. HaveGroupFrames frames m' a indices calls) (ap (before_call (has_own frames i) address) (sym (same n 0 (omega arith) (omega arith))))
-          (groups_kept frames m m' (before_call (has_own frames i) address (m (group_word n 0))) indices calls (λ k number lt known. same k number (omega arith) known) held.2),
+      subst (λ a. HaveGroupFrames frames m' a indices calls) (ap (before_call (frames.group i) address) (sym (same n (omega arith))))
+          (groups_kept frames m m' (before_call (frames.group i) address (m (group_word n))) indices calls (λ k lt. same k (omega arith)) held.1),
     )
 
--- a call of the same group frames has the address that another has
-pub told_on : (own : Bool) (address : ℕ) (call call' : Call) → call'.frames ≡ call.frames → TellsFrame own address call → TellsFrame own address call'
+-- a call of the same own group frame has the address that another has
+pub told_on : (own : Bool) (address : ℕ) (call call' : Call) → call'.frames 0 ≡ call.frames 0 → TellsFrame own address call → TellsFrame own address call'
 told_on false address call call' same tells = tt
-told_on true address call call' same tells = subst (λ (f : ℕ → ℕ). IsGroupFrame address (f 0)) (sym same) tells
-
-pub parts_on : (frames : Frames) (m m' : Memory) (n i j : ℕ) (call call' : Call) → ((number : ℕ) → frames.group j number ≡ true → frames.group i number ≡ true)
-    → call'.frames ≡ call.frames → ((number : ℕ) → number < 4 → m' (group_word n number) ≡ m (group_word n number))
-    → HasPartFrames frames m n i call → HasPartFrames frames m' n j call'
-parts_on frames m m' n i j call call' flows frames' same held = λ number part told.
-    let has = held number part (flows number told) in
-    (has.0, subst (λ (f : ℕ → ℕ). IsGroupFrame (m' (group_word n number)) (f number)) (sym frames') (record { within = has.1.within; is = same number has.0 ∙ has.1.is }))
+told_on true address call call' same tells = subst (IsGroupFrame address) (sym same) tells
 
 -- what the register had before the call, where the header keeps it
-before_on : (frames : Frames) (m m' : Memory) (address i j : ℕ) (backs : List ℕ) (calls : List Call) → frames.group j 0 ≡ frames.group i 0
-    → ((k number : ℕ) → k ≤ length calls → number < 4 → m' (group_word k number) ≡ m (group_word k number))
-    → HaveGroupFrames frames m (before_call (has_own frames i) address (m (group_word (length calls) 0))) backs calls
-    → HaveGroupFrames frames m' (before_call (has_own frames j) address (m' (group_word (length calls) 0))) backs calls
+before_on : (frames : Frames) (m m' : Memory) (address i j : ℕ) (backs : List ℕ) (calls : List Call) → frames.group j ≡ frames.group i
+    → ((k : ℕ) → k ≤ length calls → m' (group_word k) ≡ m (group_word k))
+    → HaveGroupFrames frames m (before_call (frames.group i) address (m (group_word (length calls)))) backs calls
+    → HaveGroupFrames frames m' (before_call (frames.group j) address (m' (group_word (length calls)))) backs calls
 before_on frames m m' address i j backs calls own same held =
-    let w = group_word (length calls) 0 in
+    let w = group_word (length calls) in
     subst (λ x. HaveGroupFrames frames m' (before_call x address (m' w)) backs calls) (sym own)
-    (subst (λ a. HaveGroupFrames frames m' (before_call (has_own frames i) address a) backs calls) (sym (same (length calls) 0 (omega arith) (omega arith)))
-    (groups_kept frames m m' (before_call (has_own frames i) address (m w)) backs calls (λ k number lt known. same k number (omega arith) known) held))
+    (subst (λ a. HaveGroupFrames frames m' (before_call (frames.group i) address a) backs calls) (sym (same (length calls) (omega arith)))
+    (groups_kept frames m m' (before_call (frames.group i) address (m w)) backs calls (λ k lt. same k (omega arith)) held))
 
--- the running call goes on at another index, with other values and private words
+-- the running call goes on at another index, with the same own group frame
+groups_at : (frames : Frames) (m m' : Memory) (address i j : ℕ) (call call' : Call) (backs : List ℕ) (calls : List Call)
+    → frames.group j ≡ frames.group i → call'.frames 0 ≡ call.frames 0
+    → ((k : ℕ) → k ≤ length calls → m' (group_word k) ≡ m (group_word k))
+    → HaveGroupFrames frames m address (i ∷ backs) (call ∷ calls) → HaveGroupFrames frames m' address (j ∷ backs) (call' ∷ calls)
+groups_at frames m m' address i j call call' backs calls own same_frame same held = (
+  subst (λ x. TellsFrame x address call') (sym own) (told_on (frames.group i) address call call' same_frame held.0),
+  before_on frames m m' address i j backs calls own same held.1,
+)
+
+-- it does so with other values and private words
 pub groups_on : (core : List CoreOp) (places : Places) (written : ℕ → Bool) (m m' : Memory) (address i j : ℕ) (call call' : Call) (backs : List ℕ) (calls : List Call)
     → Flows core places.frames written i j → call'.frames ≡ call.frames
-    → ((k number : ℕ) → k ≤ length calls → number < 4 → m' (group_word k number) ≡ m (group_word k number))
+    → ((k : ℕ) → k ≤ length calls → m' (group_word k) ≡ m (group_word k))
     → HaveGroupFrames places.frames m address (i ∷ backs) (call ∷ calls) → HaveGroupFrames places.frames m' address (j ∷ backs) (call' ∷ calls)
-groups_on core places written m m' address i j call call' backs calls flows frames same held = (
-  subst (λ x. TellsFrame x address call') (sym flows.own) (told_on (has_own places.frames i) address call call' frames held.0),
-  parts_on places.frames m m' (length calls) i j call call' flows.group frames (λ number known. same (length calls) number (omega arith) known) held.1,
-  before_on places.frames m m' address i j backs calls flows.own same held.2,
-)
+groups_on core places written m m' address i j call call' backs calls flows frames same held =
+    groups_at places.frames m m' address i j call call' backs calls flows.group (ap (λ (f : ℕ → ℕ). f 0) frames) same held
 
 -- those of a hart that stands for a processor at an index
 pub groups_go : (core : List CoreOp) (places : Places) (written : ℕ → Bool) (p : Owner) (h : Hart) (i j : ℕ) (call' : Call) → p.runner.left.at ≡ i
     → Flows core places.frames written i j → call'.frames ≡ p.runner.has.call.frames → StandsFor places p h
     → HaveGroupFrames places.frames h.local (h.registers group_frame_register) (j ∷ p.runner.left.callers) (call' ∷ p.runner.has.callers)
 groups_go core places written p h i j call' at flows same stands =
-    groups_on core places written h.local h.local (h.registers group_frame_register) i j p.runner.has.call call' p.runner.left.callers p.runner.has.callers flows same (λ k number le known. refl)
+    groups_on core places written h.local h.local (h.registers group_frame_register) i j p.runner.has.call call' p.runner.left.callers p.runner.has.callers flows same (λ k le. refl)
     (subst (λ k. HaveGroupFrames places.frames h.local (h.registers group_frame_register) (k ∷ p.runner.left.callers) (p.runner.has.call ∷ p.runner.has.callers)) at stands.groups)
 
 -- what the call of a group frame that is taken has
 abbrev pub taking_call : Call → (number first : ℕ) → Call
 taking_call call number first = record call { frames = put call.frames number first }
 
--- the other group frames of the call, where one is taken
-others_told : (core : List CoreOp) (places : Places) (m m' : Memory) (n number first i j : ℕ) (call : Call) → TakesFrame core places.frames number i j
-    → ((other : ℕ) → other < 4 → (other ≡ number → ⊥) → m' (group_word n other) ≡ m (group_word n other))
-    → HasPartFrames places.frames m n i call → (told : ℕ) → (told ≡ number → ⊥) → 0 < told → places.frames.group j told ≡ true
-    → (told < 4) × IsGroupFrame (m' (group_word n told)) ((taking_call call number first).frames told)
-others_told core places m m' n number first i j call takes same held told apart part is = by (takes.group told is)
-  where
-    by : ((told ≡ number) ⊎ (places.frames.group i told ≡ true)) → (told < 4) × IsGroupFrame (m' (group_word n told)) (put call.frames number first told)
-    by (inl e) = absurd (apart e)
-    by (inr before) =
-        let has = held told part before in
-        let kept : put call.frames number first told ≡ call.frames told = other_word call.frames number first told apart in
-        (has.0, subst (IsGroupFrame (m' (group_word n told))) (sym kept) (record { within = has.1.within; is = same told has.0 apart ∙ has.1.is }))
-
 -- the running call takes its own group frame, and its header keeps what the register had
 pub groups_with : (core : List CoreOp) (places : Places) (m m' : Memory) (address first i j : ℕ) (call : Call) (backs : List ℕ) (calls : List Call)
-    → TakesFrame core places.frames 0 i j → first ≤ 2 ^ 20 → m' (group_word (length calls) 0) ≡ address
-    → ((k number : ℕ) → k ≤ length calls → number < 4 → ((k ≡ length calls) × (number ≡ 0) → ⊥) → m' (group_word k number) ≡ m (group_word k number))
+    → TakesFrame core places.frames 0 i j → first ≤ 2 ^ 20 → m' (group_word (length calls)) ≡ address
+    → ((k : ℕ) → k < length calls → m' (group_word k) ≡ m (group_word k))
     → HaveGroupFrames places.frames m address (i ∷ backs) (call ∷ calls)
     → HaveGroupFrames places.frames m' (address_of first) (j ∷ backs) (taking_call call 0 first ∷ calls)
 groups_with core places m m' address first i j call backs calls takes small kept same held =
     let frames = places.frames in
-    let n = length calls in
-    let w = group_word n 0 in
+    let w = group_word (length calls) in
     let frame : put call.frames 0 first 0 ≡ first = same_word call.frames 0 first in
     let before : HaveGroupFrames frames m address backs calls =
-    subst (λ x. HaveGroupFrames frames m (before_call x address (m w)) backs calls) takes.none held.2 in
+    subst (λ x. HaveGroupFrames frames m (before_call x address (m w)) backs calls) (takes.none refl) held.1 in
     (
-      subst (λ x. TellsFrame x (address_of first) (taking_call call 0 first)) (sym takes.own)
+      subst (λ x. TellsFrame x (address_of first) (taking_call call 0 first)) (sym takes.group)
           record { within = subst (λ x. x ≤ 2 ^ 20) (sym frame) small; is = ap address_of (sym frame) },
-      (λ told part is.
-      others_told core places m m' n 0 first i j call takes (λ other low apart. same n other (omega arith) low (λ e. apart e.1)) held.1 told (λ e. omega (arith, e, part)) part is),
-      subst (λ x. HaveGroupFrames frames m' (before_call x (address_of first) (m' w)) backs calls) (sym takes.own)
-          (subst (λ a. HaveGroupFrames frames m' a backs calls) (sym kept)
-          (groups_kept frames m m' address backs calls (λ k number lt low. same k number (omega arith) low (λ e. let here = e.0 in omega (arith, here, lt))) before)),
+      subst (λ x. HaveGroupFrames frames m' (before_call x (address_of first) (m' w)) backs calls) (sym takes.group)
+          (subst (λ a. HaveGroupFrames frames m' a backs calls) (sym kept) (groups_kept frames m m' address backs calls same before)),
     )
 
--- it takes one of a part, of which its header gets the address
-pub groups_more : (core : List CoreOp) (places : Places) (m m' : Memory) (address number first i j : ℕ) (call : Call) (backs : List ℕ) (calls : List Call)
-    → 0 < number → number < 4 → TakesFrame core places.frames number i j → first ≤ 2 ^ 20 → m' (group_word (length calls) number) ≡ address_of first
-    → ((k other : ℕ) → k ≤ length calls → other < 4 → ((k ≡ length calls) × (other ≡ number) → ⊥) → m' (group_word k other) ≡ m (group_word k other))
+-- it takes one of a part, which neither the register nor headers tell
+pub groups_more : (core : List CoreOp) (places : Places) (m : Memory) (address number first i j : ℕ) (call : Call) (backs : List ℕ) (calls : List Call)
+    → 0 < number → TakesFrame core places.frames number i j
     → HaveGroupFrames places.frames m address (i ∷ backs) (call ∷ calls)
-    → HaveGroupFrames places.frames m' address (j ∷ backs) (taking_call call number first ∷ calls)
-groups_more core places m m' address number first i j call backs calls part known takes small written same held =
-    let frames = places.frames in
-    let n = length calls in
-    let w = group_word n 0 in
-    let frame : put call.frames number first number ≡ first = same_word call.frames number first in
+    → HaveGroupFrames places.frames m address (j ∷ backs) (taking_call call number first ∷ calls)
+groups_more core places m address number first i j call backs calls part takes held =
     let none : (number == 0) ≡ false = ne_eqb number 0 (λ e. omega (arith, e, part)) in
-    let own : frames.group j 0 ≡ frames.group i 0 = takes.own ∙ ap (λ b. b || frames.group i 0) none in
-    let others : put call.frames number first 0 ≡ call.frames 0 = other_word call.frames number first 0 (λ e. omega (arith, e, part)) in
-    (
-      subst (λ x. TellsFrame x address (taking_call call number first)) (sym own) (own_stays (has_own frames i) address others held.0),
-      (λ told some is. by_told told some is (told == number) refl),
-      subst (λ x. HaveGroupFrames frames m' (before_call x address (m' w)) backs calls) (sym own)
-          (subst (λ a. HaveGroupFrames frames m' (before_call (has_own frames i) address a) backs calls) (sym (same n 0 (omega arith) (omega arith) (λ e. let here = e.1 in omega (arith, here, part))))
-          (groups_kept frames m m' (before_call (has_own frames i) address (m w)) backs calls (λ k other lt low. same k other (omega arith) low (λ e. let here = e.0 in omega (arith, here, lt))) held.2)),
-    )
-  where
-    own_stays : (own : Bool) (address : ℕ) → put call.frames number first 0 ≡ call.frames 0 → TellsFrame own address call → TellsFrame own address (taking_call call number first)
-    own_stays false address e tells = tt
-    own_stays true address e tells = subst (IsGroupFrame address) (sym e) tells
-
-    by_told : (told : ℕ) → 0 < told → places.frames.group j told ≡ true → (here : Bool) → (told == number) ≡ here
-        → (told < 4) × IsGroupFrame (m' (group_word (length calls) told)) (put call.frames number first told)
-    by_told told some is true e =
-        let same_number : told ≡ number = eqb-true told number e in
-        let frame : put call.frames number first told ≡ first = ap (put call.frames number first) same_number ∙ same_word call.frames number first in
-        (
-          omega (arith, same_number, known),
-          record {
-            within = subst (λ x. x ≤ 2 ^ 20) (sym frame) small;
-            is = ap (λ k. m' (group_word (length calls) k)) same_number ∙ written ∙ ap address_of (sym frame);
-          },
-        )
-    by_told told some is false e =
-        others_told core places m m' (length calls) number first i j call takes (λ other low apart. same (length calls) other (omega arith) low (λ both. apart both.1)) held.1 told
-        (eqb-false told number e) some is
+    let own : places.frames.group j ≡ places.frames.group i = takes.group ∙ ap (λ b. b || places.frames.group i) none in
+    groups_at places.frames m m address i j call (taking_call call number first) backs calls own (other_word call.frames number first 0 (λ e. omega (arith, e, part))) (λ k le. refl) held
 
 -- ---- words
 
@@ -379,7 +322,7 @@ module _ (core : List CoreOp) (places : Places) where
         };
         waiting = waiting_kept places m m' p.runner.left.callers p.runner.has.callers few (λ j le lt. below j (omega arith)) held.waiting;
         groups = groups_on core places nothing m m' a i i' p.runner.has.call (with_list i' vs p).runner.has.call p.runner.left.callers p.runner.has.callers flows refl
-            (λ k number le known. below (group_word k number) (omega arith)) groups;
+            (λ k le. below (group_word k) (omega arith)) groups;
         own = λ x lt. below (7 + x) (omega arith) ∙ held.own x lt;
         heap = λ x lt. above (16384 + x) (omega arith) ∙ held.heap x lt;
         full = below 2 (omega arith) ∙ held.full;
@@ -430,7 +373,7 @@ module _ (core : List CoreOp) (places : Places) where
         };
         waiting = waiting_kept places m m' p.runner.left.callers p.runner.has.callers few (λ j le lt. other_word m w v j (λ e. omega arith)) held.waiting;
         groups = groups_on core places (λ word. word == x) m m' a i i' p.runner.has.call (stored v (Private x) p.runner.has).call p.runner.left.callers p.runner.has.callers flows refl
-            (λ k number le known. other_word m w v (group_word k number) (λ e. omega arith)) groups;
+            (λ k le. other_word m w v (group_word k) (λ e. omega arith)) groups;
         own = λ y lt. other_word m w v (7 + y) (λ e. omega arith) ∙ held.own y lt;
         heap = λ y lt. other_word m w v (16384 + y) (λ e. omega arith) ∙ held.heap y lt;
         full = other_word m w v 2 (λ e. omega arith) ∙ held.full;
@@ -469,7 +412,7 @@ module _ (core : List CoreOp) (places : Places) where
         };
         waiting = waiting_kept places m m' p.runner.left.callers p.runner.has.callers few (λ j le lt. other_word m (7 + x) v j (λ e. omega arith)) held.waiting;
         groups = groups_on core places nothing m m' a i i' p.runner.has.call p.runner.has.call p.runner.left.callers p.runner.has.callers flows refl
-            (λ k number le known. other_word m (7 + x) v (group_word k number) (λ e. omega arith)) groups;
+            (λ k le. other_word m (7 + x) v (group_word k) (λ e. omega arith)) groups;
         own = λ y lt. word_here m 7 x v p.runner.has.own y (λ other. held.own y lt);
         heap = λ y lt. other_word m (7 + x) v (16384 + y) (λ e. omega arith) ∙ held.heap y lt;
         full = other_word m (7 + x) v 2 (λ e. omega arith) ∙ held.full;
@@ -485,64 +428,54 @@ module _ (core : List CoreOp) (places : Places) where
     heap = p.heap;
   }
 
-  -- a word of its header is written, and what its group frames are is told
-  frame_put : (m : Memory) (a v : ℕ) (p : Owner) (i i' number first count : ℕ) → places.frames.of_file ≤ 56 → length p.runner.has.callers < 256
-      → p.runner.left.at ≡ i → HasRoom places.frames i count → length (values p.runner.has) ≤ count → number < 4 → TakesFrame core places.frames number i i'
-      → FrameInMemory places m (length p.runner.has.callers) p.runner.left.at p.runner.has.call → HasWaiting places m p.runner.left.callers p.runner.has.callers
-      → ((x : ℕ) → x < places.frames.of_file → m (7 + x) ≡ p.runner.has.own x) → ((x : ℕ) → x < 16384 → m (16384 + x) ≡ p.heap.words x) → m full_word ≡ from_bool p.heap.full
-      → HaveGroupFrames places.frames (put m (group_word (length p.runner.has.callers) number) v) a (i' ∷ p.runner.left.callers) ((with_frame i' number first p).runner.has.call ∷ p.runner.has.callers)
-      → InMemory places (put m (group_word (length p.runner.has.callers) number) v) a (with_frame i' number first p)
-  frame_put m a v p i i' number first count few waiting at room within known takes running' held_waiting held_own held_heap held_full groups =
+  -- its own group frame is taken: the header keeps what the register had, which gets the address of the frame
+  pub frame_written : (m : Memory) (a : ℕ) (p : Owner) (i i' first count : ℕ) → places.frames.of_file ≤ 56 → length p.runner.has.callers < 256
+      → p.runner.left.at ≡ i → HasRoom places.frames i count → length (values p.runner.has) ≤ count → TakesFrame core places.frames 0 i i' → first ≤ 2 ^ 20
+      → InMemory places m a p
+      → InMemory places (put m (group_word (length p.runner.has.callers)) a) (address_of first) (with_frame i' 0 first p)
+  frame_written m a p i i' first count few waiting at room within takes small held =
       let n = length p.runner.has.callers in
-      let w = group_word n number in
-      let m' = put m w v in
-      let running = subst (λ x. FrameInMemory places m n x p.runner.has.call) at running' in
+      let w = group_word n in
+      let m' = put m w a in
+      let running = subst (λ x. FrameInMemory places m n x p.runner.has.call) at held.running in
+      let groups = subst (λ x. HaveGroupFrames places.frames m a (x ∷ p.runner.left.callers) (p.runner.has.call ∷ p.runner.has.callers)) at held.groups in
       let l = lies_in places n i count few running.home room in
       let short = l.few in
       record {
         running = record {
           home = takes.main ∙ running.home;
-          values = values_kept m m' n (values p.runner.has) (λ j le lt. other_word m w v j (λ e. omega arith)) running.values;
+          values = values_kept m m' n (values p.runner.has) (λ j le lt. other_word m w a j (λ e. omega arith)) running.values;
           privates = λ y e.
-              let above = above_group n known in
-              other_word m w v (frame_start places n + 7 + y) (λ f. omega arith) ∙ running.privates y (takes.kept y e);
+              let above = above_group n in
+              other_word m w a (frame_start places n + 7 + y) (λ f. omega arith) ∙ running.privates y (takes.kept y e);
         };
-        waiting = waiting_kept places m m' p.runner.left.callers p.runner.has.callers few (λ j le lt. other_word m w v j (λ e. omega arith)) held_waiting;
-        groups = groups;
-        own = λ y lt. other_word m w v (7 + y) (λ e. omega arith) ∙ held_own y lt;
-        heap = λ y lt. other_word m w v (16384 + y) (λ e. omega arith) ∙ held_heap y lt;
-        full = other_word m w v 2 (λ e. omega arith) ∙ held_full;
+        waiting = waiting_kept places m m' p.runner.left.callers p.runner.has.callers few (λ j le lt. other_word m w a j (λ e. omega arith)) held.waiting;
+        groups = groups_with core places m m' a first i i' p.runner.has.call p.runner.left.callers p.runner.has.callers takes small (same_word m w a)
+            (λ k lt. other_word m w a (group_word k) (λ e. omega arith)) groups;
+        own = λ y lt. other_word m w a (7 + y) (λ e. omega arith) ∙ held.own y lt;
+        heap = λ y lt. other_word m w a (16384 + y) (λ e. omega arith) ∙ held.heap y lt;
+        full = other_word m w a 2 (λ e. omega arith) ∙ held.full;
       }
     where
-      above_group : (n : ℕ) → number < 4 → group_word n number < frame_start places n + 7
-      above_group zero low = omega arith
-      above_group (suc n) low = omega arith
+      above_group : (n : ℕ) → group_word n < frame_start places n + 7
+      above_group zero = omega arith
+      above_group (suc n) = omega arith
 
-  -- its own group frame is taken: the header keeps what the register had, which gets the address of the frame
-  pub frame_written : (m : Memory) (a : ℕ) (p : Owner) (i i' first count : ℕ) → places.frames.of_file ≤ 56 → length p.runner.has.callers < 256
-      → p.runner.left.at ≡ i → HasRoom places.frames i count → length (values p.runner.has) ≤ count → TakesFrame core places.frames 0 i i' → first ≤ 2 ^ 20
-      → InMemory places m a p
-      → InMemory places (put m (group_word (length p.runner.has.callers) 0) a) (address_of first) (with_frame i' 0 first p)
-  frame_written m a p i i' first count few waiting at room within takes small held =
+  -- one of a part is taken
+  pub part_taken : (m : Memory) (a : ℕ) (p : Owner) (i i' number first : ℕ) → p.runner.left.at ≡ i → 0 < number → TakesFrame core places.frames number i i'
+      → InMemory places m a p → InMemory places m a (with_frame i' number first p)
+  part_taken m a p i i' number first at part takes held =
       let n = length p.runner.has.callers in
-      let w = group_word n 0 in
+      let running = subst (λ x. FrameInMemory places m n x p.runner.has.call) at held.running in
       let groups = subst (λ x. HaveGroupFrames places.frames m a (x ∷ p.runner.left.callers) (p.runner.has.call ∷ p.runner.has.callers)) at held.groups in
-      frame_put m (address_of first) a p i i' 0 first count few waiting at room within (omega arith) takes held.running held.waiting held.own held.heap held.full
-      (groups_with core places m (put m w a) a first i i' p.runner.has.call p.runner.left.callers p.runner.has.callers takes small (same_word m w a)
-      (λ k number le known apart. other_word m w a (group_word k number) (λ e. apart (omega (arith, e, le, known), omega (arith, e, le, known)))) groups)
-
-  -- one of a part is taken: the header gets its address
-  pub part_written : (m : Memory) (a : ℕ) (p : Owner) (i i' number first count : ℕ) → places.frames.of_file ≤ 56 → length p.runner.has.callers < 256
-      → p.runner.left.at ≡ i → HasRoom places.frames i count → length (values p.runner.has) ≤ count → 0 < number → number < 4 → TakesFrame core places.frames number i i' → first ≤ 2 ^ 20
-      → InMemory places m a p
-      → InMemory places (put m (group_word (length p.runner.has.callers) number) (address_of first)) a (with_frame i' number first p)
-  part_written m a p i i' number first count few waiting at room within part known takes small held =
-      let n = length p.runner.has.callers in
-      let w = group_word n number in
-      let groups = subst (λ x. HaveGroupFrames places.frames m a (x ∷ p.runner.left.callers) (p.runner.has.call ∷ p.runner.has.callers)) at held.groups in
-      frame_put m a (address_of first) p i i' number first count few waiting at room within known takes held.running held.waiting held.own held.heap held.full
-      (groups_more core places m (put m w (address_of first)) a number first i i' p.runner.has.call p.runner.left.callers p.runner.has.callers part known takes small (same_word m w (address_of first))
-      (λ k other le low apart. other_word m w (address_of first) (group_word k other) (λ e. apart (omega (arith, e, le, low, known), omega (arith, e, le, low, known)))) groups)
+      record {
+        running = record { home = takes.main ∙ running.home; values = running.values; privates = λ y e. running.privates y (takes.kept y e) };
+        waiting = held.waiting;
+        groups = groups_more core places m a number first i i' p.runner.has.call p.runner.left.callers p.runner.has.callers part takes groups;
+        own = held.own;
+        heap = held.heap;
+        full = held.full;
+      }
 
   -- a word of the private heap is written
   pub heap_written : (m : Memory) (a : ℕ) (p : Owner) (i x v count : ℕ) → places.frames.of_file ≤ 56 → length p.runner.has.callers < 256
@@ -556,7 +489,7 @@ module _ (core : List CoreOp) (places : Places) where
         running = frame_kept places m m' n p.runner.left.at count p.runner.has.call few room' within (λ j le lt. other_word m (16384 + x) v j (λ e. omega arith)) held.running;
         waiting = waiting_kept places m m' p.runner.left.callers p.runner.has.callers few (λ j le lt. other_word m (16384 + x) v j (λ e. omega arith)) held.waiting;
         groups = groups_kept places.frames m m' a (p.runner.left.at ∷ p.runner.left.callers) (p.runner.has.call ∷ p.runner.has.callers)
-            (λ k number lt known. other_word m (16384 + x) v (group_word k number) (λ e. omega arith)) held.groups;
+            (λ k lt. other_word m (16384 + x) v (group_word k) (λ e. omega arith)) held.groups;
         own = λ y lt. other_word m (16384 + x) v (7 + y) (λ e. omega arith) ∙ held.own y lt;
         heap = λ y lt. word_here m 16384 x v p.heap.words y (λ other. held.heap y lt);
         full = other_word m (16384 + x) v 2 (λ e. omega arith) ∙ held.full;

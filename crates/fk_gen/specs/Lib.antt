@@ -2,5 +2,6 @@ pub mod Registers
 pub mod Lines
 pub mod Operands
 pub mod Levels
+pub mod Parts
 pub mod InPlace
 pub mod Keeps

@@ -57,9 +57,9 @@ at_value k = (2 ^ 32 - 4 * k) % 2 ^ 32
 abbrev pub at_private : (i : ℕ) → ℕ
 at_private i = 4 * (7 + i)
 
--- The offset of the header's word for the group frame with a number, from the word after the frame.
-abbrev pub at_group_frame : (number : ℕ) → ℕ
-at_group_frame number = at_value (61 - number)
+-- The offset of the header's word for the address of a group frame, from the word after the frame.
+abbrev pub at_group_frame : ℕ
+at_group_frame = at_value 61
 
 -- Data words have addresses that are 0x08000000 below those of control words with the same index.
 -- The upper 20 bits of the two numbers that lead from one to the other.

@@ -30,13 +30,13 @@ pub const TO_CONTROL: u32 = 0x0_8000;
 /// with the same index.
 pub const TO_DATA: u32 = 0xf_8000;
 
-/// The offset of the header's word for the group frame with a number, from the word after the frame,
+/// The offset of the header's word for the address of a group frame, from the word after the frame,
 /// in bytes.
-pub fn at_group_frame(number: u32) -> u32
-    ensures exact { result ≡ at_group_frame number }
+pub fn at_group_frame() -> u32
+    ensures exact { result ≡ at_group_frame }
     ensures short { IsShort 12 result }
 {
-    at_value(61u32.saturating_sub(number))
+    at_value(61)
 }
 
 /// The upper 20 bits of a number, as `lui` takes them where `addi` adds the lower 12 as a signed

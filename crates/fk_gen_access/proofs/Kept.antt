@@ -114,7 +114,7 @@ module _ (places : Places) where
           };
           waiting = waiting_kept places h.local h'.local p.runner.left.callers p.runner.has.callers few (λ k le lt. below k (omega arith) (λ e. omega arith)) stands.waiting;
           groups = groups_on core places nothing h.local h'.local (h.registers group_frame_register) i j p.runner.has.call (noted p j vs heap top full).runner.has.call
-              p.runner.left.callers p.runner.has.callers flows refl (λ k number le known. below (group_word k number) (omega arith) (λ e. omega arith))
+              p.runner.left.callers p.runner.has.callers flows refl (λ k le. below (group_word k) (omega arith) (λ e. omega arith))
               (subst (λ x. HaveGroupFrames places.frames h.local (h.registers group_frame_register) (x ∷ p.runner.left.callers) (p.runner.has.call ∷ p.runner.has.callers)) at stands.groups);
           own = λ k lt. below (7 + k) (omega arith) (λ e. omega arith) ∙ stands.own k lt;
           heap = heap';

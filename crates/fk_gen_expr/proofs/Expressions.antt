@@ -23,16 +23,19 @@ use Rattle.fk_isa.specs.declared.instruction.Instruction.{Instruction}
 use Rattle.fk_isa.specs.declared.instruction.Instruction.TheVariants.{Lui, Addi, Slli, Add, Mul, Lw, Sw}
 use Rattle.fk_machine.specs.Hart.{Hart, Setting as MachineSetting}
 use Rattle.fk_sim_block.specs.Owner.{Owner, number_of, owner_of}
-use Rattle.fk_sim_block.specs.Stands.{Places, HasRoom, IsGroupFrame, TellsFrame, group_word, frame_start, value_in, StandsFor, zero_register, frame_register, end_register, local_register, device_register, number_register, rank_register, size_register, group_frame_register}
+use Rattle.fk_sim_block.specs.Stands.{Places, HasRoom, IsGroupFrame, TellsFrame, frame_start, local_address, value_in, StandsFor, zero_register, frame_register, end_register, local_register, device_register, number_register, rank_register, size_register, group_frame_register}
 use Rattle.fk_sim_block.specs.Next.{OpAt}
 use Rattle.fk_sim_block.specs.Suits.{Fits, Flows, writes}
 use Rattle.fk_sim_block.specs.Block.{Enters}
+use Rattle.fk_sim_block.specs.Node.{node_register, control_address}
+use Rattle.fk_gen.specs.declared.placed.Levels.{Levels}
+use Rattle.fk_gen.specs.Parts.{outward, node_word, node_by, FindsNode, FindsPart}
 use Rattle.fk_gen.specs.InPlace.{HasBlock}
 use Rattle.fk_gen.specs.Keeps.{Keeps, DoesAnd, past_first, peak}
 use Rattle.fk_gen.specs.Lines.{first_commits, at_private, high_part, low_part, load_by, load_number, add_by}
 use Rattle.fk_gen.proofs.Walk.{Told, Quiets, Reached, Plain, LocalAt, TellsNumber, TellsHarts, TellsInputs, walk, CanRun, CanWalk, told_of, after}
 use Rattle.fk_gen_expr.specs.Operators.{operator_code, sign_instruction}
-use Rattle.fk_gen_expr.specs.Expressions.{IsExpression, expression_block, load_frame, part_word, own_address, part_address, times_size}
+use Rattle.fk_gen_expr.specs.Expressions.{IsExpression, expression_block, load_node, past_header, own_address, part_address, times_size}
 use Rattle.fk_gen_expr.specs.Law.{ExpressionsDo, ExpressionsKeep}
 use Rattle.fk_gen.specs.Operands.{operand, result}
 use Rattle.fk_gen.proofs.ValueLines.{place_reached, operand_line, result_line, operand_runs, result_runs, operand_is, earlier_is, result_keeps, result_stands}
@@ -49,7 +52,7 @@ less_room places i more less le room =
     let header = room.header in
     record { header = omega arith; kept = λ word e. let k = room.kept word e in omega arith }
 
-module _ (core : List CoreOp) (image : Image) (places : Places) (bound : ℕ → ℕ) (i : ℕ) (op : CoreOp) (setting : Setting) (t : MachineSetting) (p : Owner) (h : Hart) where
+module _ (core : List CoreOp) (image : Image) (places : Places) (bound : ℕ → ℕ) (i : ℕ) (op : CoreOp) (levels : Levels) (setting : Setting) (t : MachineSetting) (p : Owner) (h : Hart) where
   abbrev told : Told
   told = told_of t (number_of p)
 
@@ -69,18 +72,19 @@ module _ (core : List CoreOp) (image : Image) (places : Places) (bound : ℕ →
   -- the operation at the index, its block, and a hart that stands there
   pub record Here (operation : Operation) : Type 0 where
     pub at : OpAt core i op operation
-    pub is : IsExpression globals d operation
-    pub block : HasBlock image bound places i (expression_block globals d operation)
+    pub is : IsExpression globals levels d operation
+    pub block : HasBlock image bound places i (expression_block globals levels d operation)
     pub few : places.frames.of_file ≤ 56
     pub fits : Fits core places.frames i op operation
     pub enters : Enters core image places setting t i op operation p h
+    pub finds : FindsPart places levels operation p h
 
   -- it does its operation, and keeps what such a block keeps
   abbrev KeepsMost : Operation → Hart → Type 0
   KeepsMost operation h' = Keeps places n (peak operation d) (writes operation) h h'
 
   abbrev pub IsDone : Operation → Type 0
-  IsDone operation = DoesAnd core image places setting t p h 0 (past_first (expression_block globals d operation)) (KeepsMost operation)
+  IsDone operation = DoesAnd core image places setting t p h 0 (past_first (expression_block globals levels d operation)) (KeepsMost operation)
 
   -- behind its code it stands for a processor of the same level, with as many calls waiting, that it has in memory, with the
   -- same group frame
@@ -93,7 +97,7 @@ module _ (core : List CoreOp) (image : Image) (places : Places) (bound : ℕ →
 
   -- code that leaves a value in a register, which then is stored in place of the last so many
   value_does : (operation : Operation) (code : Quiets) (register dropped k v : ℕ) → Here operation
-      → first_commits (instructions_of (code ++ result_line register n k ∷ [])) ≡ expression_block globals d operation
+      → first_commits (instructions_of (code ++ result_line register n k ∷ [])) ≡ expression_block globals levels d operation
       → length code ≤ 20
       → IsLocal core i op operation p
       → local setting operation p.runner.has ≡ with_values p.runner.has (v ∷ before dropped vs)
@@ -146,11 +150,6 @@ module _ (core : List CoreOp) (image : Image) (places : Places) (bound : ℕ →
   reaches : (operation : Operation) (register k : ℕ) → Here operation → 1 ≤ k → k ≤ 64 → CanRun (operand register k) (place_reached n k) h
   reaches operation register k here first last =
       operand_runs register n k h here.enters.at.stands.behind here.enters.ready.in_range.waiting first last
-
-  -- the header's word with the address of a group frame of the call is loaded
-  header_runs : (operation : Operation) (register nesting : ℕ) → nesting < 4 → Here operation → CanRun (load_frame register nesting) (LocalAt (group_word n nesting)) h
-  header_runs operation register nesting known here =
-      value_place (h.registers end_register) n (61 - nesting) here.enters.at.stands.behind here.enters.ready.in_range.waiting (omega arith) (omega arith)
 
   -- ---- operations that push
 
@@ -207,7 +206,7 @@ module _ (core : List CoreOp) (image : Image) (places : Places) (bound : ℕ →
 
   -- what code leaves in a register of what is known
   get_with : (known : OwnValue) (code : Quiets) (register v : ℕ) → Here (Get known)
-      → first_commits (instructions_of (code ++ result_line register n (d + 1) ∷ [])) ≡ expression_block globals d (Get known)
+      → first_commits (instructions_of (code ++ result_line register n (d + 1) ∷ [])) ≡ expression_block globals levels d (Get known)
       → length code ≤ 20
       → local setting (Get known) p.runner.has ≡ with_values p.runner.has (v ∷ vs)
       → Gives told code h register v → IsDone (Get known)
@@ -278,7 +277,7 @@ module _ (core : List CoreOp) (image : Image) (places : Places) (bound : ℕ →
   own_word_does : (w : ℕ) → Here (Get (FrameAddress 0 w)) → IsDone (Get (FrameAddress 0 w))
   own_word_does w here =
       let place = here.fits.place in
-      let told_at = ap (λ j. places.frames.group j 0) here.enters.index ∙ place.0.0 in
+      let told_at = ap places.frames.group here.enters.index ∙ place.0.0 in
       let has : IsGroupFrame (h.registers group_frame_register) (p.runner.has.call.frames 0) =
       subst (λ o. TellsFrame o (h.registers group_frame_register) p.runner.has.call) told_at here.enters.at.stands.groups.0 in
       let a = address_of (p.runner.has.call.frames 0) in
@@ -290,48 +289,58 @@ module _ (core : List CoreOp) (image : Image) (places : Places) (bound : ℕ →
       (ap (λ is. first_commits is) (instructions_of-append (add_by short number group_frame_register) (result_line t0 n (d + 1) ∷ []))) (few_of_own short number) refl
       (subst (Gives told code h t0) same (own_sum_gives short number a refl has.is))
 
-  -- that of a word of a part's
-  abbrev AtFrame : (own : Bool) (nesting w : ℕ) → List Instruction
-  AtFrame own nesting w = if own then own_address d w else part_address d nesting w
+  word_and_nothing : (a : ℕ) → a < 2 ^ 32 → word_sum a 0 ≡ a
+  word_and_nothing a small = omega (arith, small)
 
-  part_word_does : (nesting w : ℕ) (is_first : Bool) → (nesting == 0) ≡ false → 0 < nesting → (w == 0) ≡ is_first → Here (Get (FrameAddress nesting w)) → IsDone (Get (FrameAddress nesting w))
-  part_word_does nesting w true of_part part e here =
-      let place = here.fits.place in
-      let told_at = ap (λ j. places.frames.group j nesting) here.enters.index ∙ place.0.0 in
-      let has = here.enters.at.stands.groups.1 nesting part told_at in
-      let small = has.1.within in
-      let address = has.1.is in
-      let none = eqb-true w 0 e in
-      get_with (FrameAddress nesting w) ((load_frame t0 nesting, LocalAt (group_word n nesting)) ∷ []) t0 (word (address_of (p.runner.has.call.frames nesting + w))) here
-      (ap (λ b. first_commits (part_word b nesting w ++ result t0 (d + 1) ∷ [])) (sym e) ∙ ap (λ b. first_commits (AtFrame b nesting w)) (sym of_part)) (omega arith) refl
-      record {
-        can = (header_runs (Get (FrameAddress nesting w)) t0 nesting has.0 here, tt);
-        same = itself h;
-        local = refl;
-        result = omega arith;
-      }
-  part_word_does nesting w false of_part part e here =
-      let place = here.fits.place in
-      let told_at = ap (λ j. places.frames.group j nesting) here.enters.index ∙ place.0.0 in
-      let has = here.enters.at.stands.groups.1 nesting part told_at in
-      let a = address_of (p.runner.has.call.frames nesting) in
-      let number = 4 * w in
+  -- the node of a group is loaded
+  abbrev node_place : (is_own : Bool) (out : ℕ) → Reached
+  node_place true out = Plain
+  node_place false out = LocalAt (frame_start places n + 7 + node_word levels out)
+
+  node_gives : (is_own : Bool) (out a : ℕ) → h.registers frame_register ≡ local_address (frame_start places n) → n < 256 → places.frames.of_file ≤ 56 → levels.behind + 4 * levels.count ≤ 57 → a < 2 ^ 32
+      → node_by is_own places levels out n h ≡ a → Gives told ((load_node is_own levels out, node_place is_own out) ∷ []) h t1 a
+  node_gives true out a frame calls few room small node = record {
+    can = (tt, tt);
+    same = itself h;
+    local = refl;
+    result = ap (λ x. word_sum x 0) node ∙ word_and_nothing a small;
+  }
+  node_gives false out a frame calls few room small node = record {
+    can = (private_place places (h.registers frame_register) n (node_word levels out) frame calls few (omega arith), tt);
+    same = itself h;
+    local = refl;
+    result = node;
+  }
+
+  -- the address of a word of the frame of a part
+  part_word_does : (nesting w : ℕ) → (nesting == 0) ≡ false → FindsNode places levels nesting p h → Here (Get (FrameAddress nesting w)) → IsDone (Get (FrameAddress nesting w))
+  part_word_does nesting w of_part found here =
+      let stands = here.enters.at.stands in
+      let small = here.is.1.0 in
+      let own = outward levels nesting == 0 in
+      let out = outward levels nesting in
+      let a = control_address found.first in
+      let node = found.node in
+      let frame = found.frame in
+      let within = found.within in
+      let number = past_header w in
       let short = high_part number == 0 in
-      let load : Instruction × Reached = (load_frame t1 nesting, LocalAt (group_word n nesting)) in
+      let load : Instruction × Reached = (load_node own levels out, node_place own out) in
       let same : word (a + number) ≡ word (address_of (p.runner.has.call.frames nesting + w)) = omega arith in
+      let first = node_gives own out a stands.frame here.enters.ready.in_range.waiting here.few here.is.1.1 (omega arith) node in
       get_with (FrameAddress nesting w) (load ∷ on_registers (add_by short number t1)) t0 (word (address_of (p.runner.has.call.frames nesting + w))) here
-      (ap (λ rest. first_commits (load_frame t1 nesting ∷ rest)) (instructions_of-append (add_by short number t1) (result_line t0 n (d + 1) ∷ []))
-      ∙ ap (λ b. first_commits (part_word b nesting w ++ result t0 (d + 1) ∷ [])) (sym e) ∙ ap (λ b. first_commits (AtFrame b nesting w)) (sym of_part))
+      (ap (λ rest. first_commits (load_node own levels out ∷ rest)) (instructions_of-append (add_by short number t1) (result_line t0 n (d + 1) ∷ []))
+      ∙ ap (λ (b : Bool). first_commits (if b then own_address d w else part_address levels d nesting w)) (sym of_part))
       (few_of_sum load short number) refl
       (subst (Gives told (load ∷ on_registers (add_by short number t1)) h t0) same
       (gives_behind told (load ∷ []) (on_registers (add_by short number t1)) h t0 (word (a + number))
-      (header_runs (Get (FrameAddress nesting w)) t1 nesting has.0 here, tt) (itself h) refl
-      (sum_gives short number a refl (after told load.0 load.1 h) has.1.is)))
+      first.can first.same first.local
+      (sum_gives short number a refl (after told load.0 load.1 h) first.result)))
 
   frame_word_does : (nesting w : ℕ) → Here (Get (FrameAddress nesting w)) → IsDone (Get (FrameAddress nesting w))
   frame_word_does zero w here = own_word_does w here
   frame_word_does (suc nesting) w here =
-      part_word_does (suc nesting) w (w == 0) (ne_eqb (suc nesting) 0 (λ e. omega arith)) (omega arith) refl here
+      part_word_does (suc nesting) w (ne_eqb (suc nesting) 0 (λ e. omega arith)) here.finds here
 
   get_does : (known : OwnValue) → Here (Get known) → IsDone (Get known)
   get_does (Value (Private w)) here =
@@ -400,7 +409,7 @@ module _ (core : List CoreOp) (image : Image) (places : Places) (bound : ℕ →
       (here.fits.goes_on true) here.fits.room (omega arith) (omega arith) (omega arith)
 
   join_with : (sign : Op) (turned : Bool) (first second : Instruction × Reached) (a b : ℕ) → Here (Binary sign turned)
-      → first_commits (first.0 ∷ second.0 ∷ (operator_code sign ++ result t0 (d - 1) ∷ [])) ≡ expression_block globals d (Binary sign turned)
+      → first_commits (first.0 ∷ second.0 ∷ (operator_code sign ++ result t0 (d - 1) ∷ [])) ≡ expression_block globals levels d (Binary sign turned)
       → CanWalk told (first ∷ second ∷ []) h → HasSame h (walk told (first ∷ second ∷ []) h)
       → (walk told (first ∷ second ∷ []) h).local ≡ h.local
       → HasOperands (walk told (first ∷ second ∷ []) h) a b
@@ -460,7 +469,7 @@ module _ (core : List CoreOp) (image : Image) (places : Places) (bound : ℕ →
 
   -- code behind the two values, that leaves the address in t0
   index_with : (size : ℕ) (code : Quiets) → Here (Index size)
-      → first_commits (operand t0 (d - 1) ∷ operand t1 d ∷ instructions_of (code ++ result_line t0 n (d - 1) ∷ [])) ≡ expression_block globals d (Index size)
+      → first_commits (operand t0 (d - 1) ∷ operand t1 d ∷ instructions_of (code ++ result_line t0 n (d - 1) ∷ [])) ≡ expression_block globals levels d (Index size)
       → length code ≤ 10
       → ((g : Hart) → g.registers t0 ≡ last (before 1 vs) → g.registers t1 ≡ last vs → Gives told code g t0 (word (last (before 1 vs) + last vs * size)))
       → IsDone (Index size)
@@ -592,10 +601,10 @@ module _ (core : List CoreOp) (image : Image) (places : Places) (bound : ℕ →
   block_does operation here = let is = here.is in absurd (assumption is)
 
 pub expressions_keep : ExpressionsKeep
-expressions_keep core image places bound i op operation at is block few fits setting t p h enters =
-    block_does core image places bound i op setting t p h operation
-    record { at = at; is = is; block = block; few = few; fits = fits; enters = enters }
+expressions_keep core image places bound i op levels operation at is block few fits setting t p h enters finds =
+    block_does core image places bound i op levels setting t p h operation
+    record { at = at; is = is; block = block; few = few; fits = fits; enters = enters; finds = finds }
 
 pub expressions_do : ExpressionsDo
-expressions_do core image places bound i op operation at is block few fits setting t p h enters =
-    does_of core image places setting t p h _ _ _ (expressions_keep core image places bound i op operation at is block few fits setting t p h enters)
+expressions_do core image places bound i op levels operation at is block few fits setting t p h enters finds =
+    does_of core image places setting t p h _ _ _ (expressions_keep core image places bound i op levels operation at is block few fits setting t p h enters finds)

@@ -14,8 +14,10 @@ use Rattle.fk_sim_block.specs.Stands.{group_frame_register}
 use Rattle.fk_gen.specs.Lines.{quiet, commits, high_part, load_by, add_by, first_commits}
 use Rattle.fk_gen.specs.Registers.{t0, t1}
 use Rattle.fk_gen.specs.Operands.{operand, result}
+use Rattle.fk_gen.specs.declared.placed.Levels.{Levels}
+use Rattle.fk_gen.specs.Parts.{outward}
 use Rattle.fk_gen_expr.specs.Operators.{operator_code}
-use Rattle.fk_gen_expr.specs.Expressions.{IsExpression, expression_block, expression_code, load_frame, part_word, own_address, part_address, times_size}
+use Rattle.fk_gen_expr.specs.Expressions.{IsExpression, expression_block, expression_code, load_node, past_header, own_address, part_address, times_size}
 use Rattle.fk_gen_expr.proofs.Operators.{few_of_operator}
 
 quiet_unlabeled : (is : List Instruction) → All IsUnlabeled (map quiet is)
@@ -26,8 +28,8 @@ first_unlabeled : (is : List Instruction) → All IsUnlabeled (first_commits is)
 first_unlabeled [] = All-nil IsUnlabeled
 first_unlabeled (i ∷ is) = All-cons IsUnlabeled (commits i) (map quiet is) refl (quiet_unlabeled is)
 
-pub block_unlabeled : (globals d : ℕ) (operation : Operation) → All IsUnlabeled (expression_block globals d operation)
-block_unlabeled globals d operation = first_unlabeled (expression_code globals d operation)
+pub block_unlabeled : (globals : ℕ) (levels : Levels) (d : ℕ) (operation : Operation) → All IsUnlabeled (expression_block globals levels d operation)
+block_unlabeled globals levels d operation = first_unlabeled (expression_code globals levels d operation)
 
 -- the code of an operation has 1 to 8 instructions
 pub record IsShortCode (count : ℕ) : Type 0 where
@@ -58,34 +60,31 @@ sum_short : (short : Bool) (n r : ℕ) (l s : Instruction) → IsShortCode (leng
 sum_short true n r l s = record { some = omega arith; few = omega arith }
 sum_short false n r l s = record { some = omega arith; few = omega arith }
 
-part_short : (is_first : Bool) (nesting word : ℕ) (s : Instruction) → IsShortCode (length (first_commits (part_word is_first nesting word ++ s ∷ [])))
-part_short true nesting word s = record { some = omega arith; few = omega arith }
-part_short false nesting word s = sum_short (high_part (4 * word) == 0) (4 * word) t1 (load_frame t1 nesting) s
-
 own_short : (short : Bool) (n r : ℕ) (s : Instruction) → IsShortCode (length (first_commits (add_by short n r ++ s ∷ [])))
 own_short true n r s = record { some = omega arith; few = omega arith }
 own_short false n r s = record { some = omega arith; few = omega arith }
 
-frame_short : (own : Bool) (d nesting word : ℕ) → IsShortCode (length (first_commits (if own then own_address d word else part_address d nesting word)))
-frame_short true d nesting word = own_short (high_part (4 * word) == 0) (4 * word) group_frame_register (result t0 (d + 1))
-frame_short false d nesting word = part_short (word == 0) nesting word (result t0 (d + 1))
+frame_short : (own : Bool) (levels : Levels) (d nesting word : ℕ) → IsShortCode (length (first_commits (if own then own_address d word else part_address levels d nesting word)))
+frame_short true levels d nesting word = own_short (high_part (4 * word) == 0) (4 * word) group_frame_register (result t0 (d + 1))
+frame_short false levels d nesting word =
+    sum_short (high_part (past_header word) == 0) (past_header word) t1 (load_node (outward levels nesting == 0) levels (outward levels nesting)) (result t0 (d + 1))
 
-pub block_short : (globals d : ℕ) (operation : Operation) → IsExpression globals d operation → IsShortCode (length (expression_block globals d operation))
-block_short globals d (Push n) is = number_short (high_part n == 0) n (result t0 (d + 1))
-block_short globals d (Get (Value variable)) is = record { some = omega arith; few = omega arith }
-block_short globals d (Get Rank) is = record { some = omega arith; few = omega arith }
-block_short globals d (Get GroupNumber) is = record { some = omega arith; few = omega arith }
-block_short globals d (Get GroupSize) is = record { some = omega arith; few = omega arith }
-block_short globals d (Get ProcessorNumber) is = record { some = omega arith; few = omega arith }
-block_short globals d (Get Processors) is = record { some = omega arith; few = omega arith }
-block_short globals d (Get InputLength) is = record { some = omega arith; few = omega arith }
-block_short globals d (Get InputAddress) is = number_short (high_part (address_of globals) == 0) (address_of globals) (result t0 (d + 1))
-block_short globals d (Get (FrameAddress nesting word)) is = frame_short (nesting == 0) d nesting word
-block_short globals d (Set variable) is = record { some = omega arith; few = omega arith }
-block_short globals d DropLast is = record { some = omega arith; few = omega arith }
-block_short globals d CopyLast is = record { some = omega arith; few = omega arith }
-block_short globals d (Apply sign) is = record { some = omega arith; few = omega arith }
-block_short globals d (Binary sign false) is = joined_few (operator_code sign) (operand t0 (d - 1)) (operand t1 d) (result t0 (d - 1)) (omega arith) (few_of_operator sign)
-block_short globals d (Binary sign true) is = joined_few (operator_code sign) (operand t1 (d - 1)) (operand t0 d) (result t0 (d - 1)) (omega arith) (few_of_operator sign)
-block_short globals d (Index size) is = index_short (size == 4) size (operand t0 (d - 1)) (operand t1 d) (Add t0 t0 t1) (result t0 (d - 1))
-block_short globals d operation is = absurd (assumption is)
+pub block_short : (globals : ℕ) (levels other : Levels) (d : ℕ) (operation : Operation) → IsExpression globals other d operation → IsShortCode (length (expression_block globals levels d operation))
+block_short globals levels other d (Push n) is = number_short (high_part n == 0) n (result t0 (d + 1))
+block_short globals levels other d (Get (Value variable)) is = record { some = omega arith; few = omega arith }
+block_short globals levels other d (Get Rank) is = record { some = omega arith; few = omega arith }
+block_short globals levels other d (Get GroupNumber) is = record { some = omega arith; few = omega arith }
+block_short globals levels other d (Get GroupSize) is = record { some = omega arith; few = omega arith }
+block_short globals levels other d (Get ProcessorNumber) is = record { some = omega arith; few = omega arith }
+block_short globals levels other d (Get Processors) is = record { some = omega arith; few = omega arith }
+block_short globals levels other d (Get InputLength) is = record { some = omega arith; few = omega arith }
+block_short globals levels other d (Get InputAddress) is = number_short (high_part (address_of globals) == 0) (address_of globals) (result t0 (d + 1))
+block_short globals levels other d (Get (FrameAddress nesting word)) is = frame_short (nesting == 0) levels d nesting word
+block_short globals levels other d (Set variable) is = record { some = omega arith; few = omega arith }
+block_short globals levels other d DropLast is = record { some = omega arith; few = omega arith }
+block_short globals levels other d CopyLast is = record { some = omega arith; few = omega arith }
+block_short globals levels other d (Apply sign) is = record { some = omega arith; few = omega arith }
+block_short globals levels other d (Binary sign false) is = joined_few (operator_code sign) (operand t0 (d - 1)) (operand t1 d) (result t0 (d - 1)) (omega arith) (few_of_operator sign)
+block_short globals levels other d (Binary sign true) is = joined_few (operator_code sign) (operand t1 (d - 1)) (operand t0 d) (result t0 (d - 1)) (omega arith) (few_of_operator sign)
+block_short globals levels other d (Index size) is = index_short (size == 4) size (operand t0 (d - 1)) (operand t1 d) (Add t0 t0 t1) (result t0 (d - 1))
+block_short globals levels other d operation is = absurd (assumption is)

@@ -30,12 +30,15 @@ use Rattle.fk_isa.specs.declared.instruction.Instruction.TheVariants.{Sw}
 use Rattle.fk_asm.specs.Block.{MarkedLine}
 use Rattle.fk_sim_block.specs.Stands.{frame_register, end_register, number_register, rank_register}
 use Rattle.fk_sim_block.specs.Stands.{size_register, local_register, device_register}
+use Rattle.fk_gen.specs.declared.placed.Levels.{Levels}
 use Rattle.fk_gen.specs.declared.placed.Placed.{Placed}
+use Rattle.fk_gen.specs.Parts.{outward, node_word}
+use Rattle.fk_sim_block.specs.Node.{node_register}
 use Rattle.fk_sim_block.specs.Stands.{zero_register, group_frame_register}
 use Rattle.fk_gen.specs.Registers.{t0, t1, t2}
 use Rattle.fk_gen.specs.Operands.{operand, result}
-use Rattle.fk_gen.specs.Lines.{at_private, high_part, low_part}
-use Rattle.fk_gen.specs.Lines.{load_number, add_number, at_group_frame, first_commits}
+use Rattle.fk_gen.specs.Lines.{at_private, high_part, low_part, to_data}
+use Rattle.fk_gen.specs.Lines.{load_number, add_number, first_commits}
 use Rattle.fk_gen_expr.specs.Operators.{operator_code, sign_instruction}
 
 -- ---- instructions
@@ -70,31 +73,36 @@ push_number d n = load_number n ++ result t0 (d + 1) ∷ []
 abbrev pub own_address : (depth word : ℕ) → List Instruction
 own_address d word = add_number (4 * word) group_frame_register ++ result t0 (d + 1) ∷ []
 
--- Pushes that of a word of a part's. The header has that of the first word.
-abbrev pub load_frame : (register nesting : ℕ) → Instruction
-load_frame register nesting = Lw register end_register (at_group_frame nesting)
+-- The node of the group so many levels outward, in t1.
+abbrev pub load_node : (is_own : Bool) → Levels → (out : ℕ) → Instruction
+load_node true levels out = Addi t1 node_register 0
+load_node false levels out = Lw t1 frame_register (at_private (node_word levels out))
 
-abbrev pub part_word : (is_first : Bool) (nesting word : ℕ) → List Instruction
-part_word true nesting word = load_frame t0 nesting ∷ []
-part_word false nesting word = load_frame t1 nesting ∷ add_number (4 * word) t1
+-- What leads from the address of a node to that of a word of the frame after the header, whose 8
+-- words have the same indices as control words.
+abbrev pub past_header : (word : ℕ) → ℕ
+past_header word = to_data * 4096 + 32 + 4 * word
 
-abbrev pub part_address : (depth nesting word : ℕ) → List Instruction
-part_address d nesting word = part_word (word == 0) nesting word ++ result t0 (d + 1) ∷ []
+-- Pushes that of a word of a part's, which begins after the header of its group.
+abbrev pub part_address : Levels → (depth nesting word : ℕ) → List Instruction
+part_address levels d nesting word =
+    load_node (outward levels nesting == 0) levels (outward levels nesting)
+    ∷ (add_number (past_header word) t1 ++ result t0 (d + 1) ∷ [])
 
-abbrev pub frame_address : (depth nesting word : ℕ) → List Instruction
-frame_address d nesting word =
-    if nesting == 0 then own_address d word else part_address d nesting word
+abbrev pub frame_address : Levels → (depth nesting word : ℕ) → List Instruction
+frame_address levels d nesting word =
+    if nesting == 0 then own_address d word else part_address levels d nesting word
 
-abbrev pub get_code : (globals depth : ℕ) → OwnValue → List Instruction
-get_code globals d (Value variable) = load_variable variable ∷ result t0 (d + 1) ∷ []
-get_code globals d Rank = result rank_register (d + 1) ∷ []
-get_code globals d GroupNumber = result number_register (d + 1) ∷ []
-get_code globals d GroupSize = result size_register (d + 1) ∷ []
-get_code globals d ProcessorNumber = push_device d 20
-get_code globals d Processors = push_device d 24
-get_code globals d InputLength = push_device d 28
-get_code globals d InputAddress = push_number d (address_of globals)
-get_code globals d (FrameAddress nesting word) = frame_address d nesting word
+abbrev pub get_code : (globals : ℕ) → Levels → (depth : ℕ) → OwnValue → List Instruction
+get_code globals levels d (Value variable) = load_variable variable ∷ result t0 (d + 1) ∷ []
+get_code globals levels d Rank = result rank_register (d + 1) ∷ []
+get_code globals levels d GroupNumber = result number_register (d + 1) ∷ []
+get_code globals levels d GroupSize = result size_register (d + 1) ∷ []
+get_code globals levels d ProcessorNumber = push_device d 20
+get_code globals levels d Processors = push_device d 24
+get_code globals levels d InputLength = push_device d 28
+get_code globals levels d InputAddress = push_number d (address_of globals)
+get_code globals levels d (FrameAddress nesting word) = frame_address levels d nesting word
 
 -- An operator on the last two values, which come to these registers.
 abbrev pub join_code : (depth : ℕ) → Op → (first second : ℕ) → List Instruction
@@ -113,53 +121,56 @@ index_code d size =
     operand t0 (d - 1) ∷ operand t1 d
     ∷ (times_size (size == 4) size ++ Add t0 t0 t1 ∷ result t0 (d - 1) ∷ [])
 
-abbrev pub expression_code : (globals depth : ℕ) → Operation → List Instruction
-expression_code globals d (Push n) = push_number d n
-expression_code globals d (Get known) = get_code globals d known
-expression_code globals d (Set variable) = operand t0 d ∷ store_variable variable ∷ []
-expression_code globals d DropLast = Addi zero_register zero_register 0 ∷ []
-expression_code globals d CopyLast = operand t0 d ∷ result t0 (d + 1) ∷ []
-expression_code globals d (Apply sign) =
+abbrev pub expression_code : (globals : ℕ) → Levels → (depth : ℕ) → Operation → List Instruction
+expression_code globals levels d (Push n) = push_number d n
+expression_code globals levels d (Get known) = get_code globals levels d known
+expression_code globals levels d (Set variable) = operand t0 d ∷ store_variable variable ∷ []
+expression_code globals levels d DropLast = Addi zero_register zero_register 0 ∷ []
+expression_code globals levels d CopyLast = operand t0 d ∷ result t0 (d + 1) ∷ []
+expression_code globals levels d (Apply sign) =
     operand t0 d ∷ sign_instruction sign ∷ result t0 d ∷ []
-expression_code globals d (Binary sign false) = join_code d sign t0 t1
-expression_code globals d (Binary sign true) = join_code d sign t1 t0
-expression_code globals d (Index size) = index_code d size
-expression_code globals d operation = []
+expression_code globals levels d (Binary sign false) = join_code d sign t0 t1
+expression_code globals levels d (Binary sign true) = join_code d sign t1 t0
+expression_code globals levels d (Index size) = index_code d size
+expression_code globals levels d operation = []
 
 -- ---- blocks
 
-abbrev pub expression_block : (globals depth : ℕ) → Operation → List MarkedLine
-expression_block globals d operation = first_commits (expression_code globals d operation)
+abbrev pub expression_block : (globals : ℕ) → Levels → (depth : ℕ) → Operation
+    → List MarkedLine
+expression_block globals levels d operation =
+    first_commits (expression_code globals levels d operation)
 
 -- Variables that instructions reach: they are words of a frame.
 abbrev pub IsReached : Variable → Type 0
 IsReached variable = place_of variable < 64
 
-abbrev pub IsKnown : OwnValue → (globals : ℕ) → Type 0
-IsKnown (Value variable) globals = IsReached variable
-IsKnown (FrameAddress nesting word) globals = word < 2 ^ 21
-IsKnown InputAddress globals = globals ≤ 2 ^ 20
-IsKnown known globals = Unit {0}
+abbrev pub IsKnown : OwnValue → (globals : ℕ) → Levels → Type 0
+IsKnown (Value variable) globals levels = IsReached variable
+IsKnown (FrameAddress nesting word) globals levels = (word < 2 ^ 21)
+    × (levels.behind + 4 * levels.count ≤ 57)
+IsKnown InputAddress globals levels = globals ≤ 2 ^ 20
+IsKnown known globals levels = Unit {0}
 
 -- The operations of expressions, with the values that they take.
-abbrev pub IsExpression : (globals depth : ℕ) → Operation → Type 0
-IsExpression globals d (Push n) = d < 64
-IsExpression globals d (Get known) = (d < 64) × IsKnown known globals
-IsExpression globals d (Set variable) = (1 ≤ d) × (d ≤ 64) × IsReached variable
-IsExpression globals d DropLast = Unit {0}
-IsExpression globals d CopyLast = (1 ≤ d) × (d < 64)
-IsExpression globals d (Apply sign) = (1 ≤ d) × (d ≤ 64)
-IsExpression globals d (Binary sign turned) = (2 ≤ d) × (d ≤ 64)
-IsExpression globals d (Index size) = (2 ≤ d) × (d ≤ 64) × (size < 2 ^ 32)
-IsExpression globals d operation = ⊥
+abbrev pub IsExpression : (globals : ℕ) → Levels → (depth : ℕ) → Operation → Type 0
+IsExpression globals levels d (Push n) = d < 64
+IsExpression globals levels d (Get known) = (d < 64) × IsKnown known globals levels
+IsExpression globals levels d (Set variable) = (1 ≤ d) × (d ≤ 64) × IsReached variable
+IsExpression globals levels d DropLast = Unit {0}
+IsExpression globals levels d CopyLast = (1 ≤ d) × (d < 64)
+IsExpression globals levels d (Apply sign) = (1 ≤ d) × (d ≤ 64)
+IsExpression globals levels d (Binary sign turned) = (2 ≤ d) × (d ≤ 64)
+IsExpression globals levels d (Index size) = (2 ≤ d) × (d ≤ 64) × (size < 2 ^ 32)
+IsExpression globals levels d operation = ⊥
 
 -- The operation at an index of an image is one of expressions.
 abbrev pub HasExpression : Placed → Type 0
 HasExpression placed =
     IsSomeAnd (operation_of placed.op.kind placed.op.number)
-    (IsExpression placed.globals placed.op.depth)
+    (IsExpression placed.globals placed.levels placed.op.depth)
 
 abbrev pub block_of : Placed → List MarkedLine
 block_of placed =
-    option_map_or (expression_block placed.globals placed.op.depth)
+    option_map_or (expression_block placed.globals placed.levels placed.op.depth)
     (operation_of placed.op.kind placed.op.number) []

@@ -1,6 +1,7 @@
 //! The blocks of expressions.
 
-ghost use Rattle.std.specs.Prelude.{◌≡◌, ◌+◌, ◌^◌, ◌<◌, ◌≤◌, [], ◌∷◌, OnOk, OnErr, length};
+ghost use Rattle.std.specs.Prelude.{◌≡◌, ◌+◌, ◌*◌, ◌^◌, ◌==◌, ◌<◌, ◌≤◌, [], ◌∷◌, OnOk, OnErr};
+ghost use Rattle.std.specs.Prelude.{length};
 ghost use Rattle.fk_isa.specs.Fits.{Fits, IsRegister};
 ghost use Rattle.fk_asm.specs.Assembly.{AreFollowed};
 ghost use Rattle.fk_asm.specs.Block.{HasBegun, with_block};
@@ -10,11 +11,11 @@ ghost use Rattle.fk_gen_expr.specs.Operators as operators;
 ghost use Rattle.fk_gen_expr.specs.Expressions as code;
 
 use fk_asm::{Assembler, Blocks};
-use fk_gen::numbers::{at_group_frame, at_private, high_part, low_part};
+use fk_gen::numbers::{at_private, high_part, low_part};
 use fk_gen::registers::{
     DEVICES, END, FRAME, GROUP_FRAME, LOCAL, NUMBER, RANK, SIZE, T0, T1, T2, ZERO,
 };
-use fk_gen::{BlockLine, Placed, emit_lines, operand, result};
+use fk_gen::{BlockLine, Levels, Placed, emit_lines, operand, result};
 use fk_isa::Instruction;
 use fk_meaning_operation::{Operation, OwnValue, Unary, Variable};
 use fk_num::Op;
@@ -29,6 +30,10 @@ const HART_NUMBER: u32 = 20;
 const HARTS: u32 = 24;
 
 const INPUTS: u32 = 28;
+/// The register with the address of the node's first control word.
+const NODE: u8 = 10;
+/// What leads from a node to the frame after the header of its group.
+const PAST_HEADER: u32 = 0xf800_0020;
 
 /// The blocks of expressions.
 #[derive(Clone, Copy, Drop)]
@@ -43,7 +48,9 @@ impl Blocks<Placed> for ExpressionBlocks {
 
     fn emit_op(&self, op: &Placed, into: &mut Assembler) -> Result<(), AllocError> {
         match op.op.operation() {
-            Some(operation) => emit_expression(into, op.globals, op.op.depth, operation),
+            Some(operation) => {
+                emit_expression(into, op.globals, op.levels, op.op.depth, operation)
+            }
             None => Ok(()),
         }
     }
@@ -53,21 +60,22 @@ impl Blocks<Placed> for ExpressionBlocks {
 fn emit_expression(
     into: &mut Assembler,
     globals: u32,
+    levels: Levels,
     depth: u32,
     operation: Operation,
 ) -> Result<(), AllocError>
-    requires known { code.IsExpression globals depth operation }
+    requires known { code.IsExpression globals levels depth operation }
     requires room { length into.old.lines
-        + length (code.expression_block globals depth operation) < 2 ^ 30 }
+        + length (code.expression_block globals levels depth operation) < 2 ^ 30 }
     requires free { AreFollowed into.old }
     ensures added { OnOk result
-        (into.new ≡ with_block into.old (code.expression_block globals depth operation)) }
+        (into.new ≡ with_block into.old (code.expression_block globals levels depth operation)) }
     ensures begun { OnErr result
-        (HasBegun (code.expression_block globals depth operation) into.old into.new) }
+        (HasBegun (code.expression_block globals levels depth operation) into.old into.new) }
 {
     match operation {
         Operation::Push(number) => push_number(into, depth, number),
-        Operation::Get(known) => get(into, globals, depth, known),
+        Operation::Get(known) => get(into, globals, levels, depth, known),
         Operation::Set(variable) => {
             move_word(into, operand(T0, depth), store_variable(variable))
         }
@@ -108,16 +116,22 @@ fn push_number(into: &mut Assembler, depth: u32, number: u32) -> Result<(), Allo
     }
 }
 
-fn get(into: &mut Assembler, globals: u32, depth: u32, known: OwnValue) -> Result<(), AllocError>
+fn get(
+    into: &mut Assembler,
+    globals: u32,
+    levels: Levels,
+    depth: u32,
+    known: OwnValue,
+) -> Result<(), AllocError>
     requires depth { depth < 64 }
-    requires known { code.IsKnown known globals }
+    requires known { code.IsKnown known globals levels }
     requires room { length into.old.lines
-        + length (first_commits (code.get_code globals depth known)) < 2 ^ 30 }
+        + length (first_commits (code.get_code globals levels depth known)) < 2 ^ 30 }
     requires free { AreFollowed into.old }
     ensures added { OnOk result
-        (into.new ≡ with_block into.old (first_commits (code.get_code globals depth known))) }
+        (into.new ≡ with_block into.old (first_commits (code.get_code globals levels depth known))) }
     ensures begun { OnErr result
-        (HasBegun (first_commits (code.get_code globals depth known)) into.old into.new) }
+        (HasBegun (first_commits (code.get_code globals levels depth known)) into.old into.new) }
 {
     match known {
         OwnValue::Value(variable) => {
@@ -130,31 +144,35 @@ fn get(into: &mut Assembler, globals: u32, depth: u32, known: OwnValue) -> Resul
         OwnValue::Processors => push_device(into, depth, HARTS),
         OwnValue::InputLength => push_device(into, depth, INPUTS),
         OwnValue::InputAddress => push_number(into, depth, 0x1000_0000 + 4 * globals),
-        OwnValue::FrameAddress(nesting, word) => frame_address(into, depth, nesting, word),
+        OwnValue::FrameAddress(nesting, word) => {
+            frame_address(into, levels, depth, nesting, word)
+        }
     }
 }
 
 // The address of a word of a group frame of the call.
 fn frame_address(
     into: &mut Assembler,
+    levels: Levels,
     depth: u32,
     nesting: u32,
     word: u32,
 ) -> Result<(), AllocError>
     requires depth { depth < 64 }
     requires word { word < 2 ^ 21 }
+    requires few { levels.behind + 4 * levels.count ≤ 57 }
     requires room { length into.old.lines
-        + length (first_commits (code.frame_address depth nesting word)) < 2 ^ 30 }
+        + length (first_commits (code.frame_address levels depth nesting word)) < 2 ^ 30 }
     requires free { AreFollowed into.old }
-    ensures added { OnOk result
-        (into.new ≡ with_block into.old (first_commits (code.frame_address depth nesting word))) }
-    ensures begun { OnErr result
-        (HasBegun (first_commits (code.frame_address depth nesting word)) into.old into.new) }
+    ensures added { OnOk result (into.new ≡ with_block into.old
+        (first_commits (code.frame_address levels depth nesting word))) }
+    ensures begun { OnErr result (HasBegun
+        (first_commits (code.frame_address levels depth nesting word)) into.old into.new) }
 {
     if nesting == 0 {
         own_address(into, depth, word)
     } else {
-        part_address(into, depth, nesting, word)
+        part_address(into, levels, depth, nesting, word)
     }
 }
 
@@ -183,30 +201,30 @@ fn own_address(into: &mut Assembler, depth: u32, word: u32) -> Result<(), AllocE
     }
 }
 
-// That of a word of a part's. The header has that of the first word.
+// That of a word of a part's, which begins after the header of its group.
 fn part_address(
     into: &mut Assembler,
+    levels: Levels,
     depth: u32,
     nesting: u32,
     word: u32,
 ) -> Result<(), AllocError>
     requires depth { depth < 64 }
     requires word { word < 2 ^ 21 }
+    requires few { levels.behind + 4 * levels.count ≤ 57 }
     requires room { length into.old.lines
-        + length (first_commits (code.part_address depth nesting word)) < 2 ^ 30 }
+        + length (first_commits (code.part_address levels depth nesting word)) < 2 ^ 30 }
     requires free { AreFollowed into.old }
-    ensures added { OnOk result
-        (into.new ≡ with_block into.old (first_commits (code.part_address depth nesting word))) }
-    ensures begun { OnErr result
-        (HasBegun (first_commits (code.part_address depth nesting word)) into.old into.new) }
+    ensures added { OnOk result (into.new ≡ with_block into.old
+        (first_commits (code.part_address levels depth nesting word))) }
+    ensures begun { OnErr result (HasBegun
+        (first_commits (code.part_address levels depth nesting word)) into.old into.new) }
 {
+    let load = BlockLine::commits(load_node(levels, levels.nest.saturating_sub(nesting)));
+    let number = PAST_HEADER + 4 * word;
+    let high = high_part(number);
+    let low = low_part(number);
     let store = result(T0, depth + 1);
-    if word == 0 {
-        return move_word(into, load_frame(T0, nesting), store);
-    }
-    let load = BlockLine::commits(load_frame(T1, nesting));
-    let high = high_part(4 * word);
-    let low = low_part(4 * word);
     if high == 0 {
         let sum = BlockLine::quiet(Instruction::Addi(T0, T1, low));
         emit_lines(into, &[load, sum, BlockLine::quiet(store)])
@@ -417,13 +435,17 @@ fn first_instruction(sign: Op) -> Instruction
     }
 }
 
-// Loads the address of a group frame of the call into a register.
-fn load_frame(register: u8, nesting: u32) -> Instruction
-    requires register { IsRegister register }
-    ensures exact { result ≡ code.load_frame register nesting }
+// Loads the node of the group so many levels outward into `t1`.
+fn load_node(levels: Levels, out: u32) -> Instruction
+    requires few { levels.behind + 4 * levels.count ≤ 57 }
+    ensures exact { result ≡ code.load_node (out == 0) levels out }
     ensures fits { Fits result }
 {
-    Instruction::Lw(register, END, at_group_frame(nesting))
+    if out == 0 {
+        return Instruction::Addi(T1, NODE, 0);
+    }
+    let word = levels.behind + 4 * levels.count.saturating_sub(out) + 1;
+    Instruction::Lw(T1, FRAME, at_private(word))
 }
 
 fn load_variable(variable: Variable) -> Instruction

@@ -102,7 +102,7 @@ abbrev pub HasBegun : Places → Setting → (firsts : List ℕ) → (main numbe
 HasBegun places setting firsts main number h h' =
     StandsAt places (beginner setting (slice_index firsts) main number) h' × ((r : ℕ) → (r == 5) ≡ false → h'.registers r ≡ h.registers r)
 
-pub firsts_begin : (image : Image) (bound : ℕ → ℕ) (places : Places) (firsts : List ℕ) (main : ℕ) → HasLabels bound places → AreFirsts places.frames.of_file firsts → places.frames.is_main main ≡ true → ((number : ℕ) → places.frames.group main number ≡ false)
+pub firsts_begin : (image : Image) (bound : ℕ → ℕ) (places : Places) (firsts : List ℕ) (main : ℕ) → HasLabels bound places → AreFirsts places.frames.of_file firsts → places.frames.is_main main ≡ true → places.frames.group main ≡ false
     → (setting : Setting) (t : MachineSetting) (number k : ℕ) (h : Hart) → IsAbout image t k h → LinesAt image bound k (first_lines 0 firsts ++ jump_block main) → HasRegisters places setting number h
     → h.local ≡ (λ i. 0) → Comes image t number (cycles_of firsts) h (HasBegun places setting firsts main number h)
 firsts_begin image bound places firsts main labels are is_main none setting t number k h about lines has zeros =
@@ -136,8 +136,7 @@ firsts_begin image bound places firsts main labels are is_main none setting t nu
           };
           waiting = tt;
           groups = (
-            subst (λ o. TellsFrame o (h'.registers group_frame_register) (beginner setting (slice_index firsts) main number).runner.has.call) (sym (none 0)) tt,
-            (λ told part is. let no : false ≡ true = sym (none told) ∙ is in absurd (cc)),
+            subst (λ o. TellsFrame o (h'.registers group_frame_register) (beginner setting (slice_index firsts) main number).runner.has.call) (sym none) tt,
             tt,
           );
           own = λ j lt. ap (λ m. m (7 + j)) memory ∙ filled_at (λ i. 0) 0 firsts j (7 + j) are.words (λ k le. refl) (omega arith);
@@ -198,7 +197,7 @@ pub record BeginsInRoot (core : List CoreOp) (image : Image) (places : Places) (
   pub body : begins.hart.registers body_register ≡ setting.processors
 
 pub begins_in_root : (core : List CoreOp) (image : Image) (bound : ℕ → ℕ) (places : Places) (firsts : List ℕ) (main : ℕ) → HasOpening image bound places firsts main
-    → AreFirsts places.frames.of_file firsts → places.frames.is_main main ≡ true → ((number : ℕ) → places.frames.group main number ≡ false)
+    → AreFirsts places.frames.of_file firsts → places.frames.is_main main ≡ true → places.frames.group main ≡ false
     → (setting : Setting) (t : MachineSetting) (number : ℕ) → IsRunning image setting t → BeginsInRoot core image places setting t firsts main number
 begins_in_root core image bound places firsts main opening are is_main none setting t number running =
     let of_file = places.frames.of_file in

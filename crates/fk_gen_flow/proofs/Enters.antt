@@ -133,12 +133,11 @@ module _ (core : List CoreOp) (image : Image) (bound : ℕ → ℕ) (places : Pl
               waiting_kept places h.local h'.local p.runner.left.callers p.runner.has.callers few (λ j a b. begun.below j (omega arith)) stands.waiting,
             );
             groups = (
-              subst (λ o. TellsFrame o (h'.registers group_frame_register) (entered n p.runner.has).call) (sym (calls.none 0)) tt,
-              (λ told part is. let none : false ≡ true = sym (calls.none told) ∙ is in absurd (cc)),
-              subst (λ o. HaveGroupFrames places.frames h'.local (before_call o (h'.registers group_frame_register) (h'.local (group_word (suc w) 0))) (onward ∷ p.runner.left.callers) (call' ∷ p.runner.has.callers)) (sym (calls.none 0))
+              subst (λ o. TellsFrame o (h'.registers group_frame_register) (entered n p.runner.has).call) (sym calls.none) tt,
+              subst (λ o. HaveGroupFrames places.frames h'.local (before_call o (h'.registers group_frame_register) (h'.local (group_word (suc w)))) (onward ∷ p.runner.left.callers) (call' ∷ p.runner.has.callers)) (sym calls.none)
                   (subst (λ a. HaveGroupFrames places.frames h'.local a (onward ∷ p.runner.left.callers) (call' ∷ p.runner.has.callers)) (sym (same group_frame_register refl refl refl refl refl refl))
                   (groups_on core places nothing h.local h'.local (h.registers group_frame_register) i onward p.runner.has.call call' p.runner.left.callers p.runner.has.callers calls.back refl
-                  (λ k number le known. begun.below (group_word k number) (omega arith))
+                  (λ k le. begun.below (group_word k) (omega arith))
                   (subst (λ j. HaveGroupFrames places.frames h.local (h.registers group_frame_register) (j ∷ p.runner.left.callers) (p.runner.has.call ∷ p.runner.has.callers)) e stands.groups))),
             );
             own = λ j lt. begun.below (7 + j) (omega arith) ∙ stands.own j lt;

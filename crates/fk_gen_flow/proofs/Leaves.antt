@@ -15,7 +15,7 @@ use Rattle.fk_machine.proofs.Performs.{writes, moves}
 use Rattle.fk_sim_nodes.specs.Alone.{later}
 use Rattle.fk_sim_nodes.specs.Source.{Passes}
 use Rattle.fk_sim_block.specs.Owner.{Commons, Owner, Doing, number_of, part}
-use Rattle.fk_sim_block.specs.Stands.{Places, StandsAt, HasRoom, HasValues, IsGroupFrame, TellsFrame, has_own, before_call, HaveGroupFrames, frame_end, frame_start, group_word, local_address, value_of, value_in, zero_register, frame_register, end_register, number_register, rank_register, size_register, top_register, local_register, shared_register, heap_register, shared_mask_register, device_register, heap_mask_register, group_frame_register}
+use Rattle.fk_sim_block.specs.Stands.{Places, StandsAt, HasRoom, HasValues, IsGroupFrame, TellsFrame, before_call, HaveGroupFrames, frame_end, frame_start, group_word, local_address, value_of, value_in, zero_register, frame_register, end_register, number_register, rank_register, size_register, top_register, local_register, shared_register, heap_register, shared_mask_register, device_register, heap_mask_register, group_frame_register}
 use Rattle.fk_sim_block.specs.Next.{OpAt}
 use Rattle.fk_sim_block.specs.Suits.{Fits}
 use Rattle.fk_sim_block.specs.Node.{control_address, frames_register, node_register, body_register, blocks_register}
@@ -25,7 +25,7 @@ use Rattle.fk_gen.specs.Lines.{quiet, first_commits, label_of, at_value, at_grou
 use Rattle.fk_gen.specs.InPlace.{HasBlock, HasLabels, LinesAt}
 use Rattle.fk_gen.specs.Keeps.{DoesAnd}
 use Rattle.fk_gen.proofs.Values.{same_word, other_word, values_kept, value_place}
-use Rattle.fk_gen.proofs.Standing.{waiting_kept, groups_kept, told_on, parts_on}
+use Rattle.fk_gen.proofs.Standing.{waiting_kept, groups_kept, told_on}
 use Rattle.fk_gen.proofs.Jumps.{jumps}
 use Rattle.fk_gen.specs.Registers.{t0, t1, t2}
 use Rattle.fk_gen_flow.specs.Flow.{jump_block, leave_block, giving_back, returning}
@@ -122,17 +122,16 @@ handed_frames false v c = refl
 
 -- those of the call that waits last and of the others, where headers stay
 caller_groups : (places : Places) (m m' : Memory) (address : ℕ) (backs : List ℕ) (calls : List Call) (l : Last places m backs calls) (gives : Bool) (v : ℕ)
-    → ((k number : ℕ) → k ≤ length l.calls' → number < 4 → m' (group_word k number) ≡ m (group_word k number))
+    → ((k : ℕ) → k ≤ length l.calls' → m' (group_word k) ≡ m (group_word k))
     → HaveGroupFrames places.frames m address backs calls → HaveGroupFrames places.frames m' address (l.back ∷ l.backs') (handed gives v l.call ∷ l.calls')
 caller_groups places m m' address backs calls l gives v same held =
     let frames = places.frames in
     let here : HaveGroupFrames frames m address (l.back ∷ l.backs') (l.call ∷ l.calls') =
     subst (λ cs. HaveGroupFrames frames m address (l.back ∷ l.backs') cs) l.are_calls (subst (λ is. HaveGroupFrames frames m address is calls) l.are_backs held) in
-    let kept = groups_kept frames m m' address (l.back ∷ l.backs') (l.call ∷ l.calls') (λ k number lt known. same k number (omega arith) known) here in
+    let kept = groups_kept frames m m' address (l.back ∷ l.backs') (l.call ∷ l.calls') (λ k lt. same k (omega arith)) here in
     (
-      told_on (has_own frames l.back) address l.call (handed gives v l.call) (handed_frames gives v l.call) kept.0,
-      parts_on frames m' m' (length l.calls') l.back l.back l.call (handed gives v l.call) (λ number told. told) (handed_frames gives v l.call) (λ number known. refl) kept.1,
-      kept.2,
+      told_on (frames.group l.back) address l.call (handed gives v l.call) (ap (λ (f : ℕ → ℕ). f 0) (handed_frames gives v l.call)) kept.0,
+      kept.1,
     )
 
 -- where an address is that of the call's group frame, the frames of the group end there
@@ -203,7 +202,7 @@ module _ (core : List CoreOp) (image : Image) (bound : ℕ → ℕ) (places : Pl
             };
             waiting = waiting_kept places h.local h'.local l.backs' l.calls' few (λ j a b. others j (λ f. omega arith)) l.others;
             groups = caller_groups places h.local h'.local (h'.registers group_frame_register) p.runner.left.callers p.runner.has.callers l gives v
-                (λ k number le known. others (group_word k number) (λ f. omega arith)) groups;
+                (λ k le. others (group_word k) (λ f. omega arith)) groups;
             own = λ j lt. let below = word.own j lt in others (7 + j) (λ f. omega arith) ∙ stands.own j lt ∙ ap (λ f. f j) (sym u.own);
             heap = λ j lt. others (16384 + j) (λ f. omega arith) ∙ stands.heap j lt;
             full = others 2 (λ f. omega arith) ∙ stands.full;
@@ -294,15 +293,15 @@ module _ (core : List CoreOp) (image : Image) (bound : ℕ → ℕ) (places : Pl
   abbrev Before : (address : ℕ) → Type 0
   Before address = HaveGroupFrames places.frames h.local address p.runner.left.callers p.runner.has.callers
 
-  before_by : (gives framed : Bool) → Entered gives framed → (own : Bool) → places.frames.group i 0 ≡ own
-      → Before (before_call own (h.registers group_frame_register) (h.local (group_word (length p.runner.has.callers) 0)))
+  before_by : (gives framed : Bool) → Entered gives framed → (own : Bool) → places.frames.group i ≡ own
+      → Before (before_call own (h.registers group_frame_register) (h.local (group_word (length p.runner.has.callers))))
   before_by gives framed enters told e =
-      subst (λ o. Before (before_call o (h.registers group_frame_register) (h.local (group_word (length p.runner.has.callers) 0)))) (ap (λ j. places.frames.group j 0) enters.index ∙ e) enters.at.stands.groups.2
+      subst (λ o. Before (before_call o (h.registers group_frame_register) (h.local (group_word (length p.runner.has.callers))))) (ap places.frames.group enters.index ∙ e) enters.at.stands.groups.1
 
-  before_none : (gives : Bool) → Entered gives false → places.frames.group i 0 ≡ false → Before (h.registers group_frame_register)
+  before_none : (gives : Bool) → Entered gives false → places.frames.group i ≡ false → Before (h.registers group_frame_register)
   before_none gives enters none = before_by gives false enters false none
 
-  before_some : (gives : Bool) → Entered gives true → places.frames.group i 0 ≡ true → Before (h.local (group_word (length p.runner.has.callers) 0))
+  before_some : (gives : Bool) → Entered gives true → places.frames.group i ≡ true → Before (h.local (group_word (length p.runner.has.callers)))
   before_some gives enters some = before_by gives true enters true some
 
   leave_without : HasBlock image bound places i (leave_block false false op.depth) → OpAt core i op (Leave false false) → Fits core places.frames i op (Leave false false) → Entered false false → Ends false false
@@ -323,16 +322,16 @@ module _ (core : List CoreOp) (image : Image) (bound : ℕ → ℕ) (places : Pl
       (λ r' a b c f g. rw b) refl (before_none false enters fits.place) (λ j ne. refl) l.frame.values)
 
   -- what the register has of the group frame
-  frame_of_call : (gives : Bool) → Entered gives true → places.frames.group i 0 ≡ true → IsGroupFrame (h.registers group_frame_register) (p.runner.has.call.frames 0)
+  frame_of_call : (gives : Bool) → Entered gives true → places.frames.group i ≡ true → IsGroupFrame (h.registers group_frame_register) (p.runner.has.call.frames 0)
   frame_of_call gives enters told =
-      subst (λ o. TellsFrame o (h.registers group_frame_register) p.runner.has.call) (ap (λ j. places.frames.group j 0) enters.index ∙ told) enters.at.stands.groups.0
+      subst (λ o. TellsFrame o (h.registers group_frame_register) p.runner.has.call) (ap places.frames.group enters.index ∙ told) enters.at.stands.groups.0
 
   -- a hart that has given the frame back
   abbrev given : Hart
   given =
       let h1 = writes h t2 (0x08000 * 4096) in
       let h2 = writes h1 frames_register (word_sum (h1.registers group_frame_register) (h1.registers t2)) in
-      writes h2 group_frame_register (h.local (group_word (length p.runner.has.callers) 0))
+      writes h2 group_frame_register (h.local (group_word (length p.runner.has.callers)))
 
   -- the lines that give it back, and what follows them
   gives_back : (gives : Bool) → OpAt core i op (Leave gives true) → (enters : Entered gives true)
@@ -352,11 +351,11 @@ module _ (core : List CoreOp) (image : Image) (bound : ℕ → ℕ) (places : Pl
       let Goal : Hart → Type 0 = λ h'. HasDone core image places (ended core image bound places i op gives true p h.local l) h' × Keeps true h' in
       let about1 = writing image t k h 7 (0x08000 * 4096) about lines.0.within in
       let about2 = writing image (later t) (suc k) h1 12 (word_sum (h1.registers group_frame_register) (h1.registers t2)) about1 lines.1.0.within in
-      let about3 = writing image (later (later t)) (suc (suc k)) h2 14 (h.local (group_word n 0)) about2 lines.1.1.0.within in
+      let about3 = writing image (later (later t)) (suc (suc k)) h2 14 (h.local (group_word n)) about2 lines.1.1.0.within in
       alone_does core image places setting t p h h1 (ended core image bound places i op gives true p h.local l) (Keeps true) k (Lui t2 0x08000) (suc (suc behind)) about lines.0 (λ sh. refl) (omega arith)
       (ended_part core image bound places i op gives true setting p h.local l op_at enters.index)
       (first image (later t) number (suc behind) (suc k) _ h1 h2 Goal about1 lines.1.0 (λ s. (s.reserved, refl))
-      (first image (later (later t)) number behind (suc (suc k)) _ h2 given Goal about2 lines.1.1.0 (lw_goes (later (later t)) number 14 9 (at_group_frame 0) (group_word n 0) h2 (place.1, place.0)) (rest about3)))
+      (first image (later (later t)) number behind (suc (suc k)) _ h2 given Goal about2 lines.1.1.0 (lw_goes (later (later t)) number 14 9 at_group_frame (group_word n) h2 (place.1, place.0)) (rest about3)))
 
   leave_framed : HasBlock image bound places i (leave_block false true op.depth) → OpAt core i op (Leave false true) → Fits core places.frames i op (Leave false true) → Entered false true → Ends false true
   leave_framed block op_at fits enters =

@@ -33,7 +33,7 @@ branch_block onward depth target =
 abbrev pub giving_back : List Instruction
 giving_back =
     Lui t2 to_control ∷ Add frames_register group_frame_register t2
-    ∷ Lw group_frame_register end_register (at_group_frame 0) ∷ []
+    ∷ Lw group_frame_register end_register at_group_frame ∷ []
 
 -- The end of the block that ends a call. The frame of the waiting call is that of the running call
 -- again. The hart returns into the block that began the call, to the address in t1, where a jump

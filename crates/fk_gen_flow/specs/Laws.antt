@@ -103,6 +103,6 @@ HartsBegin =
     (firsts : List ℕ) (main : ℕ)
     → HasOpening image bound places firsts main → AreFirsts places.frames.of_file firsts
     → places.frames.is_main main ≡ true
-    → ((number : ℕ) → places.frames.group main number ≡ false)
+    → places.frames.group main ≡ false
     → (setting : Setting) (t : MachineSetting) (number : ℕ) → IsRunning image setting t
     → Begins core image places t (beginner setting (slice_index firsts) main number)

@@ -142,7 +142,7 @@ fn emit_giving_back(into: &mut Assembler) -> Result<(), AllocError>
         &[
             BlockLine::commits(Instruction::Lui(T2, TO_CONTROL)),
             BlockLine::quiet(Instruction::Add(FRAMES, GROUP_FRAME, T2)),
-            BlockLine::quiet(Instruction::Lw(GROUP_FRAME, END, at_group_frame(0))),
+            BlockLine::quiet(Instruction::Lw(GROUP_FRAME, END, at_group_frame())),
         ],
     )
 }

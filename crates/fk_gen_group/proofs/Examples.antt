@@ -14,7 +14,7 @@ use Rattle.fk_gen_group.specs.Start.{gathering_of}
 
 -- no variables, and code of one block a word; at index 9 one level is saved
 frames : Frames
-frames = record { keeps = λ index word. false; is_main = λ index. true; group = λ index number. false; of_file = 0 }
+frames = record { keeps = λ index word. false; is_main = λ index. true; group = λ index. false; of_file = 0 }
 
 places : Places
 places = record { block = λ index. index; returns = λ index. None; frames = frames }
@@ -102,7 +102,7 @@ stands index level outer node body = record {
     heap_mask = refl;
     running = record { home = refl; values = tt; privates = λ i e. absurd (cc) };
     waiting = tt;
-    groups = (tt, (λ told part is. absurd (cc)), tt);
+    groups = (tt, tt);
     own = λ i lt. absurd (omega (arith, lt));
     heap = λ i lt. refl;
     full = refl;

@@ -35,7 +35,7 @@ use Rattle.fk_gen.proofs.Values.{other_word, value_place, number_of_parts, numbe
 use Rattle.fk_gen.proofs.Walk.{Quiets, Plain, LocalAt, walk, walked, private, runs_join, lines_split, can_run_goes, told_of}
 use Rattle.fk_gen.proofs.Jumps.{goes_to_pc, bgeu_taken, bgeu_on}
 use Rattle.fk_gen.proofs.Does.{holds_in_cycles}
-use Rattle.fk_gen.proofs.Standing.{InMemory, in_memory, stands_as, stands_in_space, with_frame, frame_written, part_written}
+use Rattle.fk_gen.proofs.Standing.{InMemory, in_memory, stands_as, stands_in_space, with_frame, frame_written, part_taken}
 use Rattle.fk_gen.specs.Registers.{t0, t1}
 use Rattle.fk_gen_group.specs.Blocks.{frame_lines, first_taking, second_taking}
 use Rattle.fk_gen_group.specs.Laws.{IsInPlace, GroupsTakeFrames}
@@ -43,9 +43,9 @@ use Rattle.fk_gen_group.proofs.Members.{due_part, fault_part}
 use Rattle.fk_gen_group.proofs.Levels.{outer_by, many_callers}
 use Rattle.fk_gen_group.proofs.Taking.{Takes, step_together}
 
-group_below : (places : Places) (n number : ℕ) → number < 4 → group_word n number < frame_start places n + 7
-group_below places zero number few = omega arith
-group_below places (suc n) number few = omega arith
+group_below : (places : Places) (n : ℕ) → group_word n < frame_start places n + 7
+group_below places zero = omega arith
+group_below places (suc n) = omega arith
 
 module _ (core : List CoreOp) (image : Image) (bound : ℕ → ℕ) (places : Places) (nestings : Nestings) (i : ℕ) (op : CoreOp) (nesting words : ℕ)
     (place : IsInPlace core image bound places nestings i op (Frame nesting words)) (small : op.site < 2 ^ 32)
@@ -127,7 +127,7 @@ module _ (core : List CoreOp) (image : Image) (bound : ℕ → ℕ) (places : Pl
     -- without room the site faults
     faults : free space < words → Done count
     faults lt =
-        let few = place.fits.place.1 in
+        let few = place.fits.place in
         let is = en.ready.may in
         let header = is.header in
         let ordered = is.ordered in
@@ -244,7 +244,7 @@ module _ (core : List CoreOp) (image : Image) (bound : ℕ → ℕ) (places : Pl
       pub live : hart.ended ≡ false
       pub end : hart.registers t0 ≡ sum.hart.registers t0
       pub same : (r : ℕ) → (r == 5) ≡ false → (r == 6) ≡ false → (r == 14) ≡ false → hart.registers r ≡ m.hart.registers r
-      pub kept : (x : ℕ) → (x ≡ group_word n nesting → ⊥) → hart.local x ≡ m.hart.local x
+      pub kept : (x : ℕ) → (x ≡ group_word n → ⊥) → hart.local x ≡ m.hart.local x
       pub written : InMemory places hart.local (hart.registers group_frame_register) as_taken
 
     -- the function's own: a register has its address, and the header what that register had
@@ -256,33 +256,32 @@ module _ (core : List CoreOp) (image : Image) (bound : ℕ → ℕ) (places : Pl
         let stands = en.at.stands in
         let within = en.ready.may.within in
         let takes : TakesFrame core places.frames nesting i (suc i) = place.fits.goes_on in
-        let shallow : nesting < 4 = place.fits.place.0 in
-        let w = group_word n nesting in
+        let w = group_word n in
         let old = m.hart.registers group_frame_register in
         let h4 : Hart = record (moves h3) { local = put sum.hart.local w (sum.hart.registers group_frame_register) } in
         let h5 = writes h4 group_frame_register address in
         let is : (nesting == 0) ≡ true = eq-eqb nesting 0 own in
-        let l5 = subst (λ b. IsAt image k5 (first_taking b nesting) 0) is lines.1.1.1.1.1.0 in
-        let l6 = subst (λ b. IsAt image (suc k5) (second_taking b nesting) 0) is lines.1.1.1.1.1.1.0 in
+        let l5 = subst (λ b. IsAt image k5 (first_taking b) 0) is lines.1.1.1.1.1.0 in
+        let l6 = subst (λ b. IsAt image (suc k5) (second_taking b) 0) is lines.1.1.1.1.1.1.0 in
         let near = lines.1.1.1.1.1.1.1.0.within in
         let e3 = pc3 in
         let e4 : h4.pc ≡ 4 * suc k5 = omega arith in
         let e5 : h5.pc ≡ 4 * suc (suc k5) = omega arith in
         let end : h3.registers end_register ≡ local_address (frame_end n) = sum.same end_register refl ∙ stands.behind in
-        let word_at = value_place (h3.registers end_register) n (61 - nesting) end calls (omega arith) (omega arith) in
+        let word_at = value_place (h3.registers end_register) n 61 end calls (omega arith) (omega arith) in
         let memory : put m.hart.local w old ≡ h5.local =
         sym (ap (λ l. put l w (sum.hart.registers group_frame_register)) sum.local ∙ ap (put m.hart.local w) (sum.same group_frame_register refl)) in
-        let as_own : InMemory places (put m.hart.local (group_word n 0) old) (address_of space.frames) (with_frame core places (suc i) 0 space.frames p) =
+        let as_own : InMemory places (put m.hart.local w old) (address_of space.frames) (with_frame core places (suc i) 0 space.frames p) =
         frame_written core places m.hart.local old p i (suc i) space.frames op.depth few calls en.index place.fits.room (omega arith)
         (subst (λ x. TakesFrame core places.frames x i (suc i)) own takes) (omega arith) (in_memory places p m.hart stands) in
         let here : InMemory places (put m.hart.local w old) (address_of space.frames) as_taken =
-        subst (λ x. InMemory places (put m.hart.local (group_word n x) old) (address_of space.frames) (with_frame core places (suc i) x space.frames p)) (sym own) as_own in
+        subst (λ x. InMemory places (put m.hart.local w old) (address_of space.frames) (with_frame core places (suc i) x space.frames p)) (sym own) as_own in
         record {
           hart = h5;
           runs = (
             h4,
-            private image cycle3 m.number k5 (Sw end_register group_frame_register (at_group_frame nesting)) h3 h4 holds1 l5 e3 sum.live
-                (λ s. can_run_goes (Sw end_register group_frame_register (at_group_frame nesting)) (LocalAt w) h3 (word_at.0, word_at.1) cycle3 m.number s),
+            private image cycle3 m.number k5 (Sw end_register group_frame_register at_group_frame) h3 h4 holds1 l5 e3 sum.live
+                (λ s. can_run_goes (Sw end_register group_frame_register at_group_frame) (LocalAt w) h3 (word_at.0, word_at.1) cycle3 m.number s),
             (h5, private image (later cycle3) m.number (suc k5) (Add group_frame_register t1 frames_register) h4 h5 holds1 l6 e4 sum.live (λ s. (s.reserved, refl)), refl),
           );
           at = e5;
@@ -293,56 +292,41 @@ module _ (core : List CoreOp) (image : Image) (bound : ℕ → ℕ) (places : Pl
           written = subst (λ a. InMemory places h5.local a as_taken) (sym address_is) (subst (λ l. InMemory places l (address_of space.frames) as_taken) memory here);
         }
 
-    -- that of a part: the header has its address
-    part_taken : 0 < nesting → HasTaken
-    part_taken part =
-        let few = place.few in
-        let calls = en.ready.in_range.waiting in
-        let depth = en.ready.depth in
+    -- that of a part
+    part_is_taken : 0 < nesting → HasTaken
+    part_is_taken part =
         let stands = en.at.stands in
-        let within = en.ready.may.within in
         let takes : TakesFrame core places.frames nesting i (suc i) = place.fits.goes_on in
-        let shallow : nesting < 4 = place.fits.place.0 in
-        let w = group_word n nesting in
         let old = m.hart.registers group_frame_register in
-        let h4 = writes h3 t1 address in
-        let h5 : Hart = record (moves h4) { local = put sum.hart.local w address } in
+        let h4 = writes h3 t1 (word_sum (h3.registers t1) 0) in
+        let h5 = writes h4 t1 (word_sum (h4.registers t1) 0) in
         let is : (nesting == 0) ≡ false = ne_eqb nesting 0 (λ e. omega (arith, e, part)) in
-        let l5 = subst (λ b. IsAt image k5 (first_taking b nesting) 0) is lines.1.1.1.1.1.0 in
-        let l6 = subst (λ b. IsAt image (suc k5) (second_taking b nesting) 0) is lines.1.1.1.1.1.1.0 in
+        let l5 = subst (λ b. IsAt image k5 (first_taking b) 0) is lines.1.1.1.1.1.0 in
+        let l6 = subst (λ b. IsAt image (suc k5) (second_taking b) 0) is lines.1.1.1.1.1.1.0 in
         let near = lines.1.1.1.1.1.1.1.0.within in
         let e3 = pc3 in
         let e4 : h4.pc ≡ 4 * suc k5 = omega arith in
         let e5 : h5.pc ≡ 4 * suc (suc k5) = omega arith in
-        let end : h4.registers end_register ≡ local_address (frame_end n) = sum.same end_register refl ∙ stands.behind in
-        let word_at = value_place (h4.registers end_register) n (61 - nesting) end calls (omega arith) (omega arith) in
-        let memory : put m.hart.local w (address_of space.frames) ≡ h5.local = sym (ap (λ l. put l w address) sum.local ∙ ap (put m.hart.local w) address_is) in
-        let here : InMemory places (put m.hart.local w (address_of space.frames)) old as_taken =
-        part_written core places m.hart.local old p i (suc i) nesting space.frames op.depth few calls en.index place.fits.room (omega arith) part shallow takes (omega arith)
-        (in_memory places p m.hart stands) in
+        let here : InMemory places m.hart.local old as_taken =
+        part_taken core places m.hart.local old p i (suc i) nesting space.frames en.index part takes (in_memory places p m.hart stands) in
         record {
           hart = h5;
           runs = (
             h4,
-            private image cycle3 m.number k5 (Add t1 t1 frames_register) h3 h4 holds1 l5 e3 sum.live (λ s. (s.reserved, refl)),
-            (
-              h5,
-              private image (later cycle3) m.number (suc k5) (Sw end_register t1 (at_group_frame nesting)) h4 h5 holds1 l6 e4 sum.live
-                  (λ s. can_run_goes (Sw end_register t1 (at_group_frame nesting)) (LocalAt w) h4 (word_at.0, word_at.1) (later cycle3) m.number s),
-              refl,
-            ),
+            private image cycle3 m.number k5 (Addi t1 t1 0) h3 h4 holds1 l5 e3 sum.live (λ s. (s.reserved, refl)),
+            (h5, private image (later cycle3) m.number (suc k5) (Addi t1 t1 0) h4 h5 holds1 l6 e4 sum.live (λ s. (s.reserved, refl)), refl),
           );
           at = e5;
           live = sum.live;
           end = refl;
           same = λ r a b c. rw b (sum.same r a);
-          kept = λ x e. ap (λ l. l x) (sym memory) ∙ other_word m.hart.local w (address_of space.frames) x e;
-          written = subst (λ a. InMemory places h5.local a as_taken) (sym (sum.same group_frame_register refl)) (subst (λ l. InMemory places l old as_taken) memory here);
+          kept = λ x e. ap (λ l. l x) sum.local;
+          written = subst (λ a. InMemory places h5.local a as_taken) (sym (sum.same group_frame_register refl)) (subst (λ l. InMemory places l old as_taken) (sym sum.local) here);
         }
 
     frame_taken : (number : ℕ) → nesting ≡ number → HasTaken
     frame_taken zero e = own_taken e
-    frame_taken (suc number) e = part_taken (omega (arith, e))
+    frame_taken (suc number) e = part_is_taken (omega (arith, e))
 
     abbrev at_end : HasTaken → Hart
     at_end x = writes x.hart frames_register (word_sum (x.hart.registers t0) 0)
@@ -366,7 +350,7 @@ module _ (core : List CoreOp) (image : Image) (bound : ℕ → ℕ) (places : Pl
         let h6 = at_end x in
         let callers = p.runner.left.callers in
         let many = many_callers places nestings m.hart.local callers p.runner.has.callers stands.waiting in
-        let below = group_below places n nesting place.fits.place.0 in
+        let below = group_below places n in
         let outer =
         outer_by places nestings setting.processors (number_of p) m.hart.local x.hart.local i (suc i) callers p.runner.has.outer few place.stay
         (λ y from lt. x.kept y (λ e. omega arith))
@@ -412,7 +396,7 @@ module _ (core : List CoreOp) (image : Image) (bound : ℕ → ℕ) (places : Pl
 
     takes_frame : words ≤ free space → Done count
     takes_frame le =
-        let few = place.fits.place.1 in
+        let few = place.fits.place in
         let is = en.ready.may in
         let ordered = is.ordered in
         let within = is.within in

@@ -1,12 +1,14 @@
 -- Blocks that keep the words of frames keep their harts in their nodes.
 use Rattle.std.proofs.Common.{◌≡◌, ℕ, zero, suc, ◌+◌, ◌-◌, ◌*◌, ◌<◌, ◌≤◌, List, [], ◌∷◌, length, Bool, true, false, Option, sym, ap, subst, ◌∙◌, arith, refl, inl, inr, ⊎_elim}
-use Rattle.std.specs.Prelude.{◌==◌, nat_lt, if◌then◌else◌}
+use Rattle.std.specs.Prelude.{◌==◌, nat_lt, if◌then◌else◌, drop}
+use Rattle.std.proofs.lemmas.Bool.{eqb-true}
 use Rattle.fk_meaning_operation.specs.Kinds.{class_of}
 use Rattle.fk_meaning_operation.specs.declared.kinds.Class.{Class}
 use Rattle.fk_meaning_operation.specs.declared.kinds.Class.TheVariants.{Local, Request, Tree}
 use Rattle.fk_meaning_operation.specs.declared.operation.Operation.{Operation}
-use Rattle.fk_meaning_operation.specs.declared.operation.Operation.TheVariants.{Push, Set, Branch, Take, Leave, Enter, Halt, End}
+use Rattle.fk_meaning_operation.specs.declared.operation.Operation.TheVariants.{Push, Get, Set, Branch, Take, Leave, Enter, Halt, End}
 use Rattle.fk_meaning_operation.specs.declared.operation.Variable.TheVariants.{Private, OfFile}
+use Rattle.fk_meaning_operation.specs.declared.operation.OwnValue.TheVariants.{FrameAddress}
 use Rattle.fk_sim_heap.specs.Count.{added_by, block_at}
 use Rattle.fk_meaning_store.specs.Store.{private_words, private_address, heap_start}
 use Rattle.fk_meaning_store.specs.Serve.{Answer, Served, Faults as Refused, serve, words_of}
@@ -27,15 +29,18 @@ use Rattle.fk_sim_block.specs.Next.{OpAt, step_at}
 use Rattle.fk_sim_block.specs.Ready.{is_alone}
 use Rattle.fk_sim_block.specs.Suits.{nothing, writes}
 use Rattle.fk_sim_block.specs.Block.{Enters, HasDone, member_of}
-use Rattle.fk_gen.specs.Keeps.{Keeps, DoesAnd, BlockDoesBy, peak}
+use Rattle.fk_gen.specs.Parts.{node_by, FindsPart}
+use Rattle.fk_gen.specs.Keeps.{Keeps, DoesAnd, peak}
 use Rattle.fk_gen.specs.Lines.{label_of}
 use Rattle.fk_gen.proofs.Standing.{groups_go, stands_with}
 use Rattle.fk_gen.proofs.Jumps.{jumps, jal_private}
 use Rattle.fk_gen.proofs.Does.{local_part, asks, hired_part}
-use Rattle.fk_sim_block.specs.Node.{Nestings, StandsInNode, KnowsSpace, HasOuter, HasNestings, LieBelow, saved_at, first_word, control_address, node_register, body_register, frames_register, blocks_register}
+use Rattle.fk_sim_block.specs.Node.{Nestings, StandsInNode, KnowsSpace, HasOuter, HasSaved, HasNestings, LieBelow, saved_at, first_word, control_address, node_register, body_register, frames_register, blocks_register}
 use Rattle.fk_sim_block.proofs.Spaces.{space_kept}
 use Rattle.fk_sim_block.specs.Lockstep.{IsMember}
 use Rattle.fk_sim_block.specs.Law.{Cycles, BlockDoesInNode, HasDoneInNode, way_by, way_of}
+use Rattle.fk_sim_block.specs.Found.{FindsFrame}
+use Rattle.fk_gen_group.specs.Laws.{levels_at}
 use Rattle.fk_gen_group.specs.InNode.{HasLevels, JumpsStayInNode}
 use Rattle.fk_gen_group.proofs.Levels.{starts_behind, lies_below, outer_by, many_callers}
 use Rattle.fk_gen_group.proofs.Behind.{body_kept}
@@ -283,13 +288,83 @@ in_cycles_of core image places nestings cycles setting t i operation runs first 
     subst (λ x. OneDoes (core_source core setting) image t 1 (cycles.before i) (cycles.behind i (way_of operation p.runner.has)) x p (λ h d. HasDoneInNode core image places nestings setting runs d h)) same
     (subst (λ w. OneDoes (core_source core setting) image t 1 (cycles.before i) (cycles.behind i w) (member_of p m.hart) p (λ h d. HasDoneInNode core image places nestings setting runs d h)) way one)
 
+-- ---- the frame of a part
+
+head_or : Level → List Level → Level
+head_or x [] = x
+head_or x (y ∷ ys) = y
+
+tail_of : List Level → List Level
+tail_of [] = []
+tail_of (y ∷ ys) = ys
+
+-- the node of a level, of so many that are saved
+saved_node : (memory : ℕ → ℕ) (at count out : ℕ) (levels : List Level) (level around : Level) (further : List Level) → HasSaved memory at count levels → out < count
+    → drop out levels ≡ level ∷ around ∷ further → memory (at + 4 * (count - suc out) + 1) ≡ control_address level.space.low
+unfolding head_or tail_of
+saved_node memory at zero out levels level around further saved lt there = absurd (let z : ⊥ = omega (arith, lt) in z)
+saved_node memory at (suc n) out [] level around further saved lt there = absurd (assumption saved)
+saved_node memory at (suc n) zero (l ∷ levels) level around further saved lt there =
+    let first : l ≡ level = ap (head_or l) there in
+    let rest : levels ≡ around ∷ further = ap tail_of there in
+    let e : suc n - suc zero ≡ n = omega arith in
+    ap (λ k. memory (at + 4 * k + 1)) e ∙ saved.0.node ∙ ap (λ o. control_address (first_word l o)) rest ∙ ap (λ (x : Level). control_address x.space.low) first
+saved_node memory at (suc n) (suc out) (l ∷ levels) level around further saved lt there =
+    let e : suc n - suc (suc out) ≡ n - suc out = omega arith in
+    ap (λ k. memory (at + 4 * k + 1)) e ∙ saved_node memory at n out levels level around further saved.1 (omega arith) there
+
+module _ (places : Places) (nestings : Nestings) (setting : Setting) (i : ℕ) (runs : Option ℕ) (first : ℕ) (m : Member) (p : Owner) (at : p.runner.left.at ≡ i) (most : nestings.nest i ≤ suc (nestings.levels i))
+    (member : IsMember places nestings setting runs first m p) where
+  abbrev n : ℕ
+  n = length p.runner.has.callers
+
+  abbrev node_at : (own : Bool) (out : ℕ) → ℕ
+  node_at own out = node_by own places (levels_at nestings i) out n m.hart
+
+  -- by how many levels outward it is
+  node_of : (out : ℕ) (own : Bool) → (out == 0) ≡ own → out ≤ nestings.levels i → (level around : Level) (further : List Level)
+      → drop out (p.runner.has.level ∷ p.runner.has.outer) ≡ level ∷ around ∷ further → node_at own out ≡ control_address level.space.low
+  unfolding head_or tail_of
+  node_of zero true own le level around further there =
+      let first : p.runner.has.level ≡ level = ap (head_or level) there in
+      let rest : p.runner.has.outer ≡ around ∷ further = ap tail_of there in
+      member.node.node ∙ ap (λ o. control_address (first_word p.runner.has.level o)) rest ∙ ap (λ (x : Level). control_address x.space.low) first
+  node_of zero false own le level around further there = absurd (cc)
+  node_of (suc out) true own le level around further there = absurd (let e = eqb-true (suc out) 0 own in let z : ⊥ = omega (arith, e) in z)
+  node_of (suc out) false own le level around further there =
+      let many = many_callers places nestings m.hart.local p.runner.left.callers p.runner.has.callers member.at.stands.waiting in
+      let saved = member.node.outer.0.1 in
+      let start = saved_at places nestings (length p.runner.left.callers) p.runner.left.at in
+      let same : saved_at places nestings (length p.runner.left.callers) p.runner.left.at ≡ frame_start places n + 7 + nestings.behind i =
+      ap (λ k. saved_at places nestings k p.runner.left.at) many ∙ ap (saved_at places nestings n) at in
+      let count : nestings.levels p.runner.left.at ≡ nestings.levels i = ap nestings.levels at in
+      let found : m.hart.local (start + 4 * (nestings.levels p.runner.left.at - suc out) + 1) ≡ control_address level.space.low =
+      saved_node m.hart.local start (nestings.levels p.runner.left.at) out p.runner.has.outer level around further saved (omega arith) there in
+      let place : start + 4 * (nestings.levels p.runner.left.at - suc out) + 1 ≡ frame_start places n + 7 + (nestings.behind i + 4 * (nestings.levels i - suc out) + 1) = omega arith in
+      ap m.hart.local (sym place) ∙ found
+
+  finds_part : (operation : Operation) → FindsFrame nestings operation p.runner → FindsPart places (levels_at nestings i) operation p m.hart
+  finds_part (Get (FrameAddress (suc part) word)) finds =
+      let begins = finds.1 in
+      let out = nestings.nest i - suc part in
+      let same : nestings.nest p.runner.left.at - suc part ≡ out = ap (λ j. nestings.nest j - suc part) at in
+      record {
+        first = begins.level.space.low;
+        node = node_of out (out == 0) refl (omega (arith, most)) begins.level begins.around begins.further (ap (λ k. drop k (p.runner.has.level ∷ p.runner.has.outer)) (sym same) ∙ begins.there);
+        frame = begins.first;
+        within = begins.within;
+      }
+  finds_part operation finds = tt
+
 pub same_call_in_node : (core : List CoreOp) (image : Image) (places : Places) (nestings : Nestings) (cycles : Cycles) (i : ℕ) (op : CoreOp) (operation : Operation)
     → OpAt core i op operation → is_alone operation ≡ true → stays_in_call operation ≡ true → HasLevels core places nestings i op operation
-    → BlockDoesBy core image places (cycles.before i) (cycles.behind i) i op operation → BlockDoesInNode core image places nestings cycles i op operation
+    → ((setting : Setting) (t : MachineSetting) (p : Owner) (h : Hart) → Enters core image places setting t i op operation p h → FindsPart places (levels_at nestings i) operation p h
+    → DoesAnd core image places setting t p h (cycles.before i) (cycles.behind i (is_onward operation p.runner.has)) (Keeps places (length p.runner.has.callers) (peak operation op.depth) (writes operation) h))
+    → BlockDoesInNode core image places nestings cycles i op operation
 same_call_in_node core image places nestings cycles i op operation stands alone stays levels does setting t runs first m p en member finds =
     in_cycles_of core image places nestings cycles setting t i operation runs first m p alone member
     (does_in_node core image places nestings setting p t runs (cycles.before i) (cycles.behind i (is_onward operation p.runner.has)) m
-    (Keeps places (length p.runner.has.callers) (peak operation op.depth) (writes operation) m.hart) (does setting t p m.hart en)
+    (Keeps places (length p.runner.has.callers) (peak operation op.depth) (writes operation) m.hart) (does setting t p m.hart en (finds_part places nestings setting i runs first m p en.index levels.nest member operation finds))
     (λ h' d s s' e done keeps.
     in_node core image places nestings i op operation stands alone stays levels setting p t runs first m h' d en member keeps
     (did core image places nestings i op operation stands alone stays levels setting p d s s' en.index e)))

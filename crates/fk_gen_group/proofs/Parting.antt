@@ -300,15 +300,15 @@ part_in_memory core places m m' a p i i' low vs few waiting at flows held start 
       };
       waiting = waiting_kept places m m' p.runner.left.callers p.runner.has.callers few (λ j le lt. below j (omega arith)) held.waiting;
       groups = groups_on core places nothing m m' a i i' p.runner.has.call (with_list core places i' vs p).runner.has.call p.runner.left.callers p.runner.has.callers flows refl
-          (λ k number le known. let g = group_at n number known in below (group_word k number) (omega (arith, g, le, start))) groups;
+          (λ k le. let g = group_at n in below (group_word k) (omega (arith, g, le, start))) groups;
       own = λ x lt. below (7 + x) (omega arith) ∙ held.own x lt;
       heap = λ x lt. above (16384 + x) (omega arith) ∙ held.heap x lt;
       full = below 2 (omega arith) ∙ held.full;
     }
   where
-    group_at : (n number : ℕ) → number < 4 → group_word n number < frame_start places n + 7
-    group_at zero number known = omega arith
-    group_at (suc n) number known = omega arith
+    group_at : (n : ℕ) → group_word n < frame_start places n + 7
+    group_at zero = omega arith
+    group_at (suc n) = omega arith
 
 -- who waits at an `||` has another value, and else nothing is written
 pub memory_other : (by : SplitKind) (depth : ℕ) (h : Hart) (j : ℕ) → (taken_by by ≡ 1 → j ≡ value_word depth h → ⊥) → memory_by by depth h j ≡ h.local j

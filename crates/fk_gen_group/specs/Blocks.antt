@@ -82,18 +82,18 @@ end_block target =
 
 -- The two ways of a frame have equally many lines. With room the frames of the group end where the
 -- frame does. A function's own frame comes to the register of group frames, and the header gets what
--- that register had. Of a part's frame the header gets the address.
-abbrev pub first_taking : (own : Bool) (nesting : ℕ) → Instruction
-first_taking true nesting = Sw end_register group_frame_register (at_group_frame nesting)
-first_taking false nesting = Add t1 t1 frames_register
+-- that register had. Nothing more tells a part's frame, and two lines only take their time.
+abbrev pub first_taking : (own : Bool) → Instruction
+first_taking true = Sw end_register group_frame_register at_group_frame
+first_taking false = Addi t1 t1 0
 
-abbrev pub second_taking : (own : Bool) (nesting : ℕ) → Instruction
-second_taking true nesting = Add group_frame_register t1 frames_register
-second_taking false nesting = Sw end_register t1 (at_group_frame nesting)
+abbrev pub second_taking : (own : Bool) → Instruction
+second_taking true = Add group_frame_register t1 frames_register
+second_taking false = Addi t1 t1 0
 
 abbrev pub taking_lines : (nesting : ℕ) → List MarkedLine
 taking_lines nesting =
-    quiet (first_taking (nesting == 0) nesting) ∷ quiet (second_taking (nesting == 0) nesting)
+    quiet (first_taking (nesting == 0)) ∷ quiet (second_taking (nesting == 0))
     ∷ commits (Addi frames_register t0 0) ∷ []
 
 -- A frame is taken behind those of the group, if it ends where the group's blocks begin, or before.

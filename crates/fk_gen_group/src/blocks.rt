@@ -250,27 +250,26 @@ fn emit_taking(into: &mut Assembler, nesting: u32, site: u32) -> Result<(), Allo
     )
 }
 
-// The instructions that take the frame. The function's own comes to a register, and that of a part
-// to the header alone.
+// The instructions that take the frame. The function's own comes to a register.
 fn first_taking(nesting: u32) -> Instruction
-    ensures exact { result ≡ first_taking (nesting == 0) nesting }
+    ensures exact { result ≡ first_taking (nesting == 0) }
     ensures fits { Fits result }
 {
     if nesting == 0 {
-        Instruction::Sw(END, GROUP_FRAME, at_group_frame(nesting))
+        Instruction::Sw(END, GROUP_FRAME, at_group_frame())
     } else {
-        Instruction::Add(T1, T1, FRAMES)
+        Instruction::Addi(T1, T1, 0)
     }
 }
 
 fn second_taking(nesting: u32) -> Instruction
-    ensures exact { result ≡ second_taking (nesting == 0) nesting }
+    ensures exact { result ≡ second_taking (nesting == 0) }
     ensures fits { Fits result }
 {
     if nesting == 0 {
         Instruction::Add(GROUP_FRAME, T1, FRAMES)
     } else {
-        Instruction::Sw(END, T1, at_group_frame(nesting))
+        Instruction::Addi(T1, T1, 0)
     }
 }
 

@@ -131,7 +131,7 @@ module _ (core : List CoreOp) (kept : List Set) (saved : List Levels) (main : â„
         )
 
     pub does_the_list : DoesTheList core kept main firsts globals code
-    does_the_list image frames has suits keeps of_file =
+    does_the_list image frames has suits keeps of_file no_parts =
         let all = stands image frames has of_file in
         let whole = all.1.1 in
         let ranges : AreInRange core (length image.globals.items) = record {
@@ -140,6 +140,6 @@ module _ (core : List CoreOp) (kept : List Set) (saved : List Levels) (main : â„
           globals_few = let e = has.globals_of in omega arith;
         } in (
           all.0,
-          law_of_blocks core image (places_in core all.0 frames) all.1.0 kept saved firsts main suits keeps ranges
+          law_of_blocks core image (places_in core all.0 frames) all.1.0 kept saved firsts main suits keeps no_parts is.levels ranges
               (record { blocks = whole.blocks; returns = whole.returns; shared = whole.shared; heap = whole.heap }) whole.opening (sym of_file) is.first_words,
         )

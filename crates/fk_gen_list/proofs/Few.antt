@@ -30,7 +30,7 @@ use Rattle.fk_gen_flow.proofs.Enters.{few_take}
 use Rattle.fk_gen_group.specs.Splits.{split_goes_on}
 use Rattle.fk_gen_list.specs.Layout.{placed}
 use Rattle.fk_gen_list.proofs.Clears.{few_clears}
-use Rattle.fk_gen_list.proofs.Suited.{has_expression}
+use Rattle.fk_gen_list.proofs.Suited.{no_node_words, has_expression}
 use Rattle.fk_gen_list.specs.Cycles.{before_of, behind_of, before_at, behind_at}
 
 -- ---- before a commit
@@ -69,8 +69,8 @@ past_short : (ls : List MarkedLine) → IsShortCode (length ls) → past_first l
 past_short [] short = omega arith
 past_short (l ∷ ls) short = let few = short.few in omega arith
 
-few_expression : (globals depth : ℕ) (operation : Operation) → IsExpression globals depth operation → past_first (expression_block globals depth operation) ≤ most_behind
-few_expression globals depth operation is = past_short (expression_block globals depth operation) (block_short globals depth operation is)
+few_expression : (globals : ℕ) (levels other : Levels) (depth : ℕ) (operation : Operation) → IsExpression globals other depth operation → past_first (expression_block globals levels depth operation) ≤ most_behind
+few_expression globals levels other depth operation is = past_short (expression_block globals levels depth operation) (block_short globals levels other depth operation is)
 
 few_parts : (by : SplitKind) (onward : Bool) → split_goes_on by onward ≤ most_behind
 few_parts IfElse true = omega arith
@@ -81,10 +81,11 @@ few_parts by false = omega arith
 module _ (core : List CoreOp) (frames : Frames) (i : ℕ) (here : Placed) (few : frames.of_file ≤ 56) (number : here.op.number < 2 ^ 32) (some : here.globals ≤ 2 ^ 20)
     (cleared : here.clears ≤ most_privates) where
   of_expression : (operation : Operation) → operation_of here.op.kind here.op.number ≡ Some operation → Fits core frames i here.op operation → is_alone operation ≡ true
-      → is_flow operation ≡ false → is_access (Some operation) ≡ false → past_first (expression_block here.globals here.op.depth operation) ≤ most_behind
+      → is_flow operation ≡ false → is_access (Some operation) ≡ false → past_first (expression_block here.globals here.levels here.op.depth operation) ≤ most_behind
   of_expression operation read fits alone f a =
-      few_expression here.globals here.op.depth operation
-      (has_expression core frames i here.globals here.op operation read fits few number some alone f a)
+      let none : Levels = record { count = 0; behind = 0; nest = 0 } in
+      few_expression here.globals here.levels none here.op.depth operation
+      (has_expression core frames i here.globals none here.op operation read fits few number some (no_node_words operation) alone f a)
 
   few_behind_of : (operation : Operation) (onward : Bool) → operation_of here.op.kind here.op.number ≡ Some operation → Fits core frames i here.op operation
       → behind_of here operation onward ≤ most_behind

@@ -220,7 +220,7 @@ module _ (core : List CoreOp) (image : Image) (bound : ℕ → ℕ) (places : Pl
 
 pub lists_have_the_law : ListsHaveTheLaw
 lists_have_the_law core kept saved image bound places nestings firsts main suits are ranges lone levels code looks room told gathers begins =
-    let alone = lists_do_alone core kept saved image bound places nestings main suits are ranges lone levels in
+    let alone = lists_do_alone core kept saved image bound places nestings main suits are ranges lone levels told in
     record {
       few_before = alone.few_before;
       few_behind = alone.few_behind;

@@ -22,6 +22,7 @@ module _ (core : List CoreOp) (places : Places) (start : Gathering) (few : place
     room = subst (HasLevelRoom places.frames (nestings_of [] start) i) e room;
     apart = λ some. absurd (omega arith);
     stay = λ onward. record { levels = refl; behind = refl };
+    nest = omega arith;
   }
 
   fit : (operation : Operation) → Fits core places.frames i op operation → LevelsFit core places (nestings_of [] start) i op operation

@@ -93,10 +93,10 @@ access_all n (Some o.PrintByte) d site = straight_goes n (accesses.print_block a
 access_all n (Some o.Heap) d site = All-from_recursion (GoesTo n) (heap.hire_block d) (tt, ((inl (omega arith), (1, refl)), (tt, tt)))
 access_all n operation d site = All-nil (GoesTo n)
 
-expression_all : (globals d : ℕ) (operation : Option Operation)
-    → All IsUnlabeled (option_map_or (expressions.expression_block globals d) operation [])
-expression_all globals d None = All-nil IsUnlabeled
-expression_all globals d (Some operation) = first_all (expressions.expression_code globals d operation)
+expression_all : (globals : ℕ) (levels : Levels) (d : ℕ) (operation : Option Operation)
+    → All IsUnlabeled (option_map_or (expressions.expression_block globals levels d) operation [])
+expression_all globals levels d None = All-nil IsUnlabeled
+expression_all globals levels d (Some operation) = first_all (expressions.expression_code globals levels d operation)
 
 -- ---- lines with labels
 
@@ -213,7 +213,7 @@ block_all n p few jumps leads = by (kind_of p.op)
     by Flow = flow_block_all n p.clears p.back p.op few jumps leads
     by Access = access_all n (operation_of p.op.kind p.op.number) p.op.depth p.op.site
     by Group = group_all n p.back p.levels p.op (operation_of p.op.kind p.op.number) (leads_all n p.back p.op (is_jump p.op) refl leads)
-    by Expression = go_nowhere n _ (expression_all p.globals p.op.depth (operation_of p.op.kind p.op.number))
+    by Expression = go_nowhere n _ (expression_all p.globals p.levels p.op.depth (operation_of p.op.kind p.op.number))
 
 -- ---- in a list
 
@@ -312,50 +312,46 @@ sum_few : (short : Bool) (n register : ℕ) → length (add_by short n register)
 sum_few true n register = omega arith
 sum_few false n register = omega arith
 
-part_length : (is_first : Bool) (d nesting word : ℕ) → length (expressions.part_word is_first nesting word ++ result t0 (d + 1) ∷ []) ≤ 15
-part_length true d nesting word = omega arith
-part_length false d nesting word =
-    let all = length-append (add_number (4 * word) t1) (result t0 (d + 1) ∷ []) in
-    let sum = sum_few (high_part (4 * word) == 0) (4 * word) t1 in
-    omega arith
-
-frame_length : (own : Bool) (d nesting word : ℕ) → length (if own then expressions.own_address d word else expressions.part_address d nesting word) ≤ 15
-frame_length true d nesting word =
+frame_length : (own : Bool) (levels : Levels) (d nesting word : ℕ) → length (if own then expressions.own_address d word else expressions.part_address levels d nesting word) ≤ 15
+frame_length true levels d nesting word =
     let all = length-append (add_number (4 * word) group_frame_register) (result t0 (d + 1) ∷ []) in
     let sum = sum_few (high_part (4 * word) == 0) (4 * word) group_frame_register in
     omega arith
-frame_length false d nesting word = part_length (word == 0) d nesting word
+frame_length false levels d nesting word =
+    let all = length-append (add_number (expressions.past_header word) t1) (result t0 (d + 1) ∷ []) in
+    let sum = sum_few (high_part (expressions.past_header word) == 0) (expressions.past_header word) t1 in
+    omega arith
 
-get_length : (globals d : ℕ) (which : OwnValue) → length (expressions.get_code globals d which) ≤ 15
-get_length globals d (known.Value variable) = omega arith
-get_length globals d known.Rank = omega arith
-get_length globals d known.GroupNumber = omega arith
-get_length globals d known.GroupSize = omega arith
-get_length globals d known.ProcessorNumber = omega arith
-get_length globals d known.Processors = omega arith
-get_length globals d known.InputLength = omega arith
-get_length globals d known.InputAddress = push_length d (address_of globals)
-get_length globals d (known.FrameAddress nesting word) = frame_length (nesting == 0) d nesting word
+get_length : (globals : ℕ) (levels : Levels) (d : ℕ) (which : OwnValue) → length (expressions.get_code globals levels d which) ≤ 15
+get_length globals levels d (known.Value variable) = omega arith
+get_length globals levels d known.Rank = omega arith
+get_length globals levels d known.GroupNumber = omega arith
+get_length globals levels d known.GroupSize = omega arith
+get_length globals levels d known.ProcessorNumber = omega arith
+get_length globals levels d known.Processors = omega arith
+get_length globals levels d known.InputLength = omega arith
+get_length globals levels d known.InputAddress = push_length d (address_of globals)
+get_length globals levels d (known.FrameAddress nesting word) = frame_length (nesting == 0) levels d nesting word
 
-code_length : (globals d : ℕ) (operation : Operation) → length (expressions.expression_code globals d operation) ≤ words_by (Some operation)
-code_length globals d (o.Push n) = push_length d n
-code_length globals d (o.Get which) = get_length globals d which
-code_length globals d (o.Set variable) = omega arith
-code_length globals d o.DropLast = omega arith
-code_length globals d o.CopyLast = omega arith
-code_length globals d (o.Apply sign) = omega arith
-code_length globals d (o.Binary sign false) = join_length d sign t0 t1
-code_length globals d (o.Binary sign true) = join_length d sign t1 t0
-code_length globals d (o.Index size) =
+code_length : (globals : ℕ) (levels : Levels) (d : ℕ) (operation : Operation) → length (expressions.expression_code globals levels d operation) ≤ words_by (Some operation)
+code_length globals levels d (o.Push n) = push_length d n
+code_length globals levels d (o.Get which) = get_length globals levels d which
+code_length globals levels d (o.Set variable) = omega arith
+code_length globals levels d o.DropLast = omega arith
+code_length globals levels d o.CopyLast = omega arith
+code_length globals levels d (o.Apply sign) = omega arith
+code_length globals levels d (o.Binary sign false) = join_length d sign t0 t1
+code_length globals levels d (o.Binary sign true) = join_length d sign t1 t0
+code_length globals levels d (o.Index size) =
     index_length d size (size == 4) (operand t0 (d - 1)) (operand t1 d) (Add t0 t0 t1) (result t0 (d - 1))
-code_length globals d operation = omega arith
+code_length globals levels d operation = omega arith
 
-expression_words : (globals d : ℕ) (operation : Option Operation)
-    → length (option_map_or (expressions.expression_block globals d) operation []) ≤ words_by operation
-expression_words globals d None = omega arith
-expression_words globals d (Some operation) =
-    let same = first_length (expressions.expression_code globals d operation) in
-    let few = code_length globals d operation in
+expression_words : (globals : ℕ) (levels : Levels) (d : ℕ) (operation : Option Operation)
+    → length (option_map_or (expressions.expression_block globals levels d) operation []) ≤ words_by operation
+expression_words globals levels d None = omega arith
+expression_words globals levels d (Some operation) =
+    let same = first_length (expressions.expression_code globals levels d operation) in
+    let few = code_length globals levels d operation in
     omega arith
 
 own_length : (n : ℕ) → length (calls.own_copies n) ≡ 2 * n
@@ -426,7 +422,7 @@ words_of false p operation j read = by (kind_by (flow.is_some_flow operation) (a
     by Flow = rw (j, read) (flow_words p.clears p.back p.op operation)
     by Access = rw read (access_words operation p.op.depth p.op.site)
     by Group = rw read (group_words operation p.levels p.op.depth p.op.target p.op.site)
-    by Expression = rw read (expression_words p.globals p.op.depth operation)
+    by Expression = rw read (expression_words p.globals p.levels p.op.depth operation)
 
 block_words : (p : Placed) → length (block_of p) ≤ most_words p.op
 block_words p = words_of (is_jump p.op) p (operation_of p.op.kind p.op.number) refl refl

@@ -17,7 +17,7 @@ use Rattle.fk_core.specs.Numbers.{operation_of, operation_by, local_of, request_
 use Rattle.fk_sim_block.specs.Stands.{Frames, HasRoom}
 use Rattle.fk_sim_block.specs.Next.{OpAt}
 use Rattle.fk_sim_block.specs.Ready.{is_alone}
-use Rattle.fk_sim_block.specs.Suits.{Fits}
+use Rattle.fk_sim_block.specs.Suits.{Fits, IsThere}
 use Rattle.fk_gen_expr.specs.Expressions.{IsExpression}
 use Rattle.fk_gen_access.specs.Blocks.{is_access}
 use Rattle.fk_gen_flow.specs.Blocks.{is_flow, is_some_flow, HasOperands}
@@ -78,37 +78,55 @@ one_more frames i depth room = let h = room.header in omega arith
 at_most : (frames : Frames) (i depth : ℕ) → HasRoom frames i depth → depth ≤ 64
 at_most frames i depth room = let h = room.header in omega arith
 
+-- the words of levels that an operation reaches
+abbrev pub HasNodeWords : Operation → Levels → Type 0
+HasNodeWords (Get known) levels = levels.behind + 4 * levels.count ≤ 57
+HasNodeWords operation levels = Unit {0}
+
+pub node_words : (operation : Operation) (levels : Levels) → HasLevelWords (Some operation) levels → HasNodeWords operation levels
+node_words (Get known) levels has = has
+node_words operation levels has = tt
+
+pub no_node_words : (operation : Operation) → HasNodeWords operation (record { count = 0; behind = 0; nest = 0 })
+no_node_words (Get known) = omega arith
+no_node_words operation = tt
+
+-- a word of a group frame has a number
+frame_word : (core : List CoreOp) (frames : Frames) (nesting word i : ℕ) → IsThere core frames (FrameAddress nesting word) i → word < 2 ^ 21
+frame_word core frames zero word i there = there.1
+frame_word core frames (suc part) word i there = there
+
 -- the operations of expressions
-pub has_expression : (core : List CoreOp) (frames : Frames) (i globals : ℕ) (op : CoreOp) (operation : Operation) → operation_of op.kind op.number ≡ Some operation
-    → Fits core frames i op operation → frames.of_file ≤ 56 → op.number < 2 ^ 32 → globals ≤ 2 ^ 20 → is_alone operation ≡ true
-    → is_flow operation ≡ false → is_access (Some operation) ≡ false → IsExpression globals op.depth operation
-has_expression core frames i globals op (Push n) read fits few number some alone f a = one_more frames i op.depth fits.place
-has_expression core frames i globals op (Get (Value (Private w))) read fits few number some alone f a =
+pub has_expression : (core : List CoreOp) (frames : Frames) (i globals : ℕ) (levels : Levels) (op : CoreOp) (operation : Operation) → operation_of op.kind op.number ≡ Some operation
+    → Fits core frames i op operation → frames.of_file ≤ 56 → op.number < 2 ^ 32 → globals ≤ 2 ^ 20 → HasNodeWords operation levels → is_alone operation ≡ true
+    → is_flow operation ≡ false → is_access (Some operation) ≡ false → IsExpression globals levels op.depth operation
+has_expression core frames i globals levels op (Push n) read fits few number some node alone f a = one_more frames i op.depth fits.place
+has_expression core frames i globals levels op (Get (Value (Private w))) read fits few number some node alone f a =
     let k = fits.place.1.kept w fits.place.0 in
     (one_more frames i op.depth fits.place.1, omega arith)
-has_expression core frames i globals op (Get (Value (OfFile w))) read fits few number some alone f a =
+has_expression core frames i globals levels op (Get (Value (OfFile w))) read fits few number some node alone f a =
     let lt = fits.place.0 in
     (one_more frames i op.depth fits.place.1, omega arith)
-has_expression core frames i globals op (Get Rank) read fits few number some alone f a = (one_more frames i op.depth fits.place.1, tt)
-has_expression core frames i globals op (Get GroupNumber) read fits few number some alone f a = (one_more frames i op.depth fits.place.1, tt)
-has_expression core frames i globals op (Get ProcessorNumber) read fits few number some alone f a = (one_more frames i op.depth fits.place.1, tt)
-has_expression core frames i globals op (Get Processors) read fits few number some alone f a = (one_more frames i op.depth fits.place.1, tt)
-has_expression core frames i globals op (Get GroupSize) read fits few number some alone f a = (one_more frames i op.depth fits.place.1, tt)
-has_expression core frames i globals op (Get InputLength) read fits few number some alone f a = (one_more frames i op.depth fits.place.1, tt)
-has_expression core frames i globals op (Get InputAddress) read fits few number some alone f a = (one_more frames i op.depth fits.place.1, some)
-has_expression core frames i globals op (Get (FrameAddress nesting word)) read fits few number some alone f a = (one_more frames i op.depth fits.place.1, fits.place.0.1)
-has_expression core frames i globals op (Set (Private w)) read fits few number some alone f a =
+has_expression core frames i globals levels op (Get Rank) read fits few number some node alone f a = (one_more frames i op.depth fits.place.1, tt)
+has_expression core frames i globals levels op (Get GroupNumber) read fits few number some node alone f a = (one_more frames i op.depth fits.place.1, tt)
+has_expression core frames i globals levels op (Get ProcessorNumber) read fits few number some node alone f a = (one_more frames i op.depth fits.place.1, tt)
+has_expression core frames i globals levels op (Get Processors) read fits few number some node alone f a = (one_more frames i op.depth fits.place.1, tt)
+has_expression core frames i globals levels op (Get GroupSize) read fits few number some node alone f a = (one_more frames i op.depth fits.place.1, tt)
+has_expression core frames i globals levels op (Get InputLength) read fits few number some node alone f a = (one_more frames i op.depth fits.place.1, tt)
+has_expression core frames i globals levels op (Get InputAddress) read fits few number some node alone f a = (one_more frames i op.depth fits.place.1, some)
+has_expression core frames i globals levels op (Get (FrameAddress nesting word)) read fits few number some node alone f a = (one_more frames i op.depth fits.place.1, (frame_word core frames nesting word i fits.place.0, node))
+has_expression core frames i globals levels op (Set (Private w)) read fits few number some node alone f a =
     let p = fits.place in (fits.values, at_most frames i op.depth fits.room, omega arith)
-has_expression core frames i globals op (Set (OfFile w)) read fits few number some alone f a =
+has_expression core frames i globals levels op (Set (OfFile w)) read fits few number some node alone f a =
     let p = fits.place in (fits.values, at_most frames i op.depth fits.room, omega arith)
-has_expression core frames i globals op DropLast read fits few number some alone f a = tt
-has_expression core frames i globals op CopyLast read fits few number some alone f a = (fits.values, one_more frames i op.depth fits.place)
-has_expression core frames i globals op (Apply sign) read fits few number some alone f a = (fits.values, at_most frames i op.depth fits.room)
-has_expression core frames i globals op (Binary sign turned) read fits few number some alone f a = (fits.values, at_most frames i op.depth fits.room)
-has_expression core frames i globals op (Index size) read fits few number some alone f a =
+has_expression core frames i globals levels op DropLast read fits few number some node alone f a = tt
+has_expression core frames i globals levels op CopyLast read fits few number some node alone f a = (fits.values, one_more frames i op.depth fits.place)
+has_expression core frames i globals levels op (Apply sign) read fits few number some node alone f a = (fits.values, at_most frames i op.depth fits.room)
+has_expression core frames i globals levels op (Binary sign turned) read fits few number some node alone f a = (fits.values, at_most frames i op.depth fits.room)
+has_expression core frames i globals levels op (Index size) read fits few number some node alone f a =
     let e = size_is op.kind op.number size read in (fits.values, at_most frames i op.depth fits.room, omega arith)
-has_expression core frames i globals op (Leave gives framed) read fits few number some alone f a = never (sym f)
-has_expression core frames i globals op operation read fits few number some alone f a = absurd (cc)
+has_expression core frames i globals levels op (Leave gives framed) read fits few number some node alone f a = never (sym f)
+has_expression core frames i globals levels op operation read fits few number some node alone f a = absurd (cc)
 
 -- the caller of a call goes on in the list
 pub back_within : (core : List CoreOp) → HasBlocks core → (i : ℕ) (op : CoreOp) (o : Option Operation) → slice_get core i ≡ Some op → is_jump op ≡ false
@@ -174,45 +192,45 @@ no_halt operation (inr e) f = never (sym f ∙ ap is_flow e)
 
 -- the words of a frame have a number
 frame_words : (core : List CoreOp) (frames : Frames) (i : ℕ) (op : CoreOp) (operation : Operation) → Fits core frames i op operation → HasWords (Some operation)
-frame_words core frames i op (Frame nesting words) fits = fits.place.1
+frame_words core frames i op (Frame nesting words) fits = fits.place
 frame_words core frames i op operation fits = tt
 
 module _ (core : List CoreOp) (frames : Frames) (i globals : ℕ) (op : CoreOp) (operation : Operation) (clears back : ℕ) (levels : Levels) (few_clears : clears ≤ most_privates) where
   has_by : (flow access : Bool) → is_flow operation ≡ flow → is_access (Some operation) ≡ access → OpAt core i op operation
       → Fits core frames i op operation → frames.of_file ≤ 56 → op.number < 2 ^ 32 → HasOperands op.depth op.target back (Some operation)
-      → globals ≤ 2 ^ 20 → (is_alone operation ≡ true) ⊎ (operation ≡ Halt) → HasBlockIn (kind_by flow access false) (record { op = op; globals = globals; clears = clears; back = back; levels = levels })
-  has_by true access f a stands fits few number operands some alone = record {
+      → globals ≤ 2 ^ 20 → HasNodeWords operation levels → (is_alone operation ≡ true) ⊎ (operation ≡ Halt) → HasBlockIn (kind_by flow access false) (record { op = op; globals = globals; clears = clears; back = back; levels = levels })
+  has_by true access f a stands fits few number operands some node alone = record {
     kind = inr (ap is_some_flow stands.is_read ∙ f);
     depth = λ e. shallow core frames i op operation fits;
     jump = λ e. never (sym stands.no_jump ∙ e);
     operands = subst (HasOperands op.depth op.target back) (sym stands.is_read) operands;
     clears = few_clears;
   }
-  has_by false true f a stands fits few number operands some alone = record {
+  has_by false true f a stands fits few number operands some node alone = record {
     access = ap is_access stands.is_read ∙ a;
     depth = shallow core frames i op operation fits;
   }
-  has_by false false f a stands fits few number operands some alone =
-      subst (λ o. IsSomeAnd o (IsExpression globals op.depth)) (sym stands.is_read)
-      (has_expression core frames i globals op operation stands.is_read fits few number some (no_halt operation alone f) f a)
+  has_by false false f a stands fits few number operands some node alone =
+      subst (λ o. IsSomeAnd o (IsExpression globals levels op.depth)) (sym stands.is_read)
+      (has_expression core frames i globals levels op operation stands.is_read fits few number some node (no_halt operation alone f) f a)
 
   -- the kind of one that is no step of a group
   lone_has : is_group_step (Some operation) ≡ false → OpAt core i op operation → Fits core frames i op operation → frames.of_file ≤ 56 → op.number < 2 ^ 32
-      → HasOperands op.depth op.target back (Some operation) → globals ≤ 2 ^ 20 → (is_alone operation ≡ true) ⊎ (operation ≡ Halt)
+      → HasOperands op.depth op.target back (Some operation) → globals ≤ 2 ^ 20 → HasNodeWords operation levels → (is_alone operation ≡ true) ⊎ (operation ≡ Halt)
       → HasBlockOf (record { op = op; globals = globals; clears = clears; back = back; levels = levels })
-  lone_has no_step stands fits few number operands some alone =
+  lone_has no_step stands fits few number operands some node alone =
       subst (λ k. HasBlockIn k (record { op = op; globals = globals; clears = clears; back = back; levels = levels }))
       (sym (kind_here core i op operation stands ∙ ap (kind_by (is_flow operation) (is_access (Some operation))) no_step))
-      (has_by (is_flow operation) (is_access (Some operation)) refl refl stands fits few number operands some alone)
+      (has_by (is_flow operation) (is_access (Some operation)) refl refl stands fits few number operands some node alone)
 
   -- an operation that suits frames has a block
   pub has_block_of : OpAt core i op operation → Fits core frames i op operation → frames.of_file ≤ 56 → op.number < 2 ^ 32 → HasOperands op.depth op.target back (Some operation)
       → globals ≤ 2 ^ 20 → (is_group_step (Some operation) ≡ true → op.target < 2 ^ 31) → HasLevelWords (Some operation) levels → HasOwnBlock operation
       → HasBlockOf (record { op = op; globals = globals; clears = clears; back = back; levels = levels })
   has_block_of stands fits few number operands some near room (inl alone) =
-      lone_has (alone_is_no_step operation alone) stands fits few number operands some (inl alone)
+      lone_has (alone_is_no_step operation alone) stands fits few number operands some (node_words operation levels room) (inl alone)
   has_block_of stands fits few number operands some near room (inr (inl halt)) =
-      lone_has (ap (λ o. is_group_step (Some o)) halt) stands fits few number operands some (inr halt)
+      lone_has (ap (λ o. is_group_step (Some o)) halt) stands fits few number operands some (node_words operation levels room) (inr halt)
   has_block_of stands fits few number operands some near room (inr (inr step)) =
       subst (λ k. HasBlockIn k (record { op = op; globals = globals; clears = clears; back = back; levels = levels })) (sym (kind_here core i op operation stands ∙ step_kind operation step))
       (record {

@@ -40,7 +40,7 @@ behind_in Flow here operation onward = flow.behind_commit here.clears operation 
 behind_in Access here operation onward = accesses.behind_commit operation
 behind_in Group here operation onward = 0
 behind_in Expression here operation onward =
-    past_first (expression_block here.globals here.op.depth operation)
+    past_first (expression_block here.globals here.levels here.op.depth operation)
 
 -- The cycles before the commit of an operation, steps of groups in lockstep included, and those
 -- after it.

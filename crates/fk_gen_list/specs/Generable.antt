@@ -3,6 +3,8 @@ use Rattle.std.specs.Prelude.{◌≡◌, ℕ, suc, ◌<◌, ◌^◌, List, lengt
 use Rattle.std.specs.Prelude.{Option, Some, None, slice_get, if◌then◌else◌, ◌⊎◌}
 use Rattle.fk_meaning_operation.specs.declared.operation.Operation.{Operation}
 use Rattle.fk_meaning_operation.specs.declared.operation.Operation.TheVariants.{Branch, Enter, Halt}
+use Rattle.fk_meaning_operation.specs.declared.operation.Operation.TheVariants.{Get}
+use Rattle.fk_meaning_operation.specs.declared.operation.OwnValue.TheVariants.{FrameAddress}
 use Rattle.fk_core.specs.declared.op.CoreOp.{CoreOp}
 use Rattle.fk_core.specs.Next.{is_jump, behind_jump}
 use Rattle.fk_core.specs.Numbers.{operation_of}
@@ -109,14 +111,19 @@ pub record HasCode (code : Code) (globals : ℕ) (image : Image) : Type 0 where
   pub commits : image.commits.items ≡ code.commits.items
   pub globals_of : length image.globals.items ≡ globals
 
+-- No call gets the address of a word in the frame of a part.
+abbrev pub HasNoPartFrames : List CoreOp → Type 0
+HasNoPartFrames core = (i : ℕ) (op : CoreOp) (part word : ℕ)
+    → OpAt core i op (Get (FrameAddress (suc part) word)) → ⊥
+
 -- Each image with this code has the law of blocks of single processors, in all frames that suit the
--- list and keep no words except these.
+-- list and keep no words except these, if parts have no frames.
 abbrev pub DoesTheList : (core : List CoreOp) (kept : List Set) (main : ℕ) (firsts : List ℕ)
     (globals : ℕ) → Code → Type 0
 DoesTheList core kept main firsts globals code =
     (image : Image) (frames : Frames) → HasCode code globals image → Suits core frames main
     → AreKept frames kept
-    → frames.of_file ≡ length firsts → (block : (index : ℕ) → ℕ)
+    → frames.of_file ≡ length firsts → HasNoPartFrames core → (block : (index : ℕ) → ℕ)
     × BlockLaw core image (places_in core block frames) firsts main
 
 -- ---- an image with all of the code

@@ -92,6 +92,7 @@ ListsDoAlone =
     → Suits core places.frames main → AreKept places.frames kept → AreInRange core image
     → HasLoneCode core kept saved image bound places
     → HaveLevels core places nestings
+    → ((i : ℕ) → levels_in saved i ≡ levels_at nestings i)
     → DoesAlone core image places nestings (cycles_of core (length image.globals.items) kept saved)
 
 -- ---- with steps of groups

@@ -15,6 +15,6 @@ GroupsBegin =
     (firsts : List ℕ) (main : ℕ)
     → HasOpening image bound places firsts main → AreFirsts places.frames.of_file firsts
     → places.frames.is_main main ≡ true
-    → ((number : ℕ) → places.frames.group main number ≡ false)
+    → places.frames.group main ≡ false
     → nestings.levels main ≡ 0 → HasLevelRoom places.frames nestings main 0
     → HartsBeginInNode core image places nestings firsts main

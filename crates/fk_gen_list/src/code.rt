@@ -13,7 +13,7 @@ use crate::all_blocks::AllBlocks;
 use crate::assemble::{FIRST_LABEL, emit_blocks, finish, make_labels};
 use crate::copying::{emit_clearing, emit_copying};
 use crate::hiring::emit_hiring;
-use crate::splitting::{emit_halving, emit_parting};
+use crate::splitting::{emit_forking, emit_halving, emit_parting};
 use crate::starting::emit_starting;
 use fk_asm::{Assembler, Code};
 use fk_core::CoreOp;
@@ -22,7 +22,7 @@ use fk_gen::Levels;
 use fk_gen_flow::emit_opening;
 use std::alloc::{AllocError, Global};
 
-/// The code of a list of operations, without a `fork`. `kept` has the private words that calls keep
+/// The code of a list of operations. `kept` has the private words that calls keep
 /// at each index, `saved` the levels of groups in their frames, `main` is the index where the
 /// program begins, `firsts` are the first values of private variables of file scope, and the image
 /// has `globals` words of globals.
@@ -79,6 +79,7 @@ fn lay(
     emit_hiring(&mut into, globals)?;
     emit_parting(&mut into)?;
     emit_halving(&mut into)?;
+    emit_forking(&mut into)?;
     emit_blocks(&AllBlocks, ops, kept, saved, globals, &mut into)?;
     Ok(into)
 }

@@ -1,7 +1,7 @@
 //! The kinds of blocks.
 
 use fk_core::CoreOp;
-use fk_meaning_operation::{Operation, SplitKind};
+use fk_meaning_operation::Operation;
 
 /// The kind of an operation's block.
 #[derive(Clone, Copy, PartialEq, Eq, Debug)]
@@ -54,13 +54,7 @@ impl Kind {
                 | Operation::Frame { .. }
                 | Operation::Block
                 | Operation::Shrink
-                | Operation::Split(
-                    SplitKind::IfAlone
-                    | SplitKind::IfElse
-                    | SplitKind::AndThen
-                    | SplitKind::OrElse
-                    | SplitKind::Loop,
-                ),
+                | Operation::Split(_),
             ) => Kind::Group,
             _ => Kind::Expression,
         }

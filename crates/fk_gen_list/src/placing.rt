@@ -74,6 +74,7 @@ fn levels(saved: &[Levels], index: usize) -> Levels
             count: 0,
             behind: 0,
             nest: 0,
+            fork: None,
         },
     }
 }

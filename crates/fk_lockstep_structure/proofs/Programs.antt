@@ -193,15 +193,6 @@ module _ (tables : Tables) (may_call : (in_group : Bool) → (function : ℕ) �
       by true is others = numbered_idle (anyone may_call) results caller (code_of tables everyone f) first (here caller is may)
       by false is others = others (other caller is may)
 
--- `main` is placed so, if the functions of its program are in place
-pub main_is_placed : (tables : Tables) (program : ProgramTree) (may_call : (in_group : Bool) → (function : ℕ) → Bool)
-    → FunctionsInPlace tables may_call (main_of tables program) (functions_of program.items)
-    → Placed may_call (OfMain true) false (bodies_of tables program (main_of tables program))
-main_is_placed tables program may_call h =
-    let fs = functions_of program.items in
-    let main = main_of tables program in
-    bodies tables may_call fs (OfMain true) main main fs 0 (in_main tables may_call fs main fs h)
-
 -- programs
 are_courses : (tables : Tables) (program : ProgramTree) (may_call : (in_group : Bool) → (function : ℕ) → Bool) → IsInPlace tables program may_call
     → AreCourses may_call (bodies_of tables program) (main_of tables program)
@@ -213,7 +204,7 @@ are_courses tables program may_call h =
       in_step = forms_are_in_step.function tables program (may_call true) h.noted;
       in_group = λ f may. bodies tables may_call fs OfGroup main f fs 0 (in_groups tables may_call fs main f fs may h.in_place);
       in_body = λ f may. bodies tables may_call fs OfBody main f fs 0 (in_bodies tables may_call fs main f fs may h.in_place);
-      main_of = main_is_placed tables program may_call h.in_place;
+      main_of = bodies tables may_call fs (OfMain true) main main fs 0 (in_main tables may_call fs main fs h.in_place);
     }
 
 pub programs_follow : ProgramsFollow

@@ -1,5 +1,5 @@
 -- What is asked of an expression is asked in a part too, which has no frame.
-use Rattle.std.proofs.Common.{◌≡◌, ℕ, suc, ◌≤◌, Bool, true, false, List, [], ◌∷◌, Option, Some, None, refl, arith}
+use Rattle.std.proofs.Common.{◌≡◌, ℕ, suc, ◌≤◌, Bool, true, false, List, [], ◌∷◌, Some, None, refl, arith}
 use Rattle.std.specs.Prelude.{◌==◌, if◌then◌else◌}
 use Rattle.std.proofs.lemmas.Bool.{false≢true, eqb-true}
 use Rattle.fk_syntax.specs.declared.sign.Sign.{Sign}
@@ -14,7 +14,7 @@ use Rattle.fk_core_typing.specs.declared.constants.Constant.{Constant as Address
 use Rattle.fk_core_typing.specs.declared.constants.Constant.TheVariants.{Number, FrameWord}
 use Rattle.fk_core_typing.specs.AddressValues.{is_address}
 use Rattle.fk_lower_laws.specs.Ways.{Way, Valued, Unchecked, Constant, Function, called_way, dotted_way, joined_way, named_way, way}
-use Rattle.fk_lower_laws.specs.Asked.{NameAsks, DotAsks, JoinAsks, TakesAll, NameTakes, CallAsks, Asked, LinksAsked, SuffixesAsked, AllAsked}
+use Rattle.fk_lower_laws.specs.Asked.{NameAsks, DotAsks, JoinAsks, NameTakes, CallAsks, Asked, LinksAsked, SuffixesAsked, AllAsked}
 
 -- a frame with a word is that of a nest of the running function
 pub low_number : (nests : List Nest) (number word : ℕ) → has_word nests number word ≡ true → number ≤ nesting nests

@@ -1,6 +1,6 @@
 -- A program that is as it is asked: struct pair { int a; int b; }; sh int x; sh struct pair q; int f(int n) { return n; }
 -- void main(void) { int i; for (;;) break; q.b = f(2); x += *&x; putint(x); start farm barrier; }
-use Rattle.std.proofs.Common.{◌≡◌, ℕ, zero, suc, true, false, inl, inr, List, [], ◌∷◌, All, Some, None, refl, subst, arith}
+use Rattle.std.proofs.Common.{◌≡◌, ℕ, true, false, inl, inr, [], ◌∷◌, Some, None, refl, subst}
 use Rattle.std.specs.Prelude.{codes}
 use Rattle.std.proofs.lemmas.Bool.{false≢true}
 use Rattle.std.proofs.lemmas.Option.{same_Some}
@@ -9,26 +9,22 @@ use Rattle.fk_syntax.specs.declared.sign.Sign.TheVariants as g
 use Rattle.fk_syntax.specs.Tree as t
 use Rattle.fk_syntax.specs.Program as p
 use Rattle.fk_syntax.specs.Program.{ProgramTree}
-use Rattle.fk_meaning_operation.specs.declared.operation.Operation.{Operation}
 use Rattle.fk_types_structs.specs.declared.types.DataType.{DataType}
 use Rattle.fk_types_operators.specs.declared.values.Value.TheVariants.{Int}
 use Rattle.fk_types_operators.specs.declared.values.ExpressionType.TheVariants.{Computed}
 use Rattle.fk_types_judgments.specs.Names.{Env, Kept, int}
 use Rattle.fk_meaning_forms.specs.declared.tables.Home.TheVariants as h
+use Rattle.fk_meaning.specs.Shaped.{ProgramShaped}
 use Rattle.fk_meaning_forms.specs.Tables.{Tables}
 use Rattle.fk_meaning_forms.proofs.Short.{place, sp, nm, ty, dc, nn, nt, kd, sl, function}
 use Rattle.fk_meaning_forms.specs.Program.{functions_of, signature_in, bodies_of, main_of}
 use Rattle.fk_meaning_forms.specs.Expressions.{Signature}
-use Rattle.fk_compile_text.specs.Built.{operations_of}
-use Rattle.fk_compile_text.specs.Plain.{is_plain, ArePlain}
 use Rattle.fk_core_liveness.specs.declared.places.FunctionKind.TheVariants.{Main}
 use Rattle.fk_core_typing.specs.Typed.{AreTyped}
 use Rattle.fk_core_typing.specs.declared.constants.Constant.{Constant as Address}
-use Rattle.fk_lower_laws.proofs.Unsplit.{are_unsplit}
 use Rattle.fk_lower_laws.specs.Ways.{Word, way}
 use Rattle.fk_lower_laws.specs.Asked.{Asked, place_of, frame_of, ProgramAsked}
 use Rattle.fk_lower_laws.specs.Typed.{IsWayOf, Known}
-use Rattle.fk_lower_laws.proofs.Along.{EachOf}
 use Rattle.fk_lower_laws.proofs.Mains.{main_has_its_place}
 use Rattle.fk_lower_laws.proofs.TypedPrograms.{forms_are_typed}
 use Rattle.fk_lower_laws.proofs.Typing.{typed_is_asked}
@@ -71,7 +67,7 @@ asked : ProgramAsked tables program
 asked = (
   refl,
   (
-    (((refl, (tt, refl)), tt), (refl, tt)),
+    (((refl, (tt, refl)), tt), (tt, tt), (tt, tt)),
     (λ other. record { level = tt; parameters = (tt, tt) }),
     (
       (
@@ -88,7 +84,8 @@ asked = (
             ),
           ),
         ),
-        (tt, (refl, (tt, (tt, (tt, ((refl, refl, tt, tt), tt)))))),
+        (tt, ((λ e. absurd (false≢true e), tt), (tt, (tt, (tt, ((tt, tt), tt)))))),
+        (tt, (tt, (tt, (tt, (tt, ((refl, refl, tt), tt)))))),
       ),
       (λ other. record { level = tt; parameters = tt }),
       tt,
@@ -96,17 +93,26 @@ asked = (
   ),
 )
 
-all_of : (ops : List Operation) → EachOf is_plain ops → All (λ op. is_plain op ≡ true) ops
-all_of [] h i d less = absurd (omega (arith, less))
-all_of (op ∷ ops) h zero d less = h.0
-all_of (op ∷ ops) h (suc i) d less = all_of ops h.1 i d (omega (arith, less))
-
-are_plain : ArePlain tables program
-are_plain = all_of (operations_of tables program)
-    (refl, (refl, (refl, (refl, (refl, (refl, (refl, (refl, (refl, (refl, (refl, (refl, (refl, (refl, (refl, (refl, (refl, (refl, (refl, (refl, (refl, (refl, (refl, (refl, (refl, (refl, (refl, (refl, (refl, (refl, (refl, (refl, (refl, (refl, (refl, (refl, tt))))))))))))))))))))))))))))))))))))
+nested : ProgramShaped tables program
+nested = (
+  ((refl, tt), tt),
+  (
+    (
+      (tt, tt),
+      (
+        (tt, tt, tt, refl),
+        (
+          ((tt, tt), (tt, ((λ k. refl, λ e. absurd (false≢true e)), (tt, tt), tt))),
+          ((tt, tt), ((tt, ((λ k. refl, λ e. refl), (tt, tt), tt)), ((tt, tt), tt))),
+        ),
+      ),
+    ),
+    tt,
+  ),
+)
 
 typed : AreTyped (place_of tables program) (frame_of tables program) (bodies_of tables program)
-typed = forms_are_typed tables program asked (are_unsplit tables program are_plain)
+typed = forms_are_typed tables program asked nested
 
 begins : place_of tables program (main_of tables program) ≡ Main
 begins = (main_has_its_place tables program (inr (inl refl)) (refl, (refl, tt))).0

@@ -13,7 +13,7 @@ use Rattle.fk_syntax.specs.Program as p
 use Rattle.fk_syntax.specs.Program.{Statement, Statements, FunctionTree, ItemTree, ProgramTree}
 use Rattle.fk_meaning_forms.specs.declared.tables.Region.{Region}
 use Rattle.fk_meaning_forms.specs.Tables.{Tables, note, frame_at, frame_in}
-use Rattle.fk_meaning_forms.specs.Program.{functions_of, with_body, is_main}
+use Rattle.fk_meaning_forms.specs.Program.{functions_of, with_body}
 use Rattle.fk_lockstep_structure.specs.Placed.{Who, OfGroup, OfBody, OfMain, inner}
 use Rattle.fk_layout_slots.specs.Told.{Told, splits_at}
 use Rattle.fk_layout_slots.specs.Words.{statement_words, own_words}

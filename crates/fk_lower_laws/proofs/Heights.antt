@@ -1,7 +1,7 @@
 -- Code has heights where the depths at its sites are those that are told of it.
-use Rattle.std.proofs.Common.{◌≡◌, inl, inr, ℕ, suc, ◌+◌, ◌-◌, true, false, List, [], ◌∷◌, ◌++◌, length, refl, sym, ap, subst, ◌∙◌, arith, length-append}
+use Rattle.std.proofs.Common.{◌≡◌, inl, inr, ℕ, suc, ◌+◌, ◌-◌, false, List, [], ◌∷◌, ◌++◌, length, refl, sym, ap, subst, ◌∙◌, arith, length-append}
 use Rattle.fk_meaning_operation.specs.declared.operation.Operation.{Operation}
-use Rattle.fk_layout_sizes.specs.Operations.{takes, pushes}
+use Rattle.fk_layout_sizes.specs.Operations.{pushes}
 use Rattle.fk_layout_sizes.specs.Places.{At, behind_operation, behind_call, behind, beginning}
 use Rattle.fk_core_typing.specs.LocalDepths.{leaves}
 use Rattle.fk_meaning_forms.specs.Code.{Code, done, perform, choose, while, until, turn, again, quit, break, continue, call, ends, size, numbered}

@@ -11,7 +11,7 @@ use Rattle.fk_core.specs.CodeAt.{Around}
 use Rattle.fk_core_flat.specs.Items.{Item, jump, act, Has, way_of, goes_away}
 use Rattle.fk_core_flat.specs.Flat.{begins_here, skip, gap, label, flat}
 use Rattle.fk_core_flat.proofs.Parts.{choice_at, turns_at, rounds_at, entering_at}
-use Rattle.fk_lower_laws.specs.Unsplit.{AllOf}
+use Rattle.fk_lower_laws.specs.AllOf.{AllOf}
 
 -- the first item is no jump
 abbrev pub NoJumpFirst : List Item → Type 0

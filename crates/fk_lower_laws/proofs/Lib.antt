@@ -34,6 +34,7 @@ pub mod Frames
 pub mod Items
 pub mod Apart
 pub mod Free
+mod Runs
 mod Sized
 mod Living
 pub mod Suiting
@@ -46,3 +47,4 @@ pub mod Room
 mod Heights
 pub mod TallLists
 pub mod Lists
+mod Shrinking

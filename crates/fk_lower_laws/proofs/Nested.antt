@@ -1,7 +1,7 @@
 -- How operations change the levels of a call, and the group frames that it has.
-use Rattle.std.proofs.Common.{◌≡◌, ◌⊎◌, inl, inr, ℕ, suc, ◌+◌, ◌-◌, ◌≤◌, Bool, true, false, List, [], ◌∷◌, Option, Some, None, refl, sym, ap, ◌∙◌, subst, arith, eq-eqb}
+use Rattle.std.proofs.Common.{◌≡◌, ℕ, suc, ◌+◌, ◌-◌, ◌≤◌, Bool, true, false, List, [], ◌∷◌, Option, Some, None, refl, sym, ap, ◌∙◌, arith, eq-eqb}
 use Rattle.std.specs.Prelude.{◌==◌, ◌||◌, is_some, if◌then◌else◌}
-use Rattle.std.proofs.lemmas.Bool.{false≢true, eqb-true, ne_eqb}
+use Rattle.std.proofs.lemmas.Bool.{false≢true, ne_eqb}
 use Rattle.fk_meaning_operation.specs.declared.operation.Operation.{Operation}
 use Rattle.fk_meaning_operation.specs.declared.operation.Operation.TheVariants as o
 use Rattle.fk_meaning_operation.specs.declared.operation.SplitKind.TheVariants as k
@@ -67,7 +67,7 @@ adds_none o.Seq quits = absurd (false≢true (quits refl))
 adds_none op quits = refl
 
 pub not_either : (op : Operation) (way : Way) → way_of op ≡ way → (way ≡ w.either → ⊥) → nests op ≡ 0
-not_either op way is no = adds_none op (λ e. absurd (no (sym is ∙ e)))
+not_either op way is other = adds_none op (λ e. absurd (other (sym is ∙ e)))
 
 pub in_group : (op : Operation) (p : Place) → nests op ≡ 0 → IsInGroup op p
 in_group (o.Split by) p none = absurd (cc)
@@ -79,20 +79,6 @@ in_group op p none = tt
 abbrev pub has_frame : List Nest → (number : ℕ) → Bool
 has_frame nests number = is_some (frame_at nests number)
 
-pub low_frame : (nests : List Nest) (number : ℕ) → has_frame nests number ≡ true → number ≤ nesting nests
-low_frame [] number has = absurd (false≢true has)
-low_frame (OfFunction frame ∷ nests) number has = by (number == 0) refl has
-  where
-    by : (b : Bool) → (number == 0) ≡ b → is_some (if b then frame else None) ≡ true → number ≤ 0
-    by true is has' = let zero = eqb-true number 0 is in omega (arith, zero)
-    by false is has' = absurd (false≢true has')
-low_frame (OfPart frame ∷ nests) number has = by (number == suc (nesting nests)) refl has (low_frame nests number)
-  where
-    by : (b : Bool) → (number == suc (nesting nests)) ≡ b → is_some (if b then frame else frame_at nests number) ≡ true
-        → (has_frame nests number ≡ true → number ≤ nesting nests) → number ≤ suc (nesting nests)
-    by true is has' below = let same = eqb-true number (suc (nesting nests)) is in omega (arith, same)
-    by false is has' below = let low = below has' in omega (arith, low)
-
 -- it has one of which a word is named
 pub frame_named : (nests : List Nest) (number word : ℕ) → has_word nests number word ≡ true → has_frame nests number ≡ true
 frame_named nests number word has = by (frame_at nests number) has
@@ -101,73 +87,9 @@ frame_named nests number word has = by (frame_at nests number) has
     by None has' = absurd (false≢true has')
     by (Some words) has' = refl
 
--- a part has no frame yet, and a function that begins has none
-in_part : (nests : List Nest) (number : ℕ) → has_frame (OfPart None ∷ nests) number ≡ true → has_frame nests number ≡ true
-in_part nests number has = by (number == suc (nesting nests)) has
-  where
-    by : (b : Bool) → is_some (if b then None else frame_at nests number) ≡ true → has_frame nests number ≡ true
-    by true has' = absurd (false≢true has')
-    by false has' = has'
-
-pub none_begins : (number : ℕ) → has_frame (OfFunction None ∷ []) number ≡ false
-none_begins number = by (number == 0)
-  where
-    by : (b : Bool) → is_some (if b then None else None) ≡ false
-    by true = refl
-    by false = refl
-
--- what it has outside of a part it has in it
-around_part : (nests : List Nest) → IsInPart nests → (number : ℕ) → has_frame (tail nests) number ≡ true → has_frame nests number ≡ true
-around_part [] part number has = absurd part
-around_part (OfFunction frame ∷ nests) part number has = absurd part
-around_part (OfPart frame ∷ []) part number has = absurd part
-around_part (OfPart frame ∷ nest ∷ nests) part number has = by (number == suc (nesting (nest ∷ nests))) refl
-  where
-    by : (b : Bool) → (number == suc (nesting (nest ∷ nests))) ≡ b → is_some (if b then frame else frame_at (nest ∷ nests) number) ≡ true
-    by true is = absurd (let same = eqb-true number (suc (nesting (nest ∷ nests))) is in let low = low_frame (nest ∷ nests) number has in omega (arith, same, low))
-    by false is = has
-
--- a frame that is taken is the one with the number, or it was there
-pub frame_taken : (number words : ℕ) (nests : List Nest) → MayTake number nests → (other : ℕ) → has_frame (take_frame words nests) other ≡ true
-    → (other ≡ number) ⊎ (has_frame nests other ≡ true)
-frame_taken number words [] may other has = absurd may
-frame_taken number words (OfFunction frame ∷ nests) may other has = by (other == 0) refl has
-  where
-    by : (b : Bool) → (other == 0) ≡ b → is_some (if b then Some words else None) ≡ true → (other ≡ number) ⊎ (is_some (if b then frame else None) ≡ true)
-    by true is has' = inl (eqb-true other 0 is ∙ sym may.0)
-    by false is has' = absurd (false≢true has')
-frame_taken number words (OfPart frame ∷ nests) may other has = by (other == suc (nesting nests)) refl has
-  where
-    by : (b : Bool) → (other == suc (nesting nests)) ≡ b → is_some (if b then Some words else frame_at nests other) ≡ true
-        → (other ≡ number) ⊎ (is_some (if b then frame else frame_at nests other) ≡ true)
-    by true is has' = inl (eqb-true other (suc (nesting nests)) is ∙ sym may.0)
-    by false is has' = inr has'
-
 abbrev pub takes_frame : Operation → Bool
 takes_frame (o.Frame number words) = true
 takes_frame op = false
-
--- behind another operation it has no frame that it hadn't
-pub had_before : (op : Operation) → takes_frame op ≡ false → (onward : Bool) (p : Place) → MayBeIn op p → (number : ℕ)
-    → has_frame (place_behind op onward p).nests number ≡ true → has_frame p.nests number ≡ true
-had_before (o.Frame own words) other onward p may number has = absurd (false≢true (sym other))
-had_before o.Begin other true p may number has = in_part p.nests number has
-had_before o.Begin other false p may number has = has
-had_before (o.Split k.IfElse) other onward p may number has = in_part p.nests number has
-had_before (o.Split k.IfAlone) other true p may number has = in_part p.nests number has
-had_before (o.Split k.AndThen) other true p may number has = in_part p.nests number has
-had_before (o.Split k.OrElse) other true p may number has = in_part p.nests number has
-had_before (o.Split k.Loop) other true p may number has = in_part p.nests number has
-had_before (o.Split k.Fork) other true p may number has = in_part p.nests number has
-had_before (o.Split k.IfAlone) other false p may number has = has
-had_before (o.Split k.AndThen) other false p may number has = has
-had_before (o.Split k.OrElse) other false p may number has = has
-had_before (o.Split k.Loop) other false p may number has = has
-had_before (o.Split k.Fork) other false p may number has = has
-had_before o.Shrink other true p may number has = has
-had_before o.Shrink other false p may number has = around_part p.nests may number has
-had_before o.End other onward p may number has = around_part p.nests may number has
-had_before op other onward p may number has = has
 
 -- ---- the function's own group frame
 

@@ -182,12 +182,12 @@ module _ (program : ProgramTree) (facts : Facts) (valid : IsCorrect program fact
   abbrev bound : FunctionTree → ℕ
   bound g = binding_of (tables_by program facts) g
 
-  record IsThere (g : FunctionTree) : Type 0 where
-    index : ℕ
-    there : slice_get program.items index ≡ Some (FunctionItem g)
-    body : IsSome g.body
+  pub record IsThere (g : FunctionTree) : Type 0 where
+    pub index : ℕ
+    pub there : slice_get program.items index ≡ Some (FunctionItem g)
+    pub body : IsSome g.body
 
-  all_there : (xs : List ItemTree) → ((j : ℕ) (x : ItemTree) → slice_get xs j ≡ Some x → (i : ℕ) × (slice_get program.items i ≡ Some x)) → Each IsThere (functions_of xs)
+  pub all_there : (xs : List ItemTree) → ((j : ℕ) (x : ItemTree) → slice_get xs j ≡ Some x → (i : ℕ) × (slice_get program.items i ≡ Some x)) → Each IsThere (functions_of xs)
   all_there [] among = tt
   all_there (StructItem name members ∷ xs) among = all_there xs (λ j x is. among (suc j) x is)
   all_there (VariablesItem variables ∷ xs) among = all_there xs (λ j x is. among (suc j) x is)
@@ -248,10 +248,19 @@ module _ (program : ProgramTree) (facts : Facts) (valid : IsCorrect program fact
     all_alone [] there = tt
     all_alone (g ∷ gs) there = (one_alone g there.0, all_alone gs there.1)
 
+  abbrev gs : List FunctionTree
+  gs = functions_of program.items
+
+  there : Each IsThere gs
+  there = all_there program.items (λ j x is. (j, is))
+
+  has : HasMain gs
+  has = has_main gs (λ none. there_is_main program facts valid none)
+
+  -- no other function has the binding of `main`
+  pub main_alone : IsMainAlone (tables_by program facts) (main_of (tables_by program facts) program) gs
+  main_alone = let x = main_there gs there has in all_alone (main_of (tables_by program facts) program) x.function x.there x.main x.binds gs there
+
 pub mains_have_their_place : MainsHaveTheirPlace
 mains_have_their_place program facts valid =
-    let gs = functions_of program.items in
-    let there = all_there program facts valid program.items (λ j x is. (j, is)) in
-    let has = has_main program facts valid gs (λ none. there_is_main program facts valid none) in
-    let x = main_there program facts valid gs there has in
-    main_has_its_place (tables_by program facts) program has (all_alone program facts valid (main_of (tables_by program facts) program) x.function x.there x.main x.binds gs there)
+    main_has_its_place (tables_by program facts) program (has program facts valid) (main_alone program facts valid)

@@ -1,20 +1,19 @@
 -- What is known of values, and the room in a function's frame, as one system of states.
-use Rattle.std.proofs.Common.{◌≡◌, ◌⊎◌, ℕ, suc, ◌+◌, ◌*◌, ◌≤◌, Bool, true, false, true≢false, length, Option, None, Some, inl, inr, refl, sym, ap, ◌∙◌, subst, arith}
+use Rattle.std.proofs.Common.{◌≡◌, ◌⊎◌, ℕ, ◌+◌, ◌*◌, ◌≤◌, Bool, true, false, true≢false, length, Option, None, Some, inl, inr, refl, sym, ap, ◌∙◌, subst, arith}
 use Rattle.fk_meaning_operation.specs.declared.operation.Operation.{Operation}
 use Rattle.fk_meaning_operation.specs.declared.operation.Operation.TheVariants as o
 use Rattle.fk_layout_sizes.specs.Operations.{takes, nests}
 use Rattle.fk_meaning_forms.specs.Code.{Code, done, perform, choose, while, until, turn, again, quit, break, continue, call, ends}
-use Rattle.fk_meaning.specs.Shape.{Exits, none, of_way, of_test, of_turn, splits, has_two_parts, waits, is_quit, ends_part, Either, Shape}
+use Rattle.fk_meaning.specs.Shape.{Exits, none, of_way, of_test, of_turn, splits, has_two_parts, waits, ends_part, Either, Shape}
 use Rattle.fk_meaning.specs.Behind.{opens_body}
 use Rattle.fk_meaning.proofs.Spine.{untrue}
 use Rattle.fk_core_liveness.specs.declared.places.FunctionKind.{FunctionKind}
 use Rattle.fk_core_liveness.specs.declared.places.FunctionKind.TheVariants.{Called}
-use Rattle.fk_core_liveness.specs.Frames.{is_main_place}
 use Rattle.fk_core_flat.specs.Items as w
 use Rattle.fk_core_flat.specs.Items.{way_of}
 use Rattle.fk_core_flat.specs.Shape.{is_done, IsOpening, IsShaped}
-use Rattle.fk_core_levels.specs.Count.{after}
-use Rattle.fk_lockstep_structure.specs.Placed.{Who, OfGroup, OfBody, OfMain, is_group, is_main, inner, who_in, may_choose, Placed}
+use Rattle.fk_core_counting.proofs.Folding.{Parts, past}
+use Rattle.fk_lockstep_structure.specs.Placed.{Who, OfGroup, OfBody, OfMain, inner, who_in, may_choose, Placed}
 use Rattle.fk_core_counting.proofs.Ways.{Stand, stand_at, stand_inner, straight_on, out_on, ways}
 use Rattle.fk_core_typing.specs.Values.{Place, with_frame, entered, place_behind, State, bare, behind, behind_call, MayBeIn, May, Grants}
 use Rattle.fk_core_typing.specs.Typed as t
@@ -112,6 +111,9 @@ module _ (firsts : ℕ) (place_of : ℕ → FunctionKind) (frame_of : ℕ → Op
   stays : (op : Operation) (onward : Bool) (p : Place) (m : ℕ) → nests op ≡ 0 → MayBeIn op p → levels_in p ≤ m → levels_in (place_behind op onward p) ≤ m
   stays op onward p m none may low = let more = levels_behind op onward p may in omega (arith, more, none, low)
 
+  low_stand : (who : Who) (p : Place) (k : Parts) (m : ℕ) → Stand who p k → k.levels ≤ m → levels_in p ≤ m
+  low_stand who p k m stand deep = let e : levels_in p ≡ k.levels = ap (λ (x : Parts). x.levels) stand.is in omega (arith, e, deep)
+
   plain_of : (op : Operation) → (way_of op ≡ w.straight) ⊎ (way_of op ≡ w.onto) → nests op ≡ 0
   plain_of op (inl e) = not_either op w.straight e (λ f. cc)
   plain_of op (inr e) = not_either op w.onto e (λ f. cc)
@@ -206,7 +208,7 @@ module _ (firsts : ℕ) (place_of : ℕ → FunctionKind) (frame_of : ℕ → Op
       }
 
       -- in a group a split is in a part, also in `main`
-      divides : (who : Who) (op : Operation) (p : Place) (n : ℕ) → may_choose who op ≡ true → Stand who p n → IsInGroup op p
+      divides : (who : Who) (op : Operation) (p : Place) (n : Parts) → may_choose who op ≡ true → Stand who p n → IsInGroup op p
       divides OfGroup (o.Split by) p n may stand = λ main. stand.within refl main
       divides OfBody (o.Split by) p n may stand = untrue may
       divides (OfMain b) (o.Split by) p n may stand = untrue may
@@ -220,13 +222,17 @@ module _ (firsts : ℕ) (place_of : ℕ → FunctionKind) (frame_of : ℕ → Op
           (λ t'. record { state = t'; words = refl; most = refl; nested = refl }) t
 
       -- the judgements together
-      pub all_sized : (code : Code ℕ) (inside : Bool) (l : Option t.Loop) (s e : State) (m n : ℕ) (who : Who) (resuming part closing : Bool) (x : Exits)
-          → IsShaped has_body inside code → Shape part closing x code → Placed may_call who resuming code → Room s.place.function → Stand who s.place n → n ≤ m
+      pub all_sized : (code : Code ℕ) (inside : Bool) (l : Option t.Loop) (s e : State) (m : ℕ) (n : Parts) (who : Who) (resuming part closing : Bool) (x : Exits)
+          → IsShaped has_body inside code → Shape part closing x code → Placed may_call who resuming code → Room s.place.function → Stand who s.place n → n.levels ≤ m
           → Typed place_of frame_of l s code e → HasWords firsts words most W code → HasFew place_of M (length s.values) code → HasParts N m code
           → Judged sizing (around_of l) (sized s W M N) code (sized e W M N)
       all_sized done inside l s e m n who resuming part closing x p shape at room stand deep t h low parts = record { state = t; words = refl; most = refl; nested = refl }
-      all_sized (perform site op rest) inside l s e m n who resuming part closing x p shape at room stand deep t h low parts =
-          (one_may op s m (plain_of op (performs p.0)) t.0 h.0 room low.0 (omega (arith, stand.is, deep)) parts.0, by p.0)
+      all_sized (perform site op rest) inside l s e m n who resuming part closing x p shape at room stand deep t h low parts = (
+        one_may op s m (plain_of op (performs p.0)) t.0 h.0 room low.0 (low_stand who s.place n m stand deep) parts.0,
+        by p.0 (λ a.
+            all_sized rest inside l (behind op true s) e m n who false part false x p.1 (goes_on (ends_part op) (no_end op a) shape.2) at.1 (moved op true s room)
+            (straight_on who op s.place n a stand) deep t.1 h.1 (low_behind op true s rest low.1) parts.1),
+      )
         where
           performs : (way_of op ≡ w.straight) ⊎ ((way_of op ≡ w.onto) × (is_done rest ≡ true)) → (way_of op ≡ w.straight) ⊎ (way_of op ≡ w.onto)
           performs (inl a) = inl a
@@ -240,15 +246,14 @@ module _ (firsts : ℕ) (place_of : ℕ → FunctionKind) (frame_of : ℕ → Op
           goes_on true a either = absurd (true≢false a)
           goes_on false a either = either
 
-          by : (way_of op ≡ w.straight) ⊎ ((way_of op ≡ w.onto) × (is_done rest ≡ true)) → Judged sizing (around_of l) (sized (behind op true s) W M N) rest (sized e W M N)
-          by (inl a) =
-              all_sized rest inside l (behind op true s) e m n who false part false x p.1 (goes_on (ends_part op) (no_end op a) shape.2) at.1 (moved op true s room)
-              (straight_on who op s.place n a stand) deep t.1 h.1 (low_behind op true s rest low.1) parts.1
-          by (inr a) = nothing_sized rest a.1 l (behind op true s) e t.1
+          by : (way_of op ≡ w.straight) ⊎ ((way_of op ≡ w.onto) × (is_done rest ≡ true)) → (way_of op ≡ w.straight → Judged sizing (around_of l) (sized (behind op true s) W M N) rest (sized e W M N))
+              → Judged sizing (around_of l) (sized (behind op true s) W M N) rest (sized e W M N)
+          by (inl a) more = more a
+          by (inr a) more = nothing_sized rest a.1 l (behind op true s) e t.1
       all_sized (choose site op a b rest) inside l s e m n who resuming part closing x p shape at room stand deep t h low parts =
           let u = t.1 in
           let two = ways s.place n who op at.1 t.0.place stand in
-          let n' = after n (Some op) in
+          let n' = past (Some op) n in
           let more = added op in
           let most_here = parts_here a (m + nests op) parts.1 in
           let lx = low_behind op true s a low.1 in
@@ -258,32 +263,33 @@ module _ (firsts : ℕ) (place_of : ℕ → FunctionKind) (frame_of : ℕ → Op
               there = h.0;
               room = room;
               low = low.0;
-              few = omega (arith, stand.is, deep, parts.0);
-              further = λ onward. (let next = levels_behind op onward s.place t.0.place in omega (arith, next, stand.is, deep, most_here));
+              few = (let here = low_stand who s.place n m stand deep in omega (arith, here, parts.0));
+              further = λ onward. (let next = levels_behind op onward s.place t.0.place in let here = low_stand who s.place n m stand deep in omega (arith, next, here, most_here));
               grouped = divides who op s.place n at.1 stand;
             },
             sized u W M N,
             all_sized a inside l (behind op true s) u (m + nests op) n' (who_in who op) false (splits op) false (of_way op x) p.1 shape.2 at.2 (moved op true s room) two.first
                 (omega (arith, more, deep)) t.2 h.1 lx parts.1,
-            second two.second (omega (arith, more, deep)),
+            second two.second (λ stand' is.
+                all_sized b inside l (behind op false s) u (m + nests op) n' (who_in who op) false (has_two_parts op) false (of_way op x) p.2 shape.3 at.3 (moved op false s room)
+                stand' (omega (arith, more, deep)) t.3 h.2 (low_behind op false s b (low.2 is)) parts.2),
             all_sized rest inside l u e m n who (splits op) part (opens_body op) x p.3 shape.6 at.5 (stood u.place s.place t.5 room) (stand_at who u.place s.place n t.5 stand) deep t.4 h.3 lr parts.3,
             t.5,
           )
         where
-          added : (op' : Operation) → after n (Some op') ≤ n + nests op'
+          added : (op' : Operation) → (past (Some op') n).levels ≤ n.levels + nests op'
           added (o.Split by) = omega arith
           added op' = omega arith
 
-          second : Stand (who_in who op) (place_behind op false s.place) (after n (Some op)) ⊎ (waits op ≡ true) → after n (Some op) ≤ m + nests op
+          second : Stand (who_in who op) (place_behind op false s.place) (past (Some op) n) ⊎ (waits op ≡ true)
+              → (Stand (who_in who op) (place_behind op false s.place) (past (Some op) n) → is_done b ≡ false → Judged sizing (around_of l) (sized (behind op false s) W M N) b (sized t.1 W M N))
               → Judged sizing (around_of l) (sized (behind op false s) W M N) b (sized t.1 W M N)
-          second (inr waiting) fits = nothing_sized b (ap is_done (shape.4 waiting)) l (behind op false s) t.1 t.3
-          second (inl stand') fits = by (is_done b) refl
+          second (inr waiting) go = nothing_sized b (ap is_done (shape.4 waiting)) l (behind op false s) t.1 t.3
+          second (inl stand') go = by (is_done b) refl
             where
               by : (empty : Bool) → is_done b ≡ empty → Judged sizing (around_of l) (sized (behind op false s) W M N) b (sized t.1 W M N)
               by true is = nothing_sized b is l (behind op false s) t.1 t.3
-              by false is =
-                  all_sized b inside l (behind op false s) t.1 (m + nests op) (after n (Some op)) (who_in who op) false (has_two_parts op) false (of_way op x) p.2 shape.3 at.3 (moved op false s room)
-                  stand' fits t.3 h.2 (low_behind op false s b (low.2 is)) parts.2
+              by false is = go stand' is
       all_sized (while test body step rest) inside l s e m n who resuming part closing x p shape at room stand deep t h low parts =
           let c = t.0 in
           let r = c.turn in
@@ -298,7 +304,10 @@ module _ (firsts : ℕ) (place_of : ℕ → FunctionKind) (frame_of : ℕ → Op
             all_sized test true (Some c) r r m n (inner who) false false false (of_test shape.1) p.2 shape.2 at.1 room' turn' deep t.2 h.0 (low_at test first low.0) parts.0,
             all_sized body true (Some c) r r m n (inner who) false false false (of_turn shape.1 x) p.3 shape.3 at.2 room' turn' deep t.3 h.1 (low_at body second low.1) parts.1,
             all_sized step true (Some c) r r m n (inner who) false false false none p.4 shape.4 at.3 room' turn' deep t.4 h.2 (low_at step third low.2) parts.2,
-            behind_it t.6 (onward shape.1 shape.5),
+            behind_it t.6 (onward shape.1 shape.5) (λ same shape'.
+                let back : c.left.place ≡ s.place = same ∙ sym g.place in
+                all_sized rest inside l c.left e m n who false part false x p.5 shape' at.4 (stood c.left.place s.place back room) (stand_at who c.left.place s.place n back stand) deep t.5 h.3
+                (low_at rest (leads step (Some c) r r t.4 third ∙ sym c.even) low.3) parts.3),
             t.6,
           )
         where
@@ -307,14 +316,11 @@ module _ (firsts : ℕ) (place_of : ℕ → FunctionKind) (frame_of : ℕ → Op
           onward false a = inl a
 
           behind_it : (t.0.left.place ≡ t.0.turn.place) ⊎ (is_done rest ≡ true) → (Shape part false x rest) ⊎ (is_done rest ≡ true)
+              → (t.0.left.place ≡ t.0.turn.place → Shape part false x rest → Judged sizing (around_of l) (sized t.0.left W M N) rest (sized e W M N))
               → Judged sizing (around_of l) (sized t.0.left W M N) rest (sized e W M N)
-          behind_it (inr is) shape' = nothing_sized rest is l t.0.left e t.5
-          behind_it (inl same) (inr is) = nothing_sized rest is l t.0.left e t.5
-          behind_it (inl same) (inl shape') =
-              let back : t.0.left.place ≡ s.place = same ∙ sym t.1.place in
-              all_sized rest inside l t.0.left e m n who false part false x p.5 shape' at.4 (stood t.0.left.place s.place back room) (stand_at who t.0.left.place s.place n back stand) deep t.5 h.3
-              (low_at rest (leads step (Some t.0) t.0.turn t.0.turn t.4 (leads body (Some t.0) t.0.turn t.0.turn t.3 (leads test (Some t.0) t.0.turn t.0.turn t.2 (as_long s.values t.0.turn.values t.1.values))) ∙ sym t.0.even) low.3)
-              parts.3
+          behind_it (inr is) shape' go = nothing_sized rest is l t.0.left e t.5
+          behind_it (inl same) (inr is) go = nothing_sized rest is l t.0.left e t.5
+          behind_it (inl same) (inl shape') go = go same shape'
       all_sized (until body test rest) inside l s e m n who resuming part closing x p shape at room stand deep t h low parts =
           let c = t.0 in
           let r = c.turn in
@@ -327,7 +333,10 @@ module _ (firsts : ℕ) (place_of : ℕ → FunctionKind) (frame_of : ℕ → Op
             record { state = g; words = refl; most = refl; nested = refl },
             all_sized body true (Some c) r r m n (inner who) false false false (of_turn shape.1 x) p.1 shape.3 at.1 room' turn' deep t.2 h.0 (low_at body first low.0) parts.0,
             all_sized test true (Some c) r r m n (inner who) false false false (of_test shape.1) p.2 shape.2 at.2 room' turn' deep t.3 h.1 (low_at test second low.1) parts.1,
-            behind_it t.5 (onward shape.1 shape.4),
+            behind_it t.5 (onward shape.1 shape.4) (λ same shape'.
+                let back : c.left.place ≡ s.place = same ∙ sym g.place in
+                all_sized rest inside l c.left e m n who false part false x p.3 shape' at.3 (stood c.left.place s.place back room) (stand_at who c.left.place s.place n back stand) deep t.4 h.2
+                (low_at rest (leads test (Some c) r r t.3 second ∙ sym c.even) low.2) parts.2),
             t.5,
           )
         where
@@ -336,18 +345,15 @@ module _ (firsts : ℕ) (place_of : ℕ → FunctionKind) (frame_of : ℕ → Op
           onward false a = inl a
 
           behind_it : (t.0.left.place ≡ t.0.turn.place) ⊎ (is_done rest ≡ true) → (Shape part false x rest) ⊎ (is_done rest ≡ true)
+              → (t.0.left.place ≡ t.0.turn.place → Shape part false x rest → Judged sizing (around_of l) (sized t.0.left W M N) rest (sized e W M N))
               → Judged sizing (around_of l) (sized t.0.left W M N) rest (sized e W M N)
-          behind_it (inr is) shape' = nothing_sized rest is l t.0.left e t.4
-          behind_it (inl same) (inr is) = nothing_sized rest is l t.0.left e t.4
-          behind_it (inl same) (inl shape') =
-              let back : t.0.left.place ≡ s.place = same ∙ sym t.1.place in
-              all_sized rest inside l t.0.left e m n who false part false x p.3 shape' at.3 (stood t.0.left.place s.place back room) (stand_at who t.0.left.place s.place n back stand) deep t.4 h.2
-              (low_at rest (leads test (Some t.0) t.0.turn t.0.turn t.3 (leads body (Some t.0) t.0.turn t.0.turn t.2 (as_long s.values t.0.turn.values t.1.values)) ∙ sym t.0.even) low.2)
-              parts.2
+          behind_it (inr is) shape' go = nothing_sized rest is l t.0.left e t.4
+          behind_it (inl same) (inr is) go = nothing_sized rest is l t.0.left e t.4
+          behind_it (inl same) (inl shape') go = go same shape'
       all_sized (turn a b c rest) inside l s e m n who resuming part closing x p shape at room stand deep t h low parts = absurd t
       all_sized (again a b c rest) inside l s e m n who resuming part closing x p shape at room stand deep t h low parts = absurd t
       all_sized (quit site op rest) inside l s e m n who resuming part closing x p shape at room stand deep t h low parts = (
-        one_may op s m (adds_none op (λ e'. shape.1)) t.0 h.0 room low.0 (omega (arith, stand.is, deep)) parts.0,
+        one_may op s m (adds_none op (λ e'. shape.1)) t.0 h.0 room low.0 (low_stand who s.place n m stand deep) parts.0,
         leaves l (behind op false s) t.1,
         nothing_sized rest (ap is_done shape.5) l (behind op true s) e t.2,
       )
@@ -359,7 +365,7 @@ module _ (firsts : ℕ) (place_of : ℕ → FunctionKind) (frame_of : ℕ → Op
           let b = behind_call (takes op) t.1 s in
           let none' = not_either op w.into p.0 (λ z. cc) in
           let lr = low_at rest (called_rises place_of op f t.1 s t.2) low.1 in (
-            one_may op s m none' t.0 (there_call op p.0) room low.0 (omega (arith, stand.is, deep)) parts.0,
+            one_may op s m none' t.0 (there_call op p.0) room low.0 (low_stand who s.place n m stand deep) parts.0,
             t.1,
             record { place = t.2; few = h.1 },
             opened f t.1 t.2 opening (bare (entered (Called t.1))) (bare (with_frame (Called t.1) (frame_of f))) refl t.3 p.2 (omega arith) 0 refl h.0,
@@ -367,7 +373,7 @@ module _ (firsts : ℕ) (place_of : ℕ → FunctionKind) (frame_of : ℕ → Op
           )
       all_sized (ends site op rest) inside l s e m n who resuming part closing x p shape at room stand deep t h low parts =
           let none' = not_either op w.out p.0 (λ z. cc) in (
-            one_may op s m none' t.0 h.0 room low.0 (omega (arith, stand.is, deep)) parts.0,
+            one_may op s m none' t.0 h.0 room low.0 (low_stand who s.place n m stand deep) parts.0,
             t.1,
             all_sized rest inside l (behind op true s) e m n who false part false x p.1 shape.3 at.2 (moved op true s room) (out_on who op s.place n p.0 stand) deep t.2 h.1 (low_behind op true s rest low.1)
                 parts.1,

@@ -21,11 +21,11 @@ use Rattle.fk_meaning_forms.specs.Statements.{Inside, is_scalar, used, used_or, 
 use Rattle.fk_core_liveness.specs.declared.places.FunctionKind.{FunctionKind}
 use Rattle.fk_core_liveness.specs.declared.places.FunctionKind.TheVariants.{Main, Called}
 use Rattle.fk_core_liveness.specs.Frames.{is_main_place}
-use Rattle.fk_lockstep_frames.specs.Nests.{Nest, OfFunction, OfPart, nesting, IsInPart}
+use Rattle.fk_lockstep_frames.specs.Nests.{Nest, OfPart, nesting, IsInPart}
 use Rattle.fk_core_typing.specs.Values.{Unknown, Place, with_frame, entered, place_behind, State}
 use Rattle.fk_core_typing.specs.Typed.{Loop}
 use Rattle.fk_lower_laws.specs.Ways.{gives, named_way, way}
-use Rattle.fk_lower_laws.specs.Parts.{HasLevel, PartHasLevel, level_in, StatementHasLevels, StatementsHaveLevels, StartsStay, AllStartsStay}
+use Rattle.fk_lower_laws.specs.Parts.{HasLevel, level_in, StatementHasLevels, StatementsHaveLevels, StartsStay, AllStartsStay}
 use Rattle.fk_lower_laws.specs.Asked.{ValueAsked, OptionValueAsked, UsedAsked, OptionUsedAsked, ScalarAsked, VariablesAsked, ReturnAsked, StatementAsked, StatementsAsked, in_part, in_split, Opens, frame_with, frame_for}
 use Rattle.fk_lower_names.specs.OpenFrames.{frame_words}
 use Rattle.fk_lower_laws.proofs.TypedOk.{level, Acts, Ok, ended, on, branch, looped, looped_first, quits, LeftIn, TurnsIn, broken, continued, left}

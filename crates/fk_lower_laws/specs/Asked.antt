@@ -10,7 +10,8 @@ use Rattle.fk_syntax.specs.Tree.{Named, Tree, Links, Trees, Suffixes}
 use Rattle.fk_syntax.specs.Program as p
 use Rattle.fk_syntax.specs.Program.{DeclaredTree, Statement, Statements, FunctionTree, ProgramTree}
 use Rattle.fk_meaning_forms.specs.declared.tables.Region.{Region}
-use Rattle.fk_meaning_forms.specs.Tables.{Tables, no_binding, note, is_array, is_void, slot, frame_at}
+use Rattle.fk_meaning_forms.specs.Tables.{Tables, no_binding, note, is_array, is_void, slot}
+use Rattle.fk_meaning_forms.specs.Tables.{frame_at}
 use Rattle.fk_meaning_forms.specs.Expressions.{Signature, token}
 use Rattle.fk_meaning_forms.specs.Statements.{is_nothing, is_scalar}
 use Rattle.fk_meaning_forms.specs.Program.{functions_of, binding_of, signature_of, no_signature}

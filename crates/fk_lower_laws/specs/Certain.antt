@@ -13,7 +13,8 @@ use Rattle.fk_core_liveness.specs.Frames.{kept_in}
 use Rattle.fk_lower_laws.specs.FreeLaws.{IsPlain, GoesOnWithin}
 use Rattle.fk_lower_laws.specs.Levels.{HasRooms}
 
--- A list of plain operations. It goes on within itself, and in every run each operation may be done.
+-- A list of plain operations. It goes on within itself, and in every run each operation may be
+-- done.
 pub record IsSteady (core : List CoreOp) (main : ℕ) : Type 0 where
   pub within : GoesOnWithin core main
   pub plain : IsPlain core

@@ -14,7 +14,8 @@ use Rattle.fk_core_typing.specs.Typed.{AreTyped}
 use Rattle.fk_core_typing.specs.Laws.{HasHeightsOf}
 use Rattle.fk_lower_laws.specs.Asked.{place_of, frame_of}
 
--- The depths of a list are those of the text's code, if that is well typed, and its parts are nested.
+-- The depths of a list are those of the text's code, if that is well typed, and its parts are
+-- nested.
 abbrev pub ListsHaveHeights : Type 0
 ListsHaveHeights =
     (known : ProgramTables) (program : ProgramTree) (core : List CoreOp)

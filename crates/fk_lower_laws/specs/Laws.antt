@@ -70,8 +70,8 @@ pub record TellsNests (core : List CoreOp) (main : ℕ) : Type 0 where
   pub levels : TellsLevels core main local
 
 -- What the list of code with groups needs: its depths are those of all runs, each operation finds
--- its values, the list is steady and tells its nests, and it has frames that keep the words that are
--- live in it.
+-- its values, the list is steady and tells its nests, and it has frames that keep the words that
+-- are live in it.
 pub record CanHaveGroups (core : List CoreOp) (main firsts : ℕ) : Type 0 where
   pub depths : HasDepths core main
   pub enough : HasEnough core

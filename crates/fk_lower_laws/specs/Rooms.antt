@@ -26,8 +26,8 @@ module _ (firsts words : ℕ) where
   HasWord (Frame nesting frame) = frame < 2 ^ 21
   HasWord operation = Unit {0}
 
-  -- So do the variables that the opening of a call names, which has at most `most` values at each of
-  -- its places.
+  -- So do the variables that the opening of a call names, which has at most `most` values at each
+  -- of its places.
   abbrev pub Opens : (most values : ℕ) → Code ℕ → Type 0
   Opens most h done = h ≤ most
   Opens most h (perform n op rest) = HasWord op × (h ≤ most) × Opens most (raised h op true) rest

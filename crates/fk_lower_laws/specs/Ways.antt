@@ -21,9 +21,9 @@ pub data Way : Type 0 where
   -- It has a value, or none.
   Valued : Way
   Absent : Way
-  -- It is at an address that is checked before it is used; at a known address, which needs no check:
-  -- a constant, or that of a word of a group frame; or at the address of an array, which is its
-  -- value.
+  -- It is at an address that is checked before it is used; at a known address, which needs no
+  -- check: a constant, or that of a word of a group frame; or at the address of an array, which is
+  -- its value.
   Unchecked : Way
   Constant : (address : Address) → Way
   Array : Way

@@ -14,9 +14,10 @@ ghost use Rattle.fk_lower_laws.specs.HeightLaws.{ListsHaveHeights};
 ghost use Rattle.fk_lower_laws.specs.Laws.{CorrectListsAreSteady, CorrectListsHaveFrames};
 ghost use Rattle.fk_lower_laws.specs.Laws.{LoweredListsCanHaveGroups};
 
-/// The code of a program in which no group splits is well typed, if there is a value wherever one is
-/// needed, and a place where something is assigned, each call has its arguments, each word of a
-/// group frame is named where the frame is taken, and `break` and `continue` are in loops.
+/// The code of a program whose parts, bodies and loops are nested is well typed, if there is a
+/// value wherever one is needed, and a place where something is assigned, each call has its
+/// arguments, each word of a group frame is named where the frame is taken, the frame of each part
+/// is on its level, and each `start` is one of the statements of `main`.
 pub fn forms_are_typed()
     ensures { FormsAreTyped }
 {}
@@ -73,22 +74,21 @@ pub fn lists_are_plain()
     ensures { ListsArePlain }
 {}
 
-/// The flat list of a program with well typed code, in which no group splits, goes on within
-/// itself: its jumps lead to operations, only an end goes on outside it, and its `main` begins in
-/// it.
+/// The flat list of a program with well typed code goes on within itself: its jumps lead to
+/// operations, only an end goes on outside it, and its `main` begins in it.
 pub fn lists_go_on_within()
     ensures { ListsGoOnWithin }
 {}
 
-/// A flat list of well typed functions in which no group splits, whose private words and values have
-/// room in frames, suits frames that keep its live words. The header of a call tells the group frame
-/// of the part that it is in.
+/// A flat list of well typed functions, whose parts are nested and whose private words, values and
+/// levels have room in frames, suits frames that keep its live words, and that have room for its
+/// levels.
 pub fn live_words_suit()
     ensures { LiveWordsSuit }
 {}
 
 /// A program that keeps all rules, as a text spells it, and has a layout, has room in the frame of
-/// each function for its private words and for its values, if no group splits.
+/// each function for its private words, for its values and for the levels of its parts.
 pub fn values_have_room()
     ensures { ValuesHaveRoom }
 {}
@@ -107,14 +107,14 @@ pub fn names_have_words()
 {}
 
 /// A program that keeps all rules, as a text spells it, and has a layout, has room in the frame of
-/// each function for its private words and its values, and for a result after each call, if no group
-/// splits.
+/// each function for its private words, its values and the levels of its parts, and for a result
+/// after each call.
 pub fn correct_programs_have_room()
     ensures { CorrectProgramsHaveRoom }
 {}
 
 /// A list whose operations have the depths that a text gives for their sites has the heights of the
-/// text's code, if that is well typed and no group splits.
+/// text's code, if that is well typed and its parts are nested.
 pub fn lists_have_heights()
     ensures { ListsHaveHeights }
 {}
@@ -127,16 +127,16 @@ pub fn correct_lists_are_steady()
 {}
 
 /// A flat list of a program that keeps all rules, as a text spells it, and has a layout, with the
-/// depths of its code and its live words, suits frames that keep these words, if all operations are
-/// plain.
+/// depths of its code and its live words, suits frames that keep these words and have room for its
+/// levels, if all operations are plain.
 pub fn correct_lists_have_frames()
     ensures { CorrectListsHaveFrames }
 {}
 
 /// A flat list of a program that keeps all rules, as a text spells it, and has a layout, with the
 /// depths that lowering gives for the text, has the depths of all runs, finds the values that each
-/// operation needs, is steady, and has frames that keep its live words, if all operations are
-/// plain.
+/// operation needs, is steady, tells its nests, and has frames that keep its live words, if all
+/// operations are plain.
 pub fn lowered_lists_can_have_groups()
     ensures { LoweredListsCanHaveGroups }
 {}

@@ -1,5 +1,5 @@
 -- A list that suits frames, with a call whose function takes a group frame in its opening, the operations before the jump to it, and gives it back.
-use Rattle.std.proofs.Common.{◌≡◌, ℕ, zero, suc, ◌+◌, ◌≤◌, List, [], ◌∷◌, Bool, Some, None, true, false, ap, subst, ◌∙◌, arith, refl, inl}
+use Rattle.std.proofs.Common.{◌≡◌, ℕ, zero, suc, ◌+◌, ◌≤◌, List, [], ◌∷◌, Bool, Some, None, true, false, ap, subst, ◌∙◌, arith, refl}
 use Rattle.std.specs.Prelude.{◌==◌, ◌&&◌, ◌||◌, slice_get, if◌then◌else◌}
 use Rattle.std.proofs.lemmas.Bool.{and_parts, eqb-true}
 use Rattle.fk_meaning_operation.specs.declared.operation.OwnValue.TheVariants.{Value, FrameAddress}
@@ -62,7 +62,7 @@ abbrev frames : Frames
 frames = record {
   keeps = λ index word. has_argument index && (word == 0);
   is_main = of_main;
-  group = λ index number. has_address index && (number == 0);
+  group = has_address;
   of_file = 0;
 }
 
@@ -136,36 +136,36 @@ each P a b c d e f g h j (suc (suc (suc (suc (suc (suc (suc (suc (suc zero))))))
 each P a b c d e f g h j (suc (suc (suc (suc (suc (suc (suc (suc (suc (suc i)))))))))) op operation at = absurd (let s = at.stands in cc)
 
 pushes_on : (onward : Bool) → Flows core frames (writes (Push 7)) 0 (follows core (Push 7) 0 0 [] onward).at
-pushes_on true = record { main = refl; kept = λ word k free. absurd (cc); group = λ number told. absurd (cc); own = refl }
-pushes_on false = record { main = refl; kept = λ word k free. absurd (cc); group = λ number told. absurd (cc); own = refl }
+pushes_on true = record { main = refl; kept = λ word k free. absurd (cc); group = refl }
+pushes_on false = record { main = refl; kept = λ word k free. absurd (cc); group = refl }
 
 takes_on : TakesFrame core frames 0 2 3
-takes_on = record { main = refl; kept = λ word k. k; none = refl; group = λ number told. inl (eqb-true number 0 told); own = refl }
+takes_on = record { main = refl; kept = λ word k. k; none = λ own. refl; group = refl }
 
 addresses_on : (onward : Bool) → Flows core frames (writes (Get (FrameAddress 0 1))) 3 (follows core (Get (FrameAddress 0 1)) 3 0 [] onward).at
-addresses_on true = record { main = refl; kept = λ word k free. k; group = λ number told. told; own = refl }
-addresses_on false = record { main = refl; kept = λ word k free. k; group = λ number told. told; own = refl }
+addresses_on true = record { main = refl; kept = λ word k free. k; group = refl }
+addresses_on false = record { main = refl; kept = λ word k free. k; group = refl }
 
 drops_on : (onward : Bool) → Flows core frames (writes DropLast) 4 (follows core DropLast 4 0 [] onward).at
-drops_on true = record { main = refl; kept = λ word k free. k; group = λ number told. told; own = refl }
-drops_on false = record { main = refl; kept = λ word k free. k; group = λ number told. told; own = refl }
+drops_on true = record { main = refl; kept = λ word k free. k; group = refl }
+drops_on false = record { main = refl; kept = λ word k free. k; group = refl }
 
 result_goes : (onward : Bool) → Flows core frames (writes DropLast) 6 (follows core DropLast 6 0 [] onward).at
-result_goes true = record { main = refl; kept = λ word k free. absurd (cc); group = λ number told. absurd (cc); own = refl }
-result_goes false = record { main = refl; kept = λ word k free. absurd (cc); group = λ number told. absurd (cc); own = refl }
+result_goes true = record { main = refl; kept = λ word k free. absurd (cc); group = refl }
+result_goes false = record { main = refl; kept = λ word k free. absurd (cc); group = refl }
 
 gives_on : (onward : Bool) → Flows core frames (writes (Get (Value (Private 0)))) 8 (follows core (Get (Value (Private 0))) 8 0 [] onward).at
-gives_on true = record { main = refl; kept = λ word k free. absurd (cc); group = λ number told. told; own = refl }
-gives_on false = record { main = refl; kept = λ word k free. absurd (cc); group = λ number told. told; own = refl }
+gives_on true = record { main = refl; kept = λ word k free. absurd (cc); group = refl }
+gives_on false = record { main = refl; kept = λ word k free. absurd (cc); group = refl }
 
 -- the opening runs in the frame of the function
 calls : Calls core frames 1 1 1
 calls = record {
   few = omega arith;
   inside = refl;
-  none = λ number. refl;
+  none = refl;
   kept = λ word k. (let first : word ≡ 0 = eqb-true word 0 k in omega (arith, first));
-  back = record { main = refl; kept = λ word k free. absurd (cc); group = λ number told. absurd (cc); own = refl };
+  back = record { main = refl; kept = λ word k free. absurd (cc); group = refl };
   room = room 6 1 (omega arith);
 }
 
@@ -177,7 +177,7 @@ jumps_flow (suc (suc (suc zero))) op e f = let same : addresses ≡ op = cc in l
 jumps_flow (suc (suc (suc (suc zero)))) op e f = let same : drops ≡ op = cc in let g : false ≡ true = ap is_jump same ∙ f in absurd (cc)
 jumps_flow (suc (suc (suc (suc (suc zero))))) op e f =
     let same : jumps ≡ op = cc in
-    subst (λ o. Flows core frames nothing 5 o.target) same (record { main = refl; kept = λ word k free. k; group = λ number told. told; own = refl })
+    subst (λ o. Flows core frames nothing 5 o.target) same (record { main = refl; kept = λ word k free. k; group = refl })
 jumps_flow (suc (suc (suc (suc (suc (suc zero)))))) op e f = let same : drops ≡ op = cc in let g : false ≡ true = ap is_jump same ∙ f in absurd (cc)
 jumps_flow (suc (suc (suc (suc (suc (suc (suc zero))))))) op e f = let same : halts ≡ op = cc in let g : false ≡ true = ap is_jump same ∙ f in absurd (cc)
 jumps_flow (suc (suc (suc (suc (suc (suc (suc (suc zero)))))))) op e f = let same : gets ≡ op = cc in let g : false ≡ true = ap is_jump same ∙ f in absurd (cc)
@@ -187,14 +187,14 @@ jumps_flow (suc (suc (suc (suc (suc (suc (suc (suc (suc (suc i)))))))))) op e f 
 pub suits : Suits core frames 0
 suits = record {
   begins = refl;
-  none = λ number. refl;
+  none = refl;
   few = omega arith;
   jumps = jumps_flow;
   fits =
       each (λ i op operation. Fits core frames i op operation)
       (record { values = omega arith; few = omega arith; room = room 0 0 (omega arith); place = room 0 1 (omega arith); goes_on = pushes_on })
       (record { values = omega arith; few = omega arith; room = room 1 1 (omega arith); place = tt; goes_on = calls })
-      (record { values = omega arith; few = omega arith; room = room 2 0 (omega arith); place = (omega arith, omega arith); goes_on = takes_on })
+      (record { values = omega arith; few = omega arith; room = room 2 0 (omega arith); place = omega arith; goes_on = takes_on })
       (record { values = omega arith; few = omega arith; room = room 3 0 (omega arith); place = ((refl, omega arith), room 3 1 (omega arith)); goes_on = addresses_on })
       (record { values = omega arith; few = omega arith; room = room 4 1 (omega arith); place = tt; goes_on = drops_on })
       (record { values = omega arith; few = omega arith; room = room 6 1 (omega arith); place = tt; goes_on = result_goes })
@@ -223,8 +223,4 @@ in_frame = record {
 
 -- `main` has no group frame, and waits at index 6
 pub has_group_frame : HaveGroupFrames frames memory (address_of 21) (4 ∷ 6 ∷ []) (call ∷ call ∷ [])
-has_group_frame = (
-  record { within = omega arith; is = refl },
-  (λ number part told. (let first : number ≡ 0 = eqb-true number 0 told in absurd (omega (arith, first, part)))),
-  (tt, (λ number part told. absurd (cc)), tt),
-)
+has_group_frame = (record { within = omega arith; is = refl }, (tt, tt))

@@ -47,7 +47,7 @@ abbrev pub places : Places
 places = record {
   block = λ i. if i == 0 then 12 else if i == 1 then 14 else 15;
   returns = λ i. None;
-  frames = record { keeps = λ i word. false; is_main = λ i. true; group = λ i number. false; of_file = 0 };
+  frames = record { keeps = λ i word. false; is_main = λ i. true; group = λ i. false; of_file = 0 };
 }
 
 never : {A : Type 0} → false ≡ true → A
@@ -137,7 +137,7 @@ begins image code setting t number running =
           heap_mask = refl;
           running = record { home = refl; values = tt; privates = λ i e. never e };
           waiting = tt;
-          groups = (tt, (λ number part told. never told), tt);
+          groups = (tt, tt);
           own = λ i lt. absurd (omega arith);
           heap = λ i lt. refl;
           full = refl;
@@ -184,7 +184,7 @@ waiting_kept m m' backs calls same held = absurd (assumption held)
 none_told : (m m' : Memory) (address : ℕ) (indices : List ℕ) (calls : List Call) → HaveGroupFrames places.frames m address indices calls → HaveGroupFrames places.frames m' address indices calls
 none_told m m' address [] calls held = tt
 none_told m m' address (i ∷ indices) [] held = tt
-none_told m m' address (i ∷ indices) (c ∷ calls) held = (tt, (λ number part told. never told), none_told m m' address indices calls held.2)
+none_told m m' address (i ∷ indices) (c ∷ calls) held = (tt, none_told m m' address indices calls held.1)
 
 values_before : (at : ℕ → ℕ) (vs : List ℕ) → HasValues at vs → HasValues at (before 1 vs)
 values_before at [] held = tt
@@ -255,7 +255,7 @@ push_does image code at setting t p h en =
                     heap_mask = stands.heap_mask;
                     running = record { home = stands.running.home; values = values_pushed (value_of m' n) 5 (values p.runner.has) en.ready.depth (same_word h.local word _ ∙ five); privates = λ w e. never e };
                     waiting = waiting_kept h.local m' p.runner.left.callers p.runner.has.callers (λ j l. lower_word h.local word _ j (ne_eqb j word (λ e. omega arith))) stands.waiting;
-                    groups = (tt, (λ number part told. never told), none_told h.local m' (h.registers group_frame_register) p.runner.left.callers p.runner.has.callers stands.groups.2);
+                    groups = (tt, none_told h.local m' (h.registers group_frame_register) p.runner.left.callers p.runner.has.callers stands.groups.1);
                     own = λ j l. absurd (omega arith);
                     heap = λ j l. lower_word h.local word _ (16384 + j) (ne_eqb (16384 + j) word (λ e. omega arith)) ∙ stands.heap j l;
                     full = lower_word h.local word _ 2 (ne_eqb 2 word (λ e. omega arith)) ∙ stands.full;
@@ -315,7 +315,7 @@ drop_does image code at setting t p h en =
                     heap_mask = stands.heap_mask;
                     running = record { home = stands.running.home; values = values_before (value_in h (length p.runner.has.callers)) (values p.runner.has) stands.running.values; privates = λ w e. never e };
                     waiting = stands.waiting;
-                    groups = (tt, (λ number part told. never told), stands.groups.2);
+                    groups = (tt, stands.groups.1);
                     own = stands.own;
                     heap = stands.heap;
                     full = stands.full;

@@ -44,7 +44,7 @@ abbrev places : Places
 places = record {
   block = λ i. if i == 0 then 14 else 15;
   returns = λ i. None;
-  frames = record { keeps = λ i word. false; is_main = λ i. true; group = λ i number. false; of_file = 0 };
+  frames = record { keeps = λ i word. false; is_main = λ i. true; group = λ i. false; of_file = 0 };
 }
 
 -- no levels in frames, and nobody begins a group
@@ -152,7 +152,7 @@ begins image code setting t number running =
             heap_mask = refl;
             running = record { home = refl; values = tt; privates = λ i e. never e };
             waiting = tt;
-            groups = (tt, (λ number part told. absurd (cc)), tt);
+            groups = (tt, tt);
             own = λ i lt. absurd (omega arith);
             heap = λ i lt. refl;
             full = refl;
@@ -209,7 +209,7 @@ drop_does image code at setting t runs first m p en member finds =
                     heap_mask = stands.heap_mask;
                     running = record { home = stands.running.home; values = values_before (value_in h (length p.runner.has.callers)) (values p.runner.has) stands.running.values; privates = λ w e. never e };
                     waiting = stands.waiting;
-                    groups = (tt, (λ number part told. absurd (cc)), stands.groups.2);
+                    groups = (tt, stands.groups.1);
                     own = stands.own;
                     heap = stands.heap;
                     full = stands.full;

@@ -3,9 +3,9 @@
 -- Calls have frames of 64 words on the 16,384 stack words, that of `main` lowest. A frame has a
 -- header of 7 words, then the private words of its call. Its values are at the frame's end, the
 -- first value highest. In the frame of `main` the private variables of file scope lie between the
--- two. The header of a call may have the addresses of group frames that the call took in parts. If
--- the call took its own, the header keeps the address of the one before it. One word of the header
--- of `main` has a note about the global heap, and the others are free for any use.
+-- two. If a call took a group frame of its own, its header keeps the address of the one before it.
+-- One word of the header of `main` has a note about the global heap, and the others are free for
+-- any use.
 use Rattle.std.specs.Prelude.{◌≡◌, ℕ, zero, suc, ◌+◌, ◌-◌, ◌*◌, ◌^◌, ◌<◌, ◌≤◌, ◌==◌, List, []}
 use Rattle.std.specs.Prelude.{◌∷◌, length, true, false, Bool, Option, Some}
 use Rattle.std.specs.Int.{from_bool}
@@ -23,9 +23,9 @@ pub record Frames : Type 0 where
   pub keeps : (index word : ℕ) → Bool
   -- Whether an index is in `main`.
   pub is_main : (index : ℕ) → Bool
-  -- Whether the call has taken, at an index, the group frame with a number. The function's own has
-  -- number 0, and others are those of parts.
-  pub group : (index number : ℕ) → Bool
+  -- Whether the call has taken, at an index, the function's own group frame, which has number 0.
+  -- Others are those of parts, which harts find by the nodes of groups.
+  pub group : (index : ℕ) → Bool
   -- The number of private variables of file scope.
   pub of_file : ℕ
 
@@ -133,20 +133,14 @@ pub record HasRoom (frames : Frames) (index values : ℕ) : Type 0 where
   pub kept : (word : ℕ) → frames.keeps index word ≡ true
       → ahead frames (frames.is_main index) + 7 + word + values < 64
 
--- The word of the header for the group frame with a number. There are four such words. The first
--- one keeps what the register had before the call took its own frame, and the others have the
--- addresses of those of parts.
-abbrev pub group_word : (waiting number : ℕ) → ℕ
-group_word waiting number = frame_end waiting - (61 - number)
+-- The word of the header that keeps what the register had before the call took its own group frame.
+abbrev pub group_word : (waiting : ℕ) → ℕ
+group_word waiting = frame_end waiting - 61
 
 -- An address is that of a group frame, whose first word has this index.
 pub record IsGroupFrame (address first : ℕ) : Type 0 where
   pub within : first ≤ 2 ^ 20
   pub is : address ≡ address_of first
-
--- Whether the call has its own group frame at an index.
-abbrev pub has_own : Frames → (index : ℕ) → Bool
-has_own frames index = frames.group index 0
 
 -- The address is that of the call's own group frame, if the call has one.
 abbrev pub TellsFrame : (own : Bool) → (address : ℕ) → Call → Type 0
@@ -159,23 +153,17 @@ abbrev pub before_call : (own : Bool) → (address kept : ℕ) → ℕ
 before_call true address kept = kept
 before_call false address kept = address
 
--- The header of a call has the addresses of its group frames in parts.
-abbrev pub HasPartFrames : Frames → Memory → (waiting at : ℕ) → Call → Type 0
-HasPartFrames frames memory waiting at call =
-    (number : ℕ) → 0 < number → frames.group at number ≡ true
-    → (number < 4) × IsGroupFrame (memory (group_word waiting number)) (call.frames number)
-
 -- The register has the address of the own group frame of the first of these calls, and it had those
--- of the others before. Headers have those of parts. The calls are the running one and those that
--- wait, the last one first, each with the index where it goes on.
+-- of the others before. The calls are the running one and those that wait, the last one first, each
+-- with the index where it goes on.
 abbrev pub HaveGroupFrames : Frames → Memory → (address : ℕ) → (indices : List ℕ) → List Call
     → Type 0
 HaveGroupFrames frames memory address [] calls = Unit {0}
 HaveGroupFrames frames memory address (i ∷ indices) [] = Unit {0}
 HaveGroupFrames frames memory address (i ∷ indices) (c ∷ calls) =
-    TellsFrame (has_own frames i) address c × HasPartFrames frames memory (length calls) i c
+    TellsFrame (frames.group i) address c
     × HaveGroupFrames frames memory
-    (before_call (has_own frames i) address (memory (group_word (length calls) 0))) indices calls
+    (before_call (frames.group i) address (memory (group_word (length calls)))) indices calls
 
 module _ (places : Places) where
   -- The word 7 words before the private words of a call for which `waiting` other calls wait. It is

@@ -1,7 +1,7 @@
 -- Lists that suit frames: words that are read were kept or written, and values have room beside the
 -- words that are kept.
-use Rattle.std.specs.Prelude.{◌≡◌, ℕ, suc, ◌+◌, ◌-◌, ◌^◌, ◌==◌, ◌<◌, ◌≤◌, List, [], slice_get}
-use Rattle.std.specs.Prelude.{Bool, true, false, Some, ◌||◌, ◌⊎◌}
+use Rattle.std.specs.Prelude.{◌≡◌, ℕ, zero, suc, ◌+◌, ◌-◌, ◌^◌, ◌==◌, ◌<◌, ◌≤◌, List, [], slice_get}
+use Rattle.std.specs.Prelude.{Bool, true, false, Some, ◌||◌}
 use Rattle.fk_meaning_operation.specs.declared.operation.OwnValue.{OwnValue}
 use Rattle.fk_meaning_operation.specs.declared.operation.OwnValue.TheVariants.{Value, FrameAddress}
 use Rattle.fk_meaning_operation.specs.declared.operation.Operation.{Operation}
@@ -53,23 +53,20 @@ nothing word = false
 
 module _ (core : List CoreOp) (frames : Frames) where
   -- The call goes on from index i at index j. What is kept at j was kept at i, or is written
-  -- meanwhile. The group frames that it has at j it had at i, and its own one it has still.
+  -- meanwhile. It has its own group frame at j exactly if it had it at i.
   pub record Flows (written : (word : ℕ) → Bool) (i j : ℕ) : Type 0 where
     pub main : frames.is_main j ≡ frames.is_main i
     pub kept : (word : ℕ) → frames.keeps j word ≡ true → written word ≡ false
         → frames.keeps i word ≡ true
-    pub group : (number : ℕ) → frames.group j number ≡ true → frames.group i number ≡ true
-    pub own : frames.group j 0 ≡ frames.group i 0
+    pub group : frames.group j ≡ frames.group i
 
-  -- The call takes the group frame with a number at index i, where it has none with this number, and
-  -- goes on at index j. There it has that frame and no other that it didn't have.
+  -- The call takes the group frame with a number at index i, and goes on at index j. Its own one it
+  -- takes once.
   pub record TakesFrame (number i j : ℕ) : Type 0 where
     pub main : frames.is_main j ≡ frames.is_main i
     pub kept : (word : ℕ) → frames.keeps j word ≡ true → frames.keeps i word ≡ true
-    pub none : frames.group i number ≡ false
-    pub group : (told : ℕ) → frames.group j told ≡ true
-        → (told ≡ number) ⊎ (frames.group i told ≡ true)
-    pub own : frames.group j 0 ≡ ((number == 0) || frames.group i 0)
+    pub none : number ≡ 0 → frames.group i ≡ false
+    pub group : frames.group j ≡ ((number == 0) || frames.group i)
 
   -- A call begins at the next index. Its frame has room for the private words that are kept there:
   -- its arguments, and others, which begin as 0. The caller goes on after the first jump from there
@@ -77,7 +74,7 @@ module _ (core : List CoreOp) (frames : Frames) where
   pub record Calls (arguments i depth : ℕ) : Type 0 where
     pub few : arguments ≤ 56
     pub inside : frames.is_main (suc i) ≡ false
-    pub none : (number : ℕ) → frames.group (suc i) number ≡ false
+    pub none : frames.group (suc i) ≡ false
     pub kept : (word : ℕ) → frames.keeps (suc i) word ≡ true → word < 56
     pub back : Flows nothing i (behind_jump core (suc i))
     pub room : HasRoom frames (behind_jump core (suc i)) (suc (depth - arguments))
@@ -91,13 +88,15 @@ module _ (core : List CoreOp) (frames : Frames) where
   GoesOn operation i target depth = (onward : Bool)
       → Flows (writes operation) i (follows core operation i target [] onward).at
 
-  -- A word that is read is there, and so is a group frame that is used. A call that ends gives its own
-  -- one back, if it has one. A word that is written lies below the values, and there is room for a
-  -- value that is pushed (`HasPlace`). The words of frames have numbers in lists.
+  -- A word that is read is there, and so is the function's own group frame where it is used. A call
+  -- that ends gives its own one back, if it has one. A word that is written lies below the values,
+  -- and there is room for a value that is pushed (`HasPlace`). The words of frames have numbers in
+  -- lists.
   abbrev pub IsThere : OwnValue → (i : ℕ) → Type 0
   IsThere (Value (Private word)) i = frames.keeps i word ≡ true
   IsThere (Value (OfFile word)) i = word < frames.of_file
-  IsThere (FrameAddress number word) i = (frames.group i number ≡ true) × (word < 2 ^ 21)
+  IsThere (FrameAddress zero word) i = (frames.group i ≡ true) × (word < 2 ^ 21)
+  IsThere (FrameAddress (suc part) word) i = word < 2 ^ 21
   IsThere known i = Unit {0}
 
   abbrev pub HasPlace : Operation → (i depth : ℕ) → Type 0
@@ -106,8 +105,8 @@ module _ (core : List CoreOp) (frames : Frames) where
   HasPlace (Get known) i depth = IsThere known i × HasRoom frames i (suc depth)
   HasPlace (Set (Private word)) i depth = ahead frames (frames.is_main i) + 7 + word + depth < 64
   HasPlace (Set (OfFile word)) i depth = word < frames.of_file
-  HasPlace (Leave gives framed) i depth = frames.group i 0 ≡ framed
-  HasPlace (Frame number words) i depth = (number < 4) × (words < 2 ^ 21)
+  HasPlace (Leave gives framed) i depth = frames.group i ≡ framed
+  HasPlace (Frame number words) i depth = words < 2 ^ 21
   HasPlace operation i depth = Unit {0}
 
   pub record Fits (i : ℕ) (op : CoreOp) (operation : Operation) : Type 0 where
@@ -120,7 +119,7 @@ module _ (core : List CoreOp) (frames : Frames) where
   -- The list suits its frames: all its jumps and operations do, and `main` begins at this index.
   pub record Suits (main : ℕ) : Type 0 where
     pub begins : frames.is_main main ≡ true
-    pub none : (number : ℕ) → frames.group main number ≡ false
+    pub none : frames.group main ≡ false
     pub few : frames.of_file ≤ 56
     pub jumps : (i : ℕ) (op : CoreOp) → slice_get core i ≡ Some op → is_jump op ≡ true
         → Flows nothing i op.target

@@ -1,4 +1,0 @@
-pub mod Noted
-pub mod Passes
-pub mod Empty
-pub mod Examples

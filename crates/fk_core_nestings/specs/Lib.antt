@@ -1,2 +1,0 @@
-pub mod Nestings
-pub mod Found
