@@ -395,7 +395,7 @@ module _ (core : List CoreOp) (main firsts : ℕ) (kept : List Set) (begins : ma
       shrunk i op at =
           let f = fit i op o.Shrink at in
           let here = lt i op o.Shrink at in
-          let out = end_level (places i) (is_main_place (places i).function) (places i).nests f.may in
+          let out = end_level (places i) (is_main_place (places i).function) (places i).nests f.may.0 in
           let some = shrinks i op at.stands at.is_read (level i) (held.rooms.counted i here) in
           closes_there i op.target false here (within_on i op o.Shrink at refl false) (leads_is i op o.Shrink at false) (out.1 some ∙ ap suc (sym (ap rooms.levels_in (f.goes_on false).place)))
 

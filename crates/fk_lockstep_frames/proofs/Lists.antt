@@ -21,7 +21,7 @@ use Rattle.fk_meaning.specs.Round.{Step, Runner}
 use Rattle.fk_meaning.specs.Schedule.{beginners, first_processor}
 use Rattle.fk_core.specs.declared.op.CoreOp.{CoreOp}
 use Rattle.fk_core.specs.Next.{Position, position, is_jump, through, led_by, landing_by, landing, behind_jump, follows, next, list_opening}
-use Rattle.fk_lockstep_frames.specs.Nests.{Nest, OfFunction, OfPart, nesting, frame_at, frame_has, has_word, taken, outward, take_frame, behind, MayLeave, MayTake, IsInPart, May, TellsOn}
+use Rattle.fk_lockstep_frames.specs.Nests.{Nest, OfFunction, OfPart, nesting, frame_at, frame_has, has_word, is_numbered, taken, outward, take_frame, behind, MayLeave, MayTake, IsInPart, May, TellsOn}
 use Rattle.fk_lockstep_frames.specs.Taken.{numbers_of, HasTaken, TakesInPart, AreNumbered, KeepsNumbers, HasNests, IsFirstFrame}
 use Rattle.fk_lockstep_frames.specs.Lists.{nests_of, told, IsOutermost, Leads, Calls, Returns, Asks, GoesOn, HasLocalFrames, ListsTellFrames}
 use Rattle.fk_lockstep_frames.proofs.Rounds.{AllAre, all_at, RunnerFits, runs}
@@ -116,6 +116,11 @@ in_part_front [] more may = absurd may
 in_part_front (OfFunction f ∷ ns) more may = absurd may
 in_part_front (OfPart b f ∷ []) more may = absurd may
 in_part_front (OfPart b f ∷ n ∷ ns) more may = tt
+
+numbered_front : (ns more : List Nest) → IsInPart ns → is_numbered (ns ++ more) ≡ is_numbered ns
+numbered_front [] more may = absurd may
+numbered_front (OfFunction f ∷ ns) more may = absurd may
+numbered_front (OfPart b f ∷ ns) more may = refl
 
 take_front : (number : ℕ) (ns more : List Nest) → MayTake number ns → IsOfCall ns → MayTake number (ns ++ more)
 take_front number [] more may call = absurd may
@@ -251,7 +256,7 @@ module _ (core : List CoreOp) (main : ℕ) (local : HasLocalFrames core main) wh
     may_front o.Halt callers e order asks = absurd e
     may_front (o.Frame number words) callers e order asks = take_front number (nests i) (others callers) asks (of_call i callers order)
     may_front o.Begin callers e order asks = may_begin callers order asks
-    may_front o.Shrink callers e order asks = in_part_front (nests i) (others callers) asks
+    may_front o.Shrink callers e order asks = (in_part_front (nests i) (others callers) asks.0, numbered_front (nests i) (others callers) asks.0 ∙ asks.1)
     may_front o.End callers e order asks = in_part_front (nests i) (others callers) asks
     may_front op callers e order asks = tt
 
@@ -266,7 +271,7 @@ module _ (core : List CoreOp) (main : ℕ) (local : HasLocalFrames core main) wh
     behind_of_call (o.Split by) true e asks call = call
     behind_of_call (o.Split by) false e asks call = call
     behind_of_call o.Shrink true e asks call = call
-    behind_of_call o.Shrink false e asks call = tail_of_call (nests i) asks call
+    behind_of_call o.Shrink false e asks call = tail_of_call (nests i) asks.0 call
     behind_of_call o.End onward e asks call = tail_of_call (nests i) asks call
     behind_of_call op onward e asks call = call
 

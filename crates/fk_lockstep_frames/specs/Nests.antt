@@ -120,7 +120,8 @@ behind operation onward nests = nests
 
 -- where an operation may be done. A function leaves the call that it was entered by, and gives its
 -- frame back if it has one. A frame is taken in the innermost nest, which has none yet. A `start`
--- is in `main`, and a part is left in the function that is in it
+-- is in `main`, and a part is left in the function that is in it. Members leave the part of a loop,
+-- which isn't numbered, one by one
 abbrev pub MayLeave : (framed : Bool) → List Nest → Type 0
 MayLeave framed (OfFunction frame ∷ nest ∷ nests) = is_some frame ≡ framed
 MayLeave framed nests = ⊥
@@ -137,7 +138,7 @@ abbrev pub May : Operation → List Nest → Type 0
 May (o.Leave gives framed) nests = MayLeave framed nests
 May (o.Frame number words) nests = MayTake number nests
 May o.Begin nests = nests ≡ OfFunction None ∷ []
-May o.Shrink nests = IsInPart nests
+May o.Shrink nests = IsInPart nests × (is_numbered nests ≡ false)
 May o.End nests = IsInPart nests
 May operation nests = Unit {0}
 

@@ -54,7 +54,7 @@ levels_behind (o.Split k.OrElse) false p may = omega arith
 levels_behind (o.Split k.Loop) false p may = omega arith
 levels_behind (o.Split k.Fork) false p may = omega arith
 levels_behind o.Shrink true p may = omega arith
-levels_behind o.Shrink false p may = let low = out_of_part (is_main_place p.function) p.nests may in omega (arith, low)
+levels_behind o.Shrink false p may = let low = out_of_part (is_main_place p.function) p.nests may.0 in omega (arith, low)
 levels_behind o.End onward p may = let low = out_of_part (is_main_place p.function) p.nests may in omega (arith, low)
 levels_behind op onward p may = omega arith
 
@@ -136,6 +136,6 @@ own_before (o.Split k.OrElse) other false p may = refl
 own_before (o.Split k.Loop) other false p may = refl
 own_before (o.Split k.Fork) other false p may = refl
 own_before o.Shrink other true p may = refl
-own_before o.Shrink other false p may = own_around p.nests may
+own_before o.Shrink other false p may = own_around p.nests may.0
 own_before o.End other onward p may = own_around p.nests may
 own_before op other onward p may = refl

@@ -240,7 +240,7 @@ module _ (tables : Tables) (functions : (binding : ℕ) → Signature) (place_of
         (quits plain_loop (branches tables functions place_of opens p true true []) (branches tables functions place_of opens p true false []))
 
     shrinks : IsWithin p → (frame : Option ℕ) (onward : Bool) → Acts onward o.Shrink (level (started false frame) (Unknown ∷ [])) (level (place_behind o.Shrink onward (started false frame)) [])
-    shrinks within frame onward = simply (started false frame) onward o.Shrink (Unknown ∷ []) (in_any false frame within) (omega arith) (omega arith) (λ ws. tt) (λ ns c ws. refl)
+    shrinks within frame onward = simply (started false frame) onward o.Shrink (Unknown ∷ []) (in_any false frame within, refl) (omega arith) (omega arith) (λ ws. tt) (λ ns c ws. refl)
 
     leaves_part : IsWithin p → (frame : Option ℕ) (sync splits : Bool) → splits ≡ true
         → Ok place_of frame_of (Some (part_loop frame)) (level (started false frame) (Unknown ∷ []))

@@ -294,7 +294,7 @@ module _ (core : List CoreOp) (main : ℕ) (local : HasLocalFrames core main) wh
   behind_called (o.Split by) i outside plain asks group stands onward other none = let few = stands.called other none in absurd (omega (arith, few, none, group))
   behind_called o.Shrink i outside plain asks group stands onward other none =
       let few = stands.called other none in
-      let some = some_part (local.nests i) asks in
+      let some = some_part (local.nests i) asks.0 in
       absurd (omega (arith, few, some))
   behind_called o.End i outside plain asks group stands onward other none =
       let few = stands.called other none in
@@ -314,7 +314,7 @@ module _ (core : List CoreOp) (main : ℕ) (local : HasLocalFrames core main) wh
   behind_parts (o.Split by) i outside plain asks true = omega arith
   behind_parts (o.Split by) i outside plain asks false = refl
   behind_parts o.Shrink i outside plain asks true = refl
-  behind_parts o.Shrink i outside plain asks false = nesting_left (local.nests i) outside asks
+  behind_parts o.Shrink i outside plain asks false = nesting_left (local.nests i) outside asks.0
   behind_parts o.End i outside plain asks onward = nesting_left (local.nests i) outside asks
   behind_parts (o.Frame number words) i outside plain asks onward = ap (λ (n : ℕ). n + outside) (nesting_framed words (local.nests i))
   behind_parts (o.Enter arguments) i outside plain asks onward = absurd plain
@@ -482,7 +482,7 @@ module _ (core : List CoreOp) (main : ℕ) (local : HasLocalFrames core main) wh
       by false e = let some = some_part (local.nests i) part in omega (arith, some)
 
   pub part_asked : (op : Operation) (i : ℕ) → leaves_part op ≡ true → AsksAt op i → IsInPart (local.nests i)
-  part_asked o.Shrink i leaves asks = asks
+  part_asked o.Shrink i leaves asks = asks.0
   part_asked o.End i leaves asks = asks
   part_asked op i leaves asks = absurd (cc)
 
