@@ -14,7 +14,7 @@ abbrev is_nil : List ℕ → Bool
 is_nil [] = true
 is_nil (n ∷ ns) = false
 
-nil_length : (ns : List ℕ) → is_nil ns ≡ true → length ns ≡ 0
+pub nil_length : (ns : List ℕ) → is_nil ns ≡ true → length ns ≡ 0
 nil_length [] e = refl
 nil_length (n ∷ ns) e = absurd (false≢true e)
 
