@@ -16,7 +16,7 @@ pub(crate) struct Open {
 /// The open parts at an operation.
 pub(crate) struct OpenParts {
     parts: Vec<Open>,
-    /// How many words the frame of the innermost group has.
+    /// How many words the frame of the innermost part has.
     words: u32,
 }
 
@@ -50,7 +50,7 @@ impl OpenParts {
     pub(crate) fn leave(&mut self, op: CoreOp) -> Result<(), AllocError> {
         match op.operation() {
             Some(Operation::Split(by)) => self.open(by)?,
-            Some(Operation::Frame { words, .. }) => self.words = words,
+            Some(Operation::Frame { nesting, words }) => self.take(nesting, words),
             Some(Operation::Begin | Operation::End) => self.words = 0,
             _ => (),
         }
@@ -59,7 +59,7 @@ impl OpenParts {
 
     fn open(&mut self, by: SplitKind) -> Result<(), AllocError> {
         let fork = match by {
-            SplitKind::Fork => Some(self.told_words()),
+            SplitKind::Fork => Some(self.words),
             _ => None,
         };
         self.parts.push(Open {
@@ -70,8 +70,10 @@ impl OpenParts {
         Ok(())
     }
 
-    // The words of the frame are told where the group is a part of the call.
-    fn told_words(&self) -> u32 {
-        if self.parts.is_empty() { 0 } else { self.words }
+    // The function's own frame is in no part.
+    fn take(&mut self, nesting: u32, words: u32) {
+        if nesting != 0 {
+            self.words = words;
+        }
     }
 }

@@ -27,7 +27,7 @@ use Rattle.fk_sim_block.specs.Owner.{Owner, number_of, core_source}
 use Rattle.fk_sim_block.specs.Stands.{Places, frame_start, frame_end, group_word, local_address, end_register, device_register, zero_register, frame_register, number_register, rank_register, size_register, top_register, local_register, shared_register, heap_register, shared_mask_register, heap_mask_register, group_frame_register}
 use Rattle.fk_sim_block.specs.Suits.{TakesFrame}
 use Rattle.fk_sim_block.specs.Block.{Enters}
-use Rattle.fk_sim_block.specs.Node.{Nestings, KnowsSpace, HasOuter, first_word, control_address, saved_at, frames_register, blocks_register, space_frames, node_register}
+use Rattle.fk_sim_block.specs.Node.{Nestings, KnowsSpace, HasOuter, first_word, control_address, saved_at, frames_register, blocks_register, space_frames, node_register, frames_word}
 use Rattle.fk_sim_block.specs.Lockstep.{IsMember, IsInGroup, is_due}
 use Rattle.fk_gen.specs.Lines.{quiet, high_part, low_part, add_by, add_number, at_group_frame}
 use Rattle.fk_gen.specs.InPlace.{LinesAt}
@@ -353,6 +353,8 @@ module _ (core : List CoreOp) (image : Image) (bound : ℕ → ℕ) (places : Pl
         let below = group_below places n in
         let outer =
         outer_by places nestings setting.processors (number_of p) m.hart.local x.hart.local i (suc i) callers p.runner.has.outer few place.stay
+        (x.kept 4 (λ e. omega arith))
+        (x.kept (frames_word (length callers)) (λ e. omega arith))
         (λ y from lt. x.kept y (λ e. omega arith))
         (λ y from lt.
         let from' = subst (λ c. saved_at places nestings c i ≤ y) many from in

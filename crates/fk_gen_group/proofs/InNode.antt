@@ -35,7 +35,7 @@ use Rattle.fk_gen.specs.Lines.{label_of}
 use Rattle.fk_gen.proofs.Standing.{groups_go, stands_with}
 use Rattle.fk_gen.proofs.Jumps.{jumps, jal_private}
 use Rattle.fk_gen.proofs.Does.{local_part, asks, hired_part}
-use Rattle.fk_sim_block.specs.Node.{Nestings, StandsInNode, KnowsSpace, HasOuter, HasSaved, HasNestings, LieBelow, saved_at, first_word, control_address, node_register, body_register, frames_register, blocks_register}
+use Rattle.fk_sim_block.specs.Node.{Nestings, StandsInNode, KnowsSpace, HasOuter, HasSaved, HasNestings, LieBelow, saved_at, first_word, control_address, node_register, body_register, frames_register, blocks_register, frames_word}
 use Rattle.fk_sim_block.proofs.Spaces.{space_kept}
 use Rattle.fk_sim_block.specs.Lockstep.{IsMember}
 use Rattle.fk_sim_block.specs.Law.{Cycles, BlockDoesInNode, HasDoneInNode, way_by, way_of}
@@ -245,6 +245,15 @@ module _ (core : List CoreOp) (image : Image) (places : Places) (nestings : Nest
               })
       by Tree kind = absurd (never_tree operation alone kind)
 
+  -- the header keeps where the frames of a level end
+  header_keeps : (n : ℕ) (h h' : Hart) → Keeps places n (peak operation op.depth) (writes operation) h h' → places.frames.of_file ≤ 56 → peak operation op.depth + 7 ≤ 64
+      → h'.local (frames_word n) ≡ h.local (frames_word n)
+  header_keeps zero h h' keeps few room = keeps.header 4 (omega arith) (λ e. omega arith)
+  header_keeps (suc n) h h' keeps few room = keeps.words (frames_word (suc n)) (omega arith) (omega arith) (λ word w e. omega arith)
+
+  main_keeps : (n : ℕ) (h h' : Hart) → Keeps places n (peak operation op.depth) (writes operation) h h' → h'.local 4 ≡ h.local 4
+  main_keeps n h h' keeps = keeps.header 4 (omega arith) (λ e. omega arith)
+
   -- behind the block its hart is in the node
   in_node : (t : MachineSetting) (runs : Option ℕ) (first : ℕ) (m : Member) (h' : Hart) (d : Doing) → Enters core image places setting t i op operation p m.hart
       → IsMember places nestings setting runs first m p → Keeps places (length p.runner.has.callers) (peak operation op.depth) (writes operation) m.hart h' → IsSame d
@@ -261,6 +270,8 @@ module _ (core : List CoreOp) (image : Image) (places : Places) (nestings : Nest
       let header = levels.room.room in
       let on =
       outer_by places nestings setting.processors (number_of p) m.hart.local h'.local i j callers p.runner.has.outer few (levels.stay same.onward)
+      (main_keeps n m.hart h' keeps)
+      (subst (λ k. h'.local (frames_word k) ≡ m.hart.local (frames_word k)) (sym many) (header_keeps n m.hart h' keeps few (omega arith)))
       (λ x from lt. keeps.words x from (omega arith) (λ word w e. let start = starts n word in omega arith))
       (λ x from lt.
       let from' = subst (λ k. saved_at places nestings k i ≤ x) many from in
@@ -401,7 +412,7 @@ jumps_stay_in_node core image bound places nestings i op block flows few stay se
         body = member.node.body;
         space = space_kept p.runner.has.level p.runner.has.outer h (jumps h zero_register (4 * bound (label_of op.target))) refl refl member.node.space;
         outer = (
-          outer_by places nestings setting.processors (number_of p) h.local h.local i op.target callers p.runner.has.outer few stay (λ x le lt. refl) (λ x le lt. refl)
+          outer_by places nestings setting.processors (number_of p) h.local h.local i op.target callers p.runner.has.outer few stay refl refl (λ x le lt. refl) (λ x le lt. refl)
               (subst (λ a. HasOuter places nestings setting.processors (number_of p) h.local (a ∷ callers) p.runner.has.outer) at member.node.outer.0),
           member.node.outer.1,
         );

@@ -1,8 +1,8 @@
 -- What the blocks of groups do in place.
-use Rattle.std.specs.Prelude.{◌≡◌, ℕ, ◌-◌, ◌^◌, ◌<◌, ◌≤◌, suc, List, length, Some, None, true}
+use Rattle.std.specs.Prelude.{◌≡◌, ℕ, ◌-◌, ◌^◌, ◌<◌, ◌≤◌, suc, List, length, Option, Some, None, true}
 use Rattle.std.specs.Prelude.{if◌then◌else◌}
 use Rattle.fk_meaning_operation.specs.declared.operation.SplitKind.{SplitKind}
-use Rattle.fk_meaning_operation.specs.declared.operation.SplitKind.TheVariants.{IfElse}
+use Rattle.fk_meaning_operation.specs.declared.operation.SplitKind.TheVariants.{IfElse, Fork}
 use Rattle.fk_meaning_operation.specs.declared.operation.Operation.{Operation}
 use Rattle.fk_meaning_operation.specs.declared.operation.Operation.TheVariants.{Begin, Agree, Farm}
 use Rattle.fk_meaning_operation.specs.declared.operation.Operation.TheVariants.{Seq, End, Frame}
@@ -21,8 +21,7 @@ use Rattle.fk_sim_block.specs.Lockstep.{LevelsStay, LevelOpens, StepTogether, Pa
 use Rattle.fk_sim_block.specs.Lockstep.{EndTogether}
 use Rattle.fk_sim_block.specs.Lockstep.{AreOfSize, IsLowest, AreInGroup, one_runs}
 use Rattle.fk_sim_block.specs.Lockstep.{values_of_step}
-use Rattle.fk_sim_block.specs.Parts.{is_implicit, DividesTogether, FaultsTogether, ShrinksTogether}
-use Rattle.fk_sim_block.specs.Parts.{EndsPart}
+use Rattle.fk_sim_block.specs.Parts.{DividesTogether, FaultsTogether, ShrinksTogether, EndsPart}
 use Rattle.fk_gen_group.specs.Blocks.{block_by, frame_takes, HasStart}
 use Rattle.fk_gen_group.specs.Splits.{HasParts, split_takes, split_goes_on, end_part_takes}
 use Rattle.fk_gen_group.specs.Splits.{shrink_takes, shrink_goes_on}
@@ -30,15 +29,33 @@ use Rattle.fk_gen_group.specs.Start.{gathered_at, who_comes}
 use Rattle.fk_sim_block.specs.Joint.{is_meeting, BlockMeets}
 use Rattle.fk_sim_block.specs.Start.{BlockStarts}
 
+-- How the last level at an index was left.
+abbrev pub last_fork : Nestings → (index : ℕ) → Option ℕ
+last_fork nestings i = nestings.forks i (nestings.levels i - 1)
+
 -- The levels in the frame of a call at an index.
 abbrev pub levels_at : Nestings → (index : ℕ) → Levels
-levels_at nestings i =
-    record { count = nestings.levels i; behind = nestings.behind i; nest = nestings.nest i }
+levels_at nestings i = record {
+  count = nestings.levels i;
+  behind = nestings.behind i;
+  nest = nestings.nest i;
+  fork = last_fork nestings i;
+}
+
+-- A `fork` leaves a level that is told as such, and any other split one that isn't.
+abbrev pub LeavesBy : SplitKind → Option ℕ → Type 0
+LeavesBy Fork None = ⊥
+LeavesBy Fork (Some words) = Unit {0}
+LeavesBy by told = told ≡ None
+
+pub record OpensBy (by : SplitKind) (nestings : Nestings) (i j : ℕ) : Type 0 where
+  pub opens : LevelOpens nestings i j
+  pub left : LeavesBy by (nestings.forks j (nestings.levels i))
 
 -- A step goes on at the next index with the same levels, a split with one more. The next index is
 -- not that of an end.
 abbrev pub GoesOnWith : Operation → Nestings → (i : ℕ) → Type 0
-GoesOnWith (Split by) nestings i = LevelOpens nestings i (suc i)
+GoesOnWith (Split by) nestings i = OpensBy by nestings i (suc i)
 GoesOnWith End nestings i = Unit {0}
 GoesOnWith operation nestings i = LevelsStay nestings i (suc i)
 
@@ -139,7 +156,7 @@ GroupsTakeBlocks =
 -- into two they enter the second part, where the frame has room for one level more.
 abbrev pub GoesAside : SplitKind → Places → Nestings → (i target values : ℕ) → Type 0
 GoesAside IfElse places nestings i target values =
-    LevelOpens nestings i target × HasLevelRoom places.frames nestings target values
+    OpensBy IfElse nestings i target × HasLevelRoom places.frames nestings target values
 GoesAside by places nestings i target values = LevelsStay nestings i target
 
 -- The block of a split is at its index, the image has the code that splits share, and the frame has
@@ -156,23 +173,26 @@ abbrev pub GroupsDivide : Type 0
 GroupsDivide =
     (core : List CoreOp) (image : Image) (bound : ℕ → ℕ) (places : Places) (nestings : Nestings)
     (i : ℕ) (op : CoreOp) (by : SplitKind)
-    → is_implicit by ≡ true → IsSplitInPlace core image bound places nestings i op by
-    → DividesTogether core image places nestings i op by (split_takes by) (split_goes_on by)
+    → IsSplitInPlace core image bound places nestings i op by
+    → DividesTogether core image places nestings i op by (split_takes by)
+    (split_goes_on by (nestings.levels i))
 
 -- Without that room the lowest faults at the site.
 abbrev pub GroupsLackRoom : Type 0
 GroupsLackRoom =
     (core : List CoreOp) (image : Image) (bound : ℕ → ℕ) (places : Places) (nestings : Nestings)
     (i : ℕ) (op : CoreOp) (by : SplitKind)
-    → is_implicit by ≡ true → IsSplitInPlace core image bound places nestings i op by
+    → IsSplitInPlace core image bound places nestings i op by
     → op.site < 2 ^ 32 → FaultsTogether core image places nestings i op by
 
 -- The members of a part in lockstep who stay in a loop are counted, and the others leave the part.
+-- No `fork` made that part.
 abbrev pub PartsShrink : Type 0
 PartsShrink =
     (core : List CoreOp) (image : Image) (bound : ℕ → ℕ) (places : Places) (nestings : Nestings)
     (i : ℕ) (op : CoreOp)
     → IsInPlace core image bound places nestings i op Shrink → LevelOpens nestings op.target i
+    → last_fork nestings i ≡ None
     → ShrinksTogether core image places nestings i op shrink_takes shrink_goes_on
 
 -- The members of a part go back to the group around it.
@@ -182,4 +202,5 @@ PartsEnd =
     (i : ℕ) (op : CoreOp)
     → IsInPlace core image bound places nestings i op End
     → (0 < nestings.levels i → LevelOpens nestings op.target i)
-    → EndsPart core image places nestings i op (λ onward. end_part_takes)
+    → EndsPart core image places nestings i op
+    (λ onward. end_part_takes (last_fork nestings i) (nestings.levels i))
