@@ -1,6 +1,7 @@
 -- How the group around each index of a flat list was left, where a `fork` divided it: its members
 -- have taken a frame of so many words in the part around, and give it back at the end of theirs.
-use Rattle.std.specs.Prelude.{ℕ, zero, suc, Bool, List, [], ◌∷◌, Option, Some, None, if◌then◌else◌}
+use Rattle.std.specs.Prelude.{ℕ, zero, suc, ◌==◌, Bool, List, [], ◌∷◌, map, length, slice_get, Option}
+use Rattle.std.specs.Prelude.{Some, None, if◌then◌else◌}
 use Rattle.fk_meaning_operation.specs.declared.operation.SplitKind.{SplitKind}
 use Rattle.fk_meaning_operation.specs.declared.operation.SplitKind.TheVariants.{Fork}
 use Rattle.fk_meaning_operation.specs.declared.operation.Operation.{Operation}
@@ -32,9 +33,15 @@ abbrev pub come_to : Option Operation → Parts → Parts
 come_to (Some Resume) parts = closed parts.open
 come_to operation parts = parts
 
+-- How the group around the innermost part was left.
 abbrev pub fork_of : List OpenPart → Option ℕ
 fork_of [] = None
 fork_of (part ∷ open) = part.fork
+
+-- How the group at a level was left. Level 0 is the outermost.
+abbrev pub fork_at : List OpenPart → (level : ℕ) → Option ℕ
+fork_at [] level = None
+fork_at (part ∷ open) level = if length open == level then part.fork else fork_at open level
 
 abbrev pub left_by : SplitKind → (words : ℕ) → Option ℕ
 left_by Fork words = Some words
@@ -59,12 +66,25 @@ leave (Some Begin) parts = record parts { words = 0 }
 leave (Some End) parts = record parts { words = 0 }
 leave operation parts = parts
 
-abbrev pub forks_from : Parts → (opening : Bool) → List CoreOp → List (Option ℕ)
-forks_from parts opening [] = []
-forks_from parts opening (op ∷ ops) =
+-- In the opening of a call no part is open.
+abbrev pub open_from : Parts → (opening : Bool) → List CoreOp → List (List OpenPart)
+open_from parts opening [] = []
+open_from parts opening (op ∷ ops) =
     let there = come_to (read op) parts in
-    (if opening then None else fork_of there.open)
-    ∷ forks_from (leave (read op) there) (opens opening op) ops
+    (if opening then [] else there.open)
+    ∷ open_from (leave (read op) there) (opens opening op) ops
 
+abbrev pub open_parts : List CoreOp → List (List OpenPart)
+open_parts ops = open_from no_part false ops
+
+-- At each index, how the group around the innermost part was left.
 abbrev pub forks : List CoreOp → List (Option ℕ)
-forks ops = forks_from no_part false ops
+forks ops = map fork_of (open_parts ops)
+
+abbrev pub fork_in : Option (List OpenPart) → (level : ℕ) → Option ℕ
+fork_in None level = None
+fork_in (Some open) level = fork_at open level
+
+-- At an index, how the group at a level was left.
+abbrev pub level_forks : List CoreOp → (index level : ℕ) → Option ℕ
+level_forks ops index level = fork_in (slice_get (open_parts ops) index) level
