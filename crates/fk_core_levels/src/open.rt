@@ -14,6 +14,7 @@ pub(crate) struct Open {
 }
 
 /// The open parts at an operation.
+#[derive(Drop)]
 pub(crate) struct OpenParts {
     parts: Vec<Open>,
     /// How many words the frame of the innermost part has.

@@ -8,7 +8,7 @@ use Rattle.fk_num.specs.Op.{applied}
 use Rattle.fk_num.specs.declared.operator.Op.TheVariants as num
 use Rattle.fk_space.specs.Space.{Space, IsSpace, child, equal_part}
 use Rattle.fk_meaning_operation.specs.declared.operation.SplitKind.{SplitKind}
-use Rattle.fk_meaning_operation.specs.declared.operation.SplitKind.TheVariants.{IfAlone, IfElse, AndThen, OrElse, Loop}
+use Rattle.fk_meaning_operation.specs.declared.operation.SplitKind.TheVariants.{IfAlone, IfElse, AndThen, OrElse, Loop, Fork}
 use Rattle.fk_meaning_operation.specs.declared.operation.Operation.TheVariants.{Split}
 use Rattle.fk_meaning.specs.Processor.{Setting, values, last, before}
 use Rattle.fk_meaning.specs.Group.{taken_by, waits_with, part_number, part_rank, part_level, divided, enters}
@@ -24,7 +24,7 @@ use Rattle.fk_sim_block.specs.Suits.{Flows, nothing}
 use Rattle.fk_sim_block.specs.Block.{Enters}
 use Rattle.fk_sim_block.specs.Node.{Nestings, HasLevelRoom, HasOuter, first_word, control_address, blocks_register}
 use Rattle.fk_sim_block.specs.Lockstep.{IsMember, ComesByWay, LevelsStay, LevelOpens}
-use Rattle.fk_sim_block.specs.Parts.{IsToDivide, part_of, parts_of, is_implicit}
+use Rattle.fk_sim_block.specs.Parts.{IsToDivide, part_of, parts_of}
 use Rattle.fk_sim_block.proofs.Spaces.{space_kept}
 use Rattle.fk_gen.specs.Registers.{ra, t0, t3}
 use Rattle.fk_gen.proofs.Values.{values_before, values_put}
@@ -34,9 +34,9 @@ use Rattle.fk_gen_group.specs.Laws.{IsInPlace}
 use Rattle.fk_gen_group.proofs.Last.{value_word, is_value, is_last}
 use Rattle.fk_gen_group.proofs.Levels.{below_values, lies_below, outer_on, many_callers}
 use Rattle.fk_gen_group.proofs.Slots.{slot_of, is_slot}
-use Rattle.fk_gen_group.proofs.Fronts.{Fronted, flag_by, link_at, memory_by}
+use Rattle.fk_gen_group.proofs.Fronts.{is_implicit, Fronted, flag_by, link_at, memory_by}
 use Rattle.fk_gen_group.proofs.PartSizes.{word_at}
-use Rattle.fk_gen_group.proofs.Parting.{IsPlaced, IsBehind, HasSavedLevel, HasEntered, memory_other, saved_word}
+use Rattle.fk_gen_group.proofs.Parting.{IsPlaced, IsBehind, HasSavedLevel, HasEntered, has_entered_by, memory_other, saved_word}
 
 -- ---- at the commit
 
@@ -44,7 +44,7 @@ module _ (core : List CoreOp) (image : Image) (bound : ℕ → ℕ) (places : Pl
     (place : IsInPlace core image bound places nestings i op (Split by)) (shared : HasParts image bound)
     (setting : Setting) (space : Space) (count : ℕ) (is_space : IsSpace space)
     (cycle0 : MachineSetting) (first : ℕ) (m : Member) (p : Owner) (en : Enters core image places setting cycle0 i op (Split by) p m.hart)
-    (member : IsMember places nestings setting None first m p) (divides : IsToDivide by space count p) (front : Fronted core image bound places nestings i op by place setting cycle0 m p en)
+    (member : IsMember places nestings setting None first m p) (divides : IsToDivide nestings by space count p) (front : Fronted core image bound places nestings i op by place setting cycle0 m p en)
     (label offset steps word : ℕ) (placed : IsPlaced core image bound places nestings i op by place shared setting space count is_space cycle0 first m p en member divides front label offset steps word)
     (h : Hart) (ended : h.ended ≡ placed.hart.ended) (local : h.local ≡ placed.hart.local) (same : (r : ℕ) → r ≢ 5 → h.registers r ≡ placed.hart.registers r) where
   pub live_at : h.ended ≡ false
@@ -149,7 +149,7 @@ module _ (core : List CoreOp) (image : Image) (bound : ℕ → ℕ) (places : Pl
           omega arith
 
   pub waits : InMemory places (memory_by by op.depth m.hart) (m.hart.registers group_frame_register) waiting → (h : Hart) → h.ended ≡ false → h.local ≡ memory_by by op.depth m.hart
-      → ((r : ℕ) → r ≢ 1 → r ≢ 5 → r ≢ 6 → r ≢ 7 → r ≢ 28 → r ≢ 29 → h.registers r ≡ m.hart.registers r) → h.pc ≡ 4 * places.block op.target
+      → ((r : ℕ) → r ≢ 1 → r ≢ 5 → r ≢ 6 → r ≢ 7 → r ≢ 28 → r ≢ 29 → r ≢ 30 → r ≢ 31 → h.registers r ≡ m.hart.registers r) → h.pc ≡ 4 * places.block op.target
       → IsMember places nestings setting None (first_word p.runner.has.level p.runner.has.outer) (record m { hart = h }) waiting
   waits memory h live local others pc =
       let stands = en.at.stands in
@@ -164,19 +164,19 @@ module _ (core : List CoreOp) (image : Image) (bound : ℕ → ℕ) (places : Pl
       (subst (λ k. below_values places nestings k i op.depth) (sym many) below)
       (λ x lt. low_stays x (subst (λ k. x < frame_end k - op.depth) many lt)) (omega arith) held in
       let same : SameRegisters m.hart h = (
-        kept 0 (λ e. omega arith) (λ e. omega arith) (λ e. omega arith) (λ e. omega arith) (λ e. omega arith) (λ e. omega arith),
-        above 8 (omega arith) (omega arith) (omega arith),
-        above 9 (omega arith) (omega arith) (omega arith),
-        above 18 (omega arith) (omega arith) (omega arith),
-        above 19 (omega arith) (omega arith) (omega arith),
-        above 20 (omega arith) (omega arith) (omega arith),
-        above 22 (omega arith) (omega arith) (omega arith),
-        above 23 (omega arith) (omega arith) (omega arith),
-        above 24 (omega arith) (omega arith) (omega arith),
-        above 25 (omega arith) (omega arith) (omega arith),
-        above 26 (omega arith) (omega arith) (omega arith),
-        above 27 (omega arith) (omega arith) (omega arith),
-        above 14 (omega arith) (omega arith) (omega arith),
+        others 0 (λ e. omega arith) (λ e. omega arith) (λ e. omega arith) (λ e. omega arith) (λ e. omega arith) (λ e. omega arith) (λ e. omega arith) (λ e. omega arith),
+        above 8 (omega arith) (omega arith),
+        above 9 (omega arith) (omega arith),
+        above 18 (omega arith) (omega arith),
+        above 19 (omega arith) (omega arith),
+        above 20 (omega arith) (omega arith),
+        above 22 (omega arith) (omega arith),
+        above 23 (omega arith) (omega arith),
+        above 24 (omega arith) (omega arith),
+        above 25 (omega arith) (omega arith),
+        above 26 (omega arith) (omega arith),
+        above 27 (omega arith) (omega arith),
+        above 14 (omega arith) (omega arith),
       ) in
       record {
         number = member.number;
@@ -184,23 +184,20 @@ module _ (core : List CoreOp) (image : Image) (bound : ℕ → ℕ) (places : Pl
           live = live;
           at = pc;
           stands =
-              stands_with places p waiting m.hart h stands same refl refl (above 21 (omega arith) (omega arith) (omega arith) ∙ stands.top)
+              stands_with places p waiting m.hart h stands same refl refl (above 21 (omega arith) (omega arith) ∙ stands.top)
               (subst (λ l. InMemory places l (m.hart.registers group_frame_register) waiting) (sym local) memory);
         };
         node = record {
-          node = above 10 (omega arith) (omega arith) (omega arith) ∙ member.node.node;
+          node = above 10 (omega arith) (omega arith) ∙ member.node.node;
           body = tt;
-          space = space_kept p.runner.has.level p.runner.has.outer m.hart h (above 12 (omega arith) (omega arith) (omega arith)) (above 13 (omega arith) (omega arith) (omega arith)) member.node.space;
+          space = space_kept p.runner.has.level p.runner.has.outer m.hart h (above 12 (omega arith) (omega arith)) (above 13 (omega arith) (omega arith)) member.node.space;
           outer = (subst (λ l. HasOuter places nestings setting.processors (number_of p) l (op.target ∷ callers) p.runner.has.outer) (sym local) outer, member.node.outer.1);
         };
         words = refl;
       }
     where
-      kept : (r : ℕ) → r ≢ 1 → r ≢ 5 → r ≢ 6 → r ≢ 7 → r ≢ 28 → r ≢ 29 → h.registers r ≡ m.hart.registers r
-      kept = others
-
-      above : (r : ℕ) → 7 < r → r ≢ 28 → r ≢ 29 → h.registers r ≡ m.hart.registers r
-      above r lt a b = others r (λ e. omega arith) (λ e. omega arith) (λ e. omega arith) (λ e. omega arith) a b
+      above : (r : ℕ) → 7 < r → r < 28 → h.registers r ≡ m.hart.registers r
+      above r lt less = others r (λ e. omega arith) (λ e. omega arith) (λ e. omega arith) (λ e. omega arith) (λ e. omega arith) (λ e. omega arith) (λ e. omega arith) (λ e. omega arith)
 
 -- what is in memory of who waits
 module _ (core : List CoreOp) (image : Image) (bound : ℕ → ℕ) (places : Places) (nestings : Nestings) (i : ℕ) (op : CoreOp)
@@ -266,15 +263,15 @@ keeps_rank Loop is old v = refl
 keeps_rank by is old v = absurd (cc)
 
 -- where its part lies
-pub child_is : (by : SplitKind) (space : Space) (count index : ℕ) (p : Owner) → IsToDivide by space count p → (size : ℕ)
+pub child_is : (nestings : Nestings) (by : SplitKind) (space : Space) (count index : ℕ) (p : Owner) → IsToDivide nestings by space count p → (size : ℕ)
     → child space count index ≡ (part_level by p.runner.has size index).space
-child_is by space count index p divides size =
+child_is nestings by space count index p divides size =
     ap (λ c. child space c index) (sym divides.count_is) ∙ ap (λ (s : Space). child s (parts_of by p) index) (sym divides.space_is)
 
 module _ (core : List CoreOp) (image : Image) (bound : ℕ → ℕ) (places : Places) (nestings : Nestings) (i : ℕ) (op : CoreOp) (by : SplitKind)
     (place : IsInPlace core image bound places nestings i op (Split by)) (is : is_implicit by ≡ true) (setting : Setting) (space : Space) (count : ℕ) (cycle0 : MachineSetting) (first : ℕ) (m : Member) (p : Owner)
-    (en : Enters core image places setting cycle0 i op (Split by) p m.hart) (member : IsMember places nestings setting None first m p) (divides : IsToDivide by space count p)
-    (j : ℕ) (flows : Flows core places.frames nothing i j) (opens : LevelOpens nestings i j) (room : HasLevelRoom places.frames nestings j (op.depth - taken_by by)) where
+    (en : Enters core image places setting cycle0 i op (Split by) p m.hart) (member : IsMember places nestings setting None first m p) (divides : IsToDivide nestings by space count p)
+    (j : ℕ) (flows : Flows core places.frames nothing i j) (opens : LevelOpens nestings i j) (room : HasLevelRoom places.frames nestings j (op.depth - taken_by by)) (plain : nestings.forks j (nestings.levels i) ≡ None) where
   -- another hart has the place of the blocks too
   pub has_entered : (index size word : ℕ) (hb h : Hart)
       → HasSavedLevel m.hart hb (memory_by by op.depth m.hart) (saved_word core image bound places nestings i op by place setting cycle0 first m p en member divides.group j flows opens room) word size
@@ -282,8 +279,9 @@ module _ (core : List CoreOp) (image : Image) (bound : ℕ → ℕ) (places : Pl
       → h.registers blocks_register ≡ control_address (word + equal_part space count)
       → HasEntered core image bound places nestings i op by place setting cycle0 first m p en member divides.group j flows opens room (part_level by p.runner.has size index) h
   has_entered index size word hb h saved at live pc local same blocks =
-      let c = child_is by space count index p divides size in
-      record {
+      let c = child_is nestings by space count index p divides size in
+      has_entered_by core image bound places nestings i op by place setting cycle0 first m p en member divides.group j flows opens room plain (part_level by p.runner.has size index) h
+      (record {
         live = live;
         at = pc;
         local = local ∙ saved.local;
@@ -294,7 +292,7 @@ module _ (core : List CoreOp) (image : Image) (bound : ℕ → ℕ) (places : Pl
         number = keeps_number by is p.runner.has.level.number index;
         rank = keeps_rank by is p.runner.has.level.rank (last (values p.runner.has));
         others = λ r a b c d e f g k l x. same r g ∙ saved.others r a b c d e f k l x;
-      }
+      })
 
 -- ---- by its way
 
@@ -306,13 +304,15 @@ pub first_enters : (by : SplitKind) → enters by (Some 0) ≡ true
 first_enters IfElse = refl
 first_enters by = refl
 
-pub goes_in : (by : SplitKind) → parts_label by ≡ one_part_label → split_goes_on by true ≡ 9
-goes_in IfElse label = absurd (omega arith)
-goes_in by label = refl
+pub goes_in : (by : SplitKind) (levels : ℕ) → parts_label by ≡ one_part_label → split_goes_on by levels true ≡ 9
+goes_in IfElse levels label = absurd (omega arith)
+goes_in Fork levels label = absurd (omega arith)
+goes_in by levels label = refl
 
-pub goes_by : (by : SplitKind) → parts_label by ≡ one_part_label → split_goes_on by false ≡ 3
-goes_by IfElse label = absurd (omega arith)
-goes_by by label = refl
+pub goes_by : (by : SplitKind) (levels : ℕ) → parts_label by ≡ one_part_label → split_goes_on by levels false ≡ 3
+goes_by IfElse levels label = absurd (omega arith)
+goes_by Fork levels label = absurd (omega arith)
+goes_by by levels label = refl
 
 module _ (core : List CoreOp) (image : Image) (places : Places) (nestings : Nestings) (i : ℕ) (op : CoreOp) (by : SplitKind) (setting : Setting)
     (t : MachineSetting) (highest : ℕ) (size : Owner → ℕ) (m : Member) (p : Owner) where
@@ -330,18 +330,18 @@ module _ (core : List CoreOp) (image : Image) (places : Places) (nestings : Nest
   Goes o onward h =
       IsMember places nestings setting None (first_word (went o onward).runner.has.level (went o onward).runner.has.outer) (record m { hart = h }) (went o onward)
 
-  pub comes_with : (hart : Hart) (o : Option ℕ) (onward : Bool) (steps : ℕ) → part_of by p ≡ o → enters by o ≡ onward → split_goes_on by onward ≡ steps
+  pub comes_with : (hart : Hart) (o : Option ℕ) (onward : Bool) (steps : ℕ) → part_of by p ≡ o → enters by o ≡ onward → split_goes_on by (nestings.levels i) onward ≡ steps
       → RunsPrivately image t m.number steps m.hart hart → Goes o onward hart
-      → ComesByWay core image places nestings i op (Split by) setting t (split_goes_on by) (λ q. None) highest 0 size m p
+      → ComesByWay core image places nestings i op (Split by) setting t (split_goes_on by (nestings.levels i)) (λ q. None) highest 0 size m p
   comes_with hart o onward steps e way many runs goes = record {
     hart = hart;
-    runs = subst (λ x. RunsPrivately image t m.number (split_goes_on by (enters by x)) m.hart hart) (sym e)
-        (subst (λ b. RunsPrivately image t m.number (split_goes_on by b) m.hart hart) (sym way) (subst (λ c. RunsPrivately image t m.number c m.hart hart) (sym many) runs));
+    runs = subst (λ x. RunsPrivately image t m.number (split_goes_on by (nestings.levels i) (enters by x)) m.hart hart) (sym e)
+        (subst (λ b. RunsPrivately image t m.number (split_goes_on by (nestings.levels i) b) m.hart hart) (sym way) (subst (λ c. RunsPrivately image t m.number c m.hart hart) (sym many) runs));
     member = subst (λ x. Goes x (enters by x) hart) (sym e) (subst (λ b. Goes o b hart) (sym way) goes);
   }
 
 -- where its words are then
-pub moved_word : (by : SplitKind) (space : Space) (first count size : ℕ) (p : Owner) → IsToDivide by space count p → first_word p.runner.has.level p.runner.has.outer ≡ first → (o : Option ℕ)
+pub moved_word : (nestings : Nestings) (by : SplitKind) (space : Space) (first count size : ℕ) (p : Owner) → IsToDivide nestings by space count p → first_word p.runner.has.level p.runner.has.outer ≡ first → (o : Option ℕ)
     → first_word (divided by size p.runner.has o).level (divided by size p.runner.has o).outer ≡ word_at space first count o
-moved_word by space first count size p divides words None = words
-moved_word by space first count size p divides words (Some index) = sym (ap (λ (s : Space). s.low) (child_is by space count index p divides size))
+moved_word nestings by space first count size p divides words None = words
+moved_word nestings by space first count size p divides words (Some index) = sym (ap (λ (s : Space). s.low) (child_is nestings by space count index p divides size))

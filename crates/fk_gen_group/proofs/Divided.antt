@@ -26,17 +26,21 @@ small_size : (by : SplitKind) (ps : List Owner) (o : Option ℕ) → length ps �
 small_size by ps None few = omega arith
 small_size by ps (Some j) few = let le = few_pass (λ p. is_in j (part_of by p)) ps in omega arith
 
+both_owners : (P Q R : Owner → Type 0) (ps : List Owner) → ((p : Owner) → P p → Q p → R p) → EachOwner P ps → EachOwner Q ps → EachOwner R ps
+both_owners P Q R [] f a b = tt
+both_owners P Q R (p ∷ ps) f a b = (f p a.0 b.0, both_owners P Q R ps f a.1 b.1)
+
 module _ (core : List CoreOp) (image : Image) (places : Places) (nestings : Nestings) (i : ℕ) (op : CoreOp) (by : SplitKind) (setting : Setting) (t : MachineSetting) (first : ℕ) (ps : List Owner) where
   -- each comes to its part or to where it waits, and nobody is at the arrival words
   abbrev pub Divided : List Member → Memory → Type 0
   Divided ms' own' =
-      AllMove core image places nestings i op (Split by) setting t (split_goes_on by) (λ p. None) 0 ms' ps
+      AllMove core image places nestings i op (Split by) setting t (split_goes_on by (nestings.levels i)) (λ p. None) 0 ms' ps
       × IsAtRest first own' × AllRest own' (map (moved core i op (Split by) 0 ps) ps)
 
   abbrev pub size : Owner → ℕ
   size p = size_behind (Split by) ps p
 
-  module _ (space : Space) (k : ℕ) (count : Owner → ℕ) (are : AreCounted by space first k count) (few : length ps ≤ 1024) (at : ℕ) (P : Memory → Member → Owner → Type 0) where
+  module _ (Good : Owner → Type 0) (space : Space) (k : ℕ) (count : Owner → ℕ) (are : AreCounted Good by space first k count) (few : length ps ≤ 1024) (at : ℕ) (P : Memory → Member → Owner → Type 0) where
     abbrev pub word : Owner → ℕ
     word p = word_at space first k (part_of by p)
 
@@ -48,12 +52,12 @@ module _ (core : List CoreOp) (image : Image) (places : Places) (nestings : Nest
     abbrev pub OneComes : Type 0
     OneComes =
         (summed : Memory) (m : Member) (p : Owner) → P summed m p → m.hart.pc ≡ 4 * at → IsSized summed p → size p < 2 ^ 32
-        → ComesByWay core image places nestings i op (Split by) setting t (split_goes_on by) (λ q. None) (highest_value ps) 0 size m p
+        → ComesByWay core image places nestings i op (Split by) setting t (split_goes_on by (nestings.levels i)) (λ q. None) (highest_value ps) 0 size m p
 
-    module _ (divides : (v : Memory) (m : Member) (p : Owner) → P v m p → IsToDivide by space k p)
+    module _ (good_is : (v : Memory) (m : Member) (p : Owner) → P v m p → Good p) (divides : (v : Memory) (m : Member) (p : Owner) → P v m p → IsToDivide nestings by space k p)
         (words : (v : Memory) (m : Member) (p : Owner) → P v m p → first_word p.runner.has.level p.runner.has.outer ≡ first) (comes : OneComes) where
       all_moved : (summed : Memory) (ms : List Member) (qs : List Owner) → AllAreAt at ms → Both (P summed) ms qs → EachOwner (IsSized summed) qs
-          → AllComeByWay core image places nestings i op (Split by) setting t (split_goes_on by) (λ q. None) (highest_value ps) 0 size ms qs
+          → AllComeByWay core image places nestings i op (Split by) setting t (split_goes_on by (nestings.levels i)) (λ q. None) (highest_value ps) 0 size ms qs
       all_moved summed [] [] stand all sized = tt
       all_moved summed (m ∷ ms) (p ∷ qs) stand all sized =
           (comes summed m p all.0 stand.0 sized.0 (small_size by ps (part_of by p) few), all_moved summed ms qs stand.2 all.1 sized.1)
@@ -63,7 +67,7 @@ module _ (core : List CoreOp) (image : Image) (places : Places) (nestings : Nest
           → AllRest own' (map (moved core i op (Split by) 0 ps) qs)
       all_rest summed own' [] [] all rests = tt
       all_rest summed own' (m ∷ ms) (p ∷ qs) all rests = (
-        subst (λ w. IsAtRest w own') (sym (moved_word by space first k (size p) p (divides summed m p all.0) (words summed m p all.0) (part_of by p))) rests.0,
+        subst (λ w. IsAtRest w own') (sym (moved_word nestings by space first k (size p) p (divides summed m p all.0) (words summed m p all.0) (part_of by p))) rests.0,
         all_rest summed own' ms qs all.1 rests.1,
       )
       all_rest summed own' ms qs all rests = absurd (assumption all)
@@ -71,25 +75,32 @@ module _ (core : List CoreOp) (image : Image) (places : Places) (nestings : Nest
       module _ (own own1 own2 summed own' : Memory) (one : (w : ℕ) → own1 w ≡ last_or (own w) (shares (λ p. word p + 1) nothing_each w ps))
           (two : (w : ℕ) → own2 w ≡ last_or (own1 w) (shares (λ p. word p + 0) nothing_each w ps)) (sum : (w : ℕ) → summed w ≡ sum_from (own2 w) (shares word count w ps))
           (cleared : (w : ℕ) → own' w ≡ last_or (summed w) (shares (λ p. word p + 0) nothing_each w ps)) where
-        is_sized : (p : Owner) → IsAmong (λ q. word q + 0) (word p + 0) ps → IsSized summed p
-        is_sized p among j e =
-            let lt : j < k = subst (Within k) e (are.within p) in
+        -- whatever is among the members is such
+        good_of : (v : Memory) (ms : List Member) (qs : List Owner) → Both (P v) ms qs → EachOwner Good qs
+        good_of v [] [] all = tt
+        good_of v (m ∷ ms) (p ∷ qs) all = (good_is v m p all.0, good_of v ms qs all.1)
+        good_of v ms qs all = absurd (assumption all)
+
+        is_sized : EachOwner Good ps → (p : Owner) → Good p → IsAmong (λ q. word q + 0) (word p + 0) ps → IsSized summed p
+        is_sized good p good_p among j e =
+            let lt : j < k = subst (Within k) e (are.within p good_p) in
             let same : word p ≡ word_at space first k (Some j) = ap (word_at space first k) e in
             let plain : word p + 0 ≡ word p = omega arith in
             let inside = subst (λ x. IsAmong (λ q. word q + 0) x ps) (plain ∙ same) among in
-            ap summed same ∙ part_size by space first k count are ps few own own1 own2 summed own' one two sum cleared j lt inside ∙ ap (size_of_part by ps) (sym e)
+            ap summed same ∙ part_size Good by space first k count are ps good few own own1 own2 summed own' one two sum cleared j lt inside ∙ ap (size_of_part by ps) (sym e)
 
-        rests_of : (qs : List Owner) → EachOwner (λ p. IsAmong (λ q. word q + 1) (word p + 1) ps) qs → EachOwner (λ p. IsAmong (λ q. word q + 0) (word p + 0) ps) qs
+        rests_of : EachOwner Good ps → (qs : List Owner) → EachOwner Good qs → EachOwner (λ p. IsAmong (λ q. word q + 1) (word p + 1) ps) qs → EachOwner (λ p. IsAmong (λ q. word q + 0) (word p + 0) ps) qs
             → EachOwner (λ p. IsAtRest (word p) own') qs
-        rests_of [] a b = tt
-        rests_of (p ∷ qs) a b =
-            (part_rest by space first k count are ps few own own1 own2 summed own' one two sum cleared (part_of by p) (are.within p) a.0 b.0, rests_of qs a.1 b.1)
+        rests_of good [] each a b = tt
+        rests_of good (p ∷ qs) each a b =
+            (part_rest Good by space first k count are ps good few own own1 own2 summed own' one two sum cleared (part_of by p) (are.within p each.0) a.0 b.0, rests_of good qs each.1 a.1 b.1)
 
         pub all_divided : (ms' : List Member) → AllAreAt at ms' → Both (P summed) ms' ps → IsAtRest first own → Divided ms' own'
         all_divided ms' stand all rest =
+            let good = good_of summed ms' ps all in
             let barriers = all_are_among (λ q. word q + 0) ps in
             let closings = all_are_among (λ q. word q + 1) ps in (
-              all_moved summed ms' ps stand all (each_owner (λ p. IsAmong (λ q. word q + 0) (word p + 0) ps) (IsSized summed) ps is_sized barriers),
-              waiting_rest by space first k count are ps few own own1 own2 summed own' one two sum cleared rest,
-              all_rest summed own' ms' ps all (rests_of ps closings barriers),
+              all_moved summed ms' ps stand all (both_owners Good (λ p. IsAmong (λ q. word q + 0) (word p + 0) ps) (IsSized summed) ps (is_sized good) good barriers),
+              waiting_rest Good by space first k count are ps good few own own1 own2 summed own' one two sum cleared rest,
+              all_rest summed own' ms' ps all (rests_of good ps good closings barriers),
             )

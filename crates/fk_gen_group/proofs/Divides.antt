@@ -18,11 +18,11 @@ use Rattle.fk_sim_block.specs.Owner.{Owner, Doing, core_source}
 use Rattle.fk_sim_block.specs.Stands.{Places}
 use Rattle.fk_sim_block.specs.Node.{Nestings, OwnsHeader, OwnsSpace, IsAtRest, first_word}
 use Rattle.fk_sim_block.specs.Lockstep.{AllEnter, is_due}
-use Rattle.fk_sim_block.specs.Parts.{IsToDivide, AllAreToDivide, AllMove, AllRest, is_implicit, moved}
+use Rattle.fk_sim_block.specs.Parts.{IsToDivide, AllAreToDivide, AllMove, AllRest, moved}
 use Rattle.fk_gen.proofs.Does.{holds_in_cycles}
 use Rattle.fk_gen_group.specs.Splits.{part_lines, parts_label, one_part_label, split_takes, split_goes_on}
 use Rattle.fk_gen_group.specs.Laws.{IsSplitInPlace, GroupsDivide}
-use Rattle.fk_gen_group.proofs.Fronts.{room_of_one, room_of_two}
+use Rattle.fk_gen_group.proofs.Fronts.{is_implicit, room_of_one, room_of_two}
 use Rattle.fk_gen_group.proofs.PartSizes.{counted_one, counted_two}
 use Rattle.fk_gen_group.proofs.Divided.{Divided}
 use Rattle.fk_gen_group.proofs.OnePart.{one_divides}
@@ -31,15 +31,15 @@ use Rattle.fk_gen_group.proofs.TwoParts.{two_divide}
 use Rattle.fk_gen_group.proofs.TwoParts as two
 
 -- the words of the group's node are the first of its space
-low_is : (by : SplitKind) (space : Space) (count first : ℕ) (p : Owner) → IsToDivide by space count p → first_word p.runner.has.level p.runner.has.outer ≡ first → first ≡ space.low
-low_is by space count first p divides words = sym words ∙ ap (first_word p.runner.has.level) divides.group.outer ∙ ap (λ (s : Space). s.low) divides.space_is
+low_is : (nestings : Nestings) (by : SplitKind) (space : Space) (count first : ℕ) (p : Owner) → IsToDivide nestings by space count p → first_word p.runner.has.level p.runner.has.outer ≡ first → first ≡ space.low
+low_is nestings by space count first p divides words = sym words ∙ ap (first_word p.runner.has.level) divides.group.outer ∙ ap (λ (s : Space). s.low) divides.space_is
 
 module _ (core : List CoreOp) (image : Image) (bound : ℕ → ℕ) (places : Places) (nestings : Nestings) (i : ℕ) (op : CoreOp) (setting : Setting) (t : MachineSetting) (mine : Words) (first : ℕ) (space : Space)
     (owns : OwnsHeader mine first) (all_own : OwnsSpace mine space) (is_space : IsSpace space) (own : Memory) (rest : IsAtRest first own) where
   abbrev Goal : (by : SplitKind) → List Owner → List Member → List Doing → Memory → Type 0
   Goal by ps ms' ds own' =
       (ds ≡ map (is_due core i op (Split by)) ps)
-      × AllMove core image places nestings i op (Split by) setting (later (in_cycles (split_takes by) t)) (split_goes_on by) (λ p. None) 0 ms' ps
+      × AllMove core image places nestings i op (Split by) setting (later (in_cycles (split_takes by) t)) (split_goes_on by (nestings.levels i)) (λ p. None) 0 ms' ps
       × IsAtRest first own' × AllRest own' (map (moved core i op (Split by) 0 ps) ps)
 
   abbrev Divides : (by : SplitKind) → (before : ℕ) → List Member → List Owner → Type 0
@@ -50,7 +50,7 @@ module _ (core : List CoreOp) (image : Image) (bound : ℕ → ℕ) (places : Pl
 
   -- into one part
   into_one : (by : SplitKind) → IsSplitInPlace core image bound places nestings i op by → is_implicit by ≡ true → parts_label by ≡ one_part_label → split_takes by ≡ length (part_lines by op.depth) + 2 + 6 + 4
-      → has_parts space 1 ≡ true → (ms : List Member) (p : Owner) (ps : List Owner) → length (p ∷ ps) ≤ 1024 → first ≡ space.low → Holds image t → Enter by ms (p ∷ ps) → AllAreToDivide by space 1 (p ∷ ps)
+      → has_parts space 1 ≡ true → (ms : List Member) (p : Owner) (ps : List Owner) → length (p ∷ ps) ≤ 1024 → first ≡ space.low → Holds image t → Enter by ms (p ∷ ps) → AllAreToDivide nestings by space 1 (p ∷ ps)
       → Divides by (split_takes by) ms (p ∷ ps)
   into_one by split is label takes room ms p ps few low holds all divide =
       let many = room_of_one space room in
@@ -68,7 +68,7 @@ module _ (core : List CoreOp) (image : Image) (bound : ℕ → ℕ) (places : Pl
 
   -- into two
   into_two : IsSplitInPlace core image bound places nestings i op IfElse → has_parts space 2 ≡ true → (ms : List Member) (p : Owner) (ps : List Owner) → length (p ∷ ps) ≤ 1024 → first ≡ space.low → Holds image t
-      → Enter IfElse ms (p ∷ ps) → AllAreToDivide IfElse space 2 (p ∷ ps) → Divides IfElse (split_takes IfElse) ms (p ∷ ps)
+      → Enter IfElse ms (p ∷ ps) → AllAreToDivide nestings IfElse space 2 (p ∷ ps) → Divides IfElse (split_takes IfElse) ms (p ∷ ps)
   into_two split room ms p ps few low holds all divide =
       let many = room_of_two space room in
       let are = counted_two space first is_space low many in
@@ -82,22 +82,22 @@ module _ (core : List CoreOp) (image : Image) (bound : ℕ → ℕ) (places : Pl
       (holds_in_cycles image (split_takes IfElse) t holds) (p ∷ ps) few own rest ms came)
 
   by_kind : (by : SplitKind) → IsSplitInPlace core image bound places nestings i op by → is_implicit by ≡ true → (count : ℕ) → has_parts space count ≡ true → (ms : List Member) (p : Owner) (ps : List Owner)
-      → length (p ∷ ps) ≤ 1024 → first ≡ space.low → Holds image t → Enter by ms (p ∷ ps) → AllAreToDivide by space count (p ∷ ps) → Divides by (split_takes by) ms (p ∷ ps)
+      → length (p ∷ ps) ≤ 1024 → first ≡ space.low → Holds image t → Enter by ms (p ∷ ps) → AllAreToDivide nestings by space count (p ∷ ps) → Divides by (split_takes by) ms (p ∷ ps)
   by_kind IfAlone split is count room ms p ps few low holds all divide =
       into_one IfAlone split refl refl refl (subst (λ k. has_parts space k ≡ true) (sym divide.0.count_is) room) ms p ps few low holds all
-      (subst (λ k. AllAreToDivide IfAlone space k (p ∷ ps)) (sym divide.0.count_is) divide)
+      (subst (λ k. AllAreToDivide nestings IfAlone space k (p ∷ ps)) (sym divide.0.count_is) divide)
   by_kind AndThen split is count room ms p ps few low holds all divide =
       into_one AndThen split refl refl refl (subst (λ k. has_parts space k ≡ true) (sym divide.0.count_is) room) ms p ps few low holds all
-      (subst (λ k. AllAreToDivide AndThen space k (p ∷ ps)) (sym divide.0.count_is) divide)
+      (subst (λ k. AllAreToDivide nestings AndThen space k (p ∷ ps)) (sym divide.0.count_is) divide)
   by_kind OrElse split is count room ms p ps few low holds all divide =
       into_one OrElse split refl refl refl (subst (λ k. has_parts space k ≡ true) (sym divide.0.count_is) room) ms p ps few low holds all
-      (subst (λ k. AllAreToDivide OrElse space k (p ∷ ps)) (sym divide.0.count_is) divide)
+      (subst (λ k. AllAreToDivide nestings OrElse space k (p ∷ ps)) (sym divide.0.count_is) divide)
   by_kind Loop split is count room ms p ps few low holds all divide =
       into_one Loop split refl refl refl (subst (λ k. has_parts space k ≡ true) (sym divide.0.count_is) room) ms p ps few low holds all
-      (subst (λ k. AllAreToDivide Loop space k (p ∷ ps)) (sym divide.0.count_is) divide)
+      (subst (λ k. AllAreToDivide nestings Loop space k (p ∷ ps)) (sym divide.0.count_is) divide)
   by_kind IfElse split is count room ms p ps few low holds all divide =
       into_two split (subst (λ k. has_parts space k ≡ true) (sym divide.0.count_is) room) ms p ps few low holds all
-      (subst (λ k. AllAreToDivide IfElse space k (p ∷ ps)) (sym divide.0.count_is) divide)
+      (subst (λ k. AllAreToDivide nestings IfElse space k (p ∷ ps)) (sym divide.0.count_is) divide)
   by_kind by split is count room ms p ps few low holds all divide = absurd (cc)
 
 pub groups_divide : GroupsDivide
@@ -107,4 +107,4 @@ groups_divide core image bound places nestings i op by is split setting t mine f
 groups_divide core image bound places nestings i op by is split setting t mine first space count [] (p ∷ ps) own owns all_own all divide room rest = absurd (assumption all)
 groups_divide core image bound places nestings i op by is split setting t mine first space count (m ∷ ms) (p ∷ ps) own owns all_own all divide room rest =
     by_kind core image bound places nestings i op setting t mine first space owns all_own divide.is_space own rest by split is count room (m ∷ ms) p ps divide.few
-    (low_is by space count first p divide.all.0 all.1.words) all.0.running.code all divide.all
+    (low_is nestings by space count first p divide.all.0 all.1.words) all.0.running.code all divide.all

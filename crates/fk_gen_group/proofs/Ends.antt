@@ -27,7 +27,7 @@ use Rattle.fk_gen.specs.InPlace.{HasBlock}
 use Rattle.fk_isa.specs.declared.instruction.Instruction.TheVariants as isa
 use Rattle.fk_gen.proofs.Walk.{Quiets, Plain, TellsNumber, TellsHarts, quiet_lines, walk, told_of, walked, lines_split, runs_join}
 use Rattle.fk_gen.proofs.Jumps.{jumps, goes_to_pc, jal_private}
-use Rattle.fk_sim_block.specs.Node.{Nestings, OwnsHeader, IsRoot, HasOuter, HasSaved, past_levels, saved_at, root_words, node_register, body_register}
+use Rattle.fk_sim_block.specs.Node.{Nestings, OwnsHeader, IsRoot, HasOuter, HasSaved, past_levels, saved_at, root_words, node_register, body_register, frames_word}
 use Rattle.fk_sim_block.specs.Lockstep.{IsMember, AllComeAlone, AllEnter, LevelsStay, IsInStart, AreInStart, NoneSaved, is_due}
 use Rattle.fk_gen.specs.Registers.{t0}
 use Rattle.fk_gen_group.specs.Splits.{end_part_block}
@@ -47,7 +47,7 @@ module _ (places : Places) (nestings : Nestings) (processors number : ℕ) where
   at_root m [] l none held = tt
   at_root m (i ∷ indices) l none held = (
     held.0,
-    subst (λ c. HasSaved m (saved_at places nestings (length indices) i) c []) (sym none.0) tt,
+    subst (λ c. HasSaved m (nestings.forks i) (frames_word (length indices)) (saved_at places nestings (length indices) i) c []) (sym none.0) tt,
     subst (λ c. HasOuter places nestings processors number m indices (past_levels c [])) (sym none.0)
         (at_root m indices l none.1 (subst (λ c. HasOuter places nestings processors number m indices (past_levels c (l ∷ []))) none.0 held.2)),
   )

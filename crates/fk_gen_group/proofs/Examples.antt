@@ -23,7 +23,7 @@ levels_at : ℕ → ℕ
 levels_at index = if index == 9 then 1 else 0
 
 nestings : Nestings
-nestings = record { levels = levels_at; behind = λ index. 0; nest = λ index. 0; start = gathering_of [] (λ label. 0) }
+nestings = record { levels = levels_at; behind = λ index. 0; nest = λ index. 0; forks = λ index level. None; start = gathering_of [] (λ label. 0) }
 
 -- 4 processors, no globals and no input
 setting : Setting

@@ -23,7 +23,6 @@ use Rattle.fk_sim_block.specs.Owner.{Owner}
 use Rattle.fk_sim_block.specs.Stands.{Places, zero_register, frame_register}
 use Rattle.fk_sim_block.specs.Block.{Enters}
 use Rattle.fk_sim_block.specs.Node.{Nestings}
-use Rattle.fk_sim_block.specs.Parts.{is_implicit}
 use Rattle.fk_gen.specs.Registers.{ra, t0, t2, t3}
 use Rattle.fk_gen.specs.Lines.{goes_to, at_private, label_of}
 use Rattle.fk_gen.specs.Operands.{operand, result}
@@ -32,15 +31,28 @@ use Rattle.fk_gen.proofs.Walk.{Quiets, Plain, LocalAt, CanWalk, quiet_lines, wal
 use Rattle.fk_gen.proofs.Jumps.{jumps, jal_private}
 use Rattle.fk_gen.proofs.Does.{quiet_length, holds_in_cycles}
 use Rattle.fk_gen_group.specs.Splits.{no_room, part_lines, parts_label}
-use Rattle.fk_gen_group.specs.Laws.{IsInPlace}
+use Rattle.fk_gen_group.specs.Laws.{IsInPlace, LeavesBy}
 use Rattle.fk_gen_group.proofs.Last.{value_word, is_value, is_last}
+
+-- all splits but a `fork` leave `@` and `$` as they are
+abbrev pub is_implicit : SplitKind → Bool
+is_implicit Fork = false
+is_implicit by = true
+
+pub plain_of : (by : SplitKind) (told : Option ℕ) → is_implicit by ≡ true → LeavesBy by told → told ≡ None
+plain_of IfAlone told is left = left
+plain_of IfElse told is left = left
+plain_of AndThen told is left = left
+plain_of OrElse told is left = left
+plain_of Loop told is left = left
+plain_of by told is left = absurd (cc)
 
 -- ---- room for parts
 
-no_words : (s : Space) (k : ℕ) → free s < 4 * k → is_some (share s k) ≡ false
+pub no_words : (s : Space) (k : ℕ) → free s < 4 * k → is_some (share s k) ≡ false
 no_words s k lt = ap (λ b. is_some (if b then None else (if nat_lt (equal_part s k) 16 then None else Some (equal_part s k)))) (lt-ltb (free s) (4 * k) lt)
 
-small_parts : (s : Space) (k : ℕ) → equal_part s k < 16 → is_some (share s k) ≡ false
+pub small_parts : (s : Space) (k : ℕ) → equal_part s k < 16 → is_some (share s k) ≡ false
 small_parts s k lt = elim (cases_lt (free s) (4 * k)) [
   | inl less ↦ no_words s k less
   | inr le ↦
@@ -48,12 +60,12 @@ small_parts s k lt = elim (cases_lt (free s) (4 * k)) [
       ∙ ap (λ b. is_some (if b then None else Some (equal_part s k))) (lt-ltb (equal_part s k) 16 lt)
 ]
 
-enough : (s : Space) (k : ℕ) → 4 * k ≤ free s → 16 ≤ equal_part s k → is_some (share s k) ≡ true
+pub enough : (s : Space) (k : ℕ) → 4 * k ≤ free s → 16 ≤ equal_part s k → is_some (share s k) ≡ true
 enough s k le many =
     ap (λ b. is_some (if b then None else (if nat_lt (equal_part s k) 16 then None else Some (equal_part s k)))) (le-ltb (free s) (4 * k) le)
     ∙ ap (λ b. is_some (if b then None else Some (equal_part s k))) (le-ltb (equal_part s k) 16 many)
 
-both_ways : (b : Bool) → b ≡ true → b ≡ false → ⊥
+pub both_ways : (b : Bool) → b ≡ true → b ≡ false → ⊥
 both_ways b e f = absurd (cc)
 
 -- one part needs 20 words, and two need 40

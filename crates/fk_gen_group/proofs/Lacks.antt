@@ -31,7 +31,7 @@ use Rattle.fk_sim_block.specs.Stands.{Places, zero_register, device_register}
 use Rattle.fk_sim_block.specs.Block.{Enters}
 use Rattle.fk_sim_block.specs.Node.{Nestings, OwnsHeader, KnowsSpace, control_address, frames_register, blocks_register}
 use Rattle.fk_sim_block.specs.Lockstep.{IsMember, AllEnter}
-use Rattle.fk_sim_block.specs.Parts.{IsToDivide, AllAreToDivide, is_implicit}
+use Rattle.fk_sim_block.specs.Parts.{IsToDivide, AllAreToDivide}
 use Rattle.fk_gen.specs.Registers.{ra, t0, t1}
 use Rattle.fk_gen.specs.Lines.{high_part, low_part}
 use Rattle.fk_gen.proofs.Difference.{difference}
@@ -42,13 +42,13 @@ use Rattle.fk_gen.proofs.Does.{holds_in_cycles}
 use Rattle.fk_gen_group.specs.Splits.{HasParts, part_lines, parts_label, one_part_label, two_parts_label, split_faults_in}
 use Rattle.fk_gen_group.specs.Laws.{IsInPlace, IsSplitInPlace, GroupsLackRoom}
 use Rattle.fk_gen_group.proofs.Members.{fault_part}
-use Rattle.fk_gen_group.proofs.Fronts.{Fronted, fronted, full_of_one, full_of_two, link_at}
+use Rattle.fk_gen_group.proofs.Fronts.{is_implicit, Fronted, fronted, full_of_one, full_of_two, link_at}
 
 module _ (core : List CoreOp) (image : Image) (bound : ℕ → ℕ) (places : Places) (nestings : Nestings) (i : ℕ) (op : CoreOp) (by : SplitKind)
     (place : IsInPlace core image bound places nestings i op (Split by)) (shared : HasParts image bound) (small : op.site < 2 ^ 32)
     (setting : Setting) (space : Space) (count : ℕ) (is_space : IsSpace space) (full : has_parts space count ≡ false)
     (cycle0 : MachineSetting) (first : ℕ) (m : Member) (p : Owner) (en : Enters core image places setting cycle0 i op (Split by) p m.hart)
-    (member : IsMember places nestings setting None first m p) (divides : IsToDivide by space count p) (front : Fronted core image bound places nestings i op by place setting cycle0 m p en) where
+    (member : IsMember places nestings setting None first m p) (divides : IsToDivide nestings by space count p) (front : Fronted core image bound places nestings i op by place setting cycle0 m p en) where
   abbrev n : ℕ
   n = length (part_lines by op.depth) + 2
 
@@ -213,7 +213,7 @@ module _ (core : List CoreOp) (image : Image) (bound : ℕ → ℕ) (places : Pl
 module _ (core : List CoreOp) (image : Image) (bound : ℕ → ℕ) (places : Places) (nestings : Nestings) (i : ℕ) (op : CoreOp) (setting : Setting) (space : Space) (count : ℕ)
     (shared : HasParts image bound) (small : op.site < 2 ^ 32) (is_space : IsSpace space) (full : has_parts space count ≡ false) (t : MachineSetting) (first : ℕ) where
   lacks : (by : SplitKind) (place : IsInPlace core image bound places nestings i op (Split by)) → is_implicit by ≡ true → (m : Member) (p : Owner)
-      → Enters core image places setting t i op (Split by) p m.hart → IsMember places nestings setting None first m p → IsToDivide by space count p
+      → Enters core image places setting t i op (Split by) p m.hart → IsMember places nestings setting None first m p → IsToDivide nestings by space count p
       → OneDoes (core_source core setting) image t 1 (split_faults_in by) 0 m p (λ h d. ⊥)
   lacks IfAlone place is m p en member divides =
       lacks_one core image bound places nestings i op IfAlone place shared small setting space count is_space full t first m p en member divides
@@ -233,7 +233,7 @@ module _ (core : List CoreOp) (image : Image) (bound : ℕ → ℕ) (places : Pl
   lacks by place is m p en member divides = absurd (cc)
 
   each_lacks : (by : SplitKind) (place : IsInPlace core image bound places nestings i op (Split by)) → is_implicit by ≡ true → (ms : List Member) (ps : List Owner)
-      → AllEnter core image places nestings i op (Split by) setting t None first ms ps → AllAreToDivide by space count ps
+      → AllEnter core image places nestings i op (Split by) setting t None first ms ps → AllAreToDivide nestings by space count ps
       → EachDoes (core_source core setting) image t 1 (split_faults_in by) 0 (λ number p h d. ⊥) ms ps
   each_lacks by place is [] [] all divide = tt
   each_lacks by place is (m ∷ ms) (p ∷ ps) all divide = (lacks by place is m p all.0 all.1 divide.0, each_lacks by place is ms ps all.2 divide.1)
@@ -255,7 +255,7 @@ few_before by = omega arith
 module _ (core : List CoreOp) (image : Image) (bound : ℕ → ℕ) (places : Places) (nestings : Nestings) (i : ℕ) (op : CoreOp) (by : SplitKind) (is : is_implicit by ≡ true)
     (split : IsSplitInPlace core image bound places nestings i op by) (small : op.site < 2 ^ 32) (setting : Setting) (t : MachineSetting) (mine : Words) (first : ℕ) (space : Space) (count : ℕ)
     (owns : OwnsHeader mine first) (is_space : IsSpace space) (full : has_parts space count ≡ false) where
-  all_lack : (ms : List Member) (ps : List Owner) (own : Memory) → 1 ≤ length ps → AllEnter core image places nestings i op (Split by) setting t None first ms ps → AllAreToDivide by space count ps
+  all_lack : (ms : List Member) (ps : List Owner) (own : Memory) → 1 ≤ length ps → AllEnter core image places nestings i op (Split by) setting t None first ms ps → AllAreToDivide nestings by space count ps
       → Together (core_source core setting) image mine t 1 (split_faults_in by) ms ps own (λ ms' ds own'. ⊥)
   all_lack ms [] own some all divide = absurd (omega arith)
   all_lack ms (p ∷ ps) own some all divide =

@@ -35,6 +35,8 @@ pub mod Ends
 -- the levels that frames save
 pub mod Slots
 -- the end of a part
+pub mod ForkEnds
+
 pub mod PartEnds
 -- what members give to words
 pub mod Shares
@@ -61,6 +63,12 @@ pub mod OnePart
 -- a group that divides into two
 pub mod TwoParts
 -- a group that divides
+pub mod ForkSizes
+
+pub mod Forks
+
+pub mod ForkWays
+
 pub mod Divides
 -- the size of the group of `start`
 pub mod Sizes

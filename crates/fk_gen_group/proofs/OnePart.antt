@@ -18,18 +18,18 @@ use Rattle.fk_sim_block.specs.Stands.{Places, zero_register}
 use Rattle.fk_sim_block.specs.Block.{Enters}
 use Rattle.fk_sim_block.specs.Node.{Nestings, OwnsHeader, OwnsSpace, IsAtRest, KnowsSpace, control_address}
 use Rattle.fk_sim_block.specs.Lockstep.{IsMember, AllEnter, ComesByWay, LevelsStay, highest_value, is_due}
-use Rattle.fk_sim_block.specs.Parts.{IsToDivide, AllAreToDivide, part_of, parts_of, size_behind, is_implicit}
+use Rattle.fk_sim_block.specs.Parts.{IsToDivide, AllAreToDivide, part_of, parts_of, size_behind}
 use Rattle.fk_gen.specs.Registers.{t3, ra}
 use Rattle.fk_gen.specs.InPlace.{LinesAt}
 use Rattle.fk_gen.proofs.Walk.{lines_split}
 use Rattle.fk_gen_group.specs.Splits.{part_lines, parts_label, one_part_label, one_part_place, counting_lines, waiting_lines, saving_lines, into_one_part, split_goes_on}
 use Rattle.fk_gen_group.specs.Laws.{IsSplitInPlace, GoesAside}
 use Rattle.fk_gen_group.proofs.Members.{Both, each_so, all_due}
-use Rattle.fk_gen_group.proofs.Fronts.{Fronted, fronted, flag_by, link_at, memory_by}
+use Rattle.fk_gen_group.proofs.Fronts.{is_implicit, plain_of, Fronted, fronted, flag_by, link_at, memory_by}
 use Rattle.fk_gen_group.proofs.Counting.{IsToCount, Knows}
 use Rattle.fk_gen_group.proofs.Counted.{Comes, come_and_count}
 use Rattle.fk_gen_group.proofs.Parting.{IsPlaced, placed_one, one_word, enters_word, waits_word, enters_part, wait_hart, wait_runs, one_hart, one_runs, one_has}
-use Rattle.fk_gen_group.proofs.PartSizes.{AreCounted, Within, word_at}
+use Rattle.fk_gen_group.proofs.PartSizes.{AreCounted, Each, Within, word_at}
 use Rattle.fk_gen_group.proofs.Committed.{live_at, flag_at, link_is, others_at, nought_at, local_at, saved_at_word, is_behind, waits, waits_in, has_entered, none_enters, first_enters, goes_in, goes_by, comes_with}
 use Rattle.fk_gen_group.proofs.Divided.{Divided, all_divided}
 
@@ -47,7 +47,7 @@ module _ (core : List CoreOp) (image : Image) (bound : ℕ → ℕ) (places : Pl
     (split : IsSplitInPlace core image bound places nestings i op by) (implicit : is_implicit by ≡ true) (label : parts_label by ≡ one_part_label)
     (setting : Setting) (space : Space) (is_space : IsSpace space) (many : 20 ≤ free space) (cycle0 : MachineSetting) (mine : Words) (first : ℕ)
     (owns : OwnsHeader mine first) (all_own : OwnsSpace mine space)
-    (are : AreCounted by space first 1 (λ p. flag_by by (values p.runner.has))) where
+    (are : AreCounted Each by space first 1 (λ p. flag_by by (values p.runner.has))) where
   abbrev pub flag : Owner → ℕ
   flag p = flag_by by (values p.runner.has)
 
@@ -57,7 +57,7 @@ module _ (core : List CoreOp) (image : Image) (bound : ℕ → ℕ) (places : Pl
   pub record Came (m : Member) (p : Owner) : Type 0 where
     pub enters : Enters core image places setting cycle0 i op (Split by) p m.hart
     pub member : IsMember places nestings setting None first m p
-    pub divides : IsToDivide by space 1 p
+    pub divides : IsToDivide nestings by space 1 p
 
   abbrev pub steps : ℕ
   steps = length (part_lines by op.depth) + 2 + 6
@@ -83,16 +83,16 @@ module _ (core : List CoreOp) (image : Image) (bound : ℕ → ℕ) (places : Pl
   -- the word is by who enters
   word_of : (m : Member) (p : Owner) (came : Came m p) (front : FrontOf m p came) (o : Option ℕ) → part_of by p ≡ o → word_by m p came front (flag p) ≡ control_address (word p)
   word_of m p came front None e =
-      ap (word_by m p came front) (are.none p e)
+      ap (word_by m p came front) (are.none p tt e)
       ∙ waits_word core image bound places nestings i op by split.place split.parts setting space 1 is_space cycle0 first m p came.enters came.member came.divides front
       ∙ ap (λ x. control_address (word_at space first 1 x)) (sym e)
   word_of m p came front (Some zero) e =
       let start : space.frames + 4 ≡ word_at space first 1 (Some 0) = omega arith in
-      ap (word_by m p came front) (are.one p 0 e)
+      ap (word_by m p came front) (are.one p 0 tt e)
       ∙ enters_word core image bound places nestings i op by split.place split.parts setting space 1 is_space cycle0 first m p came.enters came.member came.divides front
       ∙ ap control_address start ∙ ap (λ x. control_address (word_at space first 1 x)) (sym e)
   word_of m p came front (Some (suc j)) e =
-      let inside : suc j < 1 = subst (Within 1) e (are.within p) in
+      let inside : suc j < 1 = subst (Within 1) e (are.within p tt) in
       absurd (omega arith)
 
   pub comes : (m : Member) (p : Owner) → Came m p → Comes image cycle0 steps (bound one_part_label + 7) Ready m p
@@ -134,8 +134,8 @@ module _ (core : List CoreOp) (image : Image) (bound : ℕ → ℕ) (places : Pl
       subst (λ h. IsToCount mine 6 28 word flag (record m { hart = h }) p) (sym r.is)
       (record {
         address = placed.word_is;
-        within = within_by (part_of by p) (are.within p);
-        own = own_by (part_of by p) (are.within p);
+        within = within_by (part_of by p) (are.within p tt);
+        own = own_by (part_of by p) (are.within p tt);
         value = placed.others 28 (λ e. omega arith) (λ e. omega arith) (λ e. omega arith) ∙ front.flag;
         nought =
             placed.others 0 (λ e. omega arith) (λ e. omega arith) (λ e. omega arith)
@@ -197,23 +197,23 @@ module _ (core : List CoreOp) (image : Image) (bound : ℕ → ℕ) (places : Pl
         ready.placed m.hart ended local same
 
     abbrev Gone : Type 0
-    Gone = ComesByWay core image places nestings i op (Split by) setting t (split_goes_on by) (λ q. None) highest 0 size m p
+    Gone = ComesByWay core image places nestings i op (Split by) setting t (split_goes_on by (nestings.levels i)) (λ q. None) highest 0 size m p
 
     -- one that waits
     wait_case : part_of by p ≡ None → Gone
     wait_case e =
         let hart = wait_hart image bound places split.parts t m.number link op.target op.site holds split.place.block.labels ready.front.back m.hart live linked nought in
-        let flag0 = flag_is ∙ are.none p e in
+        let flag0 = flag_is ∙ are.none p tt e in
         let runs = wait_runs image bound places split.parts t m.number link op.target op.site holds split.place.block.labels ready.front.back m.hart live linked nought pc flag0 in
         let flows = split.place.fits.goes_on false in
         let memory = waits_in core image bound places nestings i op setting cycle0 m0 p by split.place implicit label flows came.enters e in
         let goes = waits core image bound places nestings i op by split.place flows (stays split.aside) setting cycle0 first m0 p came.enters came.member memory hart live
         (local_at core image bound places nestings i op by split.place split.parts setting space 1 is_space cycle0 first m0 p came.enters came.member came.divides ready.front one_part_label 7 steps (word p)
         ready.placed m.hart ended local same)
-        (others_at core image bound places nestings i op by split.place split.parts setting space 1 is_space cycle0 first m0 p came.enters came.member came.divides ready.front one_part_label 7 steps (word p)
-        ready.placed m.hart ended local same)
+        (λ r a b c d f g x y. others_at core image bound places nestings i op by split.place split.parts setting space 1 is_space cycle0 first m0 p came.enters came.member came.divides ready.front one_part_label 7 steps (word p)
+        ready.placed m.hart ended local same r a b c d f g)
         (ap (λ k. 4 * k) (split.place.block.labels.blocks op.target)) in
-        comes_with core image places nestings i op by setting t highest size m p hart None false 3 e (none_enters by) (goes_by by label) runs goes
+        comes_with core image places nestings i op by setting t highest size m p hart None false 3 e (none_enters by) (goes_by by (nestings.levels i) label) runs goes
 
     -- one that enters the part
     enter_case : part_of by p ≡ Some 0 → summed (word p) ≡ size p → size p < 2 ^ 32 → Gone
@@ -233,7 +233,7 @@ module _ (core : List CoreOp) (image : Image) (bound : ℕ → ℕ) (places : Pl
         let saved =
         saved_at_word core image bound places nestings i op by place split.parts setting space 1 is_space cycle0 first m0 p came.enters came.member came.divides ready.front one_part_label 7 steps (word p)
         ready.placed m.hart ended local same in
-        let flag1 = flag_is ∙ are.one p 0 e in
+        let flag1 = flag_is ∙ are.one p 0 tt e in
         let hart = one_hart image bound places split.parts t m.number link op.target target op.site holds place.block.labels ready.front.back ready.front.next ready.hart m.hart memory saved (word p) (size p) behind linked nought in
         let runs = one_runs image bound places split.parts t m.number link op.target target op.site holds place.block.labels ready.front.back ready.front.next ready.hart m.hart memory saved (word p) (size p) behind linked nought pc flag1 in
         let level = one_has image bound places split.parts t m.number link op.target target op.site holds place.block.labels ready.front.back ready.front.next ready.hart m.hart memory saved (word p) (size p) behind linked nought in
@@ -241,24 +241,24 @@ module _ (core : List CoreOp) (image : Image) (bound : ℕ → ℕ) (places : Pl
         let ends : space.blocks ≡ word p + equal_part space 1 = omega arith in
         let blocks = level.blocks ∙ known.1 ∙ ap (λ (s : Space). control_address s.blocks) came.divides.space_is ∙ ap control_address ends in
         let entered =
-        has_entered core image bound places nestings i op by place implicit setting space 1 cycle0 first m0 p came.enters came.member came.divides (suc i) (place.fits.goes_on true) place.stay split.room
-        0 (size p) (word p) hart hart level at_word live refl refl (λ r ne. refl) blocks in
+        has_entered core image bound places nestings i op by place implicit setting space 1 cycle0 first m0 p came.enters came.member came.divides (suc i) (place.fits.goes_on true) place.stay.opens split.room
+        (plain_of by (nestings.forks (suc i) (nestings.levels i)) implicit place.stay.left) 0 (size p) (word p) hart hart level at_word live refl refl (λ r ne. refl) blocks in
         let goes =
-        enters_part core image bound places nestings i op by place setting cycle0 first m0 p came.enters came.member came.divides.group (suc i) (place.fits.goes_on true) place.stay split.room
+        enters_part core image bound places nestings i op by place setting cycle0 first m0 p came.enters came.member came.divides.group (suc i) (place.fits.goes_on true) place.stay.opens split.room
         (part_level by p.runner.has (size p) 0) hart entered in
-        comes_with core image places nestings i op by setting t highest size m p hart (Some 0) true 9 e (first_enters by) (goes_in by label) runs goes
+        comes_with core image places nestings i op by setting t highest size m p hart (Some 0) true 9 e (first_enters by) (goes_in by (nestings.levels i) label) runs goes
 
     -- by the part
     pub one_comes : (o : Option ℕ) → part_of by p ≡ o → ((j : ℕ) → part_of by p ≡ Some j → summed (word p) ≡ size p) → size p < 2 ^ 32 → Gone
     one_comes None e sum small = wait_case e
     one_comes (Some zero) e sum small = enter_case e (sum 0 e) small
     one_comes (Some (suc j)) e sum small =
-        let inside : suc j < 1 = subst (Within 1) e (are.within p) in
+        let inside : suc j < 1 = subst (Within 1) e (are.within p tt) in
         absurd (omega arith)
 
   -- ---- all of them
 
-  pub came_all : (ms : List Member) (ps : List Owner) → AllEnter core image places nestings i op (Split by) setting cycle0 None first ms ps → AllAreToDivide by space 1 ps → Both Came ms ps
+  pub came_all : (ms : List Member) (ps : List Owner) → AllEnter core image places nestings i op (Split by) setting cycle0 None first ms ps → AllAreToDivide nestings by space 1 ps → Both Came ms ps
   came_all [] [] all divide = tt
   came_all (m ∷ ms) (p ∷ ps) all divide = (record { enters = all.0; member = all.1; divides = divide.0 }, came_all ms ps all.2 divide.1)
   came_all ms ps all divide = absurd (assumption all)
@@ -278,7 +278,7 @@ module _ (core : List CoreOp) (image : Image) (bound : ℕ → ℕ) (places : Pl
 
   comes_by : (t : MachineSetting) → Holds image t → (ps : List Owner) → (summed : Memory) (m : Member) (p : Owner) → Counted summed m p
       → m.hart.pc ≡ 4 * suc (suc (suc (suc (suc (bound one_part_label + 7))))) → ((j : ℕ) → part_of by p ≡ Some j → summed (word p) ≡ size_behind (Split by) ps p) → size_behind (Split by) ps p < 2 ^ 32
-      → ComesByWay core image places nestings i op (Split by) setting t (split_goes_on by) (λ q. None) (highest_value ps) 0 (λ q. size_behind (Split by) ps q) m p
+      → ComesByWay core image places nestings i op (Split by) setting t (split_goes_on by (nestings.levels i)) (λ q. None) (highest_value ps) 0 (λ q. size_behind (Split by) ps q) m p
   comes_by t holds ps summed m p counted pc sum small =
       one_comes t holds (highest_value ps) (λ q. size_behind (Split by) ps q) summed m p counted (omega arith) (part_of by p) refl sum small
 
@@ -291,7 +291,7 @@ module _ (core : List CoreOp) (image : Image) (bound : ℕ → ℕ) (places : Pl
       (λ v ms' counted. all_due core setting i op (Split by) (Counted v) ms' ps split.place.stands refl (due_here room v) counted)
       own
       (λ own1 own2 summed own' ms' one two sum cleared stand counted.
-      all_divided core image places nestings i op by setting t first ps space 1 flag are few (suc (suc (suc (suc (suc (bound one_part_label + 7)))))) Counted
-      (λ v m p c. c.near.ready.came.divides) (λ v m p c. c.near.ready.came.member.words) (comes_by t holds_later ps)
+      all_divided core image places nestings i op by setting t first ps Each space 1 flag are few (suc (suc (suc (suc (suc (bound one_part_label + 7)))))) Counted
+      (λ v m p c. tt) (λ v m p c. c.near.ready.came.divides) (λ v m p c. c.near.ready.came.member.words) (comes_by t holds_later ps)
       own own1 own2 summed own' one two sum cleared ms' stand counted rest)
       ms (each_so Came (Comes image cycle0 steps (bound one_part_label + 7) Ready) ms ps comes all)

@@ -1,5 +1,5 @@
 -- The end of a part.
-use Rattle.std.proofs.Common.{◌≡◌, ℕ, suc, ◌*◌, ◌<◌, List, [], ◌∷◌, map, true, None, sym, subst, arith, refl}
+use Rattle.std.proofs.Common.{◌≡◌, ℕ, suc, ◌*◌, ◌<◌, List, [], ◌∷◌, map, true, Option, Some, None, sym, subst, arith, refl}
 use Rattle.std.specs.Prelude.{if◌then◌else◌}
 use Rattle.std.proofs.lemmas.Bool.{ne_eqb}
 use Rattle.fk_num.specs.Word.{Memory}
@@ -23,15 +23,16 @@ use Rattle.fk_sim_block.specs.Stands.{Places, frame_register, size_register}
 use Rattle.fk_sim_block.specs.Block.{Enters}
 use Rattle.fk_sim_block.specs.Node.{Nestings, OwnsHeader, first_word}
 use Rattle.fk_sim_block.specs.Lockstep.{IsMember, AllEnter, AllComeByWay, LevelOpens, highest_value, is_due}
-use Rattle.fk_sim_block.specs.Parts.{IsInPart, AreInPart, AllMove, size_behind}
+use Rattle.fk_sim_block.specs.Parts.{IsInPart, AreInPart, AllMove, EndsPart, size_behind}
 use Rattle.fk_gen.specs.declared.placed.Levels.{Levels}
 use Rattle.fk_gen.specs.Lines.{at_private}
 use Rattle.fk_gen.specs.InPlace.{HasBlock}
 use Rattle.fk_gen.proofs.Walk.{LocalAt, told_of, can_run_goes}
 use Rattle.fk_gen.proofs.Standing.{SameRegisters}
-use Rattle.fk_gen_group.specs.Splits.{end_part_block, end_part_takes}
+use Rattle.fk_gen_group.specs.Splits.{end_part_block, end_part_by, end_part_takes}
 use Rattle.fk_gen_group.specs.Blocks.{end_block, end_by}
-use Rattle.fk_gen_group.specs.Laws.{IsInPlace, PartsEnd, levels_at}
+use Rattle.fk_gen_group.specs.Laws.{IsInPlace, PartsEnd, levels_at, last_fork}
+use Rattle.fk_gen_group.proofs.ForkEnds.{fork_part_ends}
 use Rattle.fk_gen_group.proofs.Members.{Both, all_stand, at_block, each_standing, all_alone, all_due}
 use Rattle.fk_gen_group.proofs.Slots.{slot_of, first_slot, out_word, sized, out_hart, out_runs, out_member, left_to}
 
@@ -42,7 +43,7 @@ part_block image bound places levels i target some block =
     subst (λ b. HasBlock image bound places i (if b then end_block target else end_part_block levels target)) (ne_eqb levels.count 0 (λ e. omega arith)) block
 
 module _ (core : List CoreOp) (image : Image) (bound : ℕ → ℕ) (places : Places) (nestings : Nestings) (i : ℕ) (op : CoreOp) (place : IsInPlace core image bound places nestings i op End)
-    (block : HasBlock image bound places i (end_part_block (levels_at nestings i) op.target)) (opens : LevelOpens nestings op.target i)
+    (opens : LevelOpens nestings op.target i) (plain : last_fork nestings i ≡ None) (block : HasBlock image bound places i (end_part_by None (levels_at nestings i) op.target))
     (setting : Setting) (cycle0 : MachineSetting) (mine : Words) (first : ℕ) (owns : OwnsHeader mine first) where
   record Came (m : Member) (p : Owner) : Type 0 where
     pub enters : Enters core image places setting cycle0 i op End p m.hart
@@ -50,13 +51,13 @@ module _ (core : List CoreOp) (image : Image) (bound : ℕ → ℕ) (places : Pl
     pub part : IsInPart nestings p
 
   abbrev word : ℕ
-  word = out_word core image bound places nestings i op End place (place.fits.goes_on true) opens
+  word = out_word core image bound places nestings i op End place (place.fits.goes_on true) opens plain
 
   abbrev committed : Hart → Hart
-  committed h = sized core image bound places nestings i op End place (place.fits.goes_on true) opens h
+  committed h = sized core image bound places nestings i op End place (place.fits.goes_on true) opens plain h
 
   abbrev gone : (t : MachineSetting) (number : ℕ) → Hart → Hart
-  gone t number h = out_hart core image bound places nestings i op End place (place.fits.goes_on true) opens (told_of t number) h
+  gone t number h = out_hart core image bound places nestings i op End place (place.fits.goes_on true) opens plain (told_of t number) h
 
   -- a member that has committed
   record Ended (m : Member) (p : Owner) : Type 0 where
@@ -77,20 +78,20 @@ module _ (core : List CoreOp) (image : Image) (bound : ℕ → ℕ) (places : Pl
   runs m p holds e =
       let en = e.came.enters in
       subst (λ h. RunsPrivately image (later cycle0) m.number 4 h (gone (later cycle0) m.number e.hart)) (sym e.is)
-      (out_runs core image bound places nestings i op End place (place.fits.goes_on true) opens setting cycle0 first (record m { hart = e.hart }) p en e.came.member e.came.part e.hart
+      (out_runs core image bound places nestings i op End place (place.fits.goes_on true) opens plain setting cycle0 first (record m { hart = e.hart }) p en e.came.member e.came.part e.hart
       (same_hart e.hart) refl refl en.at.live (later cycle0) (suc (places.block i)) holds block.labels block.lines.1 e.at)
 
   -- a processor in the group around its part
   abbrev Back : List Level → Member → Hart → Owner → Type 0
   Back outer m h p =
-      let q = left_to core image bound places nestings i op End place (place.fits.goes_on true) opens outer (values p.runner.has) p in
+      let q = left_to core image bound places nestings i op End place (place.fits.goes_on true) opens plain outer (values p.runner.has) p in
       IsMember places nestings setting None (first_word q.runner.has.level q.runner.has.outer) (record m { hart = h }) q
 
   back : (m : Member) (p : Owner) → (e : Ended m p) → Back p.runner.has.outer m (gone (later cycle0) m.number e.hart) p
   back m p e =
       let en = e.came.enters in
       subst (λ o. Back o m (gone (later cycle0) m.number e.hart) p) (sym e.came.part.outer)
-      (out_member core image bound places nestings i op End place (place.fits.goes_on true) opens setting cycle0 first (record m { hart = e.hart }) p en e.came.member e.came.part e.hart
+      (out_member core image bound places nestings i op End place (place.fits.goes_on true) opens plain setting cycle0 first (record m { hart = e.hart }) p en e.came.member e.came.part e.hart
       (same_hart e.hart) refl refl en.at.live (told_of (later cycle0) m.number) (values p.runner.has) block.labels en.at.stands.running.values)
 
   -- ---- all of them
@@ -116,7 +117,7 @@ module _ (core : List CoreOp) (image : Image) (bound : ℕ → ℕ) (places : Pl
   loads : (m : Member) (p : Owner) → Came m p → (s : Shared) → GoesAlone (perform cycle0 m.number (Lw size_register frame_register (at_private word)) m.hart s) (committed m.hart) s
   loads m p came s =
       let en = came.enters in
-      let slot = first_slot core image bound places nestings i op End place (place.fits.goes_on true) opens setting cycle0 first m p en came.member came.part m.hart (same_hart m.hart) refl refl en.at.live in
+      let slot = first_slot core image bound places nestings i op End place (place.fits.goes_on true) opens plain setting cycle0 first m p en came.member came.part m.hart (same_hart m.hart) refl refl en.at.live in
       can_run_goes (Lw size_register frame_register (at_private word)) (LocalAt (slot_of word m.hart)) m.hart (slot.within, slot.address) cycle0 m.number s
 
   together : (highest : ℕ) (size : Owner → ℕ) (ms : List Member) (ps : List Owner) (own : Memory) → Holds image cycle0 → Both Came ms ps
@@ -134,17 +135,26 @@ module _ (core : List CoreOp) (image : Image) (bound : ℕ → ℕ) (places : Pl
       (private_of_all image mine cycle0 (places.block i) 1 (Lw size_register frame_register (at_private word)) f ms own holds block.lines.0 stand
       (all_alone Came cycle0 (Lw size_register frame_register (at_private word)) f ms ps loads all)))
 
-pub parts_end : PartsEnd
-parts_end core image bound places nestings i op place leads setting t mine first [] [] own owns all part = record { counted = tt; chain = (refl, tt, refl) }
-parts_end core image bound places nestings i op place leads setting t mine first (m ∷ ms) (p ∷ ps) own owns all part =
+-- no `fork` made the part
+plain_part_ends : (core : List CoreOp) (image : Image) (bound : ℕ → ℕ) (places : Places) (nestings : Nestings) (i : ℕ) (op : CoreOp) → IsInPlace core image bound places nestings i op End
+    → (0 < nestings.levels i → LevelOpens nestings op.target i) → last_fork nestings i ≡ None → EndsPart core image places nestings i op (λ onward. 4)
+plain_part_ends core image bound places nestings i op place leads plain setting t mine first [] [] own owns all part = record { counted = tt; chain = (refl, tt, refl) }
+plain_part_ends core image bound places nestings i op place leads plain setting t mine first (m ∷ ms) (p ∷ ps) own owns all part =
     let some : 0 < nestings.levels i = subst (λ a. 0 < nestings.levels a) all.0.index part.0.saved in
-    let block = part_block image bound places (levels_at nestings i) i op.target some place.block in
-    let came = came_all core image bound places nestings i op place block (leads some) setting t mine first owns (m ∷ ms) (p ∷ ps) all part in
-    let gone : List Member → Type 0 = λ ms'. AllMove core image places nestings i op End setting (later t) (λ onward. end_part_takes) (λ q. None) 0 ms' (p ∷ ps) in
+    let block = subst (λ f. HasBlock image bound places i (end_part_by f (levels_at nestings i) op.target)) plain (part_block image bound places (levels_at nestings i) i op.target some place.block) in
+    let came = came_all core image bound places nestings i op place (leads some) plain block setting t mine first owns (m ∷ ms) (p ∷ ps) all part in
+    let gone : List Member → Type 0 = λ ms'. AllMove core image places nestings i op End setting (later t) (λ onward. 4) (λ q. None) 0 ms' (p ∷ ps) in
     together_map (core_source core setting) image mine t 1 0 (m ∷ ms) (p ∷ ps) own
     (λ ms' ds own'. (ds ≡ map (is_due core i op End) (p ∷ ps)) × (gone ms' × (own' ≡ own)))
     (λ ms' ds own'. (ds ≡ map (is_due core i op End) (p ∷ ps)) × gone ms' × (own' ≡ own))
     (λ ms' ds own' x. (x.0, x.1.0, x.1.1))
-    (together core image bound places nestings i op place block (leads some) setting t mine first owns (highest_value (p ∷ ps)) (size_behind End (p ∷ ps)) (m ∷ ms) (p ∷ ps) own
+    (together core image bound places nestings i op place (leads some) plain block setting t mine first owns (highest_value (p ∷ ps)) (size_behind End (p ∷ ps)) (m ∷ ms) (p ∷ ps) own
     all.0.running.code came)
-parts_end core image bound places nestings i op place leads setting t mine first ms ps own owns all part = absurd (assumption all)
+plain_part_ends core image bound places nestings i op place leads plain setting t mine first ms ps own owns all part = absurd (assumption all)
+
+pub parts_end : PartsEnd
+parts_end core image bound places nestings i op place leads = by_fork (last_fork nestings i) refl
+  where
+    by_fork : (fork : Option ℕ) → last_fork nestings i ≡ fork → EndsPart core image places nestings i op (λ onward. end_part_takes (last_fork nestings i) (nestings.levels i))
+    by_fork None e = subst (λ f. EndsPart core image places nestings i op (λ onward. end_part_takes f (nestings.levels i))) (sym e) (plain_part_ends core image bound places nestings i op place leads e)
+    by_fork (Some words) e = subst (λ f. EndsPart core image places nestings i op (λ onward. end_part_takes f (nestings.levels i))) (sym e) (fork_part_ends core image bound places nestings i op place leads words e)

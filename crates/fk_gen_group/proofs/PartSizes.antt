@@ -13,10 +13,10 @@ use Rattle.fk_meaning.specs.Group.{part}
 use Rattle.fk_sim_nodes.specs.OnePlace.{last_or, sum_from}
 use Rattle.fk_sim_block.specs.Owner.{Owner}
 use Rattle.fk_sim_block.specs.Node.{IsAtRest}
-use Rattle.fk_sim_block.specs.Parts.{part_of, size_of_part, is_implicit}
+use Rattle.fk_sim_block.specs.Parts.{part_of, size_of_part}
 use Rattle.fk_gen_group.specs.Splits.{parts_label, one_part_label}
-use Rattle.fk_gen_group.proofs.Fronts.{flag_by}
-use Rattle.fk_gen_group.proofs.Shares.{GivesOne, every_owner, shares, nothing_each, IsAmong, is_cleared, stays_nought, no_shares, sum_is}
+use Rattle.fk_gen_group.proofs.Fronts.{is_implicit, flag_by}
+use Rattle.fk_gen_group.proofs.Shares.{GivesOne, EachOwner, each_owner, shares, nothing_each, IsAmong, is_cleared, stays_nought, no_shares, sum_is}
 
 -- ---- the words at which members count
 
@@ -29,11 +29,11 @@ abbrev pub Within : (count : ℕ) → Option ℕ → Type 0
 Within k None = Unit {0}
 Within k (Some j) = j < k
 
--- each in a part gives 1 to its word and no word is next to another
-pub record AreCounted (by : SplitKind) (space : Space) (first k : ℕ) (count : Owner → ℕ) : Type 0 where
-  pub within : (p : Owner) → Within k (part_of by p)
-  pub one : (p : Owner) (j : ℕ) → part_of by p ≡ Some j → count p ≡ 1
-  pub none : (p : Owner) → part_of by p ≡ None → count p ≡ 0
+-- each of some processors that is in a part gives 1 to its word, and no word is next to another
+pub record AreCounted (Good : Owner → Type 0) (by : SplitKind) (space : Space) (first k : ℕ) (count : Owner → ℕ) : Type 0 where
+  pub within : (p : Owner) → Good p → Within k (part_of by p)
+  pub one : (p : Owner) (j : ℕ) → Good p → part_of by p ≡ Some j → count p ≡ 1
+  pub none : (p : Owner) → Good p → part_of by p ≡ None → count p ≡ 0
   pub apart : (x y : Option ℕ) → Within k x → Within k y → word_at space first k x + 1 ≡ word_at space first k y → ⊥
   pub differ : (j : ℕ) → j < k → first ≡ word_at space first k (Some j) → ⊥
   pub same : (j l : ℕ) → j < k → l < k → word_at space first k (Some j) ≡ word_at space first k (Some l) → j ≡ l
@@ -42,64 +42,68 @@ no_more : (ps : List Owner) → length (filter (λ (p : Owner). false) ps) ≡ 0
 no_more [] = refl
 no_more (p ∷ ps) = no_more ps
 
-module _ (by : SplitKind) (space : Space) (first k : ℕ) (count : Owner → ℕ) (are : AreCounted by space first k count) where
+-- all processors are such
+abbrev pub Each : Owner → Type 0
+Each p = Unit {0}
+
+module _ (Good : Owner → Type 0) (by : SplitKind) (space : Space) (first k : ℕ) (count : Owner → ℕ) (are : AreCounted Good by space first k count) where
   abbrev pub word : Owner → ℕ
   word p = word_at space first k (part_of by p)
 
   -- those of a part are counted
-  gives_to : (j : ℕ) → j < k → (p : Owner) (o : Option ℕ) → part_of by p ≡ o → GivesOne word count (word_at space first k (Some j)) (is_in j o) p
-  gives_to j lt p None e =
+  gives_to : (j : ℕ) → j < k → (p : Owner) → Good p → (o : Option ℕ) → part_of by p ≡ o → GivesOne word count (word_at space first k (Some j)) (is_in j o) p
+  gives_to j lt p good None e =
       inl (ne_eqb (word_at space first k (Some j)) (word p) (λ f. are.differ j lt (sym (f ∙ ap (word_at space first k) e))))
-  gives_to j lt p (Some l) e = by_same (j == l) refl
+  gives_to j lt p good (Some l) e = by_same (j == l) refl
     where
       true_false : true ≡ false → ⊥
       true_false e = absurd (cc)
 
       inside : l < k
-      inside = subst (Within k) e (are.within p)
+      inside = subst (Within k) e (are.within p good)
 
       by_same : (b : Bool) → (j == l) ≡ b → GivesOne word count (word_at space first k (Some j)) b p
       by_same true f =
           let same : j ≡ l = eqb-true j l f in
-          (eq-eqb (word_at space first k (Some j)) (word p) (ap (λ x. word_at space first k (Some x)) same ∙ sym (ap (word_at space first k) e)), are.one p l e)
+          (eq-eqb (word_at space first k (Some j)) (word p) (ap (λ x. word_at space first k (Some x)) same ∙ sym (ap (word_at space first k) e)), are.one p l good e)
       by_same false f =
           inl (ne_eqb (word_at space first k (Some j)) (word p)
           (λ g. true_false (sym (eq-eqb j l (are.same j l lt inside (g ∙ ap (word_at space first k) e))) ∙ f)))
 
-  pub counted_part : (j : ℕ) → j < k → (v : ℕ) (ps : List Owner) → v ≡ 0 → length ps ≤ 1024
+  pub counted_part : (j : ℕ) → j < k → (v : ℕ) (ps : List Owner) → EachOwner Good ps → v ≡ 0 → length ps ≤ 1024
       → sum_from v (shares word count (word_at space first k (Some j)) ps) ≡ size_of_part by ps (Some j)
-  counted_part j lt v ps e few =
+  counted_part j lt v ps good e few =
       let sum = sum_is word count (λ p. is_in j (part_of by p)) (word_at space first k (Some j)) v ps
-      (every_owner (λ p. GivesOne word count (word_at space first k (Some j)) (is_in j (part_of by p)) p) ps (λ p. gives_to j lt p (part_of by p) refl)) (omega arith) in
+      (each_owner Good (λ p. GivesOne word count (word_at space first k (Some j)) (is_in j (part_of by p)) p) ps (λ p g. gives_to j lt p g (part_of by p) refl) good) (omega arith) in
       sum ∙ omega arith
 
   -- nobody is counted at the words of those who wait
-  gives_none : (p : Owner) (o : Option ℕ) → part_of by p ≡ o → GivesOne word count first false p
-  gives_none p None e = inr (are.none p e)
-  gives_none p (Some j) e = inl (ne_eqb first (word p) (λ f. are.differ j (subst (Within k) e (are.within p)) (f ∙ ap (word_at space first k) e)))
+  gives_none : (p : Owner) → Good p → (o : Option ℕ) → part_of by p ≡ o → GivesOne word count first false p
+  gives_none p good None e = inr (are.none p good e)
+  gives_none p good (Some j) e = inl (ne_eqb first (word p) (λ f. are.differ j (subst (Within k) e (are.within p good)) (f ∙ ap (word_at space first k) e)))
 
-  counted_none : (v : ℕ) (ps : List Owner) → v ≡ 0 → length ps ≤ 1024 → sum_from v (shares word count first ps) ≡ 0
-  counted_none v ps e few =
+  counted_none : (v : ℕ) (ps : List Owner) → EachOwner Good ps → v ≡ 0 → length ps ≤ 1024 → sum_from v (shares word count first ps) ≡ 0
+  counted_none v ps good e few =
       let none = no_more ps in
-      let sum = sum_is word count (λ p. false) first v ps (every_owner (λ p. GivesOne word count first false p) ps (λ p. gives_none p (part_of by p) refl)) (omega arith) in
+      let sum = sum_is word count (λ p. false) first v ps (each_owner Good (λ p. GivesOne word count first false p) ps (λ p g. gives_none p g (part_of by p) refl) good) (omega arith) in
       sum ∙ omega arith
 
   -- nobody has the word after one
-  none_next : (x : Option ℕ) → Within k x → (f : Owner → ℕ) (ps : List Owner) → shares word f (word_at space first k x + 1) ps ≡ []
-  none_next x within f ps =
+  none_next : (x : Option ℕ) → Within k x → (f : Owner → ℕ) (ps : List Owner) → EachOwner Good ps → shares word f (word_at space first k x + 1) ps ≡ []
+  none_next x within f ps good =
       no_shares word f (word_at space first k x + 1) ps
-      (every_owner (λ q. word_at space first k x + 1 ≡ word q → ⊥) ps (λ q e. are.apart x (part_of by q) within (are.within q) e))
+      (each_owner Good (λ q. word_at space first k x + 1 ≡ word q → ⊥) ps (λ q g e. are.apart x (part_of by q) within (are.within q g) e) good)
 
   -- ---- what is in the words afterwards
 
-  module _ (ps : List Owner) (few : length ps ≤ 1024) (own own1 own2 summed own' : Memory)
+  module _ (ps : List Owner) (good : EachOwner Good ps) (few : length ps ≤ 1024) (own own1 own2 summed own' : Memory)
       (one : (w : ℕ) → own1 w ≡ last_or (own w) (shares (λ p. word p + 1) nothing_each w ps)) (two : (w : ℕ) → own2 w ≡ last_or (own1 w) (shares (λ p. word p + 0) nothing_each w ps))
       (sum : (w : ℕ) → summed w ≡ sum_from (own2 w) (shares word count w ps)) (last : (w : ℕ) → own' w ≡ last_or (summed w) (shares (λ p. word p + 0) nothing_each w ps)) where
     closed : (x : Option ℕ) → Within k x → own1 (word_at space first k x + 1) ≡ 0 → own' (word_at space first k x + 1) ≡ 0
     closed x within e =
         let w = word_at space first k x + 1 in
         let e2 = two w ∙ stays_nought (λ p. word p + 0) w (own1 w) ps e in
-        let e3 = sum w ∙ ap (sum_from (own2 w)) (none_next x within count ps) ∙ e2 in
+        let e3 = sum w ∙ ap (sum_from (own2 w)) (none_next x within count ps good) ∙ e2 in
         last w ∙ stays_nought (λ p. word p + 0) w (summed w) ps e3
 
     pub waiting_rest : IsAtRest first own → IsAtRest first own'
@@ -108,7 +112,7 @@ module _ (by : SplitKind) (space : Space) (first k : ℕ) (count : Owner → ℕ
         let e : own first ≡ 0 = ap own (sym zero') ∙ rest.barrier in
         let e1 = one first ∙ stays_nought (λ p. word p + 1) first (own first) ps e in
         let e2 = two first ∙ stays_nought (λ p. word p + 0) first (own1 first) ps e1 in
-        let e3 = sum first ∙ counted_none (own2 first) ps e2 few in
+        let e3 = sum first ∙ counted_none (own2 first) ps good e2 few in
         let e4 = last first ∙ stays_nought (λ p. word p + 0) first (summed first) ps e3 in
         record {
           barrier = ap own' zero' ∙ e4;
@@ -128,7 +132,7 @@ module _ (by : SplitKind) (space : Space) (first k : ℕ) (count : Owner → ℕ
     pub part_size : (j : ℕ) → j < k → IsAmong (λ p. word p + 0) (word_at space first k (Some j)) ps → summed (word_at space first k (Some j)) ≡ size_of_part by ps (Some j)
     part_size j lt among =
         let w = word_at space first k (Some j) in
-        sum w ∙ counted_part j lt (own2 w) ps (two w ∙ is_cleared (λ p. word p + 0) w (own1 w) ps among) few
+        sum w ∙ counted_part j lt (own2 w) ps good (two w ∙ is_cleared (λ p. word p + 0) w (own1 w) ps among) few
 
 -- ---- one part, and two
 
@@ -171,17 +175,17 @@ module _ (space : Space) (first : ℕ) (is_space : IsSpace space) (low : first �
   differ_one (suc j) lt e = omega arith
 
   one_counted : (by : SplitKind) → ((vs : List ℕ) → Within 1 (part by vs)) → ((vs : List ℕ) → flag_by by vs ≡ from_bool (is_some (part by vs)))
-      → AreCounted by space first 1 (λ p. flag_by by (values p.runner.has))
+      → AreCounted Each by space first 1 (λ p. flag_by by (values p.runner.has))
   one_counted by within flag = record {
-    within = λ p. within (values p.runner.has);
-    one = λ p j e. flag (values p.runner.has) ∙ from_some (part by (values p.runner.has)) j e;
-    none = λ p e. flag (values p.runner.has) ∙ from_none (part by (values p.runner.has)) e;
+    within = λ p good. within (values p.runner.has);
+    one = λ p j good e. flag (values p.runner.has) ∙ from_some (part by (values p.runner.has)) j e;
+    none = λ p good e. flag (values p.runner.has) ∙ from_none (part by (values p.runner.has)) e;
     apart = apart_one;
     differ = differ_one;
     same = λ j l a b e. omega arith;
   }
 
-  pub counted_one : (by : SplitKind) → is_implicit by ≡ true → parts_label by ≡ one_part_label → AreCounted by space first 1 (λ p. flag_by by (values p.runner.has))
+  pub counted_one : (by : SplitKind) → is_implicit by ≡ true → parts_label by ≡ one_part_label → AreCounted Each by space first 1 (λ p. flag_by by (values p.runner.has))
   counted_one IfAlone is label = one_counted IfAlone (λ vs. nought_waits (last vs)) (λ vs. refl)
   counted_one AndThen is label = one_counted AndThen (λ vs. nought_waits (last vs)) (λ vs. refl)
   counted_one OrElse is label = one_counted OrElse (λ vs. nought_enters (last vs)) (λ vs. refl)
@@ -217,11 +221,11 @@ module _ (space : Space) (first : ℕ) (is_space : IsSpace space) (low : first �
     same_two (suc (suc j)) l a b e = omega arith
     same_two j (suc (suc l)) a b e = omega arith
 
-    pub counted_two : AreCounted IfElse space first 2 (λ p. 1)
+    pub counted_two : AreCounted Each IfElse space first 2 (λ p. 1)
     counted_two = record {
-      within = λ p. either_enters (last (values p.runner.has) == 0);
-      one = λ p j e. refl;
-      none = λ p e. absurd (none_waits (last (values p.runner.has) == 0) e);
+      within = λ p good. either_enters (last (values p.runner.has) == 0);
+      one = λ p j good e. refl;
+      none = λ p good e. absurd (none_waits (last (values p.runner.has) == 0) e);
       apart = apart_two;
       differ = differ_two;
       same = same_two;

@@ -20,10 +20,10 @@ use Rattle.fk_machine.proofs.Performs.{writes}
 use Rattle.fk_sim_nodes.specs.Node.{Member}
 use Rattle.fk_sim_nodes.specs.Alone.{Holds, RunsPrivately, later, in_cycles}
 use Rattle.fk_sim_block.specs.Owner.{Owner, number_of}
-use Rattle.fk_sim_block.specs.Stands.{Places, HasValues, FrameInMemory, local_address, frame_start, frame_end, group_word, value_of, zero_register, size_register, group_frame_register, HaveGroupFrames}
+use Rattle.fk_sim_block.specs.Stands.{Places, HasValues, FrameInMemory, local_address, frame_start, frame_end, group_word, value_of, zero_register, size_register, group_frame_register, HaveGroupFrames, number_register, rank_register}
 use Rattle.fk_sim_block.specs.Suits.{Flows, nothing}
 use Rattle.fk_sim_block.specs.Block.{Enters}
-use Rattle.fk_sim_block.specs.Node.{Nestings, HasLevel, HasLevelRoom, HasSaved, HasOuter, KnowsSpace, saved_at, first_word, past_levels, control_address, node_register, frames_register, blocks_register}
+use Rattle.fk_sim_block.specs.Node.{Nestings, HasLevel, HasLevelRoom, HasSaved, HasOuter, KnowsSpace, saved_at, first_word, past_levels, control_address, node_register, frames_register, blocks_register, HasLevelBy, frames_word}
 use Rattle.fk_sim_block.specs.Lockstep.{IsMember, IsInGroup, LevelOpens}
 use Rattle.fk_sim_block.specs.Parts.{IsToDivide}
 use Rattle.fk_gen.proofs.Difference.{difference}
@@ -38,7 +38,7 @@ use Rattle.fk_gen.proofs.Standing.{InMemory, in_memory, groups_on, waiting_kept,
 use Rattle.fk_gen_group.specs.Splits.{HasParts, no_room, part_lines, parts_label, one_part_label, two_parts_label, one_part_place, two_parts_place, counting_lines, waiting_lines, saving_lines, into_one_part, into_two_parts}
 use Rattle.fk_gen_group.specs.Laws.{IsInPlace}
 use Rattle.fk_gen_group.proofs.Last.{value_word, is_value}
-use Rattle.fk_gen_group.proofs.Levels.{below_values, lies_below, many_callers, saved_kept, outer_kept}
+use Rattle.fk_gen_group.proofs.Levels.{below_values, lies_below, many_callers, saved_kept, saved_by, outer_kept}
 use Rattle.fk_gen_group.proofs.Fronts.{Fronted, memory_by}
 
 -- ---- a part is at its place
@@ -47,7 +47,7 @@ module _ (core : List CoreOp) (image : Image) (bound : ℕ → ℕ) (places : Pl
     (place : IsInPlace core image bound places nestings i op (Split by)) (shared : HasParts image bound)
     (setting : Setting) (space : Space) (count : ℕ) (is_space : IsSpace space)
     (cycle0 : MachineSetting) (first : ℕ) (m : Member) (p : Owner) (en : Enters core image places setting cycle0 i op (Split by) p m.hart)
-    (member : IsMember places nestings setting None first m p) (divides : IsToDivide by space count p) (front : Fronted core image bound places nestings i op by place setting cycle0 m p en) where
+    (member : IsMember places nestings setting None first m p) (divides : IsToDivide nestings by space count p) (front : Fronted core image bound places nestings i op by place setting cycle0 m p en) where
   abbrev n : ℕ
   n = length (part_lines by op.depth) + 2
 
@@ -284,7 +284,7 @@ pub part_in_memory : (core : List CoreOp) (places : Places) (m m' : Memory) (a :
     → p.runner.left.at ≡ i → Flows core places.frames nothing i i' → InMemory places m a p
     → frame_start places (length p.runner.has.callers) + 7 ≤ low
     → ((word : ℕ) → places.frames.keeps i' word ≡ true → frame_start places (length p.runner.has.callers) + 7 + word < low)
-    → ((j : ℕ) → j < low → m' j ≡ m j) → ((j : ℕ) → frame_end (length p.runner.has.callers) ≤ j → m' j ≡ m j)
+    → ((j : ℕ) → j < low → (j ≡ frames_word (length p.runner.has.callers) → ⊥) → m' j ≡ m j) → ((j : ℕ) → frame_end (length p.runner.has.callers) ≤ j → m' j ≡ m j)
     → HasValues (value_of m' (length p.runner.has.callers)) vs
     → InMemory places m' a (with_list core places i' vs p)
 part_in_memory core places m m' a p i i' low vs few waiting at flows held start words below above values' =
@@ -296,14 +296,14 @@ part_in_memory core places m m' a p i i' low vs few waiting at flows held start 
       running = record {
         home = flows.main ∙ running.home;
         values = values';
-        privates = λ x e. below (frame_start places n + 7 + x) (words x e) ∙ running.privates x (flows.kept x e refl);
+        privates = λ x e. below (frame_start places n + 7 + x) (words x e) (λ f. omega (arith, begins, f)) ∙ running.privates x (flows.kept x e refl);
       };
-      waiting = waiting_kept places m m' p.runner.left.callers p.runner.has.callers few (λ j le lt. below j (omega arith)) held.waiting;
+      waiting = waiting_kept places m m' p.runner.left.callers p.runner.has.callers few (λ j le lt. below j (omega arith) (λ f. omega arith)) held.waiting;
       groups = groups_on core places nothing m m' a i i' p.runner.has.call (with_list core places i' vs p).runner.has.call p.runner.left.callers p.runner.has.callers flows refl
-          (λ k le. let g = group_at n in below (group_word k) (omega (arith, g, le, start))) groups;
-      own = λ x lt. below (7 + x) (omega arith) ∙ held.own x lt;
+          (λ k le. let g = group_at n in below (group_word k) (omega (arith, g, le, start)) (λ f. omega (arith, le, f))) groups;
+      own = λ x lt. below (7 + x) (omega arith) (λ f. omega (arith, few, lt, f)) ∙ held.own x lt;
       heap = λ x lt. above (16384 + x) (omega arith) ∙ held.heap x lt;
-      full = below 2 (omega arith) ∙ held.full;
+      full = below 2 (omega arith) (λ f. omega arith) ∙ held.full;
     }
   where
     group_at : (n : ℕ) → group_word n < frame_start places n + 7
@@ -348,6 +348,36 @@ is_written m at size node blocks frames =
 
 -- ---- a member enters a part
 
+-- registers that stay where a member enters a part
+pub record HasKept (first h : Hart) : Type 0 where
+  pub nought : h.registers 0 ≡ first.registers 0
+  pub frame : h.registers 8 ≡ first.registers 8
+  pub behind : h.registers 9 ≡ first.registers 9
+  pub group : h.registers 14 ≡ first.registers 14
+  pub top : h.registers 21 ≡ first.registers 21
+  pub local : h.registers 22 ≡ first.registers 22
+  pub shared_data : h.registers 23 ≡ first.registers 23
+  pub private_heap : h.registers 24 ≡ first.registers 24
+  pub shared_mask : h.registers 25 ≡ first.registers 25
+  pub devices : h.registers 26 ≡ first.registers 26
+  pub heap_mask : h.registers 27 ≡ first.registers 27
+
+pub has_kept : (first h : Hart)
+    → ((r : ℕ) → r ≢ 1 → r ≢ 5 → r ≢ 6 → r ≢ 7 → r ≢ 10 → r ≢ 12 → r ≢ 13 → r ≢ 18 → r ≢ 19 → r ≢ 20 → r ≢ 28 → r ≢ 29 → r ≢ 30 → r ≢ 31 → h.registers r ≡ first.registers r) → HasKept first h
+has_kept first h others = record {
+  nought = others 0 (λ e. omega arith) (λ e. omega arith) (λ e. omega arith) (λ e. omega arith) (λ e. omega arith) (λ e. omega arith) (λ e. omega arith) (λ e. omega arith) (λ e. omega arith) (λ e. omega arith) (λ e. omega arith) (λ e. omega arith) (λ e. omega arith) (λ e. omega arith);
+  frame = others 8 (λ e. omega arith) (λ e. omega arith) (λ e. omega arith) (λ e. omega arith) (λ e. omega arith) (λ e. omega arith) (λ e. omega arith) (λ e. omega arith) (λ e. omega arith) (λ e. omega arith) (λ e. omega arith) (λ e. omega arith) (λ e. omega arith) (λ e. omega arith);
+  behind = others 9 (λ e. omega arith) (λ e. omega arith) (λ e. omega arith) (λ e. omega arith) (λ e. omega arith) (λ e. omega arith) (λ e. omega arith) (λ e. omega arith) (λ e. omega arith) (λ e. omega arith) (λ e. omega arith) (λ e. omega arith) (λ e. omega arith) (λ e. omega arith);
+  group = others 14 (λ e. omega arith) (λ e. omega arith) (λ e. omega arith) (λ e. omega arith) (λ e. omega arith) (λ e. omega arith) (λ e. omega arith) (λ e. omega arith) (λ e. omega arith) (λ e. omega arith) (λ e. omega arith) (λ e. omega arith) (λ e. omega arith) (λ e. omega arith);
+  top = others 21 (λ e. omega arith) (λ e. omega arith) (λ e. omega arith) (λ e. omega arith) (λ e. omega arith) (λ e. omega arith) (λ e. omega arith) (λ e. omega arith) (λ e. omega arith) (λ e. omega arith) (λ e. omega arith) (λ e. omega arith) (λ e. omega arith) (λ e. omega arith);
+  local = others 22 (λ e. omega arith) (λ e. omega arith) (λ e. omega arith) (λ e. omega arith) (λ e. omega arith) (λ e. omega arith) (λ e. omega arith) (λ e. omega arith) (λ e. omega arith) (λ e. omega arith) (λ e. omega arith) (λ e. omega arith) (λ e. omega arith) (λ e. omega arith);
+  shared_data = others 23 (λ e. omega arith) (λ e. omega arith) (λ e. omega arith) (λ e. omega arith) (λ e. omega arith) (λ e. omega arith) (λ e. omega arith) (λ e. omega arith) (λ e. omega arith) (λ e. omega arith) (λ e. omega arith) (λ e. omega arith) (λ e. omega arith) (λ e. omega arith);
+  private_heap = others 24 (λ e. omega arith) (λ e. omega arith) (λ e. omega arith) (λ e. omega arith) (λ e. omega arith) (λ e. omega arith) (λ e. omega arith) (λ e. omega arith) (λ e. omega arith) (λ e. omega arith) (λ e. omega arith) (λ e. omega arith) (λ e. omega arith) (λ e. omega arith);
+  shared_mask = others 25 (λ e. omega arith) (λ e. omega arith) (λ e. omega arith) (λ e. omega arith) (λ e. omega arith) (λ e. omega arith) (λ e. omega arith) (λ e. omega arith) (λ e. omega arith) (λ e. omega arith) (λ e. omega arith) (λ e. omega arith) (λ e. omega arith) (λ e. omega arith);
+  devices = others 26 (λ e. omega arith) (λ e. omega arith) (λ e. omega arith) (λ e. omega arith) (λ e. omega arith) (λ e. omega arith) (λ e. omega arith) (λ e. omega arith) (λ e. omega arith) (λ e. omega arith) (λ e. omega arith) (λ e. omega arith) (λ e. omega arith) (λ e. omega arith);
+  heap_mask = others 27 (λ e. omega arith) (λ e. omega arith) (λ e. omega arith) (λ e. omega arith) (λ e. omega arith) (λ e. omega arith) (λ e. omega arith) (λ e. omega arith) (λ e. omega arith) (λ e. omega arith) (λ e. omega arith) (λ e. omega arith) (λ e. omega arith) (λ e. omega arith);
+}
+
 module _ (core : List CoreOp) (image : Image) (bound : ℕ → ℕ) (places : Places) (nestings : Nestings) (i : ℕ) (op : CoreOp) (by : SplitKind)
     (place : IsInPlace core image bound places nestings i op (Split by)) (setting : Setting) (cycle0 : MachineSetting) (first : ℕ) (m : Member) (p : Owner)
     (en : Enters core image places setting cycle0 i op (Split by) p m.hart) (member : IsMember places nestings setting None first m p) (inside : IsInGroup p)
@@ -372,8 +402,8 @@ module _ (core : List CoreOp) (image : Image) (bound : ℕ → ℕ) (places : Pl
     heap = p.heap;
   }
 
-  -- the hart has saved the level, and has what the part is
-  pub record HasEntered (level : Level) (h : Hart) : Type 0 where
+  -- where an implicit split has saved the level, the hart has what the part is
+  pub record HasSavedHere (level : Level) (h : Hart) : Type 0 where
     pub live : h.ended ≡ false
     pub at : h.pc ≡ 4 * places.block j
     pub local : h.local
@@ -386,6 +416,22 @@ module _ (core : List CoreOp) (image : Image) (bound : ℕ → ℕ) (places : Pl
     pub rank : level.rank ≡ p.runner.has.level.rank
     pub others : (r : ℕ) → r ≢ 1 → r ≢ 5 → r ≢ 6 → r ≢ 7 → r ≢ 10 → r ≢ 12 → r ≢ 13 → r ≢ 20 → r ≢ 28 → r ≢ 29 → h.registers r ≡ m.hart.registers r
 
+  -- the hart has saved the level, and has what the part is
+  pub record HasEntered (level : Level) (h : Hart) : Type 0 where
+    pub live : h.ended ≡ false
+    pub at : h.pc ≡ 4 * places.block j
+    pub low : (x : ℕ) → x < saved_word → (x ≡ frames_word waiting → ⊥) → h.local x ≡ m.hart.local x
+    pub head : 0 < nestings.levels i → h.local (frames_word waiting) ≡ m.hart.local (frames_word waiting)
+    pub high : (x : ℕ) → frame_end waiting - (op.depth - taken_by by) ≤ x → h.local x ≡ m.hart.local x
+    pub saved : HasLevelBy (nestings.forks j (nestings.levels i)) h.local (frames_word waiting) saved_word (nestings.levels i) p.runner.has.level p.runner.has.outer
+    pub node : h.registers node_register ≡ control_address level.space.low
+    pub size : h.registers size_register ≡ level.size
+    pub frames : h.registers frames_register ≡ control_address level.space.frames
+    pub blocks : h.registers blocks_register ≡ control_address level.space.blocks
+    pub number : h.registers number_register ≡ level.number
+    pub rank : h.registers rank_register ≡ level.rank
+    pub kept : HasKept m.hart h
+
   pub enters_part : (level : Level) (h : Hart) → HasEntered level h
       → IsMember places nestings setting None (first_word level (p.runner.has.level ∷ p.runner.has.outer)) (record m { hart = h }) (entered level)
   enters_part level h e =
@@ -397,7 +443,6 @@ module _ (core : List CoreOp) (image : Image) (bound : ℕ → ℕ) (places : Pl
       let n = waiting in
       let vs = left_values in
       let m' = h.local in
-      let written = is_written (memory_by by op.depth m.hart) saved_word (m.hart.registers size_register) (m.hart.registers node_register) (m.hart.registers blocks_register) (m.hart.registers frames_register) in
       let home : places.frames.is_main j ≡ (n == 0) = flows.main ∙ ap places.frames.is_main (sym en.index) ∙ stands.running.home in
       let below : below_values places nestings n j (op.depth - taken_by by) = lies_below places nestings n j (op.depth - taken_by by) home room in
       let levels = opens.levels in
@@ -406,61 +451,54 @@ module _ (core : List CoreOp) (image : Image) (bound : ℕ → ℕ) (places : Pl
       let below_here : below_values places nestings n i op.depth = lies_below places nestings n i op.depth here place.levels in
       let taken : length vs ≡ length (values p.runner.has) - taken_by by = length_before (taken_by by) (values p.runner.has) in
       let filled = place.values in
-      let low : (x : ℕ) → x < saved_word → m' x ≡ m.hart.local x =
-      λ x lt. ap (λ l. l x) e.local ∙ written.below x lt ∙ memory_other by op.depth m.hart x (λ one f. value_apart x one (inl (omega arith)) f) in
-      let high : (x : ℕ) → frame_end n - (op.depth - taken_by by) ≤ x → m' x ≡ m.hart.local x =
-      λ x le. ap (λ l. l x) e.local ∙ written.above x (omega arith) ∙ memory_other by op.depth m.hart x (λ one f. value_apart x one (inr (let same : op.depth - taken_by by ≡ op.depth - 1 = omega arith in omega arith)) f) in
       let held : HasValues (value_of m' n) vs =
-      values_kept m.hart.local m' n vs (λ x le lt. high x (omega arith)) (values_before (taken_by by) (value_of m.hart.local n) (values p.runner.has) stands.running.values) in
+      values_kept m.hart.local m' n vs (λ x le lt. e.high x (omega arith)) (values_before (taken_by by) (value_of m.hart.local n) (values p.runner.has) stands.running.values) in
       let listed = with_list core places j vs p in
       let starts = starts_in places n few in
       let memory : InMemory places m' (m.hart.registers group_frame_register) listed =
       part_in_memory core places m.hart.local m' (m.hart.registers group_frame_register) p i j saved_word vs few calls en.index flows (in_memory places p m.hart stands) (omega arith)
       (λ word keeps. let apart = room.apart (omega arith) word keeps in omega arith)
-      low (λ x le. high x (omega arith)) held in
+      e.low (λ x le. e.high x (omega arith)) held in
       let many = many_callers places nestings m.hart.local callers p.runner.has.callers stands.waiting in
       let outer = subst (λ a. HasOuter places nestings setting.processors (number_of p) m.hart.local (a ∷ callers) p.runner.has.outer) en.index member.node.outer.0 in
       let k = length callers in
-      let known = subst (λ o. KnowsSpace p.runner.has.level o m.hart) inside.outer member.node.space in
       let same_start = ap (frame_start places) many in
       let at_word : saved_at places nestings k i + 4 * nestings.levels i ≡ saved_word = omega arith in
-      let kept_levels : HasSaved m' (saved_at places nestings k i) (nestings.levels i) p.runner.has.outer =
-      saved_kept m.hart.local m' (saved_at places nestings k i) (nestings.levels i) p.runner.has.outer (λ x le lt. low x (omega arith)) outer.1 in
-      let saved : HasLevel m' (saved_at places nestings k i + 4 * nestings.levels i) p.runner.has.level p.runner.has.outer =
-      subst (λ w. HasLevel m' w p.runner.has.level p.runner.has.outer) (sym at_word)
-      (record {
-        size = ap (λ l. l saved_word) e.local ∙ written.one ∙ stands.size;
-        node = ap (λ l. l (saved_word + 1)) e.local ∙ written.two ∙ member.node.node;
-        blocks = ap (λ l. l (saved_word + 2)) e.local ∙ written.three ∙ known.1;
-        frames = ap (λ l. l (saved_word + 3)) e.local ∙ written.four ∙ known.0;
-      }) in
-      let all : HasSaved m' (saved_at places nestings k i) (suc (nestings.levels i)) (p.runner.has.level ∷ p.runner.has.outer) = (saved, kept_levels) in
+      let header = ap frames_word many in
+      let kept_levels : HasSaved m' (nestings.forks i) (frames_word k) (saved_at places nestings k i) (nestings.levels i) p.runner.has.outer =
+      kept_by (nestings.levels i) (λ n lt. subst (λ c. m' (frames_word c) ≡ m.hart.local (frames_word c)) (sym many) (e.head (omega arith)))
+      (λ x le lt. e.low x (omega arith) (λ f. omega arith)) outer.1 in
+      let saved : HasLevelBy (nestings.forks j (nestings.levels i)) m' (frames_word k) (saved_at places nestings k i + 4 * nestings.levels i) (nestings.levels i) p.runner.has.level p.runner.has.outer =
+      subst (λ w. HasLevelBy (nestings.forks j (nestings.levels i)) m' (frames_word k) w (nestings.levels i) p.runner.has.level p.runner.has.outer) (sym at_word)
+      (subst (λ c. HasLevelBy (nestings.forks j (nestings.levels i)) m' (frames_word c) saved_word (nestings.levels i) p.runner.has.level p.runner.has.outer) (sym many) e.saved) in
+      let all : HasSaved m' (nestings.forks j) (frames_word k) (saved_at places nestings k i) (suc (nestings.levels i)) (p.runner.has.level ∷ p.runner.has.outer) =
+      (saved, saved_by m' (nestings.forks i) (nestings.forks j) (frames_word k) (saved_at places nestings k i) (nestings.levels i) p.runner.has.outer opens.forks kept_levels) in
       let rest : HasOuter places nestings setting.processors (number_of p) m' callers (past_levels (nestings.levels i) p.runner.has.outer) =
       outer_kept places nestings setting.processors (number_of p) m.hart.local m' callers (past_levels (nestings.levels i) p.runner.has.outer) few
-      (λ x le lt. low x (omega arith)) outer.2 in
+      (λ lt. e.low 4 (omega arith) (λ f. omega arith)) (λ x le lt. e.low x (omega arith) (λ f. omega arith)) outer.2 in
       record {
         number = member.number;
         at = record {
           live = e.live;
           at = e.at;
           stands = record {
-            nought = e.others 0 (λ z. omega arith) (λ z. omega arith) (λ z. omega arith) (λ z. omega arith) (λ z. omega arith) (λ z. omega arith) (λ z. omega arith) (λ z. omega arith) (λ z. omega arith) (λ z. omega arith) ∙ stands.nought;
-            frame = e.others 8 (λ z. omega arith) (λ z. omega arith) (λ z. omega arith) (λ z. omega arith) (λ z. omega arith) (λ z. omega arith) (λ z. omega arith) (λ z. omega arith) (λ z. omega arith) (λ z. omega arith) ∙ stands.frame;
-            behind = e.others 9 (λ z. omega arith) (λ z. omega arith) (λ z. omega arith) (λ z. omega arith) (λ z. omega arith) (λ z. omega arith) (λ z. omega arith) (λ z. omega arith) (λ z. omega arith) (λ z. omega arith) ∙ stands.behind;
-            number = e.others 18 (λ z. omega arith) (λ z. omega arith) (λ z. omega arith) (λ z. omega arith) (λ z. omega arith) (λ z. omega arith) (λ z. omega arith) (λ z. omega arith) (λ z. omega arith) (λ z. omega arith) ∙ stands.number ∙ sym e.number;
-            rank = e.others 19 (λ z. omega arith) (λ z. omega arith) (λ z. omega arith) (λ z. omega arith) (λ z. omega arith) (λ z. omega arith) (λ z. omega arith) (λ z. omega arith) (λ z. omega arith) (λ z. omega arith) ∙ stands.rank ∙ sym e.rank;
+            nought = e.kept.nought ∙ stands.nought;
+            frame = e.kept.frame ∙ stands.frame;
+            behind = e.kept.behind ∙ stands.behind;
+            number = e.number;
+            rank = e.rank;
             size = e.size;
-            top = e.others 21 (λ z. omega arith) (λ z. omega arith) (λ z. omega arith) (λ z. omega arith) (λ z. omega arith) (λ z. omega arith) (λ z. omega arith) (λ z. omega arith) (λ z. omega arith) (λ z. omega arith) ∙ stands.top;
-            local = e.others 22 (λ z. omega arith) (λ z. omega arith) (λ z. omega arith) (λ z. omega arith) (λ z. omega arith) (λ z. omega arith) (λ z. omega arith) (λ z. omega arith) (λ z. omega arith) (λ z. omega arith) ∙ stands.local;
-            shared_data = e.others 23 (λ z. omega arith) (λ z. omega arith) (λ z. omega arith) (λ z. omega arith) (λ z. omega arith) (λ z. omega arith) (λ z. omega arith) (λ z. omega arith) (λ z. omega arith) (λ z. omega arith) ∙ stands.shared_data;
-            private_heap = e.others 24 (λ z. omega arith) (λ z. omega arith) (λ z. omega arith) (λ z. omega arith) (λ z. omega arith) (λ z. omega arith) (λ z. omega arith) (λ z. omega arith) (λ z. omega arith) (λ z. omega arith) ∙ stands.private_heap;
-            shared_mask = e.others 25 (λ z. omega arith) (λ z. omega arith) (λ z. omega arith) (λ z. omega arith) (λ z. omega arith) (λ z. omega arith) (λ z. omega arith) (λ z. omega arith) (λ z. omega arith) (λ z. omega arith) ∙ stands.shared_mask;
-            devices = e.others 26 (λ z. omega arith) (λ z. omega arith) (λ z. omega arith) (λ z. omega arith) (λ z. omega arith) (λ z. omega arith) (λ z. omega arith) (λ z. omega arith) (λ z. omega arith) (λ z. omega arith) ∙ stands.devices;
-            heap_mask = e.others 27 (λ z. omega arith) (λ z. omega arith) (λ z. omega arith) (λ z. omega arith) (λ z. omega arith) (λ z. omega arith) (λ z. omega arith) (λ z. omega arith) (λ z. omega arith) (λ z. omega arith) ∙ stands.heap_mask;
+            top = e.kept.top ∙ stands.top;
+            local = e.kept.local ∙ stands.local;
+            shared_data = e.kept.shared_data ∙ stands.shared_data;
+            private_heap = e.kept.private_heap ∙ stands.private_heap;
+            shared_mask = e.kept.shared_mask ∙ stands.shared_mask;
+            devices = e.kept.devices ∙ stands.devices;
+            heap_mask = e.kept.heap_mask ∙ stands.heap_mask;
             running = memory.running;
             waiting = memory.waiting;
             groups =
-                subst (λ a. HaveGroupFrames places.frames m' a (j ∷ callers) (listed.runner.has.call ∷ p.runner.has.callers)) (sym (e.others 14 (λ z. omega arith) (λ z. omega arith) (λ z. omega arith) (λ z. omega arith) (λ z. omega arith) (λ z. omega arith) (λ z. omega arith) (λ z. omega arith) (λ z. omega arith) (λ z. omega arith)))
+                subst (λ a. HaveGroupFrames places.frames m' a (j ∷ callers) (listed.runner.has.call ∷ p.runner.has.callers)) (sym e.kept.group)
                 memory.groups;
             own = memory.own;
             heap = memory.heap;
@@ -474,14 +512,64 @@ module _ (core : List CoreOp) (image : Image) (bound : ℕ → ℕ) (places : Pl
           outer = (
             (
               omega arith,
-              subst (λ c. HasSaved m' (saved_at places nestings k j) c (p.runner.has.level ∷ p.runner.has.outer)) (sym levels)
-                  (subst (λ b. HasSaved m' (frame_start places k + 7 + b) (suc (nestings.levels i)) (p.runner.has.level ∷ p.runner.has.outer)) (sym from) all),
+              subst (λ c. HasSaved m' (nestings.forks j) (frames_word k) (saved_at places nestings k j) c (p.runner.has.level ∷ p.runner.has.outer)) (sym levels)
+                  (subst (λ b. HasSaved m' (nestings.forks j) (frames_word k) (frame_start places k + 7 + b) (suc (nestings.levels i)) (p.runner.has.level ∷ p.runner.has.outer)) (sym from) all),
               subst (λ c. HasOuter places nestings setting.processors (number_of p) m' callers (past_levels c (p.runner.has.level ∷ p.runner.has.outer))) (sym levels) rest,
             ),
             member.node.outer.1,
           );
         };
         words = refl;
+      }
+    where
+      -- without a level nothing is saved
+      kept_by : (count : ℕ) → ((n : ℕ) → n < count → h.local (frames_word (length callers)) ≡ m.hart.local (frames_word (length callers)))
+          → ((x : ℕ) → saved_at places nestings (length callers) i ≤ x → x < saved_at places nestings (length callers) i + 4 * count → h.local x ≡ m.hart.local x)
+          → HasSaved m.hart.local (nestings.forks i) (frames_word (length callers)) (saved_at places nestings (length callers) i) count p.runner.has.outer
+          → HasSaved h.local (nestings.forks i) (frames_word (length callers)) (saved_at places nestings (length callers) i) count p.runner.has.outer
+      kept_by zero head same held = tt
+      kept_by (suc n) head same held =
+          saved_kept m.hart.local h.local (nestings.forks i) (frames_word (length callers)) (saved_at places nestings (length callers) i) (suc n) p.runner.has.outer (head 0 (omega arith)) same held
+
+  -- who is in a part of an implicit split
+  pub has_entered_by : nestings.forks j (nestings.levels i) ≡ None → (level : Level) (h : Hart) → HasSavedHere level h → HasEntered level h
+  has_entered_by plain level h e =
+      let stands = en.at.stands in
+      let header = place.fits.room.header in
+      let depth = en.ready.depth in
+      let filled = place.values in
+      let n = waiting in
+      let written = is_written (memory_by by op.depth m.hart) saved_word (m.hart.registers size_register) (m.hart.registers node_register) (m.hart.registers blocks_register) (m.hart.registers frames_register) in
+      let here = ap places.frames.is_main (sym en.index) ∙ stands.running.home in
+      let below_here : below_values places nestings n i op.depth = lies_below places nestings n i op.depth here place.levels in
+      let home : places.frames.is_main j ≡ (n == 0) = flows.main ∙ ap places.frames.is_main (sym en.index) ∙ stands.running.home in
+      let below : below_values places nestings n j (op.depth - taken_by by) = lies_below places nestings n j (op.depth - taken_by by) home room in
+      let levels = opens.levels in
+      let from = opens.behind in
+      let begins = starts_in places n place.few in
+      let known = subst (λ o. KnowsSpace p.runner.has.level o m.hart) inside.outer member.node.space in
+      let low : (x : ℕ) → x < saved_word → h.local x ≡ m.hart.local x =
+      λ x lt. ap (λ l. l x) e.local ∙ written.below x lt ∙ memory_other by op.depth m.hart x (λ one f. value_apart x one (inl (omega arith)) f) in
+      record {
+        live = e.live;
+        at = e.at;
+        low = λ x lt ne. low x lt;
+        head = λ some. low (frames_word n) (omega arith);
+        high = λ x le. ap (λ l. l x) e.local ∙ written.above x (omega arith) ∙ memory_other by op.depth m.hart x (λ one f. value_apart x one (inr (let same : op.depth - taken_by by ≡ op.depth - 1 = omega arith in omega arith)) f);
+        saved = subst (λ f. HasLevelBy f h.local (frames_word n) saved_word (nestings.levels i) p.runner.has.level p.runner.has.outer) (sym plain)
+            (record {
+              size = ap (λ l. l saved_word) e.local ∙ written.one ∙ stands.size;
+              node = ap (λ l. l (saved_word + 1)) e.local ∙ written.two ∙ member.node.node;
+              blocks = ap (λ l. l (saved_word + 2)) e.local ∙ written.three ∙ known.1;
+              frames = ap (λ l. l (saved_word + 3)) e.local ∙ written.four ∙ known.0;
+            });
+        node = e.node;
+        size = e.size;
+        frames = e.frames;
+        blocks = e.blocks;
+        number = e.others 18 (λ z. omega arith) (λ z. omega arith) (λ z. omega arith) (λ z. omega arith) (λ z. omega arith) (λ z. omega arith) (λ z. omega arith) (λ z. omega arith) (λ z. omega arith) (λ z. omega arith) ∙ stands.number ∙ sym e.number;
+        rank = e.others 19 (λ z. omega arith) (λ z. omega arith) (λ z. omega arith) (λ z. omega arith) (λ z. omega arith) (λ z. omega arith) (λ z. omega arith) (λ z. omega arith) (λ z. omega arith) (λ z. omega arith) ∙ stands.rank ∙ sym e.rank;
+        kept = has_kept m.hart h (λ r a b c d f g k l x y z u v w. e.others r a b c d f g k y z u);
       }
     where
       -- the value that is taken is above the words below the level, and below the other values

@@ -69,7 +69,7 @@ same_but first h f = (
 )
 
 module _ (core : List CoreOp) (image : Image) (bound : ℕ → ℕ) (places : Places) (nestings : Nestings) (i : ℕ) (op : CoreOp) (place : IsInPlace core image bound places nestings i op Shrink)
-    (opens : LevelOpens nestings op.target i) (setting : Setting) (cycle0 : MachineSetting) (mine : Words) (first : ℕ) (owns : OwnsHeader mine first) where
+    (opens : LevelOpens nestings op.target i) (plain : last_fork nestings i ≡ None) (setting : Setting) (cycle0 : MachineSetting) (mine : Words) (first : ℕ) (owns : OwnsHeader mine first) where
   abbrev k : ℕ
   k = places.block i
 
@@ -292,7 +292,7 @@ module _ (core : List CoreOp) (image : Image) (bound : ℕ → ℕ) (places : Pl
     out_front = goes_to_pc m.hart (word_sum m.hart.pc 4)
 
     abbrev gone_hart : Hart
-    gone_hart = out_hart core image bound places nestings i op Shrink place (place.fits.goes_on false) opens (told_of (later (later t)) m.number) out_front
+    gone_hart = out_hart core image bound places nestings i op Shrink place (place.fits.goes_on false) opens plain (told_of (later (later t)) m.number) out_front
 
     gone_runs : stays p.runner.has ≡ false → RunsPrivately image t m.number 6 m.hart gone_hart
     gone_runs e =
@@ -309,9 +309,9 @@ module _ (core : List CoreOp) (image : Image) (bound : ℕ → ℕ) (places : Pl
         let top = others_are m p near 21 (λ e. omega arith) (λ e. omega arith) in
         let local = local_is m p near in
         let flows = place.fits.goes_on false in
-        let word_out = out_word core image bound places nestings i op Shrink place flows opens in
-        let slot = first_slot core image bound places nestings i op Shrink place flows opens setting cycle0 first (record m { hart = h0 }) p came.enters came.member came.part out_front same top local live in
-        let size_hart = sized core image bound places nestings i op Shrink place flows opens out_front in
+        let word_out = out_word core image bound places nestings i op Shrink place flows opens plain in
+        let slot = first_slot core image bound places nestings i op Shrink place flows opens plain setting cycle0 first (record m { hart = h0 }) p came.enters came.member came.part out_front same top local live in
+        let size_hart = sized core image bound places nestings i op Shrink place flows opens plain out_front in
         let pc6 : out_front.pc ≡ 4 * suc k5 = omega arith in (
           out_front,
           bne_on image t m.number k5 28 0 24 m.hart holds bne pc live (eq-eqb (m.hart.registers t3) (m.hart.registers zero_register) (flag ∙ sym zero_is)),
@@ -319,7 +319,7 @@ module _ (core : List CoreOp) (image : Image) (bound : ℕ → ℕ) (places : Pl
             size_hart,
             private image (later t) m.number (suc k5) (Lw size_register frame_register (at_private word_out)) out_front size_hart holds size_line pc6 live
                 (λ s. can_run_goes (Lw size_register frame_register (at_private word_out)) (LocalAt (slot_of word_out out_front)) out_front (slot.within, slot.address) (later t) m.number s),
-            out_runs core image bound places nestings i op Shrink place flows opens setting cycle0 first (record m { hart = h0 }) p came.enters came.member came.part out_front same top local live
+            out_runs core image bound places nestings i op Shrink place flows opens plain setting cycle0 first (record m { hart = h0 }) p came.enters came.member came.part out_front same top local live
                 (later (later t)) (suc (suc k5)) holds place.block.labels (rest.0, (rest.1.0, (rest.1.1.0, (rest.1.1.1.0, tt)))) (omega arith),
           ),
         )
@@ -327,14 +327,14 @@ module _ (core : List CoreOp) (image : Image) (bound : ℕ → ℕ) (places : Pl
     -- with what it has in the group around the part
     abbrev Out : List Level → Type 0
     Out outer =
-        let q = left_to core image bound places nestings i op Shrink place (place.fits.goes_on false) opens outer (before 1 (values p.runner.has)) p in
+        let q = left_to core image bound places nestings i op Shrink place (place.fits.goes_on false) opens plain outer (before 1 (values p.runner.has)) p in
         IsMember places nestings setting None (first_word q.runner.has.level q.runner.has.outer) (record m { hart = gone_hart }) q
 
     gone_member : (size : ℕ) → Goes size false m gone_hart p
     gone_member size =
         let same : SameRegisters h0 out_front = same_but h0 out_front (others_are m p near) in
         subst Out (sym came.part.outer)
-        (out_member core image bound places nestings i op Shrink place (place.fits.goes_on false) opens setting cycle0 first (record m { hart = h0 }) p came.enters came.member came.part out_front same
+        (out_member core image bound places nestings i op Shrink place (place.fits.goes_on false) opens plain setting cycle0 first (record m { hart = h0 }) p came.enters came.member came.part out_front same
         (others_are m p near 21 (λ e. omega arith) (λ e. omega arith)) (local_is m p near) (live_is m p near) (told_of (later (later t)) m.number) (before 1 (values p.runner.has)) place.block.labels held)
 
     abbrev Comes : (highest : ℕ) → (Owner → ℕ) → Type 0
@@ -489,13 +489,13 @@ module _ (core : List CoreOp) (image : Image) (bound : ℕ → ℕ) (places : Pl
       (all_stand k Came ms ps (λ m q came. at_block core image places nestings i op Shrink setting cycle0 first m q came.enters) all) all)
 
 pub parts_shrink : PartsShrink
-parts_shrink core image bound places nestings i op place opens setting t mine first [] [] own owns all part few rest = record { counted = tt; chain = (refl, tt, rest) }
-parts_shrink core image bound places nestings i op place opens setting t mine first (m ∷ ms) (p ∷ ps) own owns all part few rest =
-    let came = came_all core image bound places nestings i op place opens setting t mine first owns (m ∷ ms) (p ∷ ps) all part in
+parts_shrink core image bound places nestings i op place opens plain setting t mine first [] [] own owns all part few rest = record { counted = tt; chain = (refl, tt, rest) }
+parts_shrink core image bound places nestings i op place opens plain setting t mine first (m ∷ ms) (p ∷ ps) own owns all part few rest =
+    let came = came_all core image bound places nestings i op place opens plain setting t mine first owns (m ∷ ms) (p ∷ ps) all part in
     let gone : List Member → Type 0 = λ ms'. AllMove core image places nestings i op Shrink setting (later (in_cycles 4 t)) shrink_goes_on (λ q. None) 0 ms' (p ∷ ps) in
     together_map (core_source core setting) image mine t 1 4 (m ∷ ms) (p ∷ ps) own
     (λ ms' ds own'. (ds ≡ map (is_due core i op Shrink) (p ∷ ps)) × (gone ms' × IsAtRest first own'))
     (λ ms' ds own'. (ds ≡ map (is_due core i op Shrink) (p ∷ ps)) × gone ms' × IsAtRest first own')
     (λ ms' ds own' x. (x.0, x.1.0, x.1.1))
-    (together core image bound places nestings i op place opens setting t mine first owns p ps (m ∷ ms) own all.0.running.code rest few came)
-parts_shrink core image bound places nestings i op place opens setting t mine first ms ps own owns all part few rest = absurd (assumption all)
+    (together core image bound places nestings i op place opens plain setting t mine first owns p ps (m ∷ ms) own all.0.running.code rest few came)
+parts_shrink core image bound places nestings i op place opens plain setting t mine first ms ps own owns all part few rest = absurd (assumption all)

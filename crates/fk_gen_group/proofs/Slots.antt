@@ -15,18 +15,18 @@ use Rattle.fk_sim_block.specs.Owner.{Owner, number_of}
 use Rattle.fk_sim_block.specs.Stands.{Places, HasValues, StandsFor, local_address, frame_start, value_in, zero_register, frame_register, size_register, top_register, group_frame_register}
 use Rattle.fk_sim_block.specs.Suits.{Flows, nothing}
 use Rattle.fk_sim_block.specs.Block.{Enters}
-use Rattle.fk_sim_block.specs.Node.{Nestings, HasLevel, HasSaved, HasOuter, KnowsSpace, past_levels, saved_at, first_word, control_address, node_register, frames_register, blocks_register}
+use Rattle.fk_sim_block.specs.Node.{Nestings, HasLevel, HasSaved, HasOuter, KnowsSpace, past_levels, saved_at, first_word, control_address, node_register, frames_register, blocks_register, HasLevelBy, frames_word}
 use Rattle.fk_sim_block.specs.Lockstep.{IsMember, LevelOpens}
-use Rattle.fk_sim_block.specs.Parts.{IsInPart}
+use Rattle.fk_sim_block.specs.Parts.{HasNumbersBy, IsInPart}
 use Rattle.fk_gen.specs.Lines.{goes_to, at_private, label_of}
 use Rattle.fk_gen.specs.InPlace.{LinesAt, HasLabels}
 use Rattle.fk_gen.proofs.Values.{private_place}
 use Rattle.fk_gen.proofs.Walk.{Quiets, LocalAt, Told, quiet_lines, walk, told_of, walked, lines_split, runs_join}
 use Rattle.fk_gen.proofs.Jumps.{jumps, jal_private}
 use Rattle.fk_gen.proofs.Standing.{InMemory, SameRegisters, in_memory, stands_with, with_list, nothing_written}
-use Rattle.fk_gen_group.specs.Laws.{IsInPlace}
+use Rattle.fk_gen_group.specs.Laws.{IsInPlace, last_fork}
 use Rattle.fk_gen_group.proofs.Last.{local_index}
-use Rattle.fk_gen_group.proofs.Levels.{many_callers}
+use Rattle.fk_gen_group.proofs.Levels.{many_callers, saved_by}
 
 -- ---- where a word after the header is
 
@@ -54,23 +54,29 @@ knows l (o ∷ outer) h a b = (a, b)
 -- the last level of a frame, and the others
 pub last_level_of : (places : Places) (nestings : Nestings) (processors number : ℕ) (m : Memory) (i j : ℕ) (callers : List ℕ) (l : Level) (further : List Level) → LevelOpens nestings j i
     → HasOuter places nestings processors number m (i ∷ callers) (l ∷ further)
-    → HasLevel m (saved_at places nestings (length callers) i + 4 * nestings.levels j) l further × HasOuter places nestings processors number m (j ∷ callers) further
+    → HasLevelBy (nestings.forks i (nestings.levels j)) m (frames_word (length callers)) (saved_at places nestings (length callers) i + 4 * nestings.levels j) (nestings.levels j) l further × HasOuter places nestings processors number m (j ∷ callers) further
 last_level_of places nestings processors number m i j callers l further opens held =
     let n = length callers in
     let e = opens.levels in
     let b = opens.behind in
     let room = held.0 in
-    let all : HasSaved m (saved_at places nestings n i) (suc (nestings.levels j)) (l ∷ further) = subst (λ c. HasSaved m (saved_at places nestings n i) c (l ∷ further)) e held.1 in
+    let all : HasSaved m (nestings.forks i) (frames_word n) (saved_at places nestings n i) (suc (nestings.levels j)) (l ∷ further) =
+    subst (λ c. HasSaved m (nestings.forks i) (frames_word n) (saved_at places nestings n i) c (l ∷ further)) e held.1 in
     let rest : HasOuter places nestings processors number m callers (past_levels (suc (nestings.levels j)) (l ∷ further)) =
     subst (λ c. HasOuter places nestings processors number m callers (past_levels c (l ∷ further))) e held.2 in (
       all.0,
-      (omega arith, subst (λ x. HasSaved m (frame_start places n + 7 + x) (nestings.levels j) further) b all.1, rest),
+      (
+        omega arith,
+        subst (λ x. HasSaved m (nestings.forks j) (frames_word n) (frame_start places n + 7 + x) (nestings.levels j) further) b
+            (saved_by m (nestings.forks i) (nestings.forks j) (frames_word n) (saved_at places nestings n i) (nestings.levels j) further (λ k lt. sym (opens.forks k lt)) all.1),
+        rest,
+      ),
     )
 
 -- ---- the way out of a part
 
 module _ (core : List CoreOp) (image : Image) (bound : ℕ → ℕ) (places : Places) (nestings : Nestings) (i : ℕ) (op : CoreOp) (operation : Operation)
-    (place : IsInPlace core image bound places nestings i op operation) (flows : Flows core places.frames nothing i op.target) (opens : LevelOpens nestings op.target i) where
+    (place : IsInPlace core image bound places nestings i op operation) (flows : Flows core places.frames nothing i op.target) (opens : LevelOpens nestings op.target i) (plain : last_fork nestings i ≡ None) where
   abbrev pub out_word : ℕ
   out_word = nestings.behind i + 4 * (nestings.levels i - 1)
 
@@ -136,9 +142,20 @@ module _ (core : List CoreOp) (image : Image) (bound : ℕ → ℕ) (places : Pl
     level : HasLevel m.hart.local (saved_at places nestings (length callers) i + 4 * nestings.levels op.target) part.around (part.beyond ∷ part.further)
         × HasOuter places nestings setting.processors (number_of p) m.hart.local (op.target ∷ callers) (part.beyond ∷ part.further)
     level =
-        last_level_of places nestings setting.processors (number_of p) m.hart.local i op.target callers part.around (part.beyond ∷ part.further) opens
+        let told = last_level_of places nestings setting.processors (number_of p) m.hart.local i op.target callers part.around (part.beyond ∷ part.further) opens
         (subst (λ o. HasOuter places nestings setting.processors (number_of p) m.hart.local (i ∷ callers) o) part.outer
-        (subst (λ a. HasOuter places nestings setting.processors (number_of p) m.hart.local (a ∷ callers) p.runner.has.outer) en.index member.node.outer.0))
+        (subst (λ a. HasOuter places nestings setting.processors (number_of p) m.hart.local (a ∷ callers) p.runner.has.outer) en.index member.node.outer.0)) in
+        let levels = opens.levels in
+        let last : nestings.levels i - 1 ≡ nestings.levels op.target = omega arith in
+        let none : nestings.forks i (nestings.levels op.target) ≡ None = ap (nestings.forks i) (sym last) ∙ plain in
+        (subst (λ f. HasLevelBy f m.hart.local (frames_word (length callers)) (saved_at places nestings (length callers) i + 4 * nestings.levels op.target) (nestings.levels op.target) part.around (part.beyond ∷ part.further)) none told.0,
+        told.1)
+
+    -- `@` and `$` are those of the group around
+    numbers : (part.around.number ≡ p.runner.has.level.number) × (part.around.rank ≡ p.runner.has.level.rank)
+    numbers =
+        subst (λ f. HasNumbersBy f part.around p.runner.has.level) plain
+        (subst (λ a. HasNumbersBy (nestings.forks a (nestings.levels a - 1)) part.around p.runner.has.level) en.index part.numbers)
 
     word_at : (word k : ℕ) → word ≡ out_word + k → IsSlot places n word h
         → h.local (slot_of word h) ≡ m.hart.local (saved_at places nestings (length callers) i + 4 * nestings.levels op.target + k)
@@ -175,8 +192,8 @@ module _ (core : List CoreOp) (image : Image) (bound : ℕ → ℕ) (places : Pl
               nought = s.nought;
               frame = s.frame;
               behind = s.behind;
-              number = s.number ∙ sym part.number;
-              rank = s.rank ∙ sym part.rank;
+              number = s.number ∙ sym numbers.0;
+              rank = s.rank ∙ sym numbers.1;
               size = size;
               top = s.top;
               local = s.local;

@@ -31,7 +31,7 @@ use Rattle.fk_gen.proofs.Values.{values_before, number_of_parts}
 use Rattle.fk_gen.proofs.Standing.{SameRegisters, in_memory, stands_with, with_list}
 use Rattle.fk_gen.proofs.Walk.{Quiets, Plain, LocalAt, TellsInputs, quiet_lines, walk, told_of, walked, lines_split, runs_join, private, can_run_goes}
 use Rattle.fk_gen.proofs.Jumps.{jumps, goes_to_pc, jal_private, jalr_goes}
-use Rattle.fk_sim_block.specs.Node.{Polling, Nestings, IsRoot, HasOuter, HasNestings, HasSaved, OwnsHeader, past_levels, saved_at, first_word, root_words, closing_word, agreed_word, control_address, node_register, frames_register, blocks_register, body_register}
+use Rattle.fk_sim_block.specs.Node.{Polling, Nestings, IsRoot, HasOuter, HasNestings, HasSaved, OwnsHeader, past_levels, saved_at, first_word, root_words, closing_word, agreed_word, control_address, node_register, frames_register, blocks_register, body_register, frames_word}
 use Rattle.fk_sim_block.specs.Lockstep.{IsMember, LevelsStay, NoneSaved, highest_value, is_due, ComesByWay, AllComeByWay}
 use Rattle.fk_sim_block.specs.Joint.{Polls}
 use Rattle.fk_sim_block.specs.Start.{IsInRoot, MeetsUntil, HasMet, AllHaveMet, HaveStarted, size_of_start, runs_behind_start}
@@ -56,7 +56,7 @@ under_root : (places : Places) (nestings : Nestings) (processors number : ℕ) (
 under_root places nestings processors number m [] l is none held = is
 under_root places nestings processors number m (i ∷ indices) l is none held = (
   held.0,
-  subst (λ c. HasSaved m (saved_at places nestings (length indices) i) c (l ∷ [])) (sym none.0) tt,
+  subst (λ c. HasSaved m (nestings.forks i) (frames_word (length indices)) (saved_at places nestings (length indices) i) c (l ∷ [])) (sym none.0) tt,
   subst (λ c. HasOuter places nestings processors number m indices (past_levels c (l ∷ []))) (sym none.0)
       (under_root places nestings processors number m indices l is none.1 (subst (λ c. HasOuter places nestings processors number m indices (past_levels c [])) none.0 held.2)),
 )

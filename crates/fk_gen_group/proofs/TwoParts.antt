@@ -31,7 +31,7 @@ use Rattle.fk_gen_group.proofs.Fronts.{Fronted, fronted, flag_by, link_at, memor
 use Rattle.fk_gen_group.proofs.Counting.{IsToCount, Knows}
 use Rattle.fk_gen_group.proofs.Counted.{Comes, come_and_count}
 use Rattle.fk_gen_group.proofs.Parting.{IsHalved, placed_two, two_word, first_word_is, second_word_is, enters_part, saving, first_hart, first_runs, second_hart, second_runs, both_has}
-use Rattle.fk_gen_group.proofs.PartSizes.{AreCounted, Within, word_at, either, none_waits}
+use Rattle.fk_gen_group.proofs.PartSizes.{AreCounted, Each, Within, word_at, either, none_waits}
 use Rattle.fk_gen_group.proofs.Committed.{live_at, flag_at, link_is, nought_at, saved_at_word, is_behind, has_entered, comes_with}
 use Rattle.fk_gen_group.proofs.Divided.{Divided, all_divided}
 
@@ -42,7 +42,7 @@ flag_of_part false j e = cc
 
 module _ (core : List CoreOp) (image : Image) (bound : ℕ → ℕ) (places : Places) (nestings : Nestings) (i : ℕ) (op : CoreOp)
     (split : IsSplitInPlace core image bound places nestings i op IfElse) (setting : Setting) (space : Space) (is_space : IsSpace space) (many : 40 ≤ free space)
-    (cycle0 : MachineSetting) (mine : Words) (first : ℕ) (owns : OwnsHeader mine first) (all_own : OwnsSpace mine space) (are : AreCounted IfElse space first 2 (λ p. 1)) where
+    (cycle0 : MachineSetting) (mine : Words) (first : ℕ) (owns : OwnsHeader mine first) (all_own : OwnsSpace mine space) (are : AreCounted Each IfElse space first 2 (λ p. 1)) where
   abbrev pub one_each : Owner → ℕ
   one_each p = 1
 
@@ -52,7 +52,7 @@ module _ (core : List CoreOp) (image : Image) (bound : ℕ → ℕ) (places : Pl
   pub record Came (m : Member) (p : Owner) : Type 0 where
     pub enters : Enters core image places setting cycle0 i op (Split IfElse) p m.hart
     pub member : IsMember places nestings setting None first m p
-    pub divides : IsToDivide IfElse space 2 p
+    pub divides : IsToDivide nestings IfElse space 2 p
 
   abbrev pub steps : ℕ
   steps = 14
@@ -92,7 +92,7 @@ module _ (core : List CoreOp) (image : Image) (bound : ℕ → ℕ) (places : Pl
       ∙ second_word_is core image bound places nestings i op IfElse split.place split.parts setting space 2 is_space cycle0 first m p came.enters came.member came.divides front many
       ∙ ap control_address start ∙ ap (λ x. control_address (word_at space first 2 x)) (sym e)
   word_of m p came front (Some (suc (suc j))) e =
-      let inside : suc (suc j) < 2 = subst (Within 2) e (are.within p) in
+      let inside : suc (suc j) < 2 = subst (Within 2) e (are.within p tt) in
       absurd (omega arith)
 
   pub comes : (m : Member) (p : Owner) → Came m p → Comes image cycle0 steps (bound two_parts_label + 11) Ready m p
@@ -144,8 +144,8 @@ module _ (core : List CoreOp) (image : Image) (bound : ℕ → ℕ) (places : Pl
       subst (λ h. IsToCount mine 6 5 word one_each (record m { hart = h }) p) (sym r.is)
       (record {
         address = placed.word_is;
-        within = within_by (part_of IfElse p) (are.within p);
-        own = own_by (part_of IfElse p) (are.within p);
+        within = within_by (part_of IfElse p) (are.within p tt);
+        own = own_by (part_of IfElse p) (are.within p tt);
         value = r.halved.one;
         nought =
             placed.others 0 (λ e. omega arith) (λ e. omega arith) (λ e. omega arith)
@@ -207,7 +207,7 @@ module _ (core : List CoreOp) (image : Image) (bound : ℕ → ℕ) (places : Pl
     share_is = same 29 (λ e. omega arith) ∙ ready.halved.share
 
     abbrev Gone : Type 0
-    Gone = ComesByWay core image places nestings i op (Split IfElse) setting t (split_goes_on IfElse) (λ q. None) highest 0 size m p
+    Gone = ComesByWay core image places nestings i op (Split IfElse) setting t (split_goes_on IfElse (nestings.levels i)) (λ q. None) highest 0 size m p
 
     abbrev memory : Memory
     memory = memory_by IfElse op.depth ready.hart
@@ -232,7 +232,7 @@ module _ (core : List CoreOp) (image : Image) (bound : ℕ → ℕ) (places : Pl
     part_within (suc (suc j)) lt = absurd (omega arith)
 
     word_within : (j : ℕ) → part_of IfElse p ≡ Some j → word p + equal_part space 2 ≤ 2 ^ 20
-    word_within j e = subst (λ x. word_at space first 2 x + equal_part space 2 ≤ 2 ^ 20) (sym e) (part_within j (subst (Within 2) e (are.within p)))
+    word_within j e = subst (λ x. word_at space first 2 x + equal_part space 2 ≤ 2 ^ 20) (sym e) (part_within j (subst (Within 2) e (are.within p tt)))
 
     -- where the blocks of the part begin
     blocks_are : (j : ℕ) → part_of IfElse p ≡ Some j → (found : ℕ) → found ≡ control_address (word p) → word_sum found (m.hart.registers t4) ≡ control_address (word p + equal_part space 2)
@@ -258,10 +258,10 @@ module _ (core : List CoreOp) (image : Image) (bound : ℕ → ℕ) (places : Pl
         let level = both_has image bound places split.parts t m.number link op.target target op.site holds place.block.labels ready.front.back ready.front.next ready.hart m.hart memory saved (word p) (size p) behind linked nought in
         let hb = walk (told_of t m.number) (saving saved) m.hart in
         let entered =
-        has_entered core image bound places nestings i op IfElse place refl setting space 2 cycle0 first m0 p came.enters came.member came.divides (suc i) (place.fits.goes_on true) place.stay split.room
-        0 (size p) (word p) hb hart level at_word live refl refl (λ r ne. rw (ne_eqb r 13 ne)) (blocks_are 0 e (m.hart.registers t1) behind.word_is) in
+        has_entered core image bound places nestings i op IfElse place refl setting space 2 cycle0 first m0 p came.enters came.member came.divides (suc i) (place.fits.goes_on true) place.stay.opens split.room
+        place.stay.left 0 (size p) (word p) hb hart level at_word live refl refl (λ r ne. rw (ne_eqb r 13 ne)) (blocks_are 0 e (m.hart.registers t1) behind.word_is) in
         let goes =
-        enters_part core image bound places nestings i op IfElse place setting cycle0 first m0 p came.enters came.member came.divides.group (suc i) (place.fits.goes_on true) place.stay split.room
+        enters_part core image bound places nestings i op IfElse place setting cycle0 first m0 p came.enters came.member came.divides.group (suc i) (place.fits.goes_on true) place.stay.opens split.room
         (part_level IfElse p.runner.has (size p) 0) hart entered in
         comes_with core image places nestings i op IfElse setting t highest size m p hart (Some 0) true 10 e refl refl runs goes
 
@@ -282,11 +282,11 @@ module _ (core : List CoreOp) (image : Image) (bound : ℕ → ℕ) (places : Pl
         let level = both_has image bound places split.parts t m.number link op.target target op.site holds place.block.labels ready.front.back ready.front.next ready.hart m.hart memory saved (word p) (size p) behind linked nought in
         let hb = walk (told_of t m.number) (saving saved) m.hart in
         let flows = place.fits.goes_on false in
-        let opens = split.aside.0 in
+        let opens = split.aside.0.opens in
         let room = split.aside.1 in
         let entered =
         has_entered core image bound places nestings i op IfElse place refl setting space 2 cycle0 first m0 p came.enters came.member came.divides op.target flows opens room
-        1 (size p) (word p) hb hart level at_word live (ap (λ k. 4 * k) (place.block.labels.blocks op.target)) refl (λ r ne. rw (ne_eqb r 13 ne)) (blocks_are 1 e (m.hart.registers t1) behind.word_is) in
+        split.aside.0.left 1 (size p) (word p) hb hart level at_word live (ap (λ k. 4 * k) (place.block.labels.blocks op.target)) refl (λ r ne. rw (ne_eqb r 13 ne)) (blocks_are 1 e (m.hart.registers t1) behind.word_is) in
         let goes =
         enters_part core image bound places nestings i op IfElse place setting cycle0 first m0 p came.enters came.member came.divides.group op.target flows opens room
         (part_level IfElse p.runner.has (size p) 1) hart entered in
@@ -298,12 +298,12 @@ module _ (core : List CoreOp) (image : Image) (bound : ℕ → ℕ) (places : Pl
     two_comes (Some zero) e = first_case e
     two_comes (Some (suc zero)) e = second_case e
     two_comes (Some (suc (suc j))) e =
-        let inside : suc (suc j) < 2 = subst (Within 2) e (are.within p) in
+        let inside : suc (suc j) < 2 = subst (Within 2) e (are.within p tt) in
         absurd (omega arith)
 
   -- ---- all of them
 
-  pub came_all : (ms : List Member) (ps : List Owner) → AllEnter core image places nestings i op (Split IfElse) setting cycle0 None first ms ps → AllAreToDivide IfElse space 2 ps → Both Came ms ps
+  pub came_all : (ms : List Member) (ps : List Owner) → AllEnter core image places nestings i op (Split IfElse) setting cycle0 None first ms ps → AllAreToDivide nestings IfElse space 2 ps → Both Came ms ps
   came_all [] [] all divide = tt
   came_all (m ∷ ms) (p ∷ ps) all divide = (record { enters = all.0; member = all.1; divides = divide.0 }, came_all ms ps all.2 divide.1)
   came_all ms ps all divide = absurd (assumption all)
@@ -330,7 +330,7 @@ module _ (core : List CoreOp) (image : Image) (bound : ℕ → ℕ) (places : Pl
   comes_by : (t : MachineSetting) → Holds image t → (ps : List Owner) → (summed : Memory) (m : Member) (p : Owner) → Counted summed m p
       → m.hart.pc ≡ 4 * suc (suc (suc (suc (suc (bound two_parts_label + 11))))) → ((j : ℕ) → part_of IfElse p ≡ Some j → summed (word p) ≡ size_behind (Split IfElse) ps p)
       → size_behind (Split IfElse) ps p < 2 ^ 32
-      → ComesByWay core image places nestings i op (Split IfElse) setting t (split_goes_on IfElse) (λ q. None) (highest_value ps) 0 (λ q. size_behind (Split IfElse) ps q) m p
+      → ComesByWay core image places nestings i op (Split IfElse) setting t (split_goes_on IfElse (nestings.levels i)) (λ q. None) (highest_value ps) 0 (λ q. size_behind (Split IfElse) ps q) m p
   comes_by t holds ps summed m p counted pc sum small =
       two_comes t holds (highest_value ps) (λ q. size_behind (Split IfElse) ps q) summed m p counted (omega arith) (sized_by ps summed p (part_of IfElse p) refl sum) small (part_of IfElse p) refl
 
@@ -343,7 +343,7 @@ module _ (core : List CoreOp) (image : Image) (bound : ℕ → ℕ) (places : Pl
       (λ v ms' counted. all_due core setting i op (Split IfElse) (Counted v) ms' ps split.place.stands refl (due_here room v) counted)
       own
       (λ own1 own2 summed own' ms' one two sum cleared stand counted.
-      all_divided core image places nestings i op IfElse setting t first ps space 2 one_each are few (suc (suc (suc (suc (suc (bound two_parts_label + 11)))))) Counted
-      (λ v m p c. c.near.ready.came.divides) (λ v m p c. c.near.ready.came.member.words) (comes_by t holds_later ps)
+      all_divided core image places nestings i op IfElse setting t first ps Each space 2 one_each are few (suc (suc (suc (suc (suc (bound two_parts_label + 11)))))) Counted
+      (λ v m p c. tt) (λ v m p c. c.near.ready.came.divides) (λ v m p c. c.near.ready.came.member.words) (comes_by t holds_later ps)
       own own1 own2 summed own' one two sum cleared ms' stand counted rest)
       ms (each_so Came (Comes image cycle0 steps (bound two_parts_label + 11) Ready) ms ps comes all)

@@ -9,7 +9,7 @@ use Rattle.fk_image.specs.declared.Image.{Image}
 use Rattle.fk_isa.specs.declared.instruction.Instruction.{Instruction}
 use Rattle.fk_isa.specs.declared.instruction.Instruction.TheVariants.{Lui, Jal, Jalr, Bne, Bgeu, Lw}
 use Rattle.fk_isa.specs.declared.instruction.Instruction.TheVariants.{Sw, Addi, Sltiu, Slli, Srli, Add}
-use Rattle.fk_isa.specs.declared.instruction.Instruction.TheVariants.{Sub, Slt, Sltu, Mul, Divu}
+use Rattle.fk_isa.specs.declared.instruction.Instruction.TheVariants.{Sub, Sltu, Mul, Divu}
 use Rattle.fk_isa.specs.declared.instruction.Instruction.TheVariants.{Andi, AmoAddW}
 use Rattle.fk_asm.specs.Assembly.{straight}
 use Rattle.fk_asm.specs.Block.{MarkedLine}
@@ -86,11 +86,14 @@ abbrev pub heading_lines : SplitKind → Levels → List MarkedLine
 heading_lines Fork levels = heading_by levels.count
 heading_lines by levels = []
 
+abbrev pub behind_part : SplitKind → Levels → (target site : ℕ) → List MarkedLine
+behind_part by levels target site =
+    parting_lines (parts_label by) (level_word levels levels.count) target site
+    ++ heading_lines by levels
+
 abbrev pub split_block : SplitKind → Levels → (depth target site : ℕ) → List MarkedLine
 split_block by levels d target site =
-    map quiet (part_lines by d)
-    ++ (parting_lines (parts_label by) (level_word levels levels.count) target site
-    ++ heading_lines by levels)
+    map quiet (part_lines by d) ++ behind_part by levels target site
 
 -- ---- the code that splits share
 
@@ -117,7 +120,7 @@ two_parts_place =
 -- one, and 0 for who waits.
 abbrev pub fork_room : List MarkedLine
 fork_room =
-    quiet (Slt t0 zero_register t3) ∷ quiet (Mul t3 t3 t0) ∷
+    quiet (Srli t0 t3 31) ∷ quiet (Sltiu t0 t0 1) ∷ quiet (Mul t3 t3 t0) ∷
     quiet (Sub t0 blocks_register frames_register) ∷ quiet (Srli t0 t0 2) ∷
     quiet (Divu t0 t0 t3) ∷ quiet (Addi t1 zero_register 20) ∷
     quiet (Bgeu t0 t1 8) ∷ quiet (Jalr zero_register ra 4) ∷ []
@@ -267,7 +270,7 @@ shrink_block levels d target =
 -- and those of the code that splits share.
 abbrev pub before_parts : SplitKind → ℕ
 before_parts IfElse = 14
-before_parts Fork = 21
+before_parts Fork = 22
 before_parts by = 10
 
 abbrev pub split_takes : SplitKind → ℕ
@@ -276,7 +279,7 @@ split_takes by = length (part_lines by 0) + 2 + before_parts by
 -- Where there is no room, those before the lowest member faults.
 abbrev pub before_full : SplitKind → ℕ
 before_full IfElse = 4
-before_full Fork = 8
+before_full Fork = 9
 before_full by = 3
 
 abbrev pub split_faults_in : SplitKind → ℕ

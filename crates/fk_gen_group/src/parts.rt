@@ -189,7 +189,7 @@ fn emit_into_two(into: &mut Assembler) -> Result<(), AllocError>
 
 /// Adds the code that all forks share. The caller binds `FORK_LABEL` to its first line.
 pub fn emit_fork(into: &mut Assembler) -> Result<(), AllocError>
-    requires room { length into.old.lines + 39 < 2 ^ 30 }
+    requires room { length into.old.lines + 40 < 2 ^ 30 }
     requires free { AreFollowed into.old }
     ensures added { OnOk result (into.new ≡ with_block into.old fork_lines) }
 {
@@ -201,14 +201,15 @@ pub fn emit_fork(into: &mut Assembler) -> Result<(), AllocError>
 
 // How many free words there are for each part.
 fn emit_fork_room(into: &mut Assembler) -> Result<(), AllocError>
-    requires room { length into.old.lines + 8 < 2 ^ 30 }
+    requires room { length into.old.lines + 9 < 2 ^ 30 }
     requires free { AreFollowed into.old }
     ensures added { OnOk result (into.new ≡ with_block into.old fork_room) }
 {
     emit_lines(
         into,
         &[
-            BlockLine::quiet(Instruction::Slt(T0, ZERO, T3)),
+            BlockLine::quiet(Instruction::Srli(T0, T3, 31)),
+            BlockLine::quiet(Instruction::Sltiu(T0, T0, 1)),
             BlockLine::quiet(Instruction::Mul(T3, T3, T0)),
             BlockLine::quiet(Instruction::Sub(T0, BLOCKS, FRAMES)),
             BlockLine::quiet(Instruction::Srli(T0, T0, 2)),

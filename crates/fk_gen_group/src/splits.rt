@@ -51,10 +51,8 @@ pub(crate) fn split(
     ensures begun { OnErr result
         (HasBegun (s.split_block by levels depth target site) into.old into.new) }
 {
-    let word = levels.behind + 4 * levels.count;
     emit_part(into, by, depth)?;
-    emit_parting(into, parts_label(by), word, target, site)?;
-    emit_heading(into, by, levels)
+    emit_parting(into, by, levels, target, site)
 }
 
 fn parts_label(by: SplitKind) -> u32
@@ -168,8 +166,31 @@ fn emit_or(into: &mut Assembler, depth: u32) -> Result<(), AllocError>
     )
 }
 
-// The way to the shared code, with the level at a word after the header, and the ways back.
+// The way to the shared code, the ways back, and what who comes into a part does there.
 fn emit_parting(
+    into: &mut Assembler,
+    by: SplitKind,
+    levels: Levels,
+    target: u32,
+    site: u32,
+) -> Result<(), AllocError>
+    requires near { target < 2 ^ 31 }
+    requires levels { levels.behind + 4 * (levels.count + 1) ≤ 57 }
+    requires labels { All (GoesToMade into.old.bound) (s.behind_part by levels target site) }
+    requires room { length into.old.lines + length (s.behind_part by levels target site) < 2 ^ 30 }
+    requires free { AreFollowed into.old }
+    ensures added { OnOk result
+        (into.new ≡ with_block into.old (s.behind_part by levels target site)) }
+    ensures begun { OnErr result
+        (HasBegun (s.behind_part by levels target site) into.old into.new) }
+{
+    let word = levels.behind + 4 * levels.count;
+    emit_way(into, parts_label(by), word, target, site)?;
+    emit_heading(into, by, levels)
+}
+
+// The way to the shared code, with the level at a word after the header, and the ways back.
+fn emit_way(
     into: &mut Assembler,
     label: u32,
     word: u32,

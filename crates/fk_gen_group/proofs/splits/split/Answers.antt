@@ -5,13 +5,13 @@ use Rattle.fk_asm.specs.Block.{GoesToMade, HasBegun, with_block}
 use Rattle.fk_gen.specs.Lines.{quiet}
 use Rattle.fk_gen.proofs.Emitted.{on_err, on_ok, when_err, many_lines, followed, bound_stays, added_both, begun_front, begun_behind}
 use Rattle.fk_gen_flow.proofs.Rows.{all_back}
-use Rattle.fk_gen_group.specs.Splits.{part_lines, parting_lines, parts_label, level_word}
+use Rattle.fk_gen_group.specs.Splits.{part_lines, behind_part}
 use Rattle.fk_gen_group.proofs.splits.split.Goals as goal
 
 pub emit_part-requires-clause-room : goal.emit_part-requires-clause-room
 emit_part-requires-clause-room c =
     let xs = part_lines c.args.by c.args.depth in
-    let ys = parting_lines (parts_label c.args.by) (level_word c.args.levels c.args.levels.count) c.args.target c.args.site in
+    let ys = behind_part c.args.by c.args.levels c.args.target c.args.site in
     let all = length-append (map quiet xs) ys in
     let same = length-map xs quiet in
     let room = c.requires.room in
@@ -19,7 +19,7 @@ emit_part-requires-clause-room c =
 
 pub returns-in_err-emit_part-clause-begun : goal.returns-in_err-emit_part-clause-begun
 returns-in_err-emit_part-clause-begun c =
-    let ys = parting_lines (parts_label c.args.by) (level_word c.args.levels c.args.levels.count) c.args.target c.args.site in
+    let ys = behind_part c.args.by c.args.levels c.args.target c.args.site in
     on_err c.from_residual.result _
     (begun_front c.args.into.now c.emit_part.new.into (map quiet (part_lines c.args.by c.args.depth)) ys c.in_err-emit_part.ensures.begun)
 
@@ -27,14 +27,13 @@ pub emit_parting-requires-clause-labels : goal.emit_parting-requires-clause-labe
 emit_parting-requires-clause-labels c =
     let made = GoesToMade c.args.into.now.bound in
     let xs = map quiet (part_lines c.args.by c.args.depth) in
-    let ys = parting_lines (parts_label c.args.by) (level_word c.args.levels c.args.levels.count) c.args.target c.args.site in
-    subst (λ l. All (GoesToMade c.emit_part.new.into.bound) (parting_lines l (level_word c.args.levels c.args.levels.count) c.args.target c.args.site)) (sym c.parts_label.ensures.exact)
+    let ys = behind_part c.args.by c.args.levels c.args.target c.args.site in
     (bound_stays c.args.into.now c.emit_part.new.into xs ys c.in_ok-emit_part.ensures.added (all_back made xs ys c.requires.labels))
 
 pub emit_parting-requires-clause-room : goal.emit_parting-requires-clause-room
 emit_parting-requires-clause-room c =
     let xs = map quiet (part_lines c.args.by c.args.depth) in
-    let ys = parting_lines (parts_label c.args.by) (level_word c.args.levels c.args.levels.count) c.args.target c.args.site in
+    let ys = behind_part c.args.by c.args.levels c.args.target c.args.site in
     let all = length-append xs ys in
     let more = many_lines c.args.into.now c.emit_part.new.into xs _ c.in_ok-emit_part.ensures.added refl in
     let room = c.requires.room in
@@ -46,18 +45,16 @@ emit_parting-requires-clause-free c =
 
 pub returns-clause-added : goal.returns-clause-added
 returns-clause-added c =
-    let word = level_word c.args.levels c.args.levels.count in
     let xs = map quiet (part_lines c.args.by c.args.depth) in
-    let ys = parting_lines (parts_label c.args.by) word c.args.target c.args.site in
+    let ys = behind_part c.args.by c.args.levels c.args.target c.args.site in
     on_ok c.emit_parting.result _ _
     (added_both c.args.into.now c.emit_part.new.into c.emit_parting.new.into xs ys c.in_ok-emit_part.ensures.added)
-    (subst (λ l. OnOk c.emit_parting.result (c.emit_parting.new.into ≡ with_block c.emit_part.new.into (parting_lines l word c.args.target c.args.site))) c.parts_label.ensures.exact c.emit_parting.ensures.added)
+    c.emit_parting.ensures.added
 
 pub returns-clause-begun : goal.returns-clause-begun
 returns-clause-begun c =
-    let word = level_word c.args.levels c.args.levels.count in
     let xs = map quiet (part_lines c.args.by c.args.depth) in
-    let ys = parting_lines (parts_label c.args.by) word c.args.target c.args.site in
+    let ys = behind_part c.args.by c.args.levels c.args.target c.args.site in
     when_err c.emit_parting.result _ _
     (begun_behind c.args.into.now c.emit_part.new.into c.emit_parting.new.into xs ys c.in_ok-emit_part.ensures.added)
-    (subst (λ l. OnErr c.emit_parting.result (HasBegun (parting_lines l word c.args.target c.args.site) c.emit_part.new.into c.emit_parting.new.into)) c.parts_label.ensures.exact c.emit_parting.ensures.begun)
+    c.emit_parting.ensures.begun
