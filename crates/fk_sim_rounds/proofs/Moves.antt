@@ -417,8 +417,8 @@ module _ (core : List CoreOp) (image : Image) (places : Places) (nestings : Nest
         let first = after.first_of_parts setting.processors old before.sound ds round long g in
         let member = subst (λ k. trees.is_member m.number (trees.members old k) ≡ true) h.at (before.sound.placed m.number h.lt).member in
         let below =
-            few by (values (who (actings ds) m.number)) (values (who (actings ds) (lowest (trees.members old g)))) i (round.divide g m.number by divides member)
-            (ap (λ q. part by (values q)) h.who_is ∙ e) in
+        few by (values (who (actings ds) m.number)) (values (who (actings ds) (lowest (trees.members old g)))) i (round.divide g m.number by divides member)
+        (ap (λ q. part by (values q)) h.who_is ∙ e) in
         let at : new.places m.number ≡ first + i = after.part_place setting.processors old before.sound ds round long m.number g by i h.lt h.at divides (ap (λ q. part by (values q)) h.who_is ∙ e) in
         ap size_in h.number_is ∙ ap (λ k. length (trees.members new k)) at
         ∙ sized (first + i) (λ q. is_in i (part by (values q))) (after.split_members setting.processors old before.sound ds round long g by i divides below)
