@@ -50,20 +50,20 @@ use Rattle.fk_lower_laws.specs.Levels as rooms
 -- ---- levels at a place
 
 module _ (p : Place) where
-  split_level : (main : Bool) (nests : List Nest) → (main ≡ true → 1 ≤ nesting nests) → levels_of main (OfPart None ∷ nests) ≡ suc (levels_of main nests)
-  split_level true nests some = let low = some refl in omega (arith, low)
-  split_level false nests some = omega arith
+  split_level : (main numbered : Bool) (nests : List Nest) → (main ≡ true → 1 ≤ nesting nests) → levels_of main (OfPart numbered None ∷ nests) ≡ suc (levels_of main nests)
+  split_level true numbered nests some = let low = some refl in omega (arith, low)
+  split_level false numbered nests some = omega arith
 
   frame_level : (main : Bool) (words : ℕ) (nests : List Nest) → levels_of main (take_frame words nests) ≡ levels_of main nests
   frame_level main words [] = refl
   frame_level main words (OfFunction frame ∷ nests) = refl
-  frame_level main words (OfPart frame ∷ nests) = refl
+  frame_level main words (OfPart numbered frame ∷ nests) = refl
 
   -- behind a part
   end_level : (main : Bool) (nests : List Nest) → IsInPart nests
       → (levels_of main nests ≡ 0 → levels_of main (tail nests) ≡ levels_of main nests) × (1 ≤ levels_of main nests → levels_of main nests ≡ suc (levels_of main (tail nests)))
-  end_level true (OfPart frame ∷ nest ∷ nests) within = ((λ e. omega (arith, e)), (λ e. omega (arith, e)))
-  end_level false (OfPart frame ∷ nest ∷ nests) within = ((λ e. omega (arith, e)), (λ e. omega arith))
+  end_level true (OfPart numbered frame ∷ nest ∷ nests) within = ((λ e. omega (arith, e)), (λ e. omega (arith, e)))
+  end_level false (OfPart numbered frame ∷ nest ∷ nests) within = ((λ e. omega (arith, e)), (λ e. omega arith))
   end_level main nests within = absurd (assumption within)
 
 pub told_count : (saved : List Levels) (i n : ℕ) → slice_get (map (λ (l : Levels). l.count) saved) i ≡ Some n → (levels_in saved i).count ≡ n
@@ -342,12 +342,12 @@ module _ (core : List CoreOp) (main firsts : ℕ) (kept : List Set) (begins : ma
       fit i op operation at = held.rooms.fits i op operation at
 
       parted : (i : ℕ) (op : CoreOp) (by : SplitKind) (at : OpAt core i op (o.Split by)) → rooms.levels_in (place_behind (o.Split by) true (places i)) ≡ suc (level i)
-      parted i op sk.IfAlone at = split_level (places i) (is_main_place (places i).function) (places i).nests (fit i op (o.Split sk.IfAlone) at).grouped
-      parted i op sk.IfElse at = split_level (places i) (is_main_place (places i).function) (places i).nests (fit i op (o.Split sk.IfElse) at).grouped
-      parted i op sk.AndThen at = split_level (places i) (is_main_place (places i).function) (places i).nests (fit i op (o.Split sk.AndThen) at).grouped
-      parted i op sk.OrElse at = split_level (places i) (is_main_place (places i).function) (places i).nests (fit i op (o.Split sk.OrElse) at).grouped
-      parted i op sk.Loop at = split_level (places i) (is_main_place (places i).function) (places i).nests (fit i op (o.Split sk.Loop) at).grouped
-      parted i op sk.Fork at = split_level (places i) (is_main_place (places i).function) (places i).nests (fit i op (o.Split sk.Fork) at).grouped
+      parted i op sk.IfAlone at = split_level (places i) (is_main_place (places i).function) false (places i).nests (fit i op (o.Split sk.IfAlone) at).grouped
+      parted i op sk.IfElse at = split_level (places i) (is_main_place (places i).function) false (places i).nests (fit i op (o.Split sk.IfElse) at).grouped
+      parted i op sk.AndThen at = split_level (places i) (is_main_place (places i).function) false (places i).nests (fit i op (o.Split sk.AndThen) at).grouped
+      parted i op sk.OrElse at = split_level (places i) (is_main_place (places i).function) false (places i).nests (fit i op (o.Split sk.OrElse) at).grouped
+      parted i op sk.Loop at = split_level (places i) (is_main_place (places i).function) false (places i).nests (fit i op (o.Split sk.Loop) at).grouped
+      parted i op sk.Fork at = split_level (places i) (is_main_place (places i).function) true (places i).nests (fit i op (o.Split sk.Fork) at).grouped
 
       begun : (i : ℕ) (onward : Bool) → places i ≡ entered Main → rooms.levels_in (place_behind o.Begin onward (places i)) ≡ level i
       begun i true e = ap (λ p. rooms.levels_in (place_behind o.Begin true p)) e ∙ sym (ap rooms.levels_in e)
@@ -395,7 +395,7 @@ module _ (core : List CoreOp) (main firsts : ℕ) (kept : List Set) (begins : ma
       shrunk i op at =
           let f = fit i op o.Shrink at in
           let here = lt i op o.Shrink at in
-          let out = end_level (places i) (is_main_place (places i).function) (places i).nests f.may in
+          let out = end_level (places i) (is_main_place (places i).function) (places i).nests f.may.0 in
           let some = shrinks i op at.stands at.is_read (level i) (held.rooms.counted i here) in
           closes_there i op.target false here (within_on i op o.Shrink at refl false) (leads_is i op o.Shrink at false) (out.1 some ∙ ap suc (sym (ap rooms.levels_in (f.goes_on false).place)))
 

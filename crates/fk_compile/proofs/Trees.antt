@@ -11,7 +11,8 @@ use Rattle.fk_check_laws.proofs.PlacedPrograms.{valid_programs_are_in_place}
 use Rattle.fk_check_laws.proofs.Spaces.{valid_programs_are_inner}
 use Rattle.fk_gen.specs.declared.placed.Levels.{Levels}
 use Rattle.fk_gen.specs.Levels.{levels_in}
-use Rattle.fk_lockstep_structure.proofs.Programs.{programs_follow}
+use Rattle.fk_lockstep_structure.specs.Pending.{fork_counts}
+use Rattle.fk_lockstep_structure.proofs.Programs.{programs_follow, gives_of, none_pending, programs_are_counted}
 use Rattle.fk_lockstep_structure.proofs.Whole.{code_is_framed}
 use Rattle.fk_lockstep_structure.proofs.FramePrograms.{programs_are_framed}
 use Rattle.fk_lockstep_tree.proofs.Lists.{lists_stay_in_trees}
@@ -33,8 +34,9 @@ programs_stay_in_trees program facts laid plain core entry flat own local =
     let none = (asked program facts laid).0 in
     let shaped = forms_are_shaped tables program (correct_programs_fit program facts laid.correct laid.trim) in
     let stands = flat_lists_have_code tables program core entry shaped flat in
-    lists_stay_in_trees (may_call program) bodies core entry main stands.leads_on stands.stands own local
+    lists_stay_in_trees (may_call program) bodies core entry main (fork_counts (gives_of tables program (may_call program) placed)) stands.leads_on stands.stands own local
     (programs_are_led tables program (may_call program) placed inner none plain shaped) (programs_follow tables program (may_call program) placed)
+    (none_pending tables program (may_call program) placed) (programs_are_counted tables program (may_call program) placed)
     (code_is_framed (may_call program) bodies main (programs_are_framed tables program (may_call program) placed inner none))
 
 told_nest : (saved : List Levels) (i n : ℕ) → slice_get (map (λ (l : Levels). l.nest) saved) i ≡ Some n → (levels_in saved i).nest ≡ n

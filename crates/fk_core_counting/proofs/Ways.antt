@@ -89,7 +89,7 @@ straight_on who (o.Frame number words) p k e h = by p.nests h.is h.within
         → Stand who (place_behind (o.Frame number words) true (record { function = p.function; nests = nests })) k
     by [] is within = record { is = is; within = within }
     by (OfFunction frame ∷ nests) is within = record { is = is; within = within }
-    by (OfPart frame ∷ nests) is within = record { is = is; within = within }
+    by (OfPart numbered frame ∷ nests) is within = record { is = is; within = within }
 straight_on who (o.Branch onward) p k e h = absurd (cc)
 straight_on who o.Begin p k e h = absurd (cc)
 straight_on who (o.Split by) p k e h = absurd (cc)
@@ -174,14 +174,14 @@ same_parts k a b e f = ap (λ x. parts x b) e ∙ ap (λ x. parts k.levels x) f
 
 module _ (p : Place) (k : Parts) where
   -- one part more
-  deeper : (b : Bool) → levels_of b p.nests ≡ k.levels → (b ≡ true → 1 ≤ nesting p.nests) → levels_of b (OfPart None ∷ p.nests) ≡ suc k.levels
-  deeper true e within = let some = within refl in omega (arith, e, some)
-  deeper false e within = omega (arith, e)
+  deeper : (numbered b : Bool) → levels_of b p.nests ≡ k.levels → (b ≡ true → 1 ≤ nesting p.nests) → levels_of b (OfPart numbered None ∷ p.nests) ≡ suc k.levels
+  deeper numbered true e within = let some = within refl in omega (arith, e, some)
+  deeper numbered false e within = omega (arith, e)
 
-  parted : Stand OfGroup p k → Stand OfGroup (record p { nests = OfPart None ∷ p.nests }) (parts (suc k.levels) (suc k.around))
-  parted h = record {
-    is = same_parts (parts (suc k.levels) (suc k.around)) (levels_of (is_main_place p.function) (OfPart None ∷ p.nests)) (suc (nesting p.nests))
-        (deeper (is_main_place p.function) (ap (λ (x : Parts). x.levels) h.is) (h.within refl)) (ap (λ (x : Parts). suc x.around) h.is);
+  parted : (numbered : Bool) → Stand OfGroup p k → Stand OfGroup (record p { nests = OfPart numbered None ∷ p.nests }) (parts (suc k.levels) (suc k.around))
+  parted numbered h = record {
+    is = same_parts (parts (suc k.levels) (suc k.around)) (levels_of (is_main_place p.function) (OfPart numbered None ∷ p.nests)) (suc (nesting p.nests))
+        (deeper numbered (is_main_place p.function) (ap (λ (x : Parts). x.levels) h.is) (h.within refl)) (ap (λ (x : Parts). suc x.around) h.is);
     within = λ e f. omega arith;
   }
 
@@ -192,12 +192,12 @@ module _ (p : Place) (k : Parts) where
   some = omega arith
 
   split_ways : (by : SplitKind) → Stand OfGroup p k → Ways OfGroup (o.Split by) p k
-  split_ways sk.IfAlone h = record { says = h.within refl; first = parted h; second = inr refl; behind = back; deep = λ b d e. some }
-  split_ways sk.IfElse h = record { says = h.within refl; first = parted h; second = inl (parted h); behind = back; deep = λ b d e. some }
-  split_ways sk.AndThen h = record { says = h.within refl; first = parted h; second = inr refl; behind = back; deep = λ b d e. some }
-  split_ways sk.OrElse h = record { says = h.within refl; first = parted h; second = inr refl; behind = back; deep = λ b d e. some }
-  split_ways sk.Loop h = record { says = h.within refl; first = parted h; second = inr refl; behind = back; deep = λ b d e. some }
-  split_ways sk.Fork h = record { says = h.within refl; first = parted h; second = inr refl; behind = back; deep = λ b d e. some }
+  split_ways sk.IfAlone h = record { says = h.within refl; first = parted false h; second = inr refl; behind = back; deep = λ b d e. some }
+  split_ways sk.IfElse h = record { says = h.within refl; first = parted false h; second = inl (parted false h); behind = back; deep = λ b d e. some }
+  split_ways sk.AndThen h = record { says = h.within refl; first = parted false h; second = inr refl; behind = back; deep = λ b d e. some }
+  split_ways sk.OrElse h = record { says = h.within refl; first = parted false h; second = inr refl; behind = back; deep = λ b d e. some }
+  split_ways sk.Loop h = record { says = h.within refl; first = parted false h; second = inr refl; behind = back; deep = λ b d e. some }
+  split_ways sk.Fork h = record { says = h.within refl; first = parted true h; second = inr refl; behind = back; deep = λ b d e. some }
 
   begin_ways : (who : Who) → p ≡ entered Main → Stand who p k → Ways who o.Begin p k
   begin_ways who e h =
@@ -205,7 +205,7 @@ module _ (p : Place) (k : Parts) where
       record {
         says = tt;
         first = record {
-          is = ap (λ (q : Place). parts (levels_of (is_main_place q.function) (OfPart None ∷ q.nests)) (suc (nesting q.nests))) e ∙ sym (ap (λ (x : Parts). parts x.levels (suc x.around)) empty);
+          is = ap (λ (q : Place). parts (levels_of (is_main_place q.function) (OfPart true None ∷ q.nests)) (suc (nesting q.nests))) e ∙ sym (ap (λ (x : Parts). parts x.levels (suc x.around)) empty);
           within = λ f g. omega arith;
         };
         second = inr refl;

@@ -1,3 +1,4 @@
 pub mod Count
+pub mod Forks
 pub mod Behind
 pub mod Levels

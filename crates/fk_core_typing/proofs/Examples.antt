@@ -152,7 +152,7 @@ spread = choose 6 o.Farm done done (perform 7 (o.Meet true) (choose 8 o.Seq done
 
 -- in the group of `start`
 abbrev inside : State
-inside = bare (record { function = Main; nests = OfPart None ∷ OfFunction None ∷ [] })
+inside = bare (record { function = Main; nests = OfPart true None ∷ OfFunction None ∷ [] })
 
 spread_is_typed : Typed place_of frame_of None inside spread (at Main [])
 spread_is_typed = (
@@ -194,7 +194,7 @@ grouped_is_typed = (
 
 -- while (c) ; of a group, which splits there: who leaves the loop goes on outside its part
 abbrev deeper : State
-deeper = bare (record { function = Main; nests = OfPart None ∷ OfPart None ∷ OfFunction None ∷ [] })
+deeper = bare (record { function = Main; nests = OfPart false None ∷ OfPart true None ∷ OfFunction None ∷ [] })
 
 abbrev private_loop : Code ℕ
 private_loop = choose 0 (o.Split p.Loop) (while (perform 1 (get 0) (quit 2 o.Shrink done)) done done done) done (perform 3 o.Resume done)
@@ -305,7 +305,7 @@ of_two_words = refl
 
 -- a frame of a part, beside that of the function around it; none is known where none was taken
 abbrev nested : State
-nested = bare (record { function = Called true; nests = OfPart (Some 1) ∷ OfPart None ∷ OfFunction (Some 2) ∷ [] })
+nested = bare (record { function = Called true; nests = OfPart false (Some 1) ∷ OfPart false None ∷ OfFunction (Some 2) ∷ [] })
 
 abbrev got : (nesting word : ℕ) → List Value
 got nesting word = (behind (o.Get (n.FrameAddress nesting word)) true nested).values

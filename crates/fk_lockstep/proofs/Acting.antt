@@ -4,6 +4,8 @@ use Rattle.std.specs.Prelude.{◌==◌, nat_lt, not}
 use Rattle.fk_meaning_operation.specs.Kinds.{class_of, joint_of}
 use Rattle.fk_meaning_operation.specs.declared.operation.Operation.{Operation}
 use Rattle.fk_meaning_operation.specs.declared.operation.Operation.TheVariants as o
+use Rattle.fk_meaning_operation.specs.declared.operation.SplitKind.{SplitKind}
+use Rattle.fk_meaning_operation.specs.declared.operation.SplitKind.TheVariants as split_by
 use Rattle.fk_meaning_operation.specs.declared.kinds.Class.{Class}
 use Rattle.fk_meaning_operation.specs.declared.kinds.Class.TheVariants.{Local, Request, Tree}
 use Rattle.fk_meaning_operation.specs.declared.kinds.Joint.TheVariants as joint
@@ -11,7 +13,7 @@ use Rattle.fk_meaning.specs.Processor.{Processor, Setting, values, last}
 use Rattle.fk_meaning.specs.Behind.{grown}
 use Rattle.fk_meaning.specs.Local.{local, is_onward}
 use Rattle.fk_meaning.specs.Request.{with_answer}
-use Rattle.fk_meaning.specs.Group.{does, goes_onward}
+use Rattle.fk_meaning.specs.Group.{not_negative, parts, does, goes_onward}
 use Rattle.fk_meaning.specs.Round.{Step, Runner, Acting, taking, done, do_local, local_phase, after_locals}
 use Rattle.fk_lockstep.specs.InStep.{is_agree}
 use Rattle.fk_lockstep.specs.Untouched.{changes_tree}
@@ -107,6 +109,17 @@ is_changing (Some step) = changes_tree step.operation
 some_if : (v : ℕ) (b : Bool) → b ≡ is_some (if b then Some v else None)
 some_if v true = refl
 some_if v false = refl
+
+-- members of a group make as many parts
+pub parts_same : {W : Type 0} (next : W → Option (Step W)) (outs : W → List W) (counts : Counts W) (by : SplitKind) (here : W) (rest : Bool → W) → CountsGoOn next outs counts (o.Split by) here rest
+    → (q r : Processor) (ns : List ℕ) → ArePending next outs counts here q ns → ArePending next outs counts here r ns → parts by (values q) ≡ parts by (values r)
+parts_same next outs counts split_by.Fork here rest c q r ns e f = ap not_negative (ap head (sym (c.0 0 None q ns e).1 ∙ (c.0 0 None r ns f).1))
+  where
+    head : List ℕ → ℕ
+    head [] = 0
+    head (v ∷ vs) = v
+parts_same next outs counts split_by.IfElse here rest c q r ns e f = refl
+parts_same next outs counts by here rest c q r ns e f = refl
 
 module _ {W : Type 0} (next : W → Option (Step W)) (outs : W → List W) (counts : Counts W) where
   pub record Is (x : Here W) (r : Runner W) : Type 0 where

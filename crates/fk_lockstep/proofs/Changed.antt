@@ -22,7 +22,7 @@ use Rattle.fk_meaning.specs.Round.{Step, Runner, State, Round, Acting, lowest, a
 use Rattle.fk_lockstep.specs.Untouched.{changes_tree}
 use Rattle.fk_lockstep.specs.Counts.{Counts, ArePending, CountsGoOn}
 use Rattle.fk_lockstep.specs.Course.{InGroup, Waits, ByItself, Parts, Does, FollowsFor}
-use Rattle.fk_lockstep.proofs.Acting.{untrue, Here, Out, told, within, is_changing, Is, Grouped, Parted, Apart, AtNode, ahead_of, does_so, counts_so, going_on}
+use Rattle.fk_lockstep.proofs.Acting.{untrue, Here, Out, told, within, is_changing, Is, Grouped, Parted, Apart, AtNode, ahead_of, parts_same, does_so, counts_so, going_on}
 use Rattle.fk_lockstep.proofs.Trees.{NodeIs, IsThere, ThereAt, inv_same, turned_here, turned_inv, shrunk_here, shrunk_inv, parted_here, parted_behind, parted_inv}
 use Rattle.fk_lockstep.proofs.Round.{all_keep, has_at, Sound, Ordered}
 use Rattle.fk_lockstep.proofs.Changes.{Stage, low, mid, mids, there, first_mid, first_stage, still, same_stage, Moved as MovedIn, moved as moved_in, others as others_in, in_i, had, has, place_of, leaf as leaf_of, Allowed, allowed, brought, by_step, first_same, one_of_none}
@@ -61,17 +61,6 @@ module _ {W : Type 0} (next : W → Option (Step W)) (outs : W → List W) where
     aside = λ vs none. h.4;
     first = e ∙ ap (λ (bs : List W). w ∷ bs) h.0;
   }
-
--- members of a group make as many parts
-parts_same : {W : Type 0} (next : W → Option (Step W)) (outs : W → List W) (counts : Counts W) (by : SplitKind) (here : W) (rest : Bool → W) → CountsGoOn next outs counts (o.Split by) here rest
-    → (q r : Processor) (ns : List ℕ) → ArePending next outs counts here q ns → ArePending next outs counts here r ns → parts by (values q) ≡ parts by (values r)
-parts_same next outs counts split_by.Fork here rest c q r ns e f = ap not_negative (ap head (sym (c.0 0 None q ns e).1 ∙ (c.0 0 None r ns f).1))
-  where
-    head : List ℕ → ℕ
-    head [] = 0
-    head (v ∷ vs) = v
-parts_same next outs counts split_by.IfElse here rest c q r ns e f = refl
-parts_same next outs counts by here rest c q r ns e f = refl
 
 module _ {W : Type 0} (next : W → Option (Step W)) (outs : W → List W) (counts : Counts W) (depth : W → ℕ) (set : Setting) (round : Round) (s : State W)
     (p : ℕ) (here0 : ℕ → Here W) (behind0 : ℕ → List (Out W)) (inv0 : Sound next outs counts set round s p s.tree (has_at next outs counts set round s) here0 behind0)

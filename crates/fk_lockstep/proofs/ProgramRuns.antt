@@ -15,10 +15,10 @@ use Rattle.fk_meaning.specs.Processor.{Processor, Setting, setting_of, values, l
 use Rattle.fk_meaning.specs.Round.{Step, Runner, State, Round, Acting, result, is_possible, IsStopped}
 use Rattle.fk_meaning.specs.Schedule.{Schedule, beginners, opening, run, ArePossible}
 use Rattle.fk_meaning.proofs.Stopped.{stopped_faults}
-use Rattle.fk_lockstep.specs.Counts.{Counts, ArePending, IsCounted}
+use Rattle.fk_lockstep.specs.Counts.{Counts, ArePending, CountsGoOn, IsCounted}
 use Rattle.fk_lockstep.specs.Course.{InGroup, Waits, ByItself, Does, FollowsFor, Follows}
 use Rattle.fk_lockstep.specs.OneProgram.{groups_of, HaveOneProgram, WaitersHaveOneProgram, BeginnersHaveOneProgram, GroupsHaveOneProgram}
-use Rattle.fk_lockstep.proofs.Acting.{untrue, Here, Out, told, lefts, bare, lefts_bare, HasValue, within, Is, AtNode, without, Grouped, Parted, Apart, does_so, going_on}
+use Rattle.fk_lockstep.proofs.Acting.{untrue, Here, Out, told, lefts, bare, lefts_bare, HasValue, within, Is, AtNode, without, Grouped, Parted, Apart, parts_same, counts_so, does_so, going_on}
 use Rattle.fk_lockstep.proofs.Trees.{IsThere, NodeIs, ThereAt, Inv, leaf_place}
 use Rattle.fk_lockstep.proofs.Round.{first_is, some_at, at_below, actings as actings_of, Ordered, groups_at}
 use Rattle.fk_lockstep.proofs.Settled.{after as after_of, result_is, many_after, same_has, settled_from, numbers_after}
@@ -73,6 +73,10 @@ module _ {W : Type 0} (next : W → Option (Step W)) (outs : W → List W) (coun
             let so = does_so next outs counts (InGroup (is_some (good.here n).agreed)) (good.here n).left step grouped.follows (ap next (sym first.left) ∙ stands) 0 in
             let agreed = (subst (λ (op : Operation). Does next outs (FollowsFor next outs 0) (InGroup (is_some (good.here n).agreed)) op (good.here n).left step.rest) branch so).0 in
             same_value (good.here n).agreed agreed r q first.value second.value;
+        divide = λ step by stands splits.
+            let so = counts_so next outs counts (good.here n).left step first.counted (ap next (sym first.left) ∙ stands) in
+            parts_same next outs counts by (good.here n).left step.rest (subst (λ (op : Operation). CountsGoOn next outs counts op (good.here n).left step.rest) splits so)
+            r.has q.has (good.here n).numbers first.numbers second.numbers;
         groups = r_groups ∙ sym q_groups;
         size = ap size_in whole;
       }

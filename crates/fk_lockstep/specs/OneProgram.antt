@@ -2,12 +2,14 @@
 use Rattle.std.specs.Prelude.{◌≡◌, ℕ, ◌≤◌, Bool, true, false, List, [], ◌∷◌, length, map, Option}
 use Rattle.std.specs.Prelude.{Some, None, slice_get}
 use Rattle.fk_num.specs.Word.{Memory}
+use Rattle.fk_meaning_operation.specs.declared.operation.SplitKind.{SplitKind}
 use Rattle.fk_meaning_operation.specs.declared.operation.Operation.TheVariants as o
 use Rattle.fk_tree.specs.Tree as t
 use Rattle.fk_tree.specs.Tree.{is_member}
 use Rattle.fk_tree.specs.declared.node.Kind.TheVariants.{Lockstep, Waiting}
 use Rattle.fk_tree.specs.Sound.{IsSound}
 use Rattle.fk_meaning.specs.Processor.{Processor, Setting, values, last}
+use Rattle.fk_meaning.specs.Group.{parts}
 use Rattle.fk_meaning.specs.Round.{Step, Runner, State}
 use Rattle.fk_meaning.specs.Schedule.{Schedule, opening, run, ArePossible}
 use Rattle.fk_lockstep.specs.Course.{ByItself, Follows}
@@ -18,14 +20,16 @@ abbrev pub groups_of : Processor → List (ℕ × ℕ)
 groups_of p = map (λ l. (l.number, l.size)) (p.level ∷ p.outer)
 
 module _ {W : Type 0} (next : W → Option (Step W)) where
-  -- two members of a group in lockstep have the same work left, and before a branch the same last
-  -- value. They have the same `@` and sizes of their groups, and `groupsize()` is the number of
-  -- members
+  -- two members of a group in lockstep have the same work left, before a branch the same last value,
+  -- and before a split the same number of parts. They have the same `@` and sizes of their groups,
+  -- and `groupsize()` is the number of members
   pub record AreTogether (s : State W) (n : ℕ) (r q : Runner W) : Type 0 where
     pub left : r.left ≡ q.left
     pub branch : (step : Step W) (onward : Bool) → next r.left ≡ Some step
         → step.operation ≡ o.Branch onward
         → last (values r.has) ≡ last (values q.has)
+    pub divide : (step : Step W) (by : SplitKind) → next r.left ≡ Some step
+        → step.operation ≡ o.Split by → parts by (values r.has) ≡ parts by (values q.has)
     pub groups : groups_of r.has ≡ groups_of q.has
     pub size : r.has.level.size ≡ length (t.members s.tree n)
 

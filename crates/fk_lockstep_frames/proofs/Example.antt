@@ -29,7 +29,7 @@ abbrev outermost : List Nest
 outermost = OfFunction None ∷ []
 
 abbrev in_start : (frame : Option ℕ) → List Nest
-in_start frame = OfPart frame ∷ outermost
+in_start frame = OfPart true frame ∷ outermost
 
 abbrev in_g : List Nest
 in_g = OfFunction (Some 2) ∷ []

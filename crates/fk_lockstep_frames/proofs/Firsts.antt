@@ -45,8 +45,8 @@ first_frame : (nests : List Nest) (first : Memory) (calls : List Memory) (l : Le
 first_frame [] first calls l outer part words has around begun e = absurd (none_some words e)
 first_frame (OfFunction f ∷ nests) first calls l outer part words has around begun e =
     absurd (none_some words (sym (ap (λ b. if b then f else None) (eqb-suc-zero part)) ∙ e))
-first_frame (OfPart f ∷ nests) first calls l [] part words has around begun e = absurd (no_call nests first calls around begun.1)
-first_frame (OfPart f ∷ nests) first calls l (o ∷ outer) part words has around begun e =
+first_frame (OfPart b f ∷ nests) first calls l [] part words has around begun e = absurd (no_call nests first calls around begun.1)
+first_frame (OfPart b f ∷ nests) first calls l (o ∷ outer) part words has around begun e =
     pick f (frame_at nests (suc part)) (suc part) (suc (nesting nests)) words (suc part == suc (nesting nests)) refl e
     (λ here is.
     let none : 0 ≡ suc (nesting nests) - suc part = omega (arith, here) in (
@@ -58,7 +58,7 @@ first_frame (OfPart f ∷ nests) first calls l (o ∷ outer) part words has arou
             further = outer;
             there = refl;
             begins = ap first here ∙ begins_there f words (first (suc (nesting nests))) (l.space.low + 8) is begun.0;
-            within = header_within (taken (OfPart f ∷ nests)) l.space has;
+            within = header_within (taken (OfPart b f ∷ nests)) l.space has;
           }),
     ))
     (λ is.

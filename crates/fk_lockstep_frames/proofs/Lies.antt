@@ -38,9 +38,9 @@ all_lie [] (first ∷ calls) spaces s words has few outer begun = absurd begun
 all_lie (OfFunction f ∷ nests) [] spaces s words has few outer begun = absurd begun
 all_lie (OfFunction f ∷ nests) (first ∷ calls) spaces s words has few outer begun =
     (lies f (first 0) (taken nests) words s has few begun.0, all_lie nests calls spaces s words has (omega (arith, few)) outer begun.1)
-all_lie (OfPart f ∷ nests) [] spaces s words has few outer begun = absurd begun
-all_lie (OfPart f ∷ nests) (first ∷ calls) [] s words has few outer begun = absurd (no_lows nests first calls outer begun.1)
-all_lie (OfPart f ∷ nests) (first ∷ calls) (around ∷ spaces) s words has few outer begun = (
+all_lie (OfPart b f ∷ nests) [] spaces s words has few outer begun = absurd begun
+all_lie (OfPart b f ∷ nests) (first ∷ calls) [] s words has few outer begun = absurd (no_lows nests first calls outer begun.1)
+all_lie (OfPart b f ∷ nests) (first ∷ calls) (around ∷ spaces) s words has few outer begun = (
   lies f (first (suc (nesting nests))) 0 words s has (omega (arith, few)) (begins_at f (first (suc (nesting nests))) s.low begun.0),
   all_lie nests (first ∷ calls) spaces around (taken nests) outer.0 (omega arith) outer.1 begun.1,
 )
@@ -75,8 +75,8 @@ in_space [] first calls spaces s taken_words number words has outer lie e = absu
 in_space (OfFunction f ∷ nests) first calls spaces s taken_words number words has outer lie e =
     pick f None number 0 words (number == 0) refl e
     (λ zero_is is. subst (λ n. first n + words ≤ 2 ^ 20) (sym zero_is) (ends f (first 0) words taken_words s is has lie.0)) (λ is. absurd (none_some words is))
-in_space (OfPart f ∷ nests) first calls [] s taken_words number words has outer lie e = absurd (no_spaces nests first calls outer lie.1)
-in_space (OfPart f ∷ nests) first calls (around ∷ spaces) s taken_words number words has outer lie e =
+in_space (OfPart b f ∷ nests) first calls [] s taken_words number words has outer lie e = absurd (no_spaces nests first calls outer lie.1)
+in_space (OfPart b f ∷ nests) first calls (around ∷ spaces) s taken_words number words has outer lie e =
     pick f (frame_at nests number) number (suc (nesting nests)) words (number == suc (nesting nests)) refl e
     (λ number_is is. subst (λ n. first n + words ≤ 2 ^ 20) (sym number_is) (ends f (first (suc (nesting nests))) words taken_words s is has lie.0))
     (λ is. in_space nests first calls spaces around (taken nests) number words outer.0 outer.1 lie.1 is)

@@ -1,5 +1,7 @@
 -- Lists whose indices tell the nests of the running call.
 use Rattle.std.proofs.Common.{◌≡◌, ℕ, zero, suc, ◌-◌, ◌≤◌, ◌==◌, Bool, true, false, true≢false, List, [], ◌∷◌, ◌++◌, length, slice_get, Option, Some, None, is_some, if◌then◌else◌, refl, sym, ap, ◌∙◌, subst}
+use Rattle.std.specs.Prelude.{◌^◌, ◌<◌, All}
+use Rattle.std.proofs.lemmas.List.Elements.{All-nil, All-cons}
 use Rattle.fk_num.specs.Word.{Memory}
 use Rattle.fk_meaning_operation.specs.declared.operation.OwnValue.TheVariants.{FrameAddress}
 use Rattle.fk_meaning_operation.specs.declared.operation.SplitKind.TheVariants as s
@@ -9,7 +11,7 @@ use Rattle.fk_meaning_operation.specs.declared.kinds.Class.TheVariants.{Local, R
 use Rattle.fk_meaning_operation.specs.Kinds.{class_of}
 use Rattle.fk_meaning_store.specs.Store.{Store}
 use Rattle.fk_meaning_store.specs.Serve.{Served, serve, may_use}
-use Rattle.fk_space.specs.Space.{IsSpace}
+use Rattle.fk_space.specs.Space.{Space, IsSpace}
 use Rattle.fk_meaning.specs.Behind.{tail}
 use Rattle.fk_meaning.specs.Processor.{Processor, Setting, setting_of, group_space}
 use Rattle.fk_meaning.specs.Local.{local as local_of, is_onward, known}
@@ -19,8 +21,8 @@ use Rattle.fk_meaning.specs.Round.{Step, Runner}
 use Rattle.fk_meaning.specs.Schedule.{beginners, first_processor}
 use Rattle.fk_core.specs.declared.op.CoreOp.{CoreOp}
 use Rattle.fk_core.specs.Next.{Position, position, is_jump, through, led_by, landing_by, landing, behind_jump, follows, next, list_opening}
-use Rattle.fk_lockstep_frames.specs.Nests.{Nest, OfFunction, OfPart, nesting, frame_at, frame_has, has_word, take_frame, behind, MayLeave, MayTake, IsInPart, May, TellsOn}
-use Rattle.fk_lockstep_frames.specs.Taken.{HasNests, IsFirstFrame}
+use Rattle.fk_lockstep_frames.specs.Nests.{Nest, OfFunction, OfPart, nesting, frame_at, frame_has, has_word, is_numbered, taken, outward, take_frame, behind, MayLeave, MayTake, IsInPart, May, TellsOn}
+use Rattle.fk_lockstep_frames.specs.Taken.{numbers_of, HasTaken, TakesInPart, AreNumbered, KeepsNumbers, HasNests, IsFirstFrame}
 use Rattle.fk_lockstep_frames.specs.Lists.{nests_of, told, IsOutermost, Leads, Calls, Returns, Asks, GoesOn, HasLocalFrames, ListsTellFrames}
 use Rattle.fk_lockstep_frames.proofs.Rounds.{AllAre, all_at, RunnerFits, runs}
 use Rattle.fk_lockstep_frames.proofs.Runs.{local_on, request_on, tree_on, first_nests}
@@ -33,20 +35,40 @@ abbrev pub IsOfCall : List Nest → Type 0
 IsOfCall [] = ⊥
 IsOfCall (OfFunction frame ∷ []) = Unit {0}
 IsOfCall (OfFunction frame ∷ nest ∷ nests) = ⊥
-IsOfCall (OfPart frame ∷ nests) = IsOfCall nests
+IsOfCall (OfPart b frame ∷ nests) = IsOfCall nests
 
 -- nothing outside counts in them
 nesting_same : (ns more : List Nest) → IsOfCall ns → nesting (ns ++ more) ≡ nesting ns
 nesting_same [] more call = absurd call
 nesting_same (OfFunction f ∷ ns) more call = refl
-nesting_same (OfPart f ∷ ns) more call = ap (λ n. suc n) (nesting_same ns more call)
+nesting_same (OfPart b f ∷ ns) more call = ap (λ n. suc n) (nesting_same ns more call)
 
 frame_at_same : (ns more : List Nest) (number : ℕ) → IsOfCall ns → frame_at (ns ++ more) number ≡ frame_at ns number
 frame_at_same [] more number call = absurd call
 frame_at_same (OfFunction f ∷ ns) more number call = refl
-frame_at_same (OfPart f ∷ ns) more number call =
+frame_at_same (OfPart b f ∷ ns) more number call =
     ap (λ n. if number == suc n then f else frame_at (ns ++ more) number) (nesting_same ns more call)
     ∙ ap (λ other. if number == suc (nesting ns) then f else other) (frame_at_same ns more number call)
+
+-- the numbers of groups
+all_small : (ns : List Nest) (numbers : List (ℕ × ℕ)) → AreNumbered ns numbers → All (λ n. n.0 < 2 ^ 16) numbers
+all_small ns [] h = All-nil (λ (n : ℕ × ℕ). n.0 < 2 ^ 16)
+all_small ns (n ∷ []) h = All-cons (λ (m : ℕ × ℕ). m.0 < 2 ^ 16) n [] h (All-nil (λ (m : ℕ × ℕ). m.0 < 2 ^ 16))
+all_small ns (n ∷ around ∷ numbers) h = All-cons (λ (m : ℕ × ℕ). m.0 < 2 ^ 16) n (around ∷ numbers) h.0 (all_small (outward ns) (around ∷ numbers) h.2)
+
+keeps_numbers : (ns more : List Nest) (numbers : List (ℕ × ℕ)) → AreNumbered (ns ++ more) numbers → KeepsNumbers ns numbers
+keeps_numbers [] more numbers h = tt
+keeps_numbers (OfFunction f ∷ ns) more numbers h = tt
+keeps_numbers (OfPart true f ∷ ns) more numbers h = tt
+keeps_numbers (OfPart false f ∷ ns) more [] h = tt
+keeps_numbers (OfPart false f ∷ ns) more (n ∷ []) h = tt
+keeps_numbers (OfPart false f ∷ ns) more (n ∷ around ∷ numbers) h = h.1 refl
+
+-- and the words that are taken in the innermost one
+takes_in_part : (ns more : List Nest) (s : Space) → HasTaken (taken (ns ++ more)) s → TakesInPart ns s
+takes_in_part [] more s h = tt
+takes_in_part (OfFunction f ∷ ns) more s h = tt
+takes_in_part (OfPart b f ∷ ns) more s h = h.frames
 
 -- the operations that go on in their call
 abbrev IsOrdinary : Operation → Type 0
@@ -81,19 +103,24 @@ behind_front op onward ns more e call = refl
 tail_of_call : (ns : List Nest) → IsInPart ns → IsOfCall ns → IsOfCall (tail ns)
 tail_of_call [] may call = absurd may
 tail_of_call (OfFunction f ∷ ns) may call = absurd may
-tail_of_call (OfPart f ∷ ns) may call = call
+tail_of_call (OfPart b f ∷ ns) may call = call
 
 frame_of_call : (words number : ℕ) (ns : List Nest) → MayTake number ns → IsOfCall ns → IsOfCall (take_frame words ns)
 frame_of_call words number [] may call = absurd call
 frame_of_call words number (OfFunction f ∷ []) may call = tt
 frame_of_call words number (OfFunction f ∷ n ∷ ns) may call = absurd call
-frame_of_call words number (OfPart f ∷ ns) may call = call
+frame_of_call words number (OfPart b f ∷ ns) may call = call
 
 in_part_front : (ns more : List Nest) → IsInPart ns → IsInPart (ns ++ more)
 in_part_front [] more may = absurd may
 in_part_front (OfFunction f ∷ ns) more may = absurd may
-in_part_front (OfPart f ∷ []) more may = absurd may
-in_part_front (OfPart f ∷ n ∷ ns) more may = tt
+in_part_front (OfPart b f ∷ []) more may = absurd may
+in_part_front (OfPart b f ∷ n ∷ ns) more may = tt
+
+numbered_front : (ns more : List Nest) → IsInPart ns → is_numbered (ns ++ more) ≡ is_numbered ns
+numbered_front [] more may = absurd may
+numbered_front (OfFunction f ∷ ns) more may = absurd may
+numbered_front (OfPart b f ∷ ns) more may = refl
 
 take_front : (number : ℕ) (ns more : List Nest) → MayTake number ns → IsOfCall ns → MayTake number (ns ++ more)
 take_front number [] more may call = absurd may
@@ -229,7 +256,7 @@ module _ (core : List CoreOp) (main : ℕ) (local : HasLocalFrames core main) wh
     may_front o.Halt callers e order asks = absurd e
     may_front (o.Frame number words) callers e order asks = take_front number (nests i) (others callers) asks (of_call i callers order)
     may_front o.Begin callers e order asks = may_begin callers order asks
-    may_front o.Shrink callers e order asks = in_part_front (nests i) (others callers) asks
+    may_front o.Shrink callers e order asks = (in_part_front (nests i) (others callers) asks.0, numbered_front (nests i) (others callers) asks.0 ∙ asks.1)
     may_front o.End callers e order asks = in_part_front (nests i) (others callers) asks
     may_front op callers e order asks = tt
 
@@ -244,7 +271,7 @@ module _ (core : List CoreOp) (main : ℕ) (local : HasLocalFrames core main) wh
     behind_of_call (o.Split by) true e asks call = call
     behind_of_call (o.Split by) false e asks call = call
     behind_of_call o.Shrink true e asks call = call
-    behind_of_call o.Shrink false e asks call = tail_of_call (nests i) asks call
+    behind_of_call o.Shrink false e asks call = tail_of_call (nests i) asks.0 call
     behind_of_call o.End onward e asks call = tail_of_call (nests i) asks call
     behind_of_call op onward e asks call = call
 
@@ -328,6 +355,21 @@ module _ (core : List CoreOp) (main : ℕ) (local : HasLocalFrames core main) wh
       subst (λ n. (suc part ≤ n) × IsFirstFrame (n - suc part) (suc part) p) same
       (part_begins (tells w) p fits.1 part word (ap (λ (frame : Option ℕ). frame_has frame word) here ∙ has))
 
+  -- the numbers of its groups
+  numbers_at : (w : Position) (p : Processor) → FitsList w p → KeepsNumbers (nests (landing core w.at)) (numbers_of p)
+  numbers_at w p fits =
+      let lands = landed w.at w.callers fits.0 in
+      let h = fits.1 in
+      keeps_numbers (nests (landing core w.at)) (others w.callers) (numbers_of p)
+      (subst (λ (ns : List Nest). AreNumbered (ns ++ others w.callers) (numbers_of p)) (sym lands.same) h.numbers)
+
+  taken_at : (w : Position) (p : Processor) → FitsList w p → TakesInPart (nests (landing core w.at)) p.level.space
+  taken_at w p fits =
+      let lands = landed w.at w.callers fits.0 in
+      let spaces = fits.1.spaces in
+      takes_in_part (nests (landing core w.at)) (others w.callers) p.level.space
+      (subst (λ (ns : List Nest). HasTaken (taken (ns ++ others w.callers)) p.level.space) (sym lands.same) spaces.0)
+
   -- the beginning
   pub begins_list : (set : Setting) (firsts : Memory) (h : ℕ) → IsSpace (group_space set) → FitsList (position main []) (first_processor set firsts h)
   begins_list set firsts h space =
@@ -354,4 +396,7 @@ lists_tell_frames core main local words firsts input p schedule space h r here =
       nests = fits.1;
       usable = λ number word has. usable_at core main local set r.left r.has number word fits has;
       begins = λ part word has. begins_at core main local r.left r.has part word fits has;
+      small = (let h = fits.1 in all_small _ (numbers_of r.has) h.numbers);
+      numbers = numbers_at core main local r.left r.has fits;
+      taken = taken_at core main local r.left r.has fits;
     }

@@ -19,7 +19,7 @@ use Rattle.fk_lockstep_frames.proofs.Steps.{local_keeps, request_keeps, step_kee
 
 -- the beginning
 pub first_nests : (set : Setting) (firsts : Memory) (h : ℕ) → IsSpace (group_space set) → HasNests (OfFunction None ∷ []) (first_processor set firsts h)
-first_nests set firsts h space = record { spaces = (record { space = space; frames = omega arith }, refl); frames = (tt, tt) }
+first_nests set firsts h space = record { spaces = (record { space = space; frames = omega arith }, refl); frames = (tt, tt); numbers = omega arith }
 
 module _ {W : Type 0} (next : W → Option (Step W)) (told : W → List Nest) where
   -- work that tells what an operation makes of the nests

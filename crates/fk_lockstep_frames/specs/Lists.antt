@@ -1,6 +1,6 @@
 -- Flat lists whose indices tell the nests of the running call.
-use Rattle.std.specs.Prelude.{◌≡◌, ℕ, suc, ◌-◌, ◌≤◌, Bool, true, false, List, [], ◌∷◌, ◌++◌, length}
-use Rattle.std.specs.Prelude.{Option, Some, None, is_some, slice_get}
+use Rattle.std.specs.Prelude.{◌≡◌, ℕ, suc, ◌-◌, ◌^◌, ◌<◌, ◌≤◌, Bool, true, false, List, [], ◌∷◌, ◌++◌}
+use Rattle.std.specs.Prelude.{length, Option, Some, None, is_some, slice_get, All}
 use Rattle.fk_space.specs.Space.{IsSpace}
 use Rattle.fk_meaning_operation.specs.declared.operation.OwnValue.TheVariants.{FrameAddress}
 use Rattle.fk_meaning_operation.specs.declared.operation.Operation.{Operation}
@@ -14,7 +14,8 @@ use Rattle.fk_core.specs.declared.op.CoreOp.{CoreOp}
 use Rattle.fk_core.specs.Numbers.{operation_of}
 use Rattle.fk_core.specs.Next.{Position, is_jump, behind_jump, landing, follows, next, list_opening}
 use Rattle.fk_lockstep_frames.specs.Nests.{Nest, OfFunction, nesting, has_word, behind, May}
-use Rattle.fk_lockstep_frames.specs.Taken.{HasNests, IsFirstFrame}
+use Rattle.fk_lockstep_frames.specs.Taken.{numbers_of, TakesInPart, KeepsNumbers, HasNests}
+use Rattle.fk_lockstep_frames.specs.Taken.{IsFirstFrame}
 
 -- `nests` gives for each index the nests of its call, the innermost first and the function last;
 -- `in_main` tells whether an index is in `main`
@@ -82,7 +83,9 @@ pub record HasLocalFrames (core : List CoreOp) (main : ℕ) : Type 0 where
       → Fits core in_main nests i op.target operation
 
 -- a processor has the nests that its position tells, and may use the address of each word of the
--- frames that its call has there. The frame of a part is the first in the group of that part
+-- frames that its call has there. The frame of a part is the first in the group of that part, and
+-- the only one of that call. `@` is small in each group, and both `@` and `$` are as around it in a
+-- part that isn't numbered
 pub record HasToldFrames (core : List CoreOp) (main : ℕ) (local : HasLocalFrames core main)
     (setting : Setting) (r : Runner Position) : Type 0 where
   pub nests : HasNests (told core local.in_main local.nests r.left) r.has
@@ -93,6 +96,9 @@ pub record HasToldFrames (core : List CoreOp) (main : ℕ) (local : HasLocalFram
       → has_word (local.nests (landing core r.left.at)) (suc part) word ≡ true
       → let nest = nesting (local.nests (landing core r.left.at)) in
       (suc part ≤ nest) × IsFirstFrame (nest - suc part) (suc part) r.has
+  pub small : All (λ n. n.0 < 2 ^ 16) (numbers_of r.has)
+  pub numbers : KeepsNumbers (local.nests (landing core r.left.at)) (numbers_of r.has)
+  pub taken : TakesInPart (local.nests (landing core r.left.at)) r.has.level.space
 
 -- in every run each processor has the nests that its position tells, if the words for groups are a
 -- space

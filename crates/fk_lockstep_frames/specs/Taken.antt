@@ -1,6 +1,6 @@
 -- What the frames of a processor have taken of the spaces of its groups.
-use Rattle.std.specs.Prelude.{◌≡◌, ℕ, suc, ◌+◌, ◌^◌, ◌≤◌, true, List, [], ◌∷◌, map, drop, Option}
-use Rattle.std.specs.Prelude.{Some, None, slice_get}
+use Rattle.std.specs.Prelude.{◌≡◌, ℕ, suc, ◌+◌, ◌^◌, ◌<◌, ◌≤◌, true, false, List, [], ◌∷◌, map, drop}
+use Rattle.std.specs.Prelude.{Option, Some, None, slice_get}
 use Rattle.fk_num.specs.Word.{Memory}
 use Rattle.fk_space.specs.Space.{Space, IsSpace}
 use Rattle.fk_meaning_operation.specs.declared.operation.OwnValue.TheVariants.{FrameAddress}
@@ -9,16 +9,19 @@ use Rattle.fk_meaning.specs.Processor.{Level, Processor, Setting, setting_of, gr
 use Rattle.fk_meaning.specs.Local.{known}
 use Rattle.fk_meaning.specs.Round.{Step, Runner}
 use Rattle.fk_meaning.specs.Schedule.{Schedule, opening, run}
-use Rattle.fk_lockstep_frames.specs.Nests.{Nest, OfFunction, OfPart, nesting, has_word}
-use Rattle.fk_lockstep_frames.specs.Nests.{taken, outward, IsTold}
+use Rattle.fk_lockstep_frames.specs.Nests.{Nest, OfFunction, OfPart, nesting, words_in}
+use Rattle.fk_lockstep_frames.specs.Nests.{is_numbered, has_word, taken, outward, IsTold}
 
--- the spaces of a processor's groups, the first word of each, and the first words of the frames of
--- its calls by their numbers; the innermost ones come first
+-- the spaces of a processor's groups, the first word of each, their `@` and `$`, and the first words
+-- of the frames of its calls by their numbers; the innermost ones come first
 abbrev pub spaces_of : Processor → List Space
 spaces_of p = map (λ l. l.space) (p.level ∷ p.outer)
 
 abbrev pub lows_of : Processor → List ℕ
 lows_of p = map (λ l. l.space.low) (p.level ∷ p.outer)
+
+abbrev pub numbers_of : Processor → List (ℕ × ℕ)
+numbers_of p = map (λ l. (l.number, l.rank)) (p.level ∷ p.outer)
 
 abbrev pub frames_of : Processor → List Memory
 frames_of p = map (λ c. c.frames) (p.call ∷ p.callers)
@@ -44,14 +47,34 @@ abbrev pub AreBegun : List Nest → List Memory → (lows : List ℕ) → Type 0
 AreBegun [] [] lows = Unit {0}
 AreBegun (OfFunction frame ∷ nests) (firsts ∷ calls) (low ∷ lows) =
     Begins frame (firsts 0) (low + 8 + taken nests) × AreBegun nests calls (low ∷ lows)
-AreBegun (OfPart frame ∷ nests) (firsts ∷ calls) (low ∷ lows) =
+AreBegun (OfPart numbered frame ∷ nests) (firsts ∷ calls) (low ∷ lows) =
     Begins frame (firsts (suc (nesting nests))) (low + 8) × AreBegun nests (firsts ∷ calls) lows
 AreBegun nests calls lows = ⊥
 
--- the spaces and the frames of a processor are those of its nests
+-- `@` is small, since parts have words of their own. In a part that isn't numbered `@` and `$` are
+-- those of the group around
+abbrev pub AreNumbered : List Nest → List (ℕ × ℕ) → Type 0
+AreNumbered nests [] = Unit {0}
+AreNumbered nests (n ∷ []) = n.0 < 2 ^ 16
+AreNumbered nests (n ∷ around ∷ numbers) =
+    (n.0 < 2 ^ 16) × (is_numbered nests ≡ false → n ≡ around)
+    × AreNumbered (outward nests) (around ∷ numbers)
+
+-- in the innermost part of a call frames have taken the words of its own frame
+abbrev pub TakesInPart : List Nest → Space → Type 0
+TakesInPart (OfPart numbered frame ∷ nests) s = s.frames ≡ s.low + 8 + words_in frame
+TakesInPart nests s = Unit {0}
+
+-- in a part of the call that isn't numbered `@` and `$` are those of the group around
+abbrev pub KeepsNumbers : List Nest → List (ℕ × ℕ) → Type 0
+KeepsNumbers (OfPart false frame ∷ nests) (n ∷ around ∷ numbers) = n ≡ around
+KeepsNumbers nests numbers = Unit {0}
+
+-- the spaces, the frames and the numbers of a processor are those of its nests
 pub record HasNests (nests : List Nest) (p : Processor) : Type 0 where
   pub spaces : AreTaken nests (spaces_of p)
   pub frames : AreBegun nests (frames_of p) (lows_of p)
+  pub numbers : AreNumbered nests (numbers_of p)
 
 -- the frame of the running call with a number is the first in a group, which is so many levels
 -- outward and has some level around it
@@ -84,7 +107,7 @@ abbrev pub AllLie : List Nest → List Memory → List Space → Type 0
 AllLie [] [] spaces = Unit {0}
 AllLie (OfFunction frame ∷ nests) (firsts ∷ calls) (s ∷ spaces) =
     Lies frame (firsts 0) s × AllLie nests calls (s ∷ spaces)
-AllLie (OfPart frame ∷ nests) (firsts ∷ calls) (s ∷ spaces) =
+AllLie (OfPart numbered frame ∷ nests) (firsts ∷ calls) (s ∷ spaces) =
     Lies frame (firsts (suc (nesting nests))) s × AllLie nests (firsts ∷ calls) spaces
 AllLie nests calls spaces = ⊥
 

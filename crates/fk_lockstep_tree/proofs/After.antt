@@ -19,18 +19,19 @@ use Rattle.fk_meaning.specs.Schedule.{first_level}
 use Rattle.fk_meaning.specs.Group.{not_negative, is_taken, start_level, parts, part, part_level, divided, with_size, stays, enters, does, goes_onward}
 use Rattle.fk_meaning.specs.Round.{Step, Runner, State, Round, Acting, lowest, agreed, settled_by, settled, body_of, result}
 use Rattle.fk_lockstep.specs.Untouched.{changes_tree}
+use Rattle.fk_lockstep.proofs.Changes.{few}
 use Rattle.fk_lockstep.proofs.Rounds.{gone, settled_as, settled_at}
 use Rattle.fk_lockstep.proofs.Nodes.{gone as leaves, still, new_nodes, old_nodes, split_places}
 use Rattle.fk_lockstep.proofs.Round.{first_is, lowest_member, at_below, settled_length, who_is}
 use Rattle.fk_lockstep_nodes.specs.Steps.{Keeps, Does, KeepsOrDoes}
 use Rattle.fk_lockstep_tree.specs.Where.{Where, InRoot, Waits, InGroup, InBody, BehindBody, behind_waiting, divides, shrinks, goes, Goes}
 use Rattle.fk_lockstep_tree.specs.Ranges.{range_of, ranges_of}
-use Rattle.fk_lockstep_tree.specs.Placed.{where_in, where_at, HasNumbersOf, AreLevels, IsPlaced}
+use Rattle.fk_lockstep_tree.specs.Placed.{where_in, where_at, AreLevels, IsPlaced}
 use Rattle.fk_lockstep_tree.specs.Steps.{StepFits}
 use Rattle.fk_lockstep_tree.specs.Rounds.{IsRound, IsRoundInSpaces}
 use Rattle.fk_lockstep_tree.proofs.Moves.{SameLevel, SameLevels, as_taken, keeps_place, keeps_tree, does_same, goes_on}
 use Rattle.fk_lockstep_tree.proofs.Acts.{IsDue, result_is}
-use Rattle.fk_lockstep_tree.proofs.Known.{Act, act, many, placed, member_at, each_steps}
+use Rattle.fk_lockstep_tree.proofs.Known.{Act, act, many, placed, member_at, each_steps, parts_as_many}
 use Rattle.fk_lockstep_tree.proofs.Paths.{root_outer, root_first, at_root, at_node, waiting_place, InLockstep, lockstep_place, body_place, in_body, HasBodyThere, SameBelow, above, changed}
 use Rattle.fk_lockstep_tree.proofs.Stepped as trees
 
@@ -62,7 +63,7 @@ waits_for (Some Lockstep) m e = absurd (false≢true e)
 waits_for (Some (Waiting first parts)) m e = (first, parts, refl)
 waits_for (Some (Asynchronous alone)) m e = absurd (false≢true e)
 
--- where a member comes to by a split that isn't a `fork`
+-- where a member comes to by a split
 never_none : (b : Bool) (x y : ℕ) → (if b then Some x else Some y) ≡ None → ⊥
 never_none true x y e = absurd (cc)
 never_none false x y e = absurd (cc)
@@ -73,7 +74,7 @@ waits_to split.IfElse d vs to none e = absurd (never_none (last vs == 0) 1 0 non
 waits_to split.AndThen d vs to none e = sym (first_is (Waits (suc d)) to e)
 waits_to split.OrElse d vs to none e = sym (first_is (Waits (suc d)) to e)
 waits_to split.Loop d vs to none e = absurd (cc)
-waits_to split.Fork d vs to none e = absurd (cc)
+waits_to split.Fork d vs to none e = sym (first_is (Waits (suc d)) to e)
 
 enters_to : (by : SplitKind) (d i : ℕ) (to : Where) → divides by d (enters by (Some i)) ≡ Some to → to ≡ InGroup (suc d)
 enters_to split.IfAlone d i to e = sym (first_is (InGroup (suc d)) to e)
@@ -81,44 +82,7 @@ enters_to split.IfElse d i to e = sym (first_is (InGroup (suc d)) to e)
 enters_to split.AndThen d i to e = sym (first_is (InGroup (suc d)) to e)
 enters_to split.OrElse d i to e = sym (first_is (InGroup (suc d)) to e)
 enters_to split.Loop d i to e = sym (first_is (InGroup (suc d)) to e)
-enters_to split.Fork d i to e = absurd (cc)
-
--- the numbers of parts of such a split, and of the group in each
-pub parts_same : (by : SplitKind) (d : ℕ) (way : Bool) (to : Where) (vs ws : List ℕ) → divides by d way ≡ Some to → parts by vs ≡ parts by ws
-parts_same split.IfAlone d way to vs ws e = refl
-parts_same split.IfElse d way to vs ws e = refl
-parts_same split.AndThen d way to vs ws e = refl
-parts_same split.OrElse d way to vs ws e = refl
-parts_same split.Loop d way to vs ws e = refl
-parts_same split.Fork d way to vs ws e = absurd (cc)
-
-numbers_same : (by : SplitKind) (d i size : ℕ) (way : Bool) (to : Where) (p : Processor) → divides by d way ≡ Some to → HasNumbersOf p.level (part_level by p size i)
-numbers_same split.IfAlone d i size way to p e = record { number = refl; rank = refl }
-numbers_same split.IfElse d i size way to p e = record { number = refl; rank = refl }
-numbers_same split.AndThen d i size way to p e = record { number = refl; rank = refl }
-numbers_same split.OrElse d i size way to p e = record { number = refl; rank = refl }
-numbers_same split.Loop d i size way to p e = record { number = refl; rank = refl }
-numbers_same split.Fork d i size way to p e = absurd (cc)
-
-below_one : (b : Bool) (i : ℕ) → (if b then None else Some 0) ≡ Some i → i < 1
-below_one true i e = absurd (cc)
-below_one false i e = let same : 0 ≡ i = cc in omega (arith, same)
-
-below_too : (b : Bool) (i : ℕ) → (if b then Some 0 else None) ≡ Some i → i < 1
-below_too true i e = let same : 0 ≡ i = cc in omega (arith, same)
-below_too false i e = absurd (cc)
-
-below_two : (b : Bool) (i : ℕ) → (if b then Some 1 else Some 0) ≡ Some i → i < 2
-below_two true i e = let same : 1 ≡ i = cc in omega (arith, same)
-below_two false i e = let same : 0 ≡ i = cc in omega (arith, same)
-
-part_below : (by : SplitKind) (d i : ℕ) (way : Bool) (to : Where) (vs : List ℕ) → divides by d way ≡ Some to → part by vs ≡ Some i → i < parts by vs
-part_below split.IfAlone d i way to vs e is = below_one (last vs == 0) i is
-part_below split.IfElse d i way to vs e is = below_two (last vs == 0) i is
-part_below split.AndThen d i way to vs e is = below_one (last vs == 0) i is
-part_below split.OrElse d i way to vs e is = below_too (last vs == 0) i is
-part_below split.Loop d i way to vs e is = let same : 0 ≡ i = cc in omega (arith, same)
-part_below split.Fork d i way to vs e is = absurd (cc)
+enters_to split.Fork d i to e = sym (first_is (InGroup (suc d)) to e)
 
 -- in the root no level changes
 root_level : (k : Option Kind) (runs : Bool) (place : Where) (l m : Level) → where_in 0 k runs ≡ Some place → SameLevel place l m → m ≡ l
@@ -270,7 +234,7 @@ module _ {W : Type 0} (next : W → Option (Step W)) (set : Setting) (round : Ro
             range = taken.range ∙ x.range ∙ sym (old_space g0 (given_of g0 h has0));
             size = taken.size ∙ x.size ∙ ap (λ (y : Option Node). length (t.members_of y)) (sym same_node);
           })
-          (λ ne. ap t.parent_of same_node) taken.number taken.rank
+          (λ ne. ap t.parent_of same_node)
           (λ zero.
           let none_above = root_outer set old spaces h g0 q0.level q0.outer p.levels zero in
           root_level (kind old g0) (is_member h (body_of (kind old g0) (members old g0))) p.place q0.level q.level
@@ -315,7 +279,7 @@ module _ {W : Type 0} (next : W → Option (Step W)) (set : Setting) (round : Ro
           same_self : (place : Where) (l : Level) → SameLevel place l l
           same_self InRoot l = refl
           same_self (Waits n) l = refl
-          same_self (InGroup n) l = record { number = refl; rank = refl; size = refl; range = refl }
+          same_self (InGroup n) l = record { size = refl; range = refl }
           same_self (InBody n) l = refl
           same_self (BehindBody n) l = refl
 
@@ -386,7 +350,7 @@ module _ {W : Type 0} (next : W → Option (Step W)) (set : Setting) (round : Ro
               range = ap (λ (l : Level). range_of l.space) same ∙ x.range ∙ sym (old_space g (given_of g h has));
               size = ap (λ (l : Level). l.size) same ∙ x.size ∙ ap (λ (ms : List ℕ). length ms) (sym same_members);
             })
-            (λ ne. ap t.parent_of node ∙ parent-turned k (old.nodes g)) (ap (λ (l : Level). l.number) same) (ap (λ (l : Level). l.rank) same) (λ zero. same)
+            (λ ne. ap t.parent_of node ∙ parent-turned k (old.nodes g)) (λ zero. same)
 
         turned_kind : kind new g ≡ Some k
         turned_kind = ap t.kind_of node ∙ kind-turned k (old.nodes g) (has_some old g h has)
@@ -429,7 +393,7 @@ module _ {W : Type 0} (next : W → Option (Step W)) (set : Setting) (round : Ro
                 ∙ ap (λ (n : ℕ). Some (Waits n)) depth;
             levels =
                 subst (λ (n : ℕ). AreLevels set new spaces' h n l outer) (sym place)
-                (above set old new spaces spaces' set.processors base.sound upward h g below l outer ne has levels.3);
+                (above set old new spaces spaces' set.processors base.sound upward h g below l outer ne has levels.2);
           }
 
       -- ---- it comes to a part
@@ -475,9 +439,9 @@ module _ {W : Type 0} (next : W → Option (Step W)) (set : Setting) (round : Ro
             remains_there k divided_node q (place_by None none) number level outer (Waits round_it) (waiting_place round_it (first g) d.many_parts (is_member h (body_of (Some k) (members old g))))
 
         -- who enters a part
-        enters_there : (i : ℕ) (q : Processor) → d.into h ≡ Some i → i < d.many_parts → q.number ≡ q0.number → q.outer ≡ q0.level ∷ q0.outer → HasNumbersOf q0.level q.level
+        enters_there : (i : ℕ) (q : Processor) → d.into h ≡ Some i → i < d.many_parts → q.number ≡ q0.number → q.outer ≡ q0.level ∷ q0.outer
             → range_of q.level.space ≡ part_space (Some op) (whose low) (first g + i - first g) → q.level.size ≡ length (members new (new.places h)) → Arrives h (InGroup round_it) q
-        enters_there i q into few number outer numbers range size =
+        enters_there i q into few number outer range size =
             let m = first g + i in
             let place : new.places h ≡ m = place_by (Some i) into in
             let node = part_node i few in
@@ -494,7 +458,6 @@ module _ {W : Type 0} (next : W → Option (Step W)) (set : Setting) (round : Ro
             = (
               ne,
               record { range = range ∙ sym space; size = size ∙ ap (λ (n : ℕ). length (members new n)) place },
-              numbers,
               subst (λ (n : ℕ). AreLevels set new spaces' h n q0.level q0.outer) (sym up) (turned_levels (Waiting (first g) d.many_parts) divided_node q0.level refl),
             ) in
             record {
@@ -652,7 +615,7 @@ module _ {W : Type 0} (next : W → Option (Step W)) (set : Setting) (round : Ro
             let levels : AreLevels set new spaces' h g level it.outer
             = changed set old new spaces spaces' set.processors base.sound upward h g it.level level it.outer its_levels in_node (same_below h g at)
             (λ ne x. record { range = x.range ∙ sym (old_space g (given_of g h in_node)); size = size_is ∙ ap (λ (m : ℕ). length (members new m)) place })
-            (λ ne. ap t.parent_of node ∙ both.1) refl refl (λ zero. absurd (not_zero g locked zero)) in
+            (λ ne. ap t.parent_of node ∙ both.1) (λ zero. absurd (not_zero g locked zero)) in
             record {
               number = here.number_is;
               there =
@@ -705,14 +668,13 @@ module _ {W : Type 0} (next : W → Option (Step W)) (set : Setting) (round : Ro
             (waits_there h a lt g at (o.Split by) e all (split_by by e all) (divided by size it None) (into_is None is') refl refl refl)
         by_part to size size_is (Some i) is' goes' =
             let l = low_has (o.Split by) e all in
-            let same_parts : parts by (values it) ≡ parts by (values (whose (lowest (members old g)))) = parts_same by n.depth (enters by (Some i)) to (values it) (values (whose (lowest (members old g)))) goes' in
+            let same_parts : parts by (values it) ≡ parts by (values (whose (lowest (members old g))))
+            = ap (λ (q : Processor). parts by (values q)) (sym (known_has h a lt g at (o.Split by) e all)) ∙ parts_as_many next set round s base g h by e in_node in
             let space : it.level.space ≡ (whose (lowest (members old g))).level.space
             = (is.one_space g h (lowest (members old g)) a.runner l.0.runner locked in_node l.1 a.is l.0.is).0.space ∙ ap (λ (q : Processor). q.level.space) (sym l.2) in
-            let few = part_below by n.depth i (enters by (Some i)) to (values it) goes' is' in
             let index : i ≡ first g + i - first g = omega arith in
             subst (λ (q : Where). Arrives h q (divided by size it (Some i))) (ap (λ (m : ℕ). InGroup m) n.above_is ∙ sym (enters_to by n.depth i to goes'))
-            (enters_there h a lt g at (o.Split by) e all (split_by by e all) i (divided by size it (Some i)) (into_is (Some i) is') (omega (arith, few, same_parts)) refl refl
-            (numbers_same by n.depth i size (enters by (Some i)) to it goes')
+            (enters_there h a lt g at (o.Split by) e all (split_by by e all) i (divided by size it (Some i)) (into_is (Some i) is') (few by (values it) (values (whose (lowest (members old g)))) i same_parts is') refl refl
             (child_same it.level.space (whose (lowest (members old g))).level.space (parts by (values it)) (parts by (values (whose (lowest (members old g))))) i (first g + i - first g) space
             same_parts index)
             size_is)
@@ -763,7 +725,6 @@ module _ {W : Type 0} (next : W → Option (Step W)) (set : Setting) (round : Ro
         by_taken to size size_is true is' goes' =
             subst (λ (q : Where). Arrives h q (enter_level (start_level it size) (drop_last 1 it))) (ap (λ (m : ℕ). InGroup m) none_above ∙ first_is (InGroup 0) to goes')
             (enters_there h a lt g at o.Begin e all (begun_by e all is_zero) 0 (enter_level (start_level it size) (drop_last 1 it)) (into_is true is') (omega arith) refl refl
-            (record { number = ap (λ (x : Level). x.number) (sym level_is); rank = here.number_is ∙ ap (λ (x : Level). x.rank) (sym level_is) })
             (ap (λ (x : Level). range_of x.space) level_is ∙ ap range_of (sym low_level)) size_is)
         by_taken to size size_is false is' goes' =
             subst (λ (q : Where). Arrives h q (drop_last 1 it)) (ap (λ (m : ℕ). Waits m) none_above ∙ first_is (Waits 0) to goes')
@@ -772,7 +733,7 @@ module _ {W : Type 0} (next : W → Option (Step W)) (set : Setting) (round : Ro
     steps : (op : Operation) (e : does_by g ≡ Some op) (all : All g op) → StepFits old g op → Stands h (settle h a)
     steps o.Begin e all fits = begins e all fits.0 fits.1
     steps o.Resume e all fits = resumes e all fits.0 fits.1 fits.2
-    steps (o.Split by) e all fits = splits by e all fits.0
+    steps (o.Split by) e all fits = splits by e all fits
     steps o.Shrink e all fits = shrinks_so e all fits.0
     steps o.Farm e all fits = farms e all fits
     steps o.Seq e all fits = sends e all fits

@@ -4,13 +4,18 @@ use Rattle.std.specs.Prelude.{option_map}
 use Rattle.fk_meaning_operation.specs.declared.operation.Operation.{Operation}
 use Rattle.fk_meaning_operation.specs.declared.operation.Operation.TheVariants as o
 use Rattle.fk_meaning_operation.specs.declared.operation.SplitKind.{SplitKind}
-use Rattle.fk_meaning_operation.specs.declared.operation.SplitKind.TheVariants.{IfElse}
+use Rattle.fk_meaning_operation.specs.declared.operation.SplitKind.TheVariants.{IfElse, Fork}
+use Rattle.fk_meaning_operation.specs.Kinds.{class_of}
+use Rattle.fk_meaning_operation.specs.declared.kinds.Class.{Class}
+use Rattle.fk_meaning_operation.specs.declared.kinds.Class.TheVariants as class
 use Rattle.fk_meaning.specs.Alike.{Same}
 use Rattle.fk_meaning.specs.Round.{Step}
 use Rattle.fk_core.specs.declared.op.CoreOp.{CoreOp}
 use Rattle.fk_core.specs.Next.{Position, position, landing, follows, next}
 use Rattle.fk_core.specs.WellFormed.{LeadsOn}
 use Rattle.fk_lockstep.specs.Course.{Context, InGroup, Waits, ByItself, Stays, Parts, Does, DoesNext, FollowsFor, Follows}
+use Rattle.fk_lockstep.specs.Counts as counting
+use Rattle.fk_lockstep.specs.Counts.{Counts, AsMany, NoMore, CountsGoOn, CountedNext, CountedFor, IsCounted}
 use Rattle.fk_lockstep.specs.Frames.{Calling, Enters, Leaves, Remains, calling, round_after, alone_after, NoDeeper, Higher, AsDeep, Calls, FramesGoOn, FramedNext, FramedFor, IsFramed}
 use Rattle.fk_lockstep_tree.specs.Where as places
 use Rattle.fk_lockstep_tree.specs.Where.{Where, goes, GoesNext, GoesFor, Goes}
@@ -420,3 +425,63 @@ module _ {V : Type 0} (next_in : V → Option (Step V)) (outs_in : V → List V)
           (λ onward. held (s.rest onward) (seat core (u.rest onward)))) h.0 (one more s u e h k)
       by more None e (Some u) h k = absurd h
       by more (Some s) e None h k = absurd h
+
+  -- ---- numbers of parts
+
+  module _ (counts : Counts V) where
+    abbrev pub counts_held : Counts (Held V)
+    counts_held = record {
+      pending = λ x. counts.pending x.work;
+      are_pending = λ x p ns. counts.are_pending x.work p ns;
+      many = λ x p ns pending. counts.many x.work p ns pending;
+    }
+
+    as_many : (n : ℕ) (cs : List ℕ) (us : List V) → AsMany next_in outs_in counts n us → AsMany (next_held next_in core) outs_held counts_held n (map (met cs) us)
+    as_many n cs [] e = tt
+    as_many n cs (u ∷ us) e = e
+
+    no_more : (n : ℕ) (cs : List ℕ) (us : List V) → NoMore next_in outs_in counts n us → NoMore (next_held next_in core) outs_held counts_held n (map (met cs) us)
+    no_more n cs [] e = tt
+    no_more n cs (u ∷ us) e = e
+
+    leaves_held : (c : Class) (op : Operation) (v : V) (p : Position) (rest : Bool → V) (at : Bool → Position) → counting.Leaves next_in outs_in counts c op v rest
+        → counting.Leaves (next_held next_in core) outs_held counts_held c op (held v p) (λ onward. held (rest onward) (at onward))
+    leaves_held class.Local op v p rest at e = e
+    leaves_held class.Request op v p rest at e = e
+    leaves_held class.Tree op v p rest at e = e
+
+    counts_go : (op : Operation) (v : V) (p : Position) (rest : Bool → V) (at : Bool → Position) → CountsGoOn next_in outs_in counts op v rest
+        → CountsGoOn (next_held next_in core) outs_held counts_held op (held v p) (λ onward. held (rest onward) (at onward))
+    counts_go o.Agree v p rest at e = e
+    counts_go (o.Split Fork) v p rest at e = (e.0, no_more (counts.pending (rest true)) p.callers (outs_in v) e.1)
+    counts_go (o.Split IfElse) v p rest at e = (e.0, as_many (counts.pending v) (at true).callers (outs_in (rest true)) e.1)
+    counts_go (o.Split by) v p rest at e = e
+    counts_go o.Farm v p rest at e = (e.0, as_many (counts.pending v) (at true).callers (outs_in (rest true)) e.1)
+    counts_go o.Begin v p rest at e = e
+    counts_go op v p rest at e = leaves_held (class_of op) op v p rest at e
+
+    abbrev CountsNext : (n : ℕ) → Held V → Option (Step (Held V)) → Type 0
+    CountsNext n y t = CountedNext (next_held next_in core) outs_held counts_held (CountedFor (next_held next_in core) outs_held counts_held n) y t
+
+    pub counted_held : (n : ℕ) (x : Held V) → IsBeside x → IsCounted next_in outs_in counts x.work → CountedFor (next_held next_in core) outs_held counts_held n x
+    counted_held zero x is fs = tt
+    counted_held (suc n) x is fs =
+        let v = x.work in
+        subst (λ (p : Position). CountsNext n (held v p) (option_map (carried (seat core) v (next_in v)) (next core p))) (sym is.at)
+        (subst (λ (b : Option (Step Position)). CountsNext n (held v (seat core is.raw)) (option_map (carried (seat core) v (next_in v)) b)) (sym (seat_next core leads_on is.raw))
+        (by (λ y b f'. counted_held n y b f') (next_in v) refl (next core is.raw) (is_carried.same v is.raw is.related) (λ m. fs (suc m))))
+      where
+        by : ((y : Held V) → IsBeside y → IsCounted next_in outs_in counts y.work → CountedFor (next_held next_in core) outs_held counts_held n y)
+            → (a : Option (Step V)) → next_in x.work ≡ a → (b : Option (Step Position)) → Same R a b
+            → ((m : ℕ) → CountedNext next_in outs_in counts (CountedFor next_in outs_in counts m) x.work a)
+            → CountsNext n (held x.work (seat core is.raw)) (option_map (carried (seat core) x.work a) b)
+        by more None e None h k = tt
+        by more (Some s) e (Some u) h k = (
+          subst (λ (op : Operation). CountsGoOn (next_held next_in core) outs_held counts_held op (held x.work (seat core is.raw)) (λ onward. held (s.rest onward) (seat core (u.rest onward)))) h.0
+              (counts_go s.operation x.work (seat core is.raw) s.rest (λ onward. seat core (u.rest onward)) (k 0).0),
+          λ onward.
+              more (held (s.rest onward) (seat core (u.rest onward)))
+              (record { raw = u.rest onward; related = h.2 onward; at = refl; good = is_carried.goes_on x.work s is.good e onward }) (λ m. (k m).1 onward),
+        )
+        by more None e (Some u) h k = absurd h
+        by more (Some s) e None h k = absurd h

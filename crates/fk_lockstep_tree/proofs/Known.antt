@@ -7,6 +7,7 @@ use Rattle.fk_meaning_operation.specs.Kinds.{class_of, joint_of}
 use Rattle.fk_meaning_operation.specs.declared.kinds.Class.TheVariants as class
 use Rattle.fk_meaning_operation.specs.declared.kinds.Joint.{Joint}
 use Rattle.fk_meaning_operation.specs.declared.kinds.Joint.TheVariants as joint
+use Rattle.fk_meaning_operation.specs.declared.operation.SplitKind.{SplitKind}
 use Rattle.fk_meaning_operation.specs.declared.operation.Operation.{Operation}
 use Rattle.fk_meaning_operation.specs.declared.operation.Operation.TheVariants as o
 use Rattle.fk_tree.specs.declared.node.Kind.{Kind}
@@ -16,19 +17,20 @@ use Rattle.fk_tree.specs.Tree.{Node, Tree, members, parent, kind, is_member, rea
 use Rattle.fk_tree.specs.Sound.{Has}
 use Rattle.fk_tree.proofs.Shapes.{has_some}
 use Rattle.fk_tree.proofs.Turns.{IsLeaf, leaf_by, leaf_ready, idle-lockstep, idle-asynchronous}
-use Rattle.fk_meaning.specs.Processor.{Setting}
-use Rattle.fk_meaning.specs.Round.{Step, State, Round, Acting, taking, lowest, joint_due, same_joint, all_do, joins, fits_kind}
+use Rattle.fk_meaning.specs.Processor.{Processor, Setting, values}
+use Rattle.fk_meaning.specs.Group.{parts}
+use Rattle.fk_meaning.specs.Round.{Step, State, Round, Acting, taking, lowest, who, joint_due, same_joint, all_do, joins, fits_kind}
 use Rattle.fk_lockstep.specs.Untouched.{changes_tree}
-use Rattle.fk_lockstep.proofs.Round.{first_is, all_at, at_below, lowest_member}
+use Rattle.fk_lockstep.proofs.Round.{first_is, all_at, at_below, lowest_member, who_is}
 use Rattle.fk_lockstep_tree.specs.Where.{Where, InRoot, Waits, InGroup, InBody, BehindBody, goes}
 use Rattle.fk_lockstep_tree.specs.Ranges.{ranges_of}
 use Rattle.fk_lockstep_tree.specs.Placed.{where_in, IsPlaced}
 use Rattle.fk_lockstep_nodes.specs.Steps.{Keeps, Does, KeepsOrDoes, StepsBy, MayStep, stepping}
 use Rattle.fk_lockstep_tree.specs.Steps.{StepFits, AreKnown}
 use Rattle.fk_lockstep_tree.specs.Rounds.{IsRound, RoundsAreKnown}
-use Rattle.fk_lockstep_tree.proofs.Moves.{OfGroups, root_begins, waiters_resume, group_steps, no_fork, shrinks_deep, bodies_meet, others_meet, joint_tells, not_alone, joint_is_step, goes_on}
+use Rattle.fk_lockstep_tree.proofs.Moves.{OfGroups, root_begins, waiters_resume, group_steps, shrinks_deep, bodies_meet, others_meet, joint_tells, not_alone, joint_is_step, goes_on}
 use Rattle.fk_lockstep_tree.proofs.Paths.{at_root, below_root, parent_below, at_node, waiting_place, IsAlone, HasBodyThere, lockstep_place, body_place}
-use Rattle.fk_lockstep_tree.proofs.Acts.{does_at, Acts, acts, counts_as, due_at, fits_at, stepping_length}
+use Rattle.fk_lockstep_tree.proofs.Acts.{IsDue, does_at, Acts, acts, counts_as, due_at, fits_at, stepping_length}
 
 -- ---- lists
 
@@ -99,7 +101,7 @@ changing_found op (Some step) e = by (changes_tree step.operation) refl e
 -- of a group in lockstep all steps fit that groups do
 locked_fits : (tree : Tree) (g d : ℕ) (op : Operation) (to : Where) → OfGroups op → goes (InGroup d) op true ≡ Some to → ((m : ℕ) → d ≡ suc m → parent tree g ≢ 0) → kind tree g ≡ Some Lockstep
     → StepFits tree g op
-locked_fits tree g d (o.Split by) to of way deep e = (e, no_fork d by true to way)
+locked_fits tree g d (o.Split by) to of way deep e = e
 locked_fits tree g d o.Shrink to of way deep e = let s = shrinks_deep d true to way in (e, deep s.0 s.1)
 locked_fits tree g d o.End to of way deep e = e
 locked_fits tree g d o.Farm to of way deep e = e
@@ -426,12 +428,38 @@ module _ {W : Type 0} (next : W → Option (Step W)) (set : Setting) (round : Ro
       let all = together_of g op e in
       record { there = has_some s.tree g all.one all.member; stand = all.stand; root = λ begins. (subst (λ (x : Operation). StepFits s.tree g x) begins all.fits).0 }
 
+  -- who does a step of the tree was about to do it
+  pub due_is : (h : ℕ) (a : Act h) (op : Operation) → Does op a.acting.due → (d : IsDue next set a.runner a.acting) × (d.step.operation ≡ op)
+  due_is h a op does' =
+      ⊎_elim
+      (λ idle. absurd (subst (λ (x : Option (Step W)). Does op x) (ap (λ (x : Acting W). x.due) idle.0) does'))
+      (λ busy. ⊎_elim (λ moved. absurd (subst (λ (x : Option (Step W)). Does op x) moved.due does'))
+      (λ d. (d, subst (λ (x : Option (Step W)). Does op x) (ap (λ (x : Acting W). x.due) d.is) does')) busy.1)
+      a.comes
+
+  -- the members of a group make as many parts
+  pub parts_as_many : (g h : ℕ) (by : SplitKind) → does_of g ≡ Some (o.Split by) → Has s.tree g h
+      → parts by (values (who actors h)) ≡ parts by (values (who actors (lowest (members s.tree g))))
+  parts_as_many g h by e has =
+      let all = together_of g (o.Split by) e in
+      let low = lowest (members s.tree g) in
+      let in_low = lowest_member all.one (members s.tree g) all.member in
+      let a = act h (is.sound.within g h has) in
+      let b = act low (is.sound.within g low in_low) in
+      let d = due_is h a (o.Split by) (all.does h a has) in
+      let d' = due_is low b (o.Split by) (all.does low b in_low) in
+      let together = is.one_program g h low a.runner b.runner all.fits has in_low a.is b.is in
+      ap (λ (q : Processor). parts by (values q)) (who_is actors h a.acting a.at ∙ ap (λ (x : Acting W). x.runner.has) d.0.is)
+      ∙ together.divide d.0.step by d.0.next_is d.1
+      ∙ ap (λ (q : Processor). parts by (values q)) (sym (who_is actors low b.acting b.at ∙ ap (λ (x : Acting W). x.runner.has) d'.0.is))
+
   known : AreKnown s.tree actors
   known = record {
     does = does_of;
     steps = steps_known;
     may = may_of;
     fits = λ g op e. (together_of g op e).fits;
+    divide = parts_as_many;
   }
 
 pub rounds_are_known : (W : Type 0) → RoundsAreKnown W

@@ -20,6 +20,8 @@ pub mod Waiters
 pub mod Opening
 -- whole runs
 pub mod Runs
+-- those in which nobody forks
+pub mod Uncounted
 pub mod Held
 pub mod Whole
 pub mod Run

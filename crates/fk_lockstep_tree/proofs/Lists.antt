@@ -10,7 +10,7 @@ use Rattle.fk_tree.specs.Sound.{IsSound, Has}
 use Rattle.fk_tree.specs.declared.node.Kind.TheVariants.{Lockstep}
 use Rattle.fk_tree.proofs.Turns.{leaf_by, idle-lockstep}
 use Rattle.fk_tree.proofs.Shapes.{has_some}
-use Rattle.fk_meaning.specs.Processor.{Setting, setting_of, group_space}
+use Rattle.fk_meaning.specs.Processor.{Processor, Setting, setting_of, group_space}
 use Rattle.fk_meaning.specs.Round.{Step, Runner, State}
 use Rattle.fk_meaning.specs.Schedule.{Schedule, opening, run}
 use Rattle.fk_meaning.proofs.Natural.{step_by, runner_by, state_by, runs}
@@ -24,6 +24,7 @@ use Rattle.fk_core.specs.CodeAt.{CodeAt}
 use Rattle.fk_core.specs.WellFormed.{LeadsOn}
 use Rattle.fk_core.proofs.Running.{IsAt, AllStand, same_next, body_at, as_many_callers, outs_stand}
 use Rattle.fk_lockstep.specs.Course.{Waits, ByItself, Does, DoesNext, FollowsFor, Follows}
+use Rattle.fk_lockstep.specs.Counts.{Counts, ArePending, IsCounted}
 use Rattle.fk_lockstep.specs.Frames.{IsFramed}
 use Rattle.fk_lockstep.specs.OneProgram.{AreTogether, HaveOneProgram, KeepOneProgram}
 use Rattle.fk_lockstep.specs.OneSpace.{HaveSameLevels, spaces_of, KeepOneSpace}
@@ -42,7 +43,7 @@ use Rattle.fk_lockstep_tree.proofs.Ranges.{has_tree}
 use Rattle.fk_lockstep_tree.proofs.Runs.{AllPossible, are_all, all_are, all_to, all_from, runs_stay_in_trees}
 use Rattle.fk_lockstep_tree.proofs.Held.{is_joint, last_of, last_end, seat, seat_joint, seat_plain}
 use Rattle.fk_lockstep_tree.proofs.Beside.{Held, held, rest_of, carried, next_raw, next_held, seated, place_of, natural_place, natural_seat, opening_by, from, there}
-use Rattle.fk_lockstep_tree.proofs.Carried.{group_plain, AllShallow, AllJoin, IsCarried, outs_held, depth_held, IsBeside, follows_held, goes_held, framed_held}
+use Rattle.fk_lockstep_tree.proofs.Carried.{group_plain, AllShallow, AllJoin, IsCarried, outs_held, depth_held, IsBeside, follows_held, goes_held, framed_held, counts_held, counted_held}
 use Rattle.fk_lockstep_tree.proofs.Run as led
 
 -- a node in lockstep has no parts: its members are at it
@@ -133,6 +134,7 @@ module _ {V : Type 0} (next_in : V → Option (Step V)) (core : List CoreOp) (le
         (record {
           left = same_at x.runner.left y.runner.left tg.left (stands_in p n g keep.tree has kind in_g x.runner x.at) (stands_in p n h keep.tree has kind in_h y.runner y.at);
           branch = λ step onward e is. let b = branch_so x.runner.left step e in tg.branch b.0 onward b.1 (b.2 ∙ is);
+          divide = λ step by e is. let b = branch_so x.runner.left step e in tg.divide b.0 by b.1 (b.2 ∙ is);
           groups = tg.groups;
           size = tg.size;
         }))
@@ -192,7 +194,8 @@ module _ {V : Type 0} (next_in : V → Option (Step V)) (core : List CoreOp) (le
 
 module _ {V : Type 0} (next_in : V → Option (Step V)) (outs_in : V → List V) (depth : V → ℕ) (core : List CoreOp) (R : V → Position → Type 0) (Good : V → Type 0) (is_carried : IsCarried next_in outs_in depth core R Good)
     (program : V) (main : ℕ) (related : R program (position main [])) (good : Good program) (shallow : depth program ≡ 0)
-    (follows : Follows next_in outs_in (ByItself false) program) (framed : IsFramed next_in outs_in depth 0 true program) (gone : Goes next_in InRoot program) (frames : HasLocalFrames core main) where
+    (follows : Follows next_in outs_in (ByItself false) program) (counts : Counts V) (none_pending : (p : Processor) → ArePending next_in outs_in counts program p [])
+    (counted : IsCounted next_in outs_in counts program) (framed : IsFramed next_in outs_in depth 0 true program) (gone : Goes next_in InRoot program) (frames : HasLocalFrames core main) where
   abbrev leads_on : LeadsOn core
   leads_on = is_carried.leads_on
 
@@ -258,8 +261,9 @@ module _ {V : Type 0} (next_in : V → Option (Step V)) (outs_in : V → List V)
       let outs' = outs_held next_in outs_in depth core R Good is_carried in
       let depth' = depth_held next_in outs_in depth core R Good is_carried in
       let both = subst (λ u. KeepOneProgram (next_held next_in core) n u × KeepOneSpace u × HasTree (next_held next_in core) set' u) in_held
-      (runs_stay_in_trees (Held V) (next_held next_in core) outs' depth' (seated next_in core x0) n globals input own' schedule
-      (λ k. follows_held next_in outs_in depth core R Good is_carried k (ByItself false) (seated next_in core x0) x0_beside follows)
+      (runs_stay_in_trees (Held V) (next_held next_in core) outs' (counts_held next_in outs_in depth core R Good is_carried counts) depth' (seated next_in core x0) n globals input own' schedule
+      (λ k. follows_held next_in outs_in depth core R Good is_carried k (ByItself false) (seated next_in core x0) x0_beside follows) (λ p. none_pending p)
+      (λ k. counted_held next_in outs_in depth core R Good is_carried counts k (seated next_in core x0) x0_beside counted)
       (λ k. goes_held next_in outs_in depth core R Good is_carried k InRoot (seated next_in core x0) x0_beside gone)
       shallow
       (λ k. framed_held next_in outs_in depth core R Good is_carried k 0 true (seated next_in core x0) x0_beside framed)
@@ -371,8 +375,8 @@ module _ (may_call : (in_group : Bool) → (function : ℕ) → Bool) (bodies : 
   }
 
 pub lists_stay_in_trees : ListsStayInTrees
-lists_stay_in_trees may_call bodies core entry main leads_on stands own frames facts follows framed =
+lists_stay_in_trees may_call bodies core entry main counts leads_on stands own frames facts follows none_pending counted framed =
     let begins = led.begins may_call bodies main facts in
     always (source.next bodies) all_outs depth_of core (R may_call bodies core entry main leads_on stands own facts) (Good may_call bodies core entry main leads_on stands own facts)
     (program_is_carried may_call bodies core entry main leads_on stands own facts) (going (bodies main) []) (entry main)
-    (body_at core entry leads_on bodies stands main) (InRoot, begins) refl follows framed (led.goes_from may_call bodies main facts InRoot (going (bodies main) []) begins) frames
+    (body_at core entry leads_on bodies stands main) (InRoot, begins) refl follows counts none_pending counted framed (led.goes_from may_call bodies main facts InRoot (going (bodies main) []) begins) frames

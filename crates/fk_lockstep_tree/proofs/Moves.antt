@@ -7,7 +7,6 @@ use Rattle.fk_meaning_operation.specs.declared.kinds.Class.TheVariants as class
 use Rattle.fk_meaning_operation.specs.declared.kinds.Joint.{Joint}
 use Rattle.fk_meaning_operation.specs.declared.kinds.Joint.TheVariants as joint
 use Rattle.fk_meaning_operation.specs.declared.operation.SplitKind.{SplitKind}
-use Rattle.fk_meaning_operation.specs.declared.operation.SplitKind.TheVariants.{Fork}
 use Rattle.fk_meaning_operation.specs.declared.operation.Operation.{Operation}
 use Rattle.fk_meaning_operation.specs.declared.operation.Operation.TheVariants as o
 use Rattle.fk_meaning_operation.specs.declared.operation.Variable.{Variable}
@@ -107,11 +106,7 @@ group_steps n (o.Meet false) onward to changes e = absurd (cc)
 group_steps n o.Resume onward to changes e = absurd (cc)
 group_steps n op onward to changes e = absurd (cc)
 
--- a group doesn't `fork`, and that of a `start` doesn't shrink
-pub no_fork : (n : ℕ) (by : SplitKind) (onward : Bool) (to : Where) → goes (InGroup n) (o.Split by) onward ≡ Some to → by ≢ Fork
-no_fork n by onward to e f =
-    let none : ◌≡◌ {A = Option Where} None (Some to) = subst (λ (k : SplitKind). goes (InGroup n) (o.Split k) onward ≡ Some to) f e in absurd (cc)
-
+-- the group of a `start` doesn't shrink
 pub shrinks_deep : (n : ℕ) (onward : Bool) (to : Where) → goes (InGroup n) o.Shrink onward ≡ Some to → (m : ℕ) × (n ≡ suc m)
 shrinks_deep zero onward to e = absurd (cc)
 shrinks_deep (suc m) onward to e = (m, refl)
@@ -170,8 +165,6 @@ SameAround p q = (q.number ≡ p.number) × (q.outer ≡ p.outer)
 
 -- a level of which a group has taken words, or to which it has given some back
 pub record TakenLevel (l m : Level) : Type 0 where
-  pub number : m.number ≡ l.number
-  pub rank : m.rank ≡ l.rank
   pub size : m.size ≡ l.size
   pub range : range_of m.space ≡ range_of l.space
 
@@ -187,16 +180,11 @@ abbrev Unchanged : Processor → Processor → Type 0
 Unchanged p q = SameAround p q × (q.level ≡ p.level)
 
 same_taken : (l m : Level) → m ≡ l → TakenLevel l m
-same_taken l m e = record {
-  number = ap (λ (n : Level). n.number) e;
-  rank = ap (λ (n : Level). n.rank) e;
-  size = ap (λ (n : Level). n.size) e;
-  range = ap (λ (n : Level). range_of n.space) e;
-}
+same_taken l m e = record { size = ap (λ (n : Level). n.size) e; range = ap (λ (n : Level). range_of n.space) e }
 
 -- with other words taken
 taken_more : (l : Level) (s : Space) → range_of s ≡ range_of l.space → TakenLevel l (record l { space = s })
-taken_more l s e = record { number = refl; rank = refl; size = refl; range = e }
+taken_more l s e = record { size = refl; range = e }
 
 same_level : (place : Where) (l m : Level) → m ≡ l → SameLevel place l m
 same_level InRoot l m e = e
@@ -237,7 +225,7 @@ unframed_same : (n : ℕ) (gives : Bool) (v : ℕ) (p : Processor) (calls : List
 unframed_same n gives v p calls =
     let q = unframed true p in
     let same = caller_same gives v q calls in
-    let back : TakenLevel p.level q.level = record { number = refl; rank = refl; size = refl; range = refl } in
+    let back : TakenLevel p.level q.level = record { size = refl; range = refl } in
     ((same.0.0, same.0.1), subst (λ (l : Level). TakenLevel p.level l) (sym same.1) back)
 
 pub local_same : (set : Setting) (place : Where) (op : Operation) (onward : Bool) (to : Where) (p : Processor) → goes place op onward ≡ Some to → SameLevels place p (local set op p)

@@ -1,7 +1,8 @@
 -- A schedule of possible rounds that isn't lawful, since it passes a processor over. After it, too, processors are in the tree.
-use Rattle.std.proofs.Common.{◌≡◌, ℕ, zero, suc, ◌+◌, ◌<◌, true, false, List, [], ◌∷◌, length, take, Option, Some, None, ap, ◌∙◌, sym, refl, subst, arith}
+use Rattle.std.proofs.Common.{◌≡◌, ◌≢◌, ℕ, zero, suc, ◌+◌, ◌<◌, true, false, List, [], ◌∷◌, length, take, Option, Some, None, ap, ◌∙◌, sym, refl, subst, arith}
 use Rattle.std.specs.Prelude.{slice_get}
-use Rattle.fk_meaning_operation.specs.declared.operation.Operation.TheVariants.{DropLast}
+use Rattle.fk_meaning_operation.specs.declared.operation.SplitKind.TheVariants.{Fork}
+use Rattle.fk_meaning_operation.specs.declared.operation.Operation.TheVariants.{DropLast, Split}
 use Rattle.fk_space.specs.Space.{IsSpace}
 use Rattle.fk_meaning.specs.Processor.{Setting, setting_of, group_space}
 use Rattle.fk_meaning.specs.Round.{Step, State, Round, result}
@@ -9,6 +10,7 @@ use Rattle.fk_meaning.specs.Schedule.{Schedule, opening, run, IsIn, CouldAct, Is
 use Rattle.fk_lockstep.specs.Course.{ByItself, FollowsFor}
 use Rattle.fk_lockstep.specs.Frames.{FramedFor}
 use Rattle.fk_lockstep.specs.OneProgram.{KeepOneProgram}
+use Rattle.fk_lockstep.proofs.Round.{first_is}
 use Rattle.fk_lockstep.specs.OneSpace.{KeepOneSpace}
 use Rattle.fk_lockstep_frames.specs.Nests.{Nest, OfFunction, ToldFor}
 use Rattle.fk_lockstep_frames.proofs.Runs.{frames_are_as_told}
@@ -17,6 +19,7 @@ use Rattle.fk_lockstep_tree.specs.Placed.{HasTree}
 use Rattle.fk_lockstep_tree.specs.Rounds.{IsSingle, HaveOwnSpaces}
 use Rattle.fk_lockstep_tree.specs.Runs.{AreSingle}
 use Rattle.fk_lockstep_tree.proofs.Runs.{AllPossible, all_are, runs_stay_in_trees}
+use Rattle.fk_lockstep_tree.proofs.Uncounted.{no_counts, uncounted}
 
 abbrev Spins : Type 0
 Spins = Unit {0}
@@ -99,9 +102,14 @@ have_spaces schedule h r at =
     let taken = told.spaces in
     taken.0.space
 
+-- nobody forks
+never_forks : (work : Spins) (step : Step Spins) → next work ≡ Some step → step.operation ≢ Split Fork
+never_forks work step e forks = let same : DropLast ≡ Split Fork = ap (λ (s : Step Spins). s.operation) (first_is (record { operation = DropLast; site = 0; rest = λ onward. tt }) step e) ∙ forks in cc
+
 in_tree : (n : ℕ) → KeepOneProgram next 2 (run next set (rounds n) first) × KeepOneSpace (run next set (rounds n) first) × HasTree next set (run next set (rounds n) first)
 in_tree n =
-    runs_stay_in_trees Spins next (λ work. []) (λ work. 0) tt 2 [] [] (λ i. 0) (rounds n) follows goes_on refl is_framed have_spaces (omega arith)
+    runs_stay_in_trees Spins next (λ work. []) (no_counts Spins) (λ work. 0) tt 2 [] [] (λ i. 0) (rounds n) follows (λ p. refl) (λ k. uncounted next (λ work. []) never_forks k tt) goes_on refl is_framed
+    have_spaces (omega arith)
     (all_are next set (rounds n) first (all_possible n)) (all_single n) (ap (λ (s : State Spins). s.fault) (behind n))
 
 -- processor 1 could act before each round, and is in none

@@ -30,7 +30,7 @@ module _ (set : Setting) (tree : Tree) (spaces : ℕ → Space) (h n : ℕ) (l :
   pub parent_below : (outer : List Level) (m : ℕ) → AreLevels set tree spaces h n l outer → length outer ≡ suc (suc m) → parent tree n ≢ 0
   parent_below [] m has e = absurd (omega (arith, e))
   parent_below (o ∷ []) m has e = absurd (omega (arith, e))
-  parent_below (o ∷ o' ∷ outer) m has e = has.3.0
+  parent_below (o ∷ o' ∷ outer) m has e = has.2.0
 
   pub root_outer : (outer : List Level) → AreLevels set tree spaces h n l outer → n ≡ 0 → length outer ≡ 0
   root_outer [] has e = refl
@@ -106,9 +106,8 @@ module _ (set : Setting) (old new : Tree) (spaces spaces' : ℕ → Space) (p : 
       let up = upward n ne (has_some old n h has) in (
         ne,
         record { range = at.range ∙ sym both.1; size = at.size ∙ ap (λ x. length (t.members_of x)) (sym both.0) },
-        levels.2,
         subst (λ (k : ℕ). AreLevels set new spaces' h k o outer) (ap t.parent_of (sym both.0))
-            (along bound same (parent old n) o outer (omega (arith, up, lt)) (sound.among n h ne has) levels.3),
+            (along bound same (parent old n) o outer (omega (arith, up, lt)) (sound.among n h ne has) levels.2),
       )
 
   -- the levels above a node
@@ -117,14 +116,12 @@ module _ (set : Setting) (old new : Tree) (spaces spaces' : ℕ → Space) (p : 
 
   -- and its own level is another one
   pub changed : (n : ℕ) (l m : Level) (outer : List Level) → AreLevels set old spaces h n l outer → Has old n h → SameBelow n
-      → (n ≢ 0 → IsOfNode old spaces n l → IsOfNode new spaces' n m) → (n ≢ 0 → parent new n ≡ parent old n) → m.number ≡ l.number → m.rank ≡ l.rank → (n ≡ 0 → m ≡ l)
+      → (n ≢ 0 → IsOfNode old spaces n l → IsOfNode new spaces' n m) → (n ≢ 0 → parent new n ≡ parent old n) → (n ≡ 0 → m ≡ l)
       → AreLevels set new spaces' h n m outer
-  changed n l m [] levels has same node up number rank root = (levels.0, root levels.0 ∙ levels.1)
-  changed n l m (o ∷ outer) levels has same node up number rank root =
-      let ne = levels.0 in
-      let numbers = levels.2 in (
+  changed n l m [] levels has same node up root = (levels.0, root levels.0 ∙ levels.1)
+  changed n l m (o ∷ outer) levels has same node up root =
+      let ne = levels.0 in (
         ne,
         node ne levels.1,
-        record { number = number ∙ numbers.number; rank = rank ∙ numbers.rank },
-        subst (λ (k : ℕ). AreLevels set new spaces' h k o outer) (sym (up ne)) (above n same o outer ne has levels.3),
+        subst (λ (k : ℕ). AreLevels set new spaces' h k o outer) (sym (up ne)) (above n same o outer ne has levels.2),
       )

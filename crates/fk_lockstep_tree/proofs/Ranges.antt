@@ -80,20 +80,20 @@ module _ {W : Type 0} (next : W → Option (Step W)) (set : Setting) (s : State 
         ap (λ (x : Level). range_of x.space) (cond-true (at == g) l (level_at tree g (parent tree at) up outer) (eq-eqb at g e)) ∙ levels.1.range ∙ ap spaces e)
         (λ off.
         ap (λ (x : Level). range_of x.space) (cond-false (at == g) l (level_at tree g (parent tree at) up outer) (ne_eqb at g off))
-        ∙ level_found g (parent tree at) up outer levels.3 (⊎_elim (λ e. absurd (off e)) (λ on. on) way) ne)
+        ∙ level_found g (parent tree at) up outer levels.2 (⊎_elim (λ e. absurd (off e)) (λ on. on) way) ne)
         (cases_eq at g)
 
     -- and so is the root's
     root_found : (at : ℕ) (l : Level) (outer : List Level) → AreLevels set tree spaces h at l outer → level_at tree 0 at l outer ≡ first_level set h
     root_found at l [] levels = levels.1
-    root_found at l (up ∷ outer) levels = cond-false (at == 0) l (level_at tree 0 (parent tree at) up outer) (ne_eqb at 0 levels.0) ∙ root_found (parent tree at) up outer levels.3
+    root_found at l (up ∷ outer) levels = cond-false (at == 0) l (level_at tree 0 (parent tree at) up outer) (ne_eqb at 0 levels.0) ∙ root_found (parent tree at) up outer levels.2
 
     -- a node's parent is on the way where the node is
     one_up : (m at : ℕ) (l : Level) (outer : List Level) → AreLevels set tree spaces h at l outer → OnWay m at outer → m ≢ 0 → OnWay (parent tree m) at outer
     one_up m at l [] levels way ne = absurd (ne (sym way ∙ levels.0))
     one_up m at l (up ∷ outer) levels way ne =
         ⊎_elim (λ e. inr (begins_way (parent tree m) (parent tree at) outer (ap (parent tree) e)))
-        (λ on. inr (one_up m (parent tree at) up outer levels.3 on ne)) way
+        (λ on. inr (one_up m (parent tree at) up outer levels.2 on ne)) way
 
     -- who is a member of a node is at it, or a member of one below it
     abbrev Child : (g : ℕ) → Type 0
@@ -196,8 +196,7 @@ module _ {W : Type 0} (next : W → Option (Step W)) (set : Setting) (s : State 
       let ne = levels.0 in (
         ne,
         record { range = levels.1.range ∙ sym (read_off n h ne has'); size = levels.1.size },
-        levels.2,
-        levels_read h (parent tree n) up outer (sound.among n h ne has') levels.3,
+        levels_read h (parent tree n) up outer (sound.among n h ne has') levels.2,
       )
 
   parent_lives : (g : ℕ) → g ≢ 0 → tree.nodes g ≢ None → tree.nodes (parent tree g) ≢ None
@@ -452,7 +451,7 @@ module _ {W : Type 0} (next : W → Option (Step W)) (set : Setting) (round : Ro
       subst (λ (q : Processor). has_room (o.Split by) q ≡ true) (sym known) (subst (λ (x : Operation). has_room x a.runner.has ≡ true) op_is d.room)
 
   not_zero : (g : ℕ) (by : SplitKind) → does g ≡ Some (o.Split by) → g ≢ 0
-  not_zero g by e is_zero = let all = all_do g (o.Split by) e in base.sound.free (sym (ap (kind old) is_zero) ∙ all.fits.0)
+  not_zero g by e is_zero = let all = all_do g (o.Split by) e in base.sound.free (sym (ap (kind old) is_zero) ∙ all.fits)
 
   begins_space : (m : ℕ) → old.given ≤ m → BeginsAt m → spaces' m ≡ range_of (group_space set)
   begins_space m ge b =

@@ -1,16 +1,10 @@
 -- Whole runs, round after round.
-use Rattle.std.proofs.Common.{◌≡◌, inl, ⊎_elim, ℕ, zero, suc, ◌≤◌, ◌&&◌, Bool, true, false, List, [], ◌∷◌, ◌++◌, length, Option, Some, None, refl, sym, ap, ◌∙◌, subst, append_assoc}
+use Rattle.std.proofs.Common.{◌≡◌, inl, ⊎_elim, ℕ, ◌≤◌, ◌&&◌, true, false, List, [], ◌∷◌, ◌++◌, Option, Some, None, refl, sym, ap, ◌∙◌, subst, append_assoc}
 use Rattle.std.specs.Prelude.{is_none, option_map}
 use Rattle.std.proofs.lemmas.Bool.{and_parts, false≢true}
 use Rattle.std.proofs.lemmas.List.{append-nil}
 use Rattle.fk_num.specs.Word.{Memory}
-use Rattle.fk_meaning_operation.specs.Kinds.{class_of}
-use Rattle.fk_meaning_operation.specs.declared.kinds.Class.{Class}
-use Rattle.fk_meaning_operation.specs.declared.kinds.Class.TheVariants as class
-use Rattle.fk_meaning_operation.specs.declared.operation.Operation.{Operation}
-use Rattle.fk_meaning_operation.specs.declared.operation.Operation.TheVariants as o
-use Rattle.fk_meaning_operation.specs.declared.operation.SplitKind.TheVariants.{IfElse, Fork}
-use Rattle.fk_meaning.specs.Processor.{Setting, setting_of}
+use Rattle.fk_meaning.specs.Processor.{Processor, Setting, setting_of}
 use Rattle.fk_meaning.specs.Round.{Step, State, Fault, Round, result, is_allowed, is_possible, IsStopped}
 use Rattle.fk_meaning.specs.Schedule.{Schedule, opening, run, ArePossible}
 use Rattle.fk_meaning.proofs.Natural.{step_by, state_by, results, possible_alike}
@@ -18,69 +12,18 @@ use Rattle.fk_meaning.proofs.Stopped.{stopped_faults}
 use Rattle.fk_lockstep.specs.Course.{ByItself, Follows}
 use Rattle.fk_tree.specs.Sound.{IsSound}
 use Rattle.fk_tree.proofs.RootSound.{root_sound}
-use Rattle.fk_lockstep.specs.Counts.{Counts, AsMany, Leaves, CountsGoOn, CountedNext, CountedFor, IsCounted}
+use Rattle.fk_lockstep.specs.Counts.{Counts, ArePending, IsCounted}
 use Rattle.fk_lockstep.specs.Frames.{IsFramed}
 use Rattle.fk_lockstep.specs.OneSpace.{KeepOneSpace}
 use Rattle.fk_lockstep.specs.OneProgram.{KeepOneProgram}
 use Rattle.fk_lockstep.proofs.ProgramRuns.{groups_have_one_program}
 use Rattle.fk_lockstep.proofs.SpaceRuns.{groups_have_one_space}
-use Rattle.fk_lockstep_tree.specs.Where.{Where, InRoot, Waits, InGroup, InBody, BehindBody, goes, GoesNext, GoesFor, Goes}
+use Rattle.fk_lockstep_tree.specs.Where.{InRoot, Goes}
 use Rattle.fk_lockstep_tree.specs.Placed.{HasTree}
 use Rattle.fk_lockstep_tree.specs.Rounds.{IsSingle, HaveOwnSpaces}
 use Rattle.fk_lockstep_tree.specs.Runs.{AreSingle, RunsStayInTrees}
 use Rattle.fk_lockstep_tree.proofs.Ranges.{rounds_keep_trees}
 use Rattle.fk_lockstep_tree.proofs.Opening.{openings_are_in_root}
-
--- ---- there is no `fork`, so no number of parts is agreed on
-
-abbrev is_nil : List ℕ → Bool
-is_nil [] = true
-is_nil (n ∷ ns) = false
-
-nil_length : (ns : List ℕ) → is_nil ns ≡ true → length ns ≡ 0
-nil_length [] e = refl
-nil_length (n ∷ ns) e = absurd (false≢true e)
-
-abbrev no_counts : (W : Type 0) → Counts W
-no_counts W = record { pending = λ work. 0; are_pending = λ work p ns. is_nil ns; many = λ work p ns e. nil_length ns e }
-
--- a `fork` stands nowhere
-forks_nowhere : (place : Where) (onward : Bool) (to : Where) → goes place (o.Split Fork) onward ≡ Some to → ⊥
-forks_nowhere InRoot onward to e = absurd (cc)
-forks_nowhere (Waits n) onward to e = absurd (cc)
-forks_nowhere (InGroup n) onward to e = absurd (cc)
-forks_nowhere (InBody n) onward to e = absurd (cc)
-forks_nowhere (BehindBody n) onward to e = absurd (cc)
-
-module _ {W : Type 0} (next : W → Option (Step W)) (outs : W → List W) where
-  as_many : (met : List W) → AsMany next outs (no_counts W) 0 met
-  as_many [] = tt
-  as_many (m ∷ met) = refl
-
-  leaves_by : (c : Class) (op : Operation) (here : W) (rest : Bool → W) → Leaves next outs (no_counts W) c op here rest
-  leaves_by class.Local op here rest = λ set onward p ns h. h
-  leaves_by class.Request op here rest = λ answer p ns h. h
-  leaves_by class.Tree op here rest = λ highest lowest size p ns h. h
-
-  counts_go : (place : Where) (op : Operation) (onward : Bool) (to : Where) (here : W) (rest : Bool → W) → goes place op onward ≡ Some to → CountsGoOn next outs (no_counts W) op here rest
-  counts_go place o.Agree onward to here rest e = λ value p ns h. h
-  counts_go place (o.Split Fork) onward to here rest e = absurd (forks_nowhere place onward to e)
-  counts_go place (o.Split IfElse) onward to here rest e = ((λ size into p ns h. h), as_many (outs (rest true)))
-  counts_go place (o.Split by) onward to here rest e = ((λ size into p ns h. h), tt)
-  counts_go place o.Farm onward to here rest e = (leaves_by class.Tree o.Farm here rest, as_many (outs (rest true)))
-  counts_go place o.Begin onward to here rest e = (leaves_by class.Tree o.Begin here rest, refl)
-  counts_go place op onward to here rest e = leaves_by (class_of op) op here rest
-
-  counted_next : (n : ℕ) (place : Where) (here : W) → ((to : Where) (w : W) → GoesFor next n to w → CountedFor next outs (no_counts W) n w) → (step : Option (Step W))
-      → GoesNext next (GoesFor next n) place step → CountedNext next outs (no_counts W) (CountedFor next outs (no_counts W) n) here step
-  counted_next n place here further None g = tt
-  counted_next n place here further (Some step) g =
-      let way = g true in
-      (counts_go place step.operation true way.0 here step.rest way.1, λ onward. let x = g onward in further x.0 (step.rest onward) x.2)
-
-  counted_for : (n : ℕ) (place : Where) (here : W) → GoesFor next n place here → CountedFor next outs (no_counts W) n here
-  counted_for zero place here g = tt
-  counted_for (suc n) place here g = counted_next n place here (λ to w x. counted_for n to w x) (next here) g
 
 -- ---- possible rounds, one after another
 
@@ -164,8 +107,9 @@ round_by_round next set first P keeps xs (round ∷ ys) all single has =
     subst (λ (l : Schedule). P (run next set l first)) same
     (round_by_round next set first P keeps (xs ++ round ∷ []) ys (subst (λ (l : Schedule). AllPossible next set l first) (sym same) all) single.1 next_has)
 
-module _ (W : Type 0) (next : W → Option (Step W)) (outs : W → List W) (depth : W → ℕ) (program : W) (processors : ℕ) (globals input : List ℕ) (firsts : Memory)
-    (follows : Follows next outs (ByItself false) program) (goes_on : Goes next InRoot program) (shallow : depth program ≡ 0) (framed : IsFramed next outs depth 0 true program) (some : 1 ≤ processors) where
+module _ (W : Type 0) (next : W → Option (Step W)) (outs : W → List W) (counts : Counts W) (depth : W → ℕ) (program : W) (processors : ℕ) (globals input : List ℕ) (firsts : Memory)
+    (follows : Follows next outs (ByItself false) program) (none_pending : (p : Processor) → ArePending next outs counts program p []) (counted : IsCounted next outs counts program)
+    (goes_on : Goes next InRoot program) (shallow : depth program ≡ 0) (framed : IsFramed next outs depth 0 true program) (some : 1 ≤ processors) where
   abbrev set : Setting
   set = setting_of processors globals input
 
@@ -175,16 +119,13 @@ module _ (W : Type 0) (next : W → Option (Step W)) (outs : W → List W) (dept
   abbrev after : Schedule → State W
   after schedule = run next set schedule first
 
-  counted : IsCounted next outs (no_counts W) program
-  counted = λ n. counted_for next outs n InRoot program (goes_on n)
-
   one_program : (schedule : Schedule) → ArePossible next set schedule first → (after schedule).fault ≡ None → KeepOneProgram next processors (after schedule)
   one_program schedule possible none =
-      groups_have_one_program W next outs program follows (no_counts W) (λ p. refl) counted set schedule processors globals input firsts some possible none
+      groups_have_one_program W next outs program follows counts none_pending counted set schedule processors globals input firsts some possible none
 
   one_space : (schedule : Schedule) → ArePossible next set schedule first → (after schedule).fault ≡ None → KeepOneSpace (after schedule)
   one_space schedule possible none =
-      groups_have_one_space W next outs program follows (no_counts W) (λ p. refl) counted depth shallow framed set schedule processors globals input firsts some possible none
+      groups_have_one_space W next outs program follows counts none_pending counted depth shallow framed set schedule processors globals input firsts some possible none
 
   in_tree : ((before : Schedule) → HaveOwnSpaces (after before)) → (schedule : Schedule) → ArePossible next set schedule first → AreSingle schedule → (after schedule).fault ≡ None
       → HasTree next set (after schedule)
@@ -214,8 +155,8 @@ module _ (W : Type 0) (next : W → Option (Step W)) (outs : W → List W) (dept
           (one_program more (all_are next set more first all) (ap (λ (u : State W). u.fault) same ∙ none')).tree
 
 pub runs_stay_in_trees : (W : Type 0) → RunsStayInTrees W
-runs_stay_in_trees W next outs depth program processors globals input firsts schedule follows goes_on shallow framed spaces some possible single none = (
-  one_program W next outs depth program processors globals input firsts follows goes_on shallow framed some schedule possible none,
-  one_space W next outs depth program processors globals input firsts follows goes_on shallow framed some schedule possible none,
-  in_tree W next outs depth program processors globals input firsts follows goes_on shallow framed some spaces schedule possible single none,
+runs_stay_in_trees W next outs counts depth program processors globals input firsts schedule follows none_pending counted goes_on shallow framed spaces some possible single none = (
+  one_program W next outs counts depth program processors globals input firsts follows none_pending counted goes_on shallow framed some schedule possible none,
+  one_space W next outs counts depth program processors globals input firsts follows none_pending counted goes_on shallow framed some schedule possible none,
+  in_tree W next outs counts depth program processors globals input firsts follows none_pending counted goes_on shallow framed some spaces schedule possible single none,
 )

@@ -3,13 +3,15 @@ use Rattle.std.specs.Prelude.{◌≡◌, ℕ, Bool, false, true, List, [], lengt
 use Rattle.fk_meaning_operation.specs.declared.operation.Operation.{Operation}
 use Rattle.fk_meaning_forms.specs.Code.{Code}
 use Rattle.fk_meaning.specs.Next as source
-use Rattle.fk_meaning.specs.Next.{going}
+use Rattle.fk_meaning.specs.Processor.{Processor}
+use Rattle.fk_meaning.specs.Next.{Work, going}
 use Rattle.fk_core.specs.declared.op.CoreOp.{CoreOp}
 use Rattle.fk_core.specs.Numbers.{operation_of}
 use Rattle.fk_core.specs.Next.{position, landing, next}
 use Rattle.fk_core.specs.CodeAt.{CodeAt}
 use Rattle.fk_core.specs.WellFormed.{LeadsOn}
 use Rattle.fk_lockstep.specs.Course.{ByItself, Follows}
+use Rattle.fk_lockstep.specs.Counts.{Counts, ArePending, IsCounted}
 use Rattle.fk_lockstep.specs.Frames.{IsFramed}
 use Rattle.fk_lockstep_frames.specs.Lists.{HasLocalFrames}
 use Rattle.fk_lockstep_structure.specs.Ahead.{all_outs}
@@ -28,10 +30,13 @@ HasOwnSites core =
 abbrev pub ListsStayInTrees : Type 0
 ListsStayInTrees =
     (may_call : (in_group : Bool) → (function : ℕ) → Bool) (bodies : (binding : ℕ) → Code ℕ)
-    (core : List CoreOp) (entry : (binding : ℕ) → ℕ) (main : ℕ)
+    (core : List CoreOp) (entry : (binding : ℕ) → ℕ) (main : ℕ) (counts : Counts Work)
     → LeadsOn core
     → ((binding : ℕ) → CodeAt core entry (bodies binding) None (entry binding) (length core))
     → HasOwnSites core → HasLocalFrames core (entry main) → AreLed may_call bodies main
     → Follows (source.next bodies) all_outs (ByItself false) (going (bodies main) [])
+    → ((p : Processor)
+    → ArePending (source.next bodies) all_outs counts (going (bodies main) []) p [])
+    → IsCounted (source.next bodies) all_outs counts (going (bodies main) [])
     → IsFramed (source.next bodies) all_outs depth 0 true (going (bodies main) [])
     → AlwaysInTree (next core) (λ w. landing core w.at) (position (entry main) [])

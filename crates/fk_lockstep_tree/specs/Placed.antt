@@ -35,19 +35,13 @@ pub record IsOfNode (tree : Tree) (spaces : ℕ → Space) (n : ℕ) (l : Level)
   pub range : range_of l.space ≡ spaces n
   pub size : l.size ≡ length (t.members tree n)
 
--- `@` and `$` are as in the group around
-pub record HasNumbersOf (around l : Level) : Type 0 where
-  pub number : l.number ≡ around.number
-  pub rank : l.rank ≡ around.rank
-
 -- a processor's level is that of a node, and the levels around it are those of the nodes above, up
 -- to the root, whose level is the first one
 abbrev pub AreLevels : Setting → Tree → (spaces : ℕ → Space) → (h n : ℕ) → Level
     → (outer : List Level) → Type 0
 AreLevels set tree spaces h n l [] = (n ≡ 0) × (l ≡ first_level set h)
 AreLevels set tree spaces h n l (o ∷ outer) =
-    (n ≢ 0) × IsOfNode tree spaces n l × HasNumbersOf o l
-    × AreLevels set tree spaces h (t.parent tree n) o outer
+    (n ≢ 0) × IsOfNode tree spaces n l × AreLevels set tree spaces h (t.parent tree n) o outer
 
 module _ {W : Type 0} (next : W → Option (Step W)) (set : Setting) where
   -- a processor is at one place by the tree, by the work that it has left, and by its levels

@@ -4,11 +4,12 @@ use Rattle.std.specs.Prelude.{slice_get, slice_index}
 use Rattle.fk_num.specs.Word.{Memory}
 use Rattle.fk_space.specs.Space.{IsSpace}
 use Rattle.fk_tree.specs.Sound.{IsSound}
-use Rattle.fk_meaning.specs.Processor.{Setting, setting_of, group_space}
+use Rattle.fk_meaning.specs.Processor.{Processor, Setting, setting_of, group_space}
 use Rattle.fk_meaning_operation.specs.declared.operation.Operation.TheVariants.{Begin}
 use Rattle.fk_meaning.specs.Round.{Step, Runner, State}
 use Rattle.fk_meaning.specs.Schedule.{Schedule, opening, run, ArePossible}
 use Rattle.fk_lockstep.specs.Course.{ByItself, Follows}
+use Rattle.fk_lockstep.specs.Counts.{Counts, ArePending, IsCounted}
 use Rattle.fk_lockstep.specs.Frames.{IsFramed}
 use Rattle.fk_lockstep.specs.OneProgram.{HaveOneProgram, KeepOneProgram}
 use Rattle.fk_lockstep.specs.OneSpace.{KeepOneSpace}
@@ -52,15 +53,18 @@ module _ {W X : Type 0} (next : W → Option (Step W)) (place : W → X) where
       → StandsInTree set (run next set schedule first)
 
 -- after a schedule of possible rounds of this kind, the members of each group have one program and
--- one space, and each processor is where its operations have led it. This holds if in every run all
--- processors have words of a space in their levels
+-- one space, and each processor is where its operations have led it. This holds if a `fork` takes
+-- the number of parts on which its group has agreed, and if in every run all processors have words
+-- of a space in their levels
 abbrev pub RunsStayInTrees : (W : Type 0) → Type 0
 RunsStayInTrees W =
-    (next : W → Option (Step W)) (outs : W → List W) (depth : W → ℕ) (program : W)
-    (processors : ℕ) (globals input : List ℕ) (firsts : Memory) (schedule : Schedule)
+    (next : W → Option (Step W)) (outs : W → List W) (counts : Counts W) (depth : W → ℕ)
+    (program : W) (processors : ℕ) (globals input : List ℕ) (firsts : Memory) (schedule : Schedule)
     → let set = setting_of processors globals input in
     let first = opening processors globals input firsts program in
-    Follows next outs (ByItself false) program → Goes next InRoot program
+    Follows next outs (ByItself false) program
+    → ((p : Processor) → ArePending next outs counts program p [])
+    → IsCounted next outs counts program → Goes next InRoot program
     → depth program ≡ 0 → IsFramed next outs depth 0 true program
     → ((before : Schedule) → HaveOwnSpaces (run next set before first)) → 1 ≤ processors
     → ArePossible next set schedule first → AreSingle schedule

@@ -6,7 +6,7 @@ use Rattle.fk_meaning_operation.specs.Kinds.{class_of}
 use Rattle.fk_meaning_operation.specs.declared.kinds.Class.{Class}
 use Rattle.fk_meaning_operation.specs.declared.kinds.Class.TheVariants as class
 use Rattle.fk_meaning_operation.specs.declared.operation.SplitKind.{SplitKind}
-use Rattle.fk_meaning_operation.specs.declared.operation.SplitKind.TheVariants.{IfElse, Fork}
+use Rattle.fk_meaning_operation.specs.declared.operation.SplitKind.TheVariants.{IfElse}
 use Rattle.fk_meaning_operation.specs.declared.operation.Operation.{Operation}
 use Rattle.fk_meaning_operation.specs.declared.operation.Operation.TheVariants as o
 use Rattle.fk_meaning.specs.Round.{Step}
@@ -33,9 +33,8 @@ abbrev pub behind_waiting : (depth : ℕ) → Where
 behind_waiting zero = InRoot
 behind_waiting (suc n) = InGroup n
 
--- a member enters a part, or waits in its group. A `fork` may occur nowhere
+-- a member enters a part, or waits in its group
 abbrev pub divides : SplitKind → (depth : ℕ) → (onward : Bool) → Option Where
-divides Fork n onward = None
 divides IfElse n onward = Some (InGroup (suc n))
 divides by n onward = Some (if onward then InGroup (suc n) else Waits (suc n))
 

@@ -24,14 +24,14 @@ low_number (OfFunction frame ∷ nests) number word has = by (number == 0) refl 
     by : (b : Bool) → (number == 0) ≡ b → frame_has (if b then frame else None) word ≡ true → number ≤ 0
     by true is has' = let zero = eqb-true number 0 is in omega (arith, zero)
     by false is has' = absurd (false≢true has')
-low_number (OfPart frame ∷ nests) number word has = by (number == suc (nesting nests)) refl has (low_number nests number word)
+low_number (OfPart numbered frame ∷ nests) number word has = by (number == suc (nesting nests)) refl has (low_number nests number word)
   where
     by : (b : Bool) → (number == suc (nesting nests)) ≡ b → frame_has (if b then frame else frame_at nests number) word ≡ true
         → (has_word nests number word ≡ true → number ≤ nesting nests) → number ≤ suc (nesting nests)
     by true is has' below = let same = eqb-true number (suc (nesting nests)) is in omega (arith, same)
     by false is has' below = let low = below has' in omega (arith, low)
 
-pub deeper_word : (nests : List Nest) (number word : ℕ) → has_word nests number word ≡ true → has_word (OfPart None ∷ nests) number word ≡ true
+pub deeper_word : (nests : List Nest) (number word : ℕ) → has_word nests number word ≡ true → has_word (OfPart false None ∷ nests) number word ≡ true
 deeper_word nests number word has = by (number == suc (nesting nests)) refl
   where
     by : (b : Bool) → (number == suc (nesting nests)) ≡ b → frame_has (if b then None else frame_at nests number) word ≡ true
@@ -40,7 +40,7 @@ deeper_word nests number word has = by (number == suc (nesting nests)) refl
 
 module _ (tables : Tables) (functions : (binding : ℕ) → Signature) (place_of : (binding : ℕ) → FunctionKind) (nests : List Nest) where
   abbrev inner : List Nest
-  inner = OfPart None ∷ nests
+  inner = OfPart false None ∷ nests
 
   address_deeper : (c : Address) → is_address true nests (Some c) ≡ true → is_address true inner (Some c) ≡ true
   address_deeper (Number n) h = h

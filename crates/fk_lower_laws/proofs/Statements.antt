@@ -320,7 +320,7 @@ module _ (program : ProgramTree) (facts : Facts) (given : IsGiven program facts)
           let ks = two_of Kept (s.optional_tokens thing around count) _ k in
           let ms = two_of S (optional_marks count) _ m in
           let fs = two_of IsOne (optional_pieces role.Word count) (statement_pieces result body) f in
-          (word_or around nests count t'.0 ks.0 (opened nests (optional_marks count) ms.0 w.0) fs.0, statement _ (in_part tables spot.at 0 nests) body w.1 t'.1 ks.1 (scope_of (statement_marks body) ms.1) fs.1)
+          (word_or around nests count t'.0 ks.0 (opened nests (optional_marks count) ms.0 w.0) fs.0, statement _ (in_part tables true spot.at 0 nests) body w.1 t'.1 ks.1 (scope_of (statement_marks body) ms.1) fs.1)
       statement around nests (p.Farm spot body) w t' k m f = statement _ nests body w t' k (scope_of (statement_marks body) m) f
       statement around nests (p.Seq spot body) w t' k m f = statement _ nests body w t' k (scope_of (statement_marks body) m) f
       statement around nests (p.Fork spot parts part rank body) w t' k m f =
@@ -330,7 +330,7 @@ module _ (program : ProgramTree) (facts : Facts) (given : IsGiven program facts)
             word around nests parts t'.0 ks.0 (opened nests (tree_marks parts) ms.0 w.0) f.0,
             word around nests part t'.1 ks.1 (opened nests (tree_marks part) ms.1 w.1) f.1.0,
             word_or around nests rank t'.2 ks.2 (opened nests (optional_marks rank) ms.2 w.2) fs.0,
-            statement _ (in_part tables spot.at 0 nests) body w.3 t'.3 ks.3 (scope_of (statement_marks body) ms.3) fs.1,
+            statement _ (in_part tables true spot.at 0 nests) body w.3 t'.3 ks.3 (scope_of (statement_marks body) ms.3) fs.1,
           )
       statement around nests (p.Barrier spot) w t' k m f = tt
       statement around nests (p.Break spot) w t' k m f = tt

@@ -92,11 +92,11 @@ pushed_results false vs = refl
 
 -- the place in one part more, which has no frame
 abbrev pub deeper : Place → Place
-deeper p = record p { nests = OfPart None ∷ p.nests }
+deeper p = record p { nests = OfPart false None ∷ p.nests }
 
 -- a call is at the place, which it can come back to from a part
 abbrev pub IsWithin : Place → Type 0
-IsWithin p = IsInPart (OfPart None ∷ p.nests)
+IsWithin p = IsInPart (OfPart false None ∷ p.nests)
 
 module _ (tables : Tables) (functions : (binding : ℕ) → Signature) (place_of : (binding : ℕ) → FunctionKind)
     (opens : (binding : ℕ) (gives : Bool) → place_of binding ≡ Called gives → Opens tables (place_of binding) (functions binding)) where

@@ -166,48 +166,48 @@ module _ (tables : Tables) (functions : (binding : ℕ) → Signature) (place_of
     resumed q = on (resumes tables functions place_of opens p []) q
 
     -- a part, with a frame or without
-    abbrev started : (frame : Option ℕ) → Place
-    started frame = record p { nests = OfPart frame ∷ p.nests }
+    abbrev started : (numbered : Bool) (frame : Option ℕ) → Place
+    started numbered frame = record p { nests = OfPart numbered frame ∷ p.nests }
 
     starts : p ≡ entered Main → (onward : Bool) → Acts onward o.Begin (level p (Unknown ∷ [])) (level (place_behind o.Begin onward p) [])
     starts is onward = simply p onward o.Begin (Unknown ∷ []) is (omega arith) (omega arith) (λ ws. tt) (λ ns c ws. refl)
 
     -- splits of statements: those who enter the part, and those who wait
-    if_enters : Acts true (o.Split kinds.IfAlone) (level p (Unknown ∷ [])) (level (started None) [])
+    if_enters : Acts true (o.Split kinds.IfAlone) (level p (Unknown ∷ [])) (level (started false None) [])
     if_enters = simply p true (o.Split kinds.IfAlone) (Unknown ∷ []) tt (omega arith) (omega arith) (λ ws. tt) (λ ns c ws. refl)
 
     if_waits : Acts false (o.Split kinds.IfAlone) (level p (Unknown ∷ [])) whole
     if_waits = simply p false (o.Split kinds.IfAlone) (Unknown ∷ []) tt (omega arith) (omega arith) (λ ws. tt) (λ ns c ws. refl)
 
-    enters_either : (onward : Bool) → Acts onward (o.Split kinds.IfElse) (level p (Unknown ∷ [])) (level (started None) [])
+    enters_either : (onward : Bool) → Acts onward (o.Split kinds.IfElse) (level p (Unknown ∷ [])) (level (started false None) [])
     enters_either onward = simply p onward (o.Split kinds.IfElse) (Unknown ∷ []) tt (omega arith) (omega arith) (λ ws. tt) (λ ns c ws. refl)
 
-    loop_enters : Acts true (o.Split kinds.Loop) whole (level (started None) [])
+    loop_enters : Acts true (o.Split kinds.Loop) whole (level (started false None) [])
     loop_enters = simply p true (o.Split kinds.Loop) [] tt (omega arith) (omega arith) (λ ws. tt) (λ ns c ws. refl)
 
     loop_waits : Acts false (o.Split kinds.Loop) whole whole
     loop_waits = simply p false (o.Split kinds.Loop) [] tt (omega arith) (omega arith) (λ ws. tt) (λ ns c ws. refl)
 
-    fork_enters : Acts true (o.Split kinds.Fork) (level p (Unknown ∷ Unknown ∷ Unknown ∷ [])) (level (started None) [])
+    fork_enters : Acts true (o.Split kinds.Fork) (level p (Unknown ∷ Unknown ∷ Unknown ∷ [])) (level (started true None) [])
     fork_enters = simply p true (o.Split kinds.Fork) (Unknown ∷ Unknown ∷ Unknown ∷ []) tt (omega arith) (omega arith) (λ ws. tt) (λ ns c ws. refl)
 
     fork_waits : Acts false (o.Split kinds.Fork) (level p (Unknown ∷ Unknown ∷ Unknown ∷ [])) whole
     fork_waits = simply p false (o.Split kinds.Fork) (Unknown ∷ Unknown ∷ Unknown ∷ []) tt (omega arith) (omega arith) (λ ws. tt) (λ ns c ws. refl)
 
-    part_frames : {l : Option Loop} {e : State} {code : Coded} (r : Option Region) (place : y.Place) → HasLevel (suc (nesting p.nests)) r
-        → Ok place_of frame_of l (level (started (frame_words r)) []) code e → Ok place_of frame_of l (level (started None) []) (framed tables functions r place code) e
-    part_frames None place level' h = h
-    part_frames (Some r) place level' h = on (takes_frame (started None) r.level r.words (OfPart None) p.nests refl level' refl) h
+    part_frames : {l : Option Loop} {e : State} {code : Coded} (numbered : Bool) (r : Option Region) (place : y.Place) → HasLevel (suc (nesting p.nests)) r
+        → Ok place_of frame_of l (level (started numbered (frame_words r)) []) code e → Ok place_of frame_of l (level (started numbered None) []) (framed tables functions r place code) e
+    part_frames numbered None place level' h = h
+    part_frames numbered (Some r) place level' h = on (takes_frame (started numbered None) r.level r.words (OfPart numbered None) p.nests refl level' refl) h
 
-    in_any : (frame : Option ℕ) → IsWithin p → IsInPart (OfPart frame ∷ p.nests)
-    in_any frame within = by p.nests within
+    in_any : (numbered : Bool) (frame : Option ℕ) → IsWithin p → IsInPart (OfPart numbered frame ∷ p.nests)
+    in_any numbered frame within = by p.nests within
       where
-        by : (nests : List Nest) → IsInPart (OfPart None ∷ nests) → IsInPart (OfPart frame ∷ nests)
+        by : (nests : List Nest) → IsInPart (OfPart false None ∷ nests) → IsInPart (OfPart numbered frame ∷ nests)
         by [] is = absurd is
         by (nest ∷ nests) is = tt
 
-    part_ends : IsWithin p → (frame : Option ℕ) → Acts true o.End (level (started frame) []) whole
-    part_ends within frame = simply (started frame) true o.End [] (in_any frame within) (omega arith) (omega arith) (λ ws. tt) (λ ns c ws. refl)
+    part_ends : IsWithin p → (numbered : Bool) (frame : Option ℕ) → Acts true o.End (level (started numbered frame) []) whole
+    part_ends within numbered frame = simply (started numbered frame) true o.End [] (in_any numbered frame within) (omega arith) (omega arith) (λ ws. tt) (λ ns c ws. refl)
 
     farms : (onward : Bool) → Acts onward o.Farm whole whole
     farms onward = simply p onward o.Farm [] tt (omega arith) (omega arith) (λ ws. tt) (λ ns c ws. refl)
@@ -229,7 +229,7 @@ module _ (tables : Tables) (functions : (binding : ℕ) → Signature) (place_of
     plain_loop = record { turn = whole; left = whole; even = refl }
 
     abbrev part_loop : (frame : Option ℕ) → Loop
-    part_loop frame = record { turn = level (started frame) []; left = whole; even = refl }
+    part_loop frame = record { turn = level (started false frame) []; left = whole; even = refl }
 
     -- their tests
     leaves : (sync splits : Bool) → splits ≡ false
@@ -239,24 +239,24 @@ module _ (tables : Tables) (functions : (binding : ℕ) → Signature) (place_of
         agrees tables functions place_of opens p sync [] (Some plain_loop) (quit nowhere (o.Branch true) done) whole
         (quits plain_loop (branches tables functions place_of opens p true true []) (branches tables functions place_of opens p true false []))
 
-    shrinks : IsWithin p → (frame : Option ℕ) (onward : Bool) → Acts onward o.Shrink (level (started frame) (Unknown ∷ [])) (level (place_behind o.Shrink onward (started frame)) [])
-    shrinks within frame onward = simply (started frame) onward o.Shrink (Unknown ∷ []) (in_any frame within) (omega arith) (omega arith) (λ ws. tt) (λ ns c ws. refl)
+    shrinks : IsWithin p → (frame : Option ℕ) (onward : Bool) → Acts onward o.Shrink (level (started false frame) (Unknown ∷ [])) (level (place_behind o.Shrink onward (started false frame)) [])
+    shrinks within frame onward = simply (started false frame) onward o.Shrink (Unknown ∷ []) (in_any false frame within, refl) (omega arith) (omega arith) (λ ws. tt) (λ ns c ws. refl)
 
     leaves_part : IsWithin p → (frame : Option ℕ) (sync splits : Bool) → splits ≡ true
-        → Ok place_of frame_of (Some (part_loop frame)) (level (started frame) (Unknown ∷ []))
-        (if splits then quit nowhere o.Shrink done else agreed sync (quit nowhere (o.Branch true) done)) (level (started frame) [])
+        → Ok place_of frame_of (Some (part_loop frame)) (level (started false frame) (Unknown ∷ []))
+        (if splits then quit nowhere o.Shrink done else agreed sync (quit nowhere (o.Branch true) done)) (level (started false frame) [])
     leaves_part within frame sync true is = quits (part_loop frame) (shrinks within frame true) (shrinks within frame false)
     leaves_part within frame sync false is = absurd (false≢true is)
 
     -- a loop, by both
     loops : (spot : Spot) (l : Option Loop) (f : Coded → Coded) → ((note tables spot.at).splits ≡ false → Runs l f)
         → ((note tables spot.at).splits ≡ true → HasLevel (suc (nesting p.nests)) (frame_at tables spot.at 0))
-        → ((note tables spot.at).splits ≡ true → Ok place_of frame_of l (level (started (frame_words (frame_at tables spot.at 0))) []) (f done) whole)
+        → ((note tables spot.at).splits ≡ true → Ok place_of frame_of l (level (started false (frame_words (frame_at tables spot.at 0))) []) (f done) whole)
         → Runs l (looping tables functions spot f)
     loops spot l f runs level' parted rest e q =
         split_or (note tables spot.at).splits
         (choose spot.place (o.Split kinds.Loop) (part_frame tables functions spot 0 (f done)) done (plain o.Resume rest)) (f rest)
-        (λ is. branch refl loop_enters loop_waits (part_frames (frame_at tables spot.at 0) spot.place (level' is) (parted is)) ended (resumed q))
+        (λ is. branch refl loop_enters loop_waits (part_frames false (frame_at tables spot.at 0) spot.place (level' is) (parted is)) ended (resumed q))
         (λ is. runs is rest e q)
 
   tests : (p : Place) → IsWithin p → (spot : Spot) (condition : Option Tree) → (note tables spot.at).splits ≡ false → OptionValueAsked tables functions place_of p.nests condition
@@ -266,11 +266,11 @@ module _ (tables : Tables) (functions : (binding : ℕ) → Signature) (place_of
       gives_or p within (plain (o.Push 1)) (pushes_one p 1) condition asks [] (Some (plain_loop p)) (leaving tables functions here) (whole p) (leaves p here.sync here.splits is)
 
   part_tests : (p : Place) → IsWithin p → (frame : Option ℕ) (spot : Spot) (condition : Option Tree) → (note tables spot.at).splits ≡ true
-      → OptionValueAsked tables functions place_of (started p frame).nests condition
-      → Ok place_of frame_of (Some (part_loop p frame)) (whole (started p frame)) (tested tables functions spot condition) (whole (started p frame))
+      → OptionValueAsked tables functions place_of (started p false frame).nests condition
+      → Ok place_of frame_of (Some (part_loop p frame)) (whole (started p false frame)) (tested tables functions spot condition) (whole (started p false frame))
   part_tests p within frame spot condition is asks =
       let here = note tables spot.at in
-      let q = started p frame in
+      let q = started p false frame in
       gives_or q tt (plain (o.Push 1)) (pushes_one q 1) condition asks [] (Some (part_loop p frame)) (leaving tables functions here) (whole q) (leaves_part p within frame here.sync here.splits is)
 
   -- where a statement of a function stands, with what may lead out of it: outside of everything that is around statements of the
@@ -314,13 +314,13 @@ module _ (tables : Tables) (functions : (binding : ℕ) → Signature) (place_of
     shut : {p : Place} {x : Exits} {own : Bool} {loop : Option Loop} → At p x own loop → At p none false loop
     shut at = record { within = at.within; returns = never; outside = never; breaks = never; continues = never }
 
-    in_part_of : (p : Place) (frame : Option ℕ) (loop : Option Loop) → At (started p frame) none false loop
-    in_part_of p frame loop = record { within = tt; returns = never; outside = never; breaks = never; continues = never }
+    in_part_of : (p : Place) (numbered : Bool) (frame : Option ℕ) (loop : Option Loop) → At (started p numbered frame) none false loop
+    in_part_of p numbered frame loop = record { within = tt; returns = never; outside = never; breaks = never; continues = never }
 
     in_loop : {p : Place} {x : Exits} {own : Bool} {loop : Option Loop} → At p x own loop → At p (of_turn false x) false (Some (plain_loop p))
     in_loop {p} at = record { within = at.within; returns = at.returns; outside = never; breaks = λ e. (plain_loop p, refl, refl); continues = λ e. (plain_loop p, refl, refl) }
 
-    in_part_loop : (p : Place) (x : Exits) (frame : Option ℕ) → At (started p frame) (of_turn true x) false (Some (part_loop p frame))
+    in_part_loop : (p : Place) (x : Exits) (frame : Option ℕ) → At (started p false frame) (of_turn true x) false (Some (part_loop p frame))
     in_part_loop p x frame = record { within = tt; returns = never; outside = never; breaks = never; continues = λ e. (part_loop p frame, refl, refl) }
 
     -- what is told of a body, which is a part if the group splits
@@ -332,35 +332,35 @@ module _ (tables : Tables) (functions : (binding : ℕ) → Signature) (place_of
     told_here : (p : Place) (X : Bool → Exits) (spot : Spot) (number : ℕ) (s : Statement) → (note tables spot.at).splits ≡ false → Asks s (in_split tables spot.at number p.nests)
         → Shaped (X (note tables spot.at).splits) s → StatementHasLevels tables (level_in tables (nesting p.nests) spot.at) s → Told p (X false) s
     told_here p X spot number s whole_group asks shaped levels = record {
-      asks = subst (λ (b : Bool). Asks s (if b then in_part tables spot.at number p.nests else p.nests)) whole_group asks;
+      asks = subst (λ (b : Bool). Asks s (if b then in_part tables false spot.at number p.nests else p.nests)) whole_group asks;
       shaped = subst (λ (b : Bool). Shaped (X b) s) whole_group shaped;
       levels = subst (λ (b : Bool). StatementHasLevels tables (if b then suc (nesting p.nests) else nesting p.nests) s) whole_group levels;
     }
 
     told_part : (p : Place) (X : Bool → Exits) (spot : Spot) (number : ℕ) (s : Statement) → (note tables spot.at).splits ≡ true → Asks s (in_split tables spot.at number p.nests)
         → Shaped (X (note tables spot.at).splits) s → StatementHasLevels tables (level_in tables (nesting p.nests) spot.at) s
-        → Told (started p (frame_words (frame_at tables spot.at number))) (X true) s
+        → Told (started p false (frame_words (frame_at tables spot.at number))) (X true) s
     told_part p X spot number s parted asks shaped levels = record {
-      asks = subst (λ (b : Bool). Asks s (if b then in_part tables spot.at number p.nests else p.nests)) parted asks;
+      asks = subst (λ (b : Bool). Asks s (if b then in_part tables false spot.at number p.nests else p.nests)) parted asks;
       shaped = subst (λ (b : Bool). Shaped (X b) s) parted shaped;
       levels = subst (λ (b : Bool). StatementHasLevels tables (if b then suc (nesting p.nests) else nesting p.nests) s) parted levels;
     }
 
     -- what is asked of other things there
     asked_here : (p : Place) (Of : List Nest → Type 0) (spot : Spot) → (note tables spot.at).splits ≡ false → Of (in_split tables spot.at 0 p.nests) → Of p.nests
-    asked_here p Of spot whole_group asks = subst (λ (b : Bool). Of (if b then in_part tables spot.at 0 p.nests else p.nests)) whole_group asks
+    asked_here p Of spot whole_group asks = subst (λ (b : Bool). Of (if b then in_part tables false spot.at 0 p.nests else p.nests)) whole_group asks
 
     asked_part : (p : Place) (Of : List Nest → Type 0) (spot : Spot) → (note tables spot.at).splits ≡ true → Of (in_split tables spot.at 0 p.nests)
-        → Of (started p (frame_words (frame_at tables spot.at 0))).nests
-    asked_part p Of spot parted asks = subst (λ (b : Bool). Of (if b then in_part tables spot.at 0 p.nests else p.nests)) parted asks
+        → Of (started p false (frame_words (frame_at tables spot.at 0))).nests
+    asked_part p Of spot parted asks = subst (λ (b : Bool). Of (if b then in_part tables false spot.at 0 p.nests else p.nests)) parted asks
 
     -- the code of a part, to its end
-    part_runs : (p : Place) → IsWithin p → (spot : Spot) (number : ℕ) (loop : Option Loop) (body : Coded → Coded) → HasLevel (suc (nesting p.nests)) (frame_at tables spot.at number)
-        → Runs (started p (frame_words (frame_at tables spot.at number))) loop body
-        → Ok place_of frame_of loop (level (started p None) []) (part_frame tables functions spot number (body (plain o.End done))) (whole p)
-    part_runs p within spot number loop body level' runs =
+    part_runs : (p : Place) → IsWithin p → (numbered : Bool) (spot : Spot) (number : ℕ) (loop : Option Loop) (body : Coded → Coded) → HasLevel (suc (nesting p.nests)) (frame_at tables spot.at number)
+        → Runs (started p numbered (frame_words (frame_at tables spot.at number))) loop body
+        → Ok place_of frame_of loop (level (started p numbered None) []) (part_frame tables functions spot number (body (plain o.End done))) (whole p)
+    part_runs p within numbered spot number loop body level' runs =
         let frame = frame_words (frame_at tables spot.at number) in
-        part_frames p (frame_at tables spot.at number) spot.place level' (runs (plain o.End done) (whole p) (on (part_ends p within frame) ended))
+        part_frames p numbered (frame_at tables spot.at number) spot.place level' (runs (plain o.End done) (whole p) (on (part_ends p within numbered frame) ended))
 
     mutual
       statement : (p : Place) (x : Exits) (own : Bool) (loop : Option Loop) → At p x own loop → (s : Statement) → Told p x s → Stays own s → Runs p loop (executed tables functions inside s)
@@ -383,8 +383,8 @@ module _ (tables : Tables) (functions : (binding : ℕ) → Signature) (place_of
           (split_or p here.splits parted (agreed here.sync branched)
           (λ parted.
           branch refl (if_enters p) (if_waits p)
-          (part_runs p at.within spot 0 loop body (levels.0 parted)
-          (statement (started p frame) none false loop (in_part_of p frame loop) first (told_part p X spot 0 first parted asks.1 shaped.1 levels.1) stays)) ended (resumed p q))
+          (part_runs p at.within false spot 0 loop body (levels.0 parted)
+          (statement (started p false frame) none false loop (in_part_of p false frame loop) first (told_part p X spot 0 first parted asks.1 shaped.1 levels.1) stays)) ended (resumed p q))
           (λ whole_group.
           agrees tables functions place_of opens p here.sync [] loop branched e
           (branch refl (branches tables functions place_of opens p true true []) (branches tables functions place_of opens p true false [])
@@ -405,10 +405,10 @@ module _ (tables : Tables) (functions : (binding : ℕ) → Signature) (place_of
           (split_or p here.splits parted (agreed here.sync branched)
           (λ parted.
           branch refl (enters_either p true) (enters_either p false)
-          (part_runs p at.within spot 0 loop a (levels.0 parted)
-          (statement (started p frame) none false loop (in_part_of p frame loop) first (told_part p X spot 0 first parted asks.1 shaped.1 levels.2) stays.0))
-          (part_runs p at.within spot 1 loop z (levels.1 parted)
-          (statement (started p frame') none false loop (in_part_of p frame' loop) second (told_part p X spot 1 second parted asks.2 shaped.2 levels.3) stays.1)) (resumed p q))
+          (part_runs p at.within false spot 0 loop a (levels.0 parted)
+          (statement (started p false frame) none false loop (in_part_of p false frame loop) first (told_part p X spot 0 first parted asks.1 shaped.1 levels.2) stays.0))
+          (part_runs p at.within false spot 1 loop z (levels.1 parted)
+          (statement (started p false frame') none false loop (in_part_of p false frame' loop) second (told_part p X spot 1 second parted asks.2 shaped.2 levels.3) stays.1)) (resumed p q))
           (λ whole_group.
           agrees tables functions place_of opens p here.sync [] loop branched e
           (branch refl (branches tables functions place_of opens p true true []) (branches tables functions place_of opens p true false [])
@@ -429,8 +429,8 @@ module _ (tables : Tables) (functions : (binding : ℕ) → Signature) (place_of
           levels.0
           (λ parted.
           looped (part_loop p frame) (λ n. inr refl) (part_tests p at.within frame spot (Some condition) parted (asked_part p (Value condition) spot parted asks.0))
-          (arms (started p frame) (Some (part_loop p frame)) run
-          (statement (started p frame) (of_turn true x) false (Some (part_loop p frame)) (in_part_loop p x frame) body (told_part p X spot 0 body parted asks.1 shaped.1 levels.1) stays)) ended ended)
+          (arms (started p false frame) (Some (part_loop p frame)) run
+          (statement (started p false frame) (of_turn true x) false (Some (part_loop p frame)) (in_part_loop p x frame) body (told_part p X spot 0 body parted asks.1 shaped.1 levels.1) stays)) ended ended)
           rest e q
       statement p x own loop at (m.DoWhile spot body condition) told stays rest e q =
           let run = executed tables functions inside body in
@@ -448,8 +448,8 @@ module _ (tables : Tables) (functions : (binding : ℕ) → Signature) (place_of
           levels.0
           (λ parted.
           looped_first (part_loop p frame) (λ n. inr refl)
-          (arms (started p frame) (Some (part_loop p frame)) run
-          (statement (started p frame) (of_turn true x) false (Some (part_loop p frame)) (in_part_loop p x frame) body (told_part p X spot 0 body parted asks.1 shaped.1 levels.1) stays))
+          (arms (started p false frame) (Some (part_loop p frame)) run
+          (statement (started p false frame) (of_turn true x) false (Some (part_loop p frame)) (in_part_loop p x frame) body (told_part p X spot 0 body parted asks.1 shaped.1 levels.1) stays))
           (part_tests p at.within frame spot (Some condition) parted (asked_part p (Value condition) spot parted asks.0)) ended)
           rest e q
       statement p x own loop at (m.For spot before condition after body) told stays rest e q =
@@ -469,9 +469,9 @@ module _ (tables : Tables) (functions : (binding : ℕ) → Signature) (place_of
           levels.0
           (λ parted.
           looped (part_loop p frame) (λ n. inr refl) (part_tests p at.within frame spot condition parted (asked_part p (OptionValue condition) spot parted asks.1))
-          (arms (started p frame) (Some (part_loop p frame)) run
-          (statement (started p frame) (of_turn true x) false (Some (part_loop p frame)) (in_part_loop p x frame) body (told_part p X spot 0 body parted asks.3 shaped.3 levels.1) stays))
-          (uses_or (started p frame) tt after (asked_part p (OptionUsed after) spot parted asks.2) (Some (part_loop p frame)) done (whole (started p frame)) ended) ended)
+          (arms (started p false frame) (Some (part_loop p frame)) run
+          (statement (started p false frame) (of_turn true x) false (Some (part_loop p frame)) (in_part_loop p x frame) body (told_part p X spot 0 body parted asks.3 shaped.3 levels.1) stays))
+          (uses_or (started p false frame) tt after (asked_part p (OptionUsed after) spot parted asks.2) (Some (part_loop p frame)) done (whole (started p false frame)) ended) ended)
           rest e q)
       statement p x own loop at (m.Start spot count body) told stays rest e q =
           let run = executed tables functions inside body in
@@ -483,8 +483,8 @@ module _ (tables : Tables) (functions : (binding : ℕ) → Signature) (place_of
           gives_or p at.within (plain (o.Get n.Processors)) (λ vs l' rest' e' q'. on (get n.Processors refl) q') count asks.0 [] loop
           (choose nowhere o.Begin (part_frame tables functions spot 0 (run (plain o.End done))) done (plain o.Resume rest)) e
           (branch refl (starts p begins true) (starts p begins false)
-          (part_runs p at.within spot 0 loop run levels.0
-          (statement (started p frame) none false loop (in_part_of p frame loop) body (record { asks = asks.1; shaped = shaped.1; levels = levels.1 }) stays.2))
+          (part_runs p at.within true spot 0 loop run levels.0
+          (statement (started p true frame) none false loop (in_part_of p true frame loop) body (record { asks = asks.1; shaped = shaped.1; levels = levels.1 }) stays.2))
           ended (resumed p q))
       statement p x own loop at (m.Fork spot k number rank body) told stays rest e q =
           let run = executed tables functions inside body in
@@ -499,8 +499,8 @@ module _ (tables : Tables) (functions : (binding : ℕ) → Signature) (place_of
           (values p at.within number asks.1 (Unknown ∷ []) loop ranked e
           (gives_or p at.within (plain (o.Get n.Rank)) (λ vs l' rest' e' q'. on (get n.Rank refl) q') rank asks.2 (Unknown ∷ Unknown ∷ []) loop split e
           (branch refl (fork_enters p) (fork_waits p)
-          (part_runs p at.within spot 0 loop run levels.0
-          (statement (started p frame) none false loop (in_part_of p frame loop) body (record { asks = asks.3; shaped = shaped.3; levels = levels.1 }) stays))
+          (part_runs p at.within true spot 0 loop run levels.0
+          (statement (started p true frame) none false loop (in_part_of p true frame loop) body (record { asks = asks.3; shaped = shaped.3; levels = levels.1 }) stays))
           ended (resumed p q)))))
       statement p x own loop at (m.Farm spot body) told stays rest e q =
           branch refl (farms p true) (farms p false)

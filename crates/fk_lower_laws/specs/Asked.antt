@@ -162,13 +162,15 @@ module _ (tables : Tables) (functions : (binding : ℕ) → Signature)
   ReturnAsked (Called gives) None = gives ≡ false
   ReturnAsked (Called gives) (Some e) = (gives ≡ true) × ValueAsked e
 
--- The nests in a part of a token; and in a body that is a part if the group splits there.
-abbrev pub in_part : Tables → (at part : ℕ) → List Nest → List Nest
-in_part tables at part nests = OfPart (frame_words (frame_at tables at part)) ∷ nests
+-- The nests in a part of a token; and in a body that is a part if the group splits there. The parts
+-- of `start` and `fork` are numbered.
+abbrev pub in_part : Tables → (numbered : Bool) → (at part : ℕ) → List Nest → List Nest
+in_part tables numbered at part nests =
+    OfPart numbered (frame_words (frame_at tables at part)) ∷ nests
 
 abbrev pub in_split : Tables → (at part : ℕ) → List Nest → List Nest
 in_split tables at part nests =
-    if (note tables at).splits then in_part tables at part nests else nests
+    if (note tables at).splits then in_part tables false at part nests else nests
 
 module _ (tables : Tables) (functions : (binding : ℕ) → Signature)
     (place_of : (binding : ℕ) → FunctionKind) (place : FunctionKind) where
@@ -204,12 +206,12 @@ module _ (tables : Tables) (functions : (binding : ℕ) → Signature)
         OptionUsed nests before × OptionValue inner condition × OptionUsed inner after
         × StatementAsked inner body
     StatementAsked nests (p.Start spot count body) = OptionValue nests count
-        × StatementAsked (in_part tables spot.at 0 nests) body
+        × StatementAsked (in_part tables true spot.at 0 nests) body
     StatementAsked nests (p.Farm spot body) = StatementAsked nests body
     StatementAsked nests (p.Seq spot body) = StatementAsked nests body
     StatementAsked nests (p.Fork spot parts part rank body) =
         Value nests parts × Value nests part × OptionValue nests rank
-        × StatementAsked (in_part tables spot.at 0 nests) body
+        × StatementAsked (in_part tables true spot.at 0 nests) body
     StatementAsked nests (p.Barrier spot) = Unit {0}
     StatementAsked nests (p.Break spot) = Unit {0}
     StatementAsked nests (p.Continue spot) = Unit {0}

@@ -80,7 +80,7 @@ low_frame (OfFunction frame ∷ nests) number words e = by (number == 0) refl e
     by : (b : Bool) → (number == 0) ≡ b → (if b then frame else None) ≡ Some words → number ≤ 0
     by true same e' = let zero' = eqb-true number 0 same in omega (arith, zero')
     by false same e' = absurd (cc)
-low_frame (OfPart frame ∷ nests) number words e = by (number == suc (nesting nests)) refl e (low_frame nests number words)
+low_frame (OfPart numbered frame ∷ nests) number words e = by (number == suc (nesting nests)) refl e (low_frame nests number words)
   where
     by : (b : Bool) → (number == suc (nesting nests)) ≡ b → (if b then frame else n.frame_at nests number) ≡ Some words → (n.frame_at nests number ≡ Some words → number ≤ nesting nests)
         → number ≤ suc (nesting nests)
@@ -88,8 +88,8 @@ low_frame (OfPart frame ∷ nests) number words e = by (number == suc (nesting n
     by false same e' inner = let low = inner e' in omega (arith, low)
 
 -- a frame stays where it is in a part
-in_more : (nests : List Nest) (frame : Option ℕ) (number words : ℕ) → n.frame_at nests number ≡ Some words → n.frame_at (OfPart frame ∷ nests) number ≡ Some words
-in_more nests frame number words e =
+in_more : (nests : List Nest) (numbered : Bool) (frame : Option ℕ) (number words : ℕ) → n.frame_at nests number ≡ Some words → n.frame_at (OfPart numbered frame ∷ nests) number ≡ Some words
+in_more nests numbered frame number words e =
     let low = low_frame nests number words e in
     skipped (number == suc (nesting nests)) frame (n.frame_at nests number) (ne_eqb number (suc (nesting nests)) (λ same. omega (arith, same, low))) ∙ e
 
@@ -193,20 +193,20 @@ module _ (program : ProgramTree) (facts : Facts) (given : IsGiven program facts)
     pub number : binding marks i ≡ b
     pub sees : (k : ℕ) (x : DeclaredTree) → k < i → slice_get marks k ≡ Some (Declares (Variable x)) → IsVisible marks k i → Binds nests (binding marks k)
 
-  stays_at : (nests : List Nest) (frame : Option ℕ) (home : Home) (first words : ℕ) → IsOpenAt program T nests home first words → IsOpenAt program T (OfPart frame ∷ nests) home first words
-  stays_at nests frame (h.Group r) first words o =
-      record { frame = in_more nests frame (region T r).level (region T r).words o.frame; begins = o.begins; ends = o.ends }
-  stays_at nests frame h.Global first words o = tt
-  stays_at nests frame h.FilePrivate first words o = tt
-  stays_at nests frame h.Private first words o = tt
-  stays_at nests frame h.NoWord first words o = tt
+  stays_at : (nests : List Nest) (numbered : Bool) (frame : Option ℕ) (home : Home) (first words : ℕ) → IsOpenAt program T nests home first words → IsOpenAt program T (OfPart numbered frame ∷ nests) home first words
+  stays_at nests numbered frame (h.Group r) first words o =
+      record { frame = in_more nests numbered frame (region T r).level (region T r).words o.frame; begins = o.begins; ends = o.ends }
+  stays_at nests numbered frame h.Global first words o = tt
+  stays_at nests numbered frame h.FilePrivate first words o = tt
+  stays_at nests numbered frame h.Private first words o = tt
+  stays_at nests numbered frame h.NoWord first words o = tt
 
-  pub in_deeper : (i b : ℕ) (nests : List Nest) (frame : Option ℕ) → Seen i b nests → Seen i b (OfPart frame ∷ nests)
-  in_deeper i b nests frame s = record {
+  pub in_deeper : (i b : ℕ) (nests : List Nest) (numbered : Bool) (frame : Option ℕ) → Seen i b nests → Seen i b (OfPart numbered frame ∷ nests)
+  in_deeper i b nests numbered frame s = record {
     number = s.number;
     sees = λ k x less is seen.
         let number = binding marks k in
-        stays_at nests frame (slot T number).home (slot T number).index (words_of program T (slice_get (declarations program) number)) (s.sees k x less is seen);
+        stays_at nests numbered frame (slot T number).home (slot T number).index (words_of program T (slice_get (declarations program) number)) (s.sees k x less is seen);
   }
 
   before : (k i : ℕ) → k < i → IsVisible marks k (suc i) → IsVisible marks k i
@@ -482,9 +482,9 @@ module _ (program : ProgramTree) (facts : Facts) (given : IsGiven program facts)
 
   -- ---- parts
 
-  part_frame : (at part level frame : ℕ) (nests : List Nest) (body : Statement) → nesting nests ≡ level → level ≤ 1048576
-      → At T.regions frame (body_frame told at part (deeper level) body) → InFrame frame (statement_words told 0 body) (deeper level) (in_part program T at part nests)
-  part_frame at part level frame nests body nested deep there = record { has = λ some. by (statement_words told 0 body == 0) refl there some }
+  part_frame : (numbered : Bool) (at part level frame : ℕ) (nests : List Nest) (body : Statement) → nesting nests ≡ level → level ≤ 1048576
+      → At T.regions frame (body_frame told at part (deeper level) body) → InFrame frame (statement_words told 0 body) (deeper level) (in_part program T numbered at part nests)
+  part_frame numbered at part level frame nests body nested deep there = record { has = λ some. by (statement_words told 0 body == 0) refl there some }
     where
       r : Region
       r = record { at = at; part = part; level = deeper level; words = min (statement_words told 0 body) (last_word + 1) }
@@ -494,7 +494,7 @@ module _ (program : ProgramTree) (facts : Facts) (given : IsGiven program facts)
 
       by : (b : Bool) → (statement_words told 0 body == 0) ≡ b → At T.regions frame (if b then [] else r ∷ []) → 1 ≤ statement_words told 0 body
           → (s : Region) × (slice_get T.regions frame ≡ Some s) × (s.level ≡ deeper level) × (s.words ≡ min (statement_words told 0 body) (last_word + 1))
-          × (n.frame_at (in_part program T at part nests) (deeper level) ≡ Some s.words)
+          × (n.frame_at (in_part program T numbered at part nests) (deeper level) ≡ Some s.words)
       by true zero' there' some = absurd (omega (arith, some, eqb-true (statement_words told 0 body) 0 zero'))
       by false some' there' some = (
         r,
@@ -576,13 +576,13 @@ module _ (program : ProgramTree) (facts : Facts) (given : IsGiven program facts)
   }
 
   -- of a body that is a part, with the number of its frame, and of the first one inside it
-  part_known : (at part level number r words frames nodes : ℕ) (nests : List Nest) (body : Statement) → nesting nests ≡ level → level + suc nodes ≤ 1048576
+  part_known : (numbered : Bool) (at part level number r words frames nodes : ℕ) (nests : List Nest) (body : Statement) → nesting nests ≡ level → level + suc nodes ≤ 1048576
       → At T.regions number (body_frame told at part (deeper level) body) → words ≡ 0 → frames ≡ r → At T.regions r (frames_in told (deeper level) body)
       → r + length (frames_in told (deeper level) body) ≤ most
-      → Known OfGroup number (statement_words told 0 body) (deeper level) r (in_part program T at part nests) words frames (statement_words told words body) nodes (frames_in told (deeper level) body)
-  part_known at part level number r words frames nodes nests body nested deep there zero' same inside few = record {
+      → Known OfGroup number (statement_words told 0 body) (deeper level) r (in_part program T numbered at part nests) words frames (statement_words told words body) nodes (frames_in told (deeper level) body)
+  part_known numbered at part level number r words frames nodes nests body nested deep there zero' same inside few = record {
     group = λ e. (
-      part_frame at part level number nests body nested (omega (arith, deep)) there,
+      part_frame numbered at part level number nests body nested (omega (arith, deep)) there,
       subst (λ w. statement_words told w body ≤ statement_words told 0 body) (sym zero') (omega arith),
       omega (arith, zero'),
     );
@@ -639,12 +639,12 @@ module _ (program : ProgramTree) (facts : Facts) (given : IsGiven program facts)
       in_scope nests nests ms (statement_kept marks body) i b (past slots b) level at s (λ s'. s')
       (walk (scoped ms refers) (inner_level i at.0 level) (at_front marks (suc i) ms (Closes ∷ []) at.1) there)
 
-  part_scope : (token part : ℕ) (nests : List Nest) (body : Statement) (i b : ℕ) (slots : List Slot) → Walks (in_part program T token part nests) body i b slots
+  part_scope : (numbered : Bool) (token part : ℕ) (nests : List Nest) (body : Statement) (i b : ℕ) (slots : List Slot) → Walks (in_part program T numbered token part nests) body i b slots
       → Each Refers (scope (statement_marks body)) → closed marks i ≤ opened marks i → At marks i (scope (statement_marks body)) → At T.slots b slots → Seen i b nests
-      → ShownBody nests (in_part program T token part nests) body i b slots
-  part_scope token part nests body i b slots walk refers level at there s =
+      → ShownBody nests (in_part program T numbered token part nests) body i b slots
+  part_scope numbered token part nests body i b slots walk refers level at there s =
       let ms = statement_marks body in
-      in_scope nests (in_part program T token part nests) ms (statement_kept marks body) i b (past slots b) level at s (in_deeper (suc i) b nests (frame_words (t.frame_at T token part)))
+      in_scope nests (in_part program T numbered token part nests) ms (statement_kept marks body) i b (past slots b) level at s (in_deeper (suc i) b nests numbered (frame_words (t.frame_at T token part)))
       (walk (scoped ms refers) (inner_level i at.0 level) (at_front marks (suc i) ms (Closes ∷ []) at.1) there)
 
   by_split : (A : Bool → Type 0) (splits : Bool) → (splits ≡ true → A true) → (splits ≡ false → A false) → A splits
@@ -652,14 +652,14 @@ module _ (program : ProgramTree) (facts : Facts) (given : IsGiven program facts)
   by_split A false f g = g refl
 
   -- a body that is always a part
-  part_body : (at level r nodes : ℕ) (taken : _) (nests : List Nest) (body : Statement) (i b : ℕ) → let start = begun told taken body in
+  part_body : (numbered : Bool) (at level r nodes : ℕ) (taken : _) (nests : List Nest) (body : Statement) (i b : ℕ) → let start = begun told taken body in
       let slots = slots_in told taken.frames (begun told taken body) body in
       Laid level r nests taken.frames nodes (body_frame told at 0 (deeper level) body ++ frames_in told (deeper level) body) → suc (count (statement_indices body)) ≤ nodes
-      → (Known OfGroup taken.frames (statement_words told 0 body) (deeper level) (past (body_frame told at 0 (deeper level) body) r) (in_part program T at 0 nests) start.words start.frames
-      (statement_words told start.words body) (count (statement_indices body)) (frames_in told (deeper level) body) → Walks (in_part program T at 0 nests) body i b slots)
+      → (Known OfGroup taken.frames (statement_words told 0 body) (deeper level) (past (body_frame told at 0 (deeper level) body) r) (in_part program T numbered at 0 nests) start.words start.frames
+      (statement_words told start.words body) (count (statement_indices body)) (frames_in told (deeper level) body) → Walks (in_part program T numbered at 0 nests) body i b slots)
       → Each Refers (scope (statement_marks body)) → closed marks i ≤ opened marks i → At marks i (scope (statement_marks body)) → At T.slots b slots → Seen i b nests
-      → ShownBody nests (in_part program T at 0 nests) body i b slots
-  part_body at level r nodes taken nests body i b l fewer walk =
+      → ShownBody nests (in_part program T numbered at 0 nests) body i b slots
+  part_body numbered at level r nodes taken nests body i b l fewer walk =
       let bf = body_frame told at 0 (deeper level) body in
       let fs = frames_in told (deeper level) body in
       let nested = l.nested in
@@ -670,8 +670,8 @@ module _ (program : ProgramTree) (facts : Facts) (given : IsGiven program facts)
       let sum = past_sum bf r in
       let begins = within_is (behind_body_frame told taken body) in
       let counts = body_frame_counts told at 0 (deeper level) taken body (omega (arith, few, same, long)) in
-      part_scope at 0 nests body i b (slots_in told taken.frames (begun told taken body) body)
-      (walk (part_known at 0 level taken.frames (past bf r) (begun told taken body).words (begun told taken body).frames (count (statement_indices body)) nests body nested (omega (arith, deep, fewer))
+      part_scope numbered at 0 nests body i b (slots_in told taken.frames (begun told taken body) body)
+      (walk (part_known numbered at 0 level taken.frames (past bf r) (begun told taken body).words (begun told taken body).frames (count (statement_indices body)) nests body nested (omega (arith, deep, fewer))
       (subst (λ (f : ℕ). At T.regions f bf) (sym same) (at_front T.regions r bf fs l.regions)) begins.0 (omega (arith, begins.1, counts, same, sum))
       (at_rest T.regions r bf fs l.regions) (omega (arith, few, long, sum))))
 
@@ -682,8 +682,8 @@ module _ (program : ProgramTree) (facts : Facts) (given : IsGiven program facts)
       → Known who frame total level r nests taken.words taken.frames (if splits_at told at then taken.words else statement_words told taken.words body) nodes
       (if splits_at told at then body_frame told at 0 (deeper level) body ++ frames_in told (deeper level) body else frames_in told level body)
       → suc (count (statement_indices body)) ≤ nodes
-      → (is_group who ≡ true → Known OfGroup taken.frames (statement_words told 0 body) (deeper level) (past (body_frame told at 0 (deeper level) body) r) (in_part program T at 0 nests) start.words start.frames
-      (statement_words told start.words body) (count (statement_indices body)) (frames_in told (deeper level) body) → Walks (in_part program T at 0 nests) body i b parted)
+      → (is_group who ≡ true → Known OfGroup taken.frames (statement_words told 0 body) (deeper level) (past (body_frame told at 0 (deeper level) body) r) (in_part program T false at 0 nests) start.words start.frames
+      (statement_words told start.words body) (count (statement_indices body)) (frames_in told (deeper level) body) → Walks (in_part program T false at 0 nests) body i b parted)
       → (Known (inner who) frame total level r nests taken.words taken.frames (statement_words told taken.words body) (count (statement_indices body)) (frames_in told level body) → Walks nests body i b own)
       → Each Refers (scope (statement_marks body)) → closed marks i ≤ opened marks i → At marks i (scope (statement_marks body)) → At T.slots b (if splits_at told at then parted else own) → Seen i b nests
       → ShownBody nests (in_split program T at 0 nests) body i b (if splits_at told at then parted else own)
@@ -692,10 +692,10 @@ module _ (program : ProgramTree) (facts : Facts) (given : IsGiven program facts)
       let own = slots_in told frame taken body in
       let rs = body_frame told at 0 (deeper level) body ++ frames_in told (deeper level) body in
       let splits = splits_at told at in
-      by_split (λ c. ShownBody nests (if c then in_part program T at 0 nests else nests) body i b (if c then parted else own)) splits
+      by_split (λ c. ShownBody nests (if c then in_part program T false at 0 nests else nests) body i b (if c then parted else own)) splits
       (λ e.
       let k' = subst (λ c. Known who frame total level r nests taken.words taken.frames (if c then taken.words else statement_words told taken.words body) nodes (if c then rs else frames_in told level body)) e k in
-      part_body at level r nodes taken nests body i b (k'.laid (inl (alone e))) fewer (part (alone e)) refers level_at marks_at (subst (λ c. At T.slots b (if c then parted else own)) e there) s)
+      part_body false at level r nodes taken nests body i b (k'.laid (inl (alone e))) fewer (part (alone e)) refers level_at marks_at (subst (λ c. At T.slots b (if c then parted else own)) e there) s)
       (λ e.
       let k' = subst (λ c. Known who frame total level r nests taken.words taken.frames (if c then taken.words else statement_words told taken.words body) nodes (if c then rs else frames_in told level body)) e k in
       same_scope nests body i b own (same (arm_known who frame total level r nests taken.words taken.frames (statement_words told taken.words body) nodes (count (statement_indices body)) (frames_in told level body) (omega (arith, fewer)) k'))
@@ -735,13 +735,13 @@ module _ (program : ProgramTree) (facts : Facts) (given : IsGiven program facts)
       let ss = slots_in told taken.frames (begun_two told taken first second) first in
       let ts = slots_in told (behind_body_frame told taken first).frames (within (behind told (begun_two told taken first second) first)) second in
       Laid level r nests taken.frames nodes (a0 ++ b0 ++ a ++ c) → suc (count (statement_indices first) + count (statement_indices second)) ≤ nodes
-      → (Known OfGroup taken.frames (statement_words told 0 first) (deeper level) (past b0 (past a0 r)) (in_part program T at 0 nests) start.words start.frames
-      (statement_words told start.words first) (count (statement_indices first)) a → Walks (in_part program T at 0 nests) first i b ss)
-      → (Known OfGroup other.frames (statement_words told 0 second) (deeper level) (past a (past b0 (past a0 r))) (in_part program T at 1 nests) later.words later.frames
-      (statement_words told later.words second) (count (statement_indices second)) c → Walks (in_part program T at 1 nests) second (past (scope (statement_marks first)) i) (past ss b) ts)
+      → (Known OfGroup taken.frames (statement_words told 0 first) (deeper level) (past b0 (past a0 r)) (in_part program T false at 0 nests) start.words start.frames
+      (statement_words told start.words first) (count (statement_indices first)) a → Walks (in_part program T false at 0 nests) first i b ss)
+      → (Known OfGroup other.frames (statement_words told 0 second) (deeper level) (past a (past b0 (past a0 r))) (in_part program T false at 1 nests) later.words later.frames
+      (statement_words told later.words second) (count (statement_indices second)) c → Walks (in_part program T false at 1 nests) second (past (scope (statement_marks first)) i) (past ss b) ts)
       → Each Refers (scope (statement_marks first)) → Each Refers (scope (statement_marks second)) → closed marks i ≤ opened marks i
       → At marks i (scope (statement_marks first)) → At marks (past (scope (statement_marks first)) i) (scope (statement_marks second)) → At T.slots b (ss ++ ts) → Seen i b nests
-      → ShownBoth nests (in_part program T at 0 nests) (in_part program T at 1 nests) first second i b (ss ++ ts)
+      → ShownBoth nests (in_part program T false at 0 nests) (in_part program T false at 1 nests) first second i b (ss ++ ts)
   two_parts at level r nodes taken nests first second i b l fewer walk_first walk_second refers_first refers_second level_at at_first at_second there s =
       let a0 = body_frame told at 0 (deeper level) first in
       let b0 = body_frame told at 1 (deeper level) second in
@@ -769,13 +769,13 @@ module _ (program : ProgramTree) (facts : Facts) (given : IsGiven program facts)
       let at_a : At T.regions (past b0 (past a0 r)) a = subst (λ j. At T.regions j a) (past_both a0 b0 r) (at_rest T.regions r (a0 ++ b0) a inner_both) in
       let at_c : At T.regions (past a (past b0 (past a0 r))) c =
       subst (λ j. At T.regions j c) (past_both (a0 ++ b0) a r ∙ ap (past a) (past_both a0 b0 r)) (at_rest T.regions r (a0 ++ b0 ++ a) c l.regions) in
-      then_second nests (in_part program T at 0 nests) (in_part program T at 1 nests) first second i b ss ts
-      (part_scope at 0 nests first i b ss
-      (walk_first (part_known at 0 level taken.frames (past b0 (past a0 r)) (begun_two told taken first second).words (begun_two told taken first second).frames (count (statement_indices first)) nests first nested (omega (arith, deep, fewer))
+      then_second nests (in_part program T false at 0 nests) (in_part program T false at 1 nests) first second i b ss ts
+      (part_scope false at 0 nests first i b ss
+      (walk_first (part_known false at 0 level taken.frames (past b0 (past a0 r)) (begun_two told taken first second).words (begun_two told taken first second).frames (count (statement_indices first)) nests first nested (omega (arith, deep, fewer))
       (subst (λ (f : ℕ). At T.regions f a0) (sym same) (at_front T.regions r a0 b0 heads)) w1.0 (omega (arith, w1.1, f1, f2, same, p1, p2)) at_a (omega (arith, few, l1, l2, l3, p1, p2))))
       refers_first level_at at_first (at_front T.slots b ss ts there) s)
-      (λ s'. part_scope at 1 nests second (past (scope (statement_marks first)) i) (past ss b) ts
-      (walk_second (part_known at 1 level (behind_body_frame told taken first).frames (past a (past b0 (past a0 r))) (within (behind told (begun_two told taken first second) first)).words
+      (λ s'. part_scope false at 1 nests second (past (scope (statement_marks first)) i) (past ss b) ts
+      (walk_second (part_known false at 1 level (behind_body_frame told taken first).frames (past a (past b0 (past a0 r))) (within (behind told (begun_two told taken first second) first)).words
       (within (behind told (begun_two told taken first second) first)).frames (count (statement_indices second)) nests second nested (omega (arith, deep, fewer))
       (subst (λ (f : ℕ). At T.regions f b0) (omega (arith, f1, same, p1)) (at_rest T.regions r a0 b0 heads)) w2.0 (omega (arith, w2.1, inside, w1.1, f1, f2, same, p1, p2, p3)) at_c (omega (arith, few, l1, l2, l3, p1, p2, p3))))
       refers_second (kept_level (scope (statement_marks first)) (scope_kept first) i at_first level_at) at_second (at_rest T.slots b ss ts there) s')
@@ -811,21 +811,21 @@ module _ (program : ProgramTree) (facts : Facts) (given : IsGiven program facts)
       refers_second (kept_level (scope (statement_marks first)) (scope_kept first) i at_first level_at) at_second (at_rest T.slots b ss ts there) s')
 
   -- marks that are open stay so in a part
-  open_deeper : (nests : List Nest) (frame : Option ℕ) (ms : List MarkTree) → Open nests ms → Open (OfPart frame ∷ nests) ms
-  open_deeper nests frame [] o = tt
-  open_deeper nests frame (Opens ∷ ms) o = (tt, open_deeper nests frame ms o.1)
-  open_deeper nests frame (Closes ∷ ms) o = (tt, open_deeper nests frame ms o.1)
-  open_deeper nests frame (Declares (Header f) ∷ ms) o = (tt, open_deeper nests frame ms o.1)
-  open_deeper nests frame (Declares (Variable x) ∷ ms) o =
+  open_deeper : (nests : List Nest) (numbered : Bool) (frame : Option ℕ) (ms : List MarkTree) → Open nests ms → Open (OfPart numbered frame ∷ nests) ms
+  open_deeper nests numbered frame [] o = tt
+  open_deeper nests numbered frame (Opens ∷ ms) o = (tt, open_deeper nests numbered frame ms o.1)
+  open_deeper nests numbered frame (Closes ∷ ms) o = (tt, open_deeper nests numbered frame ms o.1)
+  open_deeper nests numbered frame (Declares (Header f) ∷ ms) o = (tt, open_deeper nests numbered frame ms o.1)
+  open_deeper nests numbered frame (Declares (Variable x) ∷ ms) o =
       let number = (note T x.name.at).binding in
-      ((stays_at nests frame (slot T number).home (slot T number).index (words_of program T (slice_get (declarations program) number)) o.0.0, o.0.1), open_deeper nests frame ms o.1)
-  open_deeper nests frame (Uses name ∷ ms) o =
+      ((stays_at nests numbered frame (slot T number).home (slot T number).index (words_of program T (slice_get (declarations program) number)) o.0.0, o.0.1), open_deeper nests numbered frame ms o.1)
+  open_deeper nests numbered frame (Uses name ∷ ms) o =
       let number = (note T name.at).binding in
-      (stays_at nests frame (slot T number).home (slot T number).index (words_of program T (slice_get (declarations program) number)) o.0, open_deeper nests frame ms o.1)
+      (stays_at nests numbered frame (slot T number).home (slot T number).index (words_of program T (slice_get (declarations program) number)) o.0, open_deeper nests numbered frame ms o.1)
 
   open_split : (at : ℕ) (nests : List Nest) (ms : List MarkTree) → Open nests ms → Open (in_split program T at 0 nests) ms
   open_split at nests ms o =
-      by_split (λ c. Open (if c then in_part program T at 0 nests else nests) ms) (note T at).splits (λ e. open_deeper nests (frame_words (t.frame_at T at 0)) ms o) (λ e. o)
+      by_split (λ c. Open (if c then in_part program T false at 0 nests else nests) ms) (note T at).splits (λ e. open_deeper nests false (frame_words (t.frame_at T at 0)) ms o) (λ e. o)
 
   alone_known : (frame total level r : ℕ) (nests : List Nest) (words frames after nodes : ℕ) (rs : List Region) → Known OfBody frame total level r nests words frames after nodes rs
   alone_known frame total level r nests words frames after nodes rs = record { group = λ e. absurd (false≢true e); laid = λ l. by l }
@@ -860,7 +860,7 @@ module _ (program : ProgramTree) (facts : Facts) (given : IsGiven program facts)
         let head = of_tree nests condition i b (at_front marks i ms sc at) (front_of Refers ms sc refers) s in
         let body = one_body who frame total level r (count (statement_indices (p.If spot condition first))) taken nests first spot.at j b placed.0 k
         (omega (arith, count_both (tree_indices condition) (statement_indices first)))
-        (λ g k'. statement OfGroup taken.frames (statement_words told 0 first) (deeper level) (past (body_frame told spot.at 0 (deeper level) first) r) (begun told taken first) (in_part program T spot.at 0 nests) first (suc j) b
+        (λ g k'. statement OfGroup taken.frames (statement_words told 0 first) (deeper level) (past (body_frame told spot.at 0 (deeper level) first) r) (begun told taken first) (in_part program T false spot.at 0 nests) first (suc j) b
         (group_placed who first g placed.1) k')
         (λ k'. statement (inner who) frame total level r taken nests first (suc j) b placed.1 k')
         (rest_of Refers ms sc refers) (kept_level ms (statement_kept marks (p.Expression condition)) i (at_front marks i ms sc at) low) (at_rest marks i ms sc at) there head.1 in
@@ -886,15 +886,15 @@ module _ (program : ProgramTree) (facts : Facts) (given : IsGiven program facts)
         let frames_own = frames_in told level first ++ frames_in told level second in
         let down = kept_level ms (statement_kept marks (p.Expression condition)) i (at_front marks i ms sa front) low in
         let at_second = subst (λ m'. At marks m' sb) (past_both ms sa i) (at_rest marks i (ms ++ sa) sb at) in
-        let both = by_split (λ c. ShownBoth nests (if c then in_part program T spot.at 0 nests else nests) (if c then in_part program T spot.at 1 nests else nests) first second j b (if c then parted else own))
+        let both = by_split (λ c. ShownBoth nests (if c then in_part program T false spot.at 0 nests else nests) (if c then in_part program T false spot.at 1 nests else nests) first second j b (if c then parted else own))
         (splits_at told spot.at)
         (λ e.
         let k' = subst (λ c. Known who frame total level r nests taken.words taken.frames (if c then taken.words else words_own) nodes (if c then frames_parted else frames_own)) e k in
         two_parts spot.at level r nodes taken nests first second j b (k'.laid (inl (placed.0 e))) fewer
-        (λ k''. statement OfGroup taken.frames (statement_words told 0 first) (deeper level) (past b0 (past a0 r)) (begun_two told taken first second) (in_part program T spot.at 0 nests) first (suc j) b
+        (λ k''. statement OfGroup taken.frames (statement_words told 0 first) (deeper level) (past b0 (past a0 r)) (begun_two told taken first second) (in_part program T false spot.at 0 nests) first (suc j) b
         (group_placed who first (placed.0 e) placed.1) k'')
         (λ k''. statement OfGroup (behind_body_frame told taken first).frames (statement_words told 0 second) (deeper level) (past (frames_in told (deeper level) first) (past b0 (past a0 r)))
-        (within (behind told (begun_two told taken first second) first)) (in_part program T spot.at 1 nests) second (suc (past sa j)) _ (group_placed who second (placed.0 e) placed.2) k'')
+        (within (behind told (begun_two told taken first second) first)) (in_part program T false spot.at 1 nests) second (suc (past sa j)) _ (group_placed who second (placed.0 e) placed.2) k'')
         rs.1 rs.2 down (at_rest marks i ms sa front) at_second (subst (λ c. At T.slots b (if c then parted else own)) e there) head.1)
         (λ e.
         let k' = subst (λ c. Known who frame total level r nests taken.words taken.frames (if c then taken.words else words_own) nodes (if c then frames_parted else frames_own)) e k in
@@ -910,7 +910,7 @@ module _ (program : ProgramTree) (facts : Facts) (given : IsGiven program facts)
         let head = of_tree nests condition i b (at_front marks i ms sc at) (front_of Refers ms sc refers) s in
         let inside = one_body who frame total level r (count (statement_indices (p.While spot condition body))) taken nests body spot.at j b placed.0 k
         (omega (arith, count_both (tree_indices condition) (statement_indices body)))
-        (λ g k'. statement OfGroup taken.frames (statement_words told 0 body) (deeper level) (past (body_frame told spot.at 0 (deeper level) body) r) (begun told taken body) (in_part program T spot.at 0 nests) body (suc j) b
+        (λ g k'. statement OfGroup taken.frames (statement_words told 0 body) (deeper level) (past (body_frame told spot.at 0 (deeper level) body) r) (begun told taken body) (in_part program T false spot.at 0 nests) body (suc j) b
         (group_placed who body g placed.1) k')
         (λ k'. statement (inner who) frame total level r taken nests body (suc j) b placed.1 k')
         (rest_of Refers ms sc refers) (kept_level ms (statement_kept marks (p.Expression condition)) i (at_front marks i ms sc at) low) (at_rest marks i ms sc at) there head.1 in
@@ -920,7 +920,7 @@ module _ (program : ProgramTree) (facts : Facts) (given : IsGiven program facts)
         let sc = scope (statement_marks body) in
         let inside = one_body who frame total level r (count (statement_indices (p.DoWhile spot body condition))) taken nests body spot.at i b placed.0 k
         (omega (arith, count_both (statement_indices body) (tree_indices condition)))
-        (λ g k'. statement OfGroup taken.frames (statement_words told 0 body) (deeper level) (past (body_frame told spot.at 0 (deeper level) body) r) (begun told taken body) (in_part program T spot.at 0 nests) body (suc i) b
+        (λ g k'. statement OfGroup taken.frames (statement_words told 0 body) (deeper level) (past (body_frame told spot.at 0 (deeper level) body) r) (begun told taken body) (in_part program T false spot.at 0 nests) body (suc i) b
         (group_placed who body g placed.1) k')
         (λ k'. statement (inner who) frame total level r taken nests body (suc i) b placed.1 k')
         (front_of Refers sc ms refers) low (at_front marks i sc ms at) there s in
@@ -946,7 +946,7 @@ module _ (program : ProgramTree) (facts : Facts) (given : IsGiven program facts)
         let down_c = kept_level mc (statement_kept marks (p.Return spot after)) (past mb (past ma i)) at_c down_b in
         let inside = one_body who frame total level r (count (statement_indices (p.For spot first condition after body))) taken nests body spot.at j b placed.0 k
         (omega (arith, count_both (optional_indices first ++ optional_indices condition ++ optional_indices after) (statement_indices body)))
-        (λ g k'. statement OfGroup taken.frames (statement_words told 0 body) (deeper level) (past (body_frame told spot.at 0 (deeper level) body) r) (begun told taken body) (in_part program T spot.at 0 nests) body (suc j) b
+        (λ g k'. statement OfGroup taken.frames (statement_words told 0 body) (deeper level) (past (body_frame told spot.at 0 (deeper level) body) r) (begun told taken body) (in_part program T false spot.at 0 nests) body (suc j) b
         (group_placed who body g placed.1) k')
         (λ k'. statement (inner who) frame total level r taken nests body (suc j) b placed.1 k')
         rs.3 down_c at_body there three'.1 in
@@ -956,9 +956,9 @@ module _ (program : ProgramTree) (facts : Facts) (given : IsGiven program facts)
         let sc = scope (statement_marks body) in
         let j = past ms i in
         let head = of_option nests number i b (at_front marks i ms sc at) (front_of Refers ms sc refers) s in
-        let inside = part_body spot.at level r (count (statement_indices (p.Start spot number body))) taken nests body j b (k.laid (inr placed.0))
+        let inside = part_body true spot.at level r (count (statement_indices (p.Start spot number body))) taken nests body j b (k.laid (inr placed.0))
         (omega (arith, count_both (optional_indices number) (statement_indices body)))
-        (λ k'. statement OfGroup taken.frames (statement_words told 0 body) (deeper level) (past (body_frame told spot.at 0 (deeper level) body) r) (begun told taken body) (in_part program T spot.at 0 nests) body (suc j) b placed.1 k')
+        (λ k'. statement OfGroup taken.frames (statement_words told 0 body) (deeper level) (past (body_frame told spot.at 0 (deeper level) body) r) (begun told taken body) (in_part program T true spot.at 0 nests) body (suc j) b placed.1 k')
         (rest_of Refers ms sc refers) (kept_level ms (statement_kept marks (p.Return spot number)) i (at_front marks i ms sc at) low) (at_rest marks i ms sc at) there head.1 in
         ((head.0, inside.0), moved nests _ _ _ (sym (past_both ms sc i)) inside.1)
     statement who frame total level r taken nests (p.Fork spot parts part rank body) i b placed k refers low at there s =
@@ -979,9 +979,9 @@ module _ (program : ProgramTree) (facts : Facts) (given : IsGiven program facts)
         let down_a = kept_level ma (statement_kept marks (p.Expression parts)) i (at_front marks i ma mb two) low in
         let down_b = kept_level mb (statement_kept marks (p.Expression part)) (past ma i) (at_rest marks i ma mb two) down_a in
         let down_c = kept_level mc (statement_kept marks (p.Return spot rank)) (past mb (past ma i)) at_c down_b in
-        let inside = part_body spot.at level r (count (statement_indices (p.Fork spot parts part rank body))) taken nests body j b (k.laid (inl placed.0))
+        let inside = part_body true spot.at level r (count (statement_indices (p.Fork spot parts part rank body))) taken nests body j b (k.laid (inl placed.0))
         (omega (arith, count_both (tree_indices parts ++ tree_indices part ++ optional_indices rank) (statement_indices body)))
-        (λ k'. statement OfGroup taken.frames (statement_words told 0 body) (deeper level) (past (body_frame told spot.at 0 (deeper level) body) r) (begun told taken body) (in_part program T spot.at 0 nests) body (suc j) b placed.1 k')
+        (λ k'. statement OfGroup taken.frames (statement_words told 0 body) (deeper level) (past (body_frame told spot.at 0 (deeper level) body) r) (begun told taken body) (in_part program T true spot.at 0 nests) body (suc j) b placed.1 k')
         rs.3 down_c at_body there three'.1 in
         ((one.0, two'.0, three'.0, inside.0), moved nests _ _ _ (sym (past_both (ma ++ mb ++ mc) sc i ∙ ap (past sc) same)) inside.1)
     statement who frame total level r taken nests (p.Farm spot body) i b placed k refers low at there s =

@@ -183,7 +183,7 @@ s_behind h = absurd_frame h.frame
     absurd_frame e = cc
 
 -- and in the wrong part it isn't: `e` in the first one
-e_in_first : IsOpenFor program tables (OfPart (Some 2) ∷ OfFunction (Some 5) ∷ []) (o.Uses (named 13)) → ⊥
+e_in_first : IsOpenFor program tables (OfPart false (Some 2) ∷ OfFunction (Some 5) ∷ []) (o.Uses (named 13)) → ⊥
 e_in_first h = absurd_frame h.frame
   where
     absurd_frame : ◌≡◌ {A = Option ℕ} (Some 2) (Some 1) → ⊥

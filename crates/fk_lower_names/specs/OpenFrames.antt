@@ -64,12 +64,14 @@ module _ (program : ProgramTree) (tables : Tables) where
   AreOpenFor nests [] = Unit {0}
   AreOpenFor nests (mark ∷ marks) = IsOpenFor nests mark × AreOpenFor nests marks
 
-  -- The nests in a part of a token, and those in a body that is a part where the group splits.
-  abbrev pub in_part : (at part : ℕ) → List Nest → List Nest
-  in_part at part nests = OfPart (frame_words (t.frame_at tables at part)) ∷ nests
+  -- The nests in a part of a token, and those in a body that is a part where the group splits. The
+  -- parts of `start` and `fork` are numbered.
+  abbrev pub in_part : (numbered : Bool) → (at part : ℕ) → List Nest → List Nest
+  in_part numbered at part nests =
+      OfPart numbered (frame_words (t.frame_at tables at part)) ∷ nests
 
   abbrev pub in_split : (at part : ℕ) → List Nest → List Nest
-  in_split at part nests = if (note tables at).splits then in_part at part nests else nests
+  in_split at part nests = if (note tables at).splits then in_part false at part nests else nests
 
   -- Each name in a statement is open in the nests at its place.
   abbrev mutual
@@ -97,11 +99,11 @@ module _ (program : ProgramTree) (tables : Tables) where
         × StatementIsOpen (in_split spot.at 0 nests) body
     StatementIsOpen nests (p.Start spot count body) =
         AreOpenFor nests (optional_marks count)
-        × StatementIsOpen (in_part spot.at 0 nests) body
+        × StatementIsOpen (in_part true spot.at 0 nests) body
     StatementIsOpen nests (p.Fork spot parts part rank body) =
         AreOpenFor nests (tree_marks parts) × AreOpenFor nests (tree_marks part)
         × AreOpenFor nests (optional_marks rank)
-        × StatementIsOpen (in_part spot.at 0 nests) body
+        × StatementIsOpen (in_part true spot.at 0 nests) body
     StatementIsOpen nests (p.Farm spot body) = StatementIsOpen nests body
     StatementIsOpen nests (p.Seq spot body) = StatementIsOpen nests body
     StatementIsOpen nests (p.Return spot e) = AreOpenFor nests (optional_marks e)

@@ -28,7 +28,7 @@ use Rattle.fk_sim_block.specs.Block.{most_before, most_behind, IsRunning, member
 use Rattle.fk_sim_block.proofs.Standing.{next_here, operations_are_next}
 use Rattle.fk_sim_block.specs.Node.{Polling, Nestings, OwnsHeader, OwnsSpace, IsAtRest, first_word, closing_word, agreed_word, root_words}
 use Rattle.fk_sim_block.specs.Lockstep.{is_due, stepped, highest_value, IsMember, AllComeAlone, AllComeByWay, AllEnter, HaveStepped, HaveParted, AreInStart, AreOfSize, one_runs}
-use Rattle.fk_sim_block.specs.Parts.{is_implicit, size_behind, AreToDivide, AreInPart, AllRest, moved, AllMove}
+use Rattle.fk_sim_block.specs.Parts.{size_behind, AreToDivide, AreInPart, AllRest, moved, AllMove}
 use Rattle.fk_sim_block.specs.Joint.{word_of, Polls, MeetsAt}
 use Rattle.fk_sim_block.specs.Start.{MeetsUntil, AllHaveMet, HaveStarted}
 use Rattle.fk_sim_block.specs.Law.{Cycles, GroupLaw, HasDoneInNode, way_of, runs_behind, is_shared_step, stays_in_step, sets_apart, IsAskedOf}
@@ -492,11 +492,11 @@ module _ (core : List CoreOp) (image : Image) (places : Places) (nestings : Nest
         (law.shrinks i op stands setting t mine (first g) ms ps own owns all part few rest)
 
     -- with room for the parts
-    divide_in : (by : SplitKind) (space : Space) (count : ℕ) (ms : List Member) (ps : List Owner) (own : Memory) → OpAt core i op (Split by) → is_implicit by ≡ true
+    divide_in : (by : SplitKind) (space : Space) (count : ℕ) (ms : List Member) (ps : List Owner) (own : Memory) → OpAt core i op (Split by)
         → OwnsHeader (plan.words g) (first g) → OwnsSpace (plan.words g) space → AllEnter core image places nestings i op (Split by) setting t None (first g) ms ps
-        → AreToDivide by space count ps → has_parts space count ≡ true → IsAtRest (first g) own
+        → AreToDivide nestings by space count ps → has_parts space count ≡ true → IsAtRest (first g) own
         → Together (core_source core setting) image (plan.words g) t 1 (cycles.before i) ms ps own (Behind (later (in_cycles (cycles.before i) t)) g)
-    divide_in by space count ms ps own stands implicit owns owns_space all divides room rest =
+    divide_in by space count ms ps own stands owns owns_space all divides room rest =
         let b = cycles.before i in
         let mine = plan.words g in
         let u = later (in_cycles b t) in
@@ -506,25 +506,25 @@ module _ (core : List CoreOp) (image : Image) (places : Places) (nestings : Nest
         × IsAtRest (first g) own' × AllRest own' (map (moved core i op (Split by) 0 ps) ps))
         (Behind u g)
         (λ ms' ds own' x. (0, omega arith, inr (inl (has_moved (Split by) u (cycles.behind i) (law.few_behind i) ms' ps ds own' stands refl tt x.0 x.2 x.3 x.1))))
-        (law.divides i op by stands implicit setting t mine (first g) space count ms ps own owns owns_space all divides room rest)
+        (law.divides i op by stands setting t mine (first g) space count ms ps own owns owns_space all divides room rest)
 
     -- the number of cycles to the commit of a split
-    abbrev pub to_split : (by : SplitKind) → OpAt core i op (Split by) → is_implicit by ≡ true → (room : Bool) → ℕ
-    to_split by stands implicit true = cycles.before i
-    to_split by stands implicit false = (law.lacks i op by stands implicit).before
+    abbrev pub to_split : (by : SplitKind) → OpAt core i op (Split by) → (room : Bool) → ℕ
+    to_split by stands true = cycles.before i
+    to_split by stands false = (law.lacks i op by stands).before
 
-    pub few_to_split : (by : SplitKind) (stands : OpAt core i op (Split by)) (implicit : is_implicit by ≡ true) (room : Bool) → to_split by stands implicit room ≤ most_before
-    few_to_split by stands implicit true = law.few_before i
-    few_to_split by stands implicit false = (law.lacks i op by stands implicit).few
+    pub few_to_split : (by : SplitKind) (stands : OpAt core i op (Split by)) (room : Bool) → to_split by stands room ≤ most_before
+    few_to_split by stands true = law.few_before i
+    few_to_split by stands false = (law.lacks i op by stands).few
 
-    pub divide_together : (by : SplitKind) (space : Space) (count : ℕ) (ms : List Member) (ps : List Owner) (own : Memory) (stands : OpAt core i op (Split by)) (implicit : is_implicit by ≡ true)
+    pub divide_together : (by : SplitKind) (space : Space) (count : ℕ) (ms : List Member) (ps : List Owner) (own : Memory) (stands : OpAt core i op (Split by))
         → OwnsHeader (plan.words g) (first g) → OwnsSpace (plan.words g) space → AllEnter core image places nestings i op (Split by) setting t None (first g) ms ps
-        → AreToDivide by space count ps → (room : Bool) → has_parts space count ≡ room → IsAtRest (first g) own
-        → Together (core_source core setting) image (plan.words g) t 1 (to_split by stands implicit room) ms ps own (Behind (later (in_cycles (to_split by stands implicit room) t)) g)
-    divide_together by space count ms ps own stands implicit owns owns_space all divides true room rest =
-        divide_in by space count ms ps own stands implicit owns owns_space all divides room rest
-    divide_together by space count ms ps own stands implicit owns owns_space all divides false room rest =
-        let lack = law.lacks i op by stands implicit in
+        → AreToDivide nestings by space count ps → (room : Bool) → has_parts space count ≡ room → IsAtRest (first g) own
+        → Together (core_source core setting) image (plan.words g) t 1 (to_split by stands room) ms ps own (Behind (later (in_cycles (to_split by stands room) t)) g)
+    divide_together by space count ms ps own stands owns owns_space all divides true room rest =
+        divide_in by space count ms ps own stands owns owns_space all divides room rest
+    divide_together by space count ms ps own stands owns owns_space all divides false room rest =
+        let lack = law.lacks i op by stands in
         together_map (core_source core setting) image (plan.words g) t 1 lack.before ms ps own (λ ms' ds own'. ⊥) (Behind (later (in_cycles lack.before t)) g) (λ ms' ds own' never. absurd never)
         (lack.faults setting t (plan.words g) (first g) space count ms ps own owns all divides room)
 
@@ -590,13 +590,13 @@ groups_start_together core image places nestings cycles firsts main setting plan
     start_together core image places nestings setting plan first cycles firsts main t i op law ms ps own stands owns running met rest
 
 pub groups_divide_together : GroupsDivideTogether
-groups_divide_together core image places nestings cycles firsts main setting plan first t g i op by space count ms ps own law stands implicit owns owns_space all divides rest =
+groups_divide_together core image places nestings cycles firsts main setting plan first t g i op by space count ms ps own law stands owns owns_space all divides rest =
     let room = has_parts space count in
-    let d = to_split core image places nestings setting plan first cycles firsts main t g i op law by stands implicit room in (
+    let d = to_split core image places nestings setting plan first cycles firsts main t g i op law by stands room in (
       d,
-      few_to_split core image places nestings setting plan first cycles firsts main t g i op law by stands implicit room,
+      few_to_split core image places nestings setting plan first cycles firsts main t g i op law by stands room,
       in_lockstep core image places nestings setting plan first t g d ms ps own (as_many core image places nestings setting plan first i op (Split by) t g ms ps all)
-          (divide_together core image places nestings setting plan first cycles firsts main t g i op law by space count ms ps own stands implicit owns owns_space all divides room refl rest),
+          (divide_together core image places nestings setting plan first cycles firsts main t g i op law by space count ms ps own stands owns owns_space all divides room refl rest),
     )
 
 pub groups_shrink_together : GroupsShrinkTogether

@@ -24,7 +24,7 @@ use Rattle.fk_sim_block.specs.Node.{Nestings, OwnsHeader, OwnsSpace, IsAtRest, r
 use Rattle.fk_sim_block.specs.Node.{closing_word}
 use Rattle.fk_sim_block.specs.Found.{FindsFrame}
 use Rattle.fk_sim_block.specs.Lockstep.{IsMember, AllEnter}
-use Rattle.fk_sim_block.specs.Parts.{is_implicit, AreToDivide, AreInPart}
+use Rattle.fk_sim_block.specs.Parts.{AreToDivide, AreInPart}
 use Rattle.fk_sim_block.specs.Joint.{most_to_meet, is_meeting, word_of, AreSoMany}
 use Rattle.fk_sim_block.specs.Start.{most_to_start, IsInRoot, AllHaveMet}
 use Rattle.fk_sim_block.specs.Law.{Cycles, GroupLaw, is_shared_step, IsAskedOf}
@@ -147,9 +147,9 @@ GroupsDivideTogether =
     (t : MachineSetting) (g i : ℕ) (op : CoreOp) (by : SplitKind) (space : Space) (count : ℕ)
     (ms : List Member) (ps : List Owner) (own : Memory)
     → GroupLaw core image places nestings cycles firsts main → OpAt core i op (Split by)
-    → is_implicit by ≡ true → OwnsHeader (plan.words g) (first g) → OwnsSpace (plan.words g) space
+    → OwnsHeader (plan.words g) (first g) → OwnsSpace (plan.words g) space
     → AllEnter core image places nestings i op (Split by) setting t None (first g) ms ps
-    → AreToDivide by space count ps → IsAtRest (first g) own
+    → AreToDivide nestings by space count ps → IsAtRest (first g) own
     → (d : ℕ) × (d ≤ most_before) × InLockstep (core_source core setting) image plan
     (blocks_of core image places nestings setting plan first) t g (all_act d ms) ms ps own
 

@@ -103,7 +103,7 @@ owns_space tree spaces nodes (suc g) space ne there kind range = record {
 
 -- who divides a space is not in the root
 no_root : (places : Places) (nestings : Nestings) (setting : Setting) (spaces : ℕ → Space) (g : ℕ) (by : SplitKind) (space : Space) (count : ℕ) (ms : List Member) (ps : List Owner)
-    → AreMembers places nestings setting (λ p. None) (first_of spaces g) ms ps → AreToDivide by space count ps → g ≢ 0
+    → AreMembers places nestings setting (λ p. None) (first_of spaces g) ms ps → AreToDivide nestings by space count ps → g ≢ 0
 no_root places nestings setting spaces g by space count ms [] members divides e = let some = divides.some in omega (arith, some)
 no_root places nestings setting spaces g by space count [] (p ∷ ps) members divides e = members
 no_root places nestings setting spaces g by space count (m ∷ ms) (p ∷ ps) members divides e =
@@ -117,9 +117,9 @@ no_root places nestings setting spaces g by space count (m ∷ ms) (p ∷ ps) me
     omega (arith, low, same, header, ordered, within, shared)
 
 -- its space has the words of the node's
-divided_range : (spaces : ℕ → Space) (g : ℕ) (by : SplitKind) (space : Space) (count : ℕ) (ps : List Owner) → AllHave (spaces g) ps → AreToDivide by space count ps → HasRange (spaces g) space
-divided_range spaces g by space count [] have divides = absurd (let some = divides.some in omega (arith, some))
-divided_range spaces g by space count (p ∷ ps) have divides = subst (HasRange (spaces g)) divides.all.0.space_is have.0
+divided_range : (nestings : Nestings) (spaces : ℕ → Space) (g : ℕ) (by : SplitKind) (space : Space) (count : ℕ) (ps : List Owner) → AllHave (spaces g) ps → AreToDivide nestings by space count ps → HasRange (spaces g) space
+divided_range nestings spaces g by space count [] have divides = absurd (let some = divides.some in omega (arith, some))
+divided_range nestings spaces g by space count (p ∷ ps) have divides = subst (HasRange (spaces g)) divides.all.0.space_is have.0
 
 so_many : (tree : Tree) (spaces : ℕ → Space) (nodes : List ℕ) (g number : ℕ) (p : Owner) (operation : Operation) → is_meeting operation ≡ true
     → (plan_of tree spaces nodes).member (first_of spaces g + word_of operation) number ≡ true
@@ -556,17 +556,17 @@ module _ (core : List CoreOp) (image : Image) (places : Places) (nestings : Nest
         → ComeTo core image places nestings setting tree spaces nodes t g ms (all_landed core ps) own
     come_moving group (Split by) e may =
         let stands = subst (λ o. OpAt core index has.op o) e has.stands in
-        let space = may.1.0 in
-        let count = may.1.1 in
+        let space = may.0 in
+        let count = may.1 in
         let room = has_parts space count in
-        let range = divided_range spaces g by space count (all_landed core ps) (landed_have (spaces g) ps group.space) may.1.2 in
-        come (to_split core image places nestings setting plan (first_of spaces) cycles firsts main there g index has.op the_law by stands may.0 room)
-        (few_to_split core image places nestings setting plan (first_of spaces) cycles firsts main there g index has.op the_law by stands may.0 room)
+        let range = divided_range nestings spaces g by space count (all_landed core ps) (landed_have (spaces g) ps group.space) may.2 in
+        come (to_split core image places nestings setting plan (first_of spaces) cycles firsts main there g index has.op the_law by stands room)
+        (few_to_split core image places nestings setting plan (first_of spaces) cycles firsts main there g index has.op the_law by stands room)
         (λ ms' own' x.
-        divide_together core image places nestings setting plan (first_of spaces) cycles firsts main there g index has.op the_law by space count ms' (all_landed core ps) own' stands may.0
+        divide_together core image places nestings setting plan (first_of spaces) cycles firsts main there g index has.op the_law by space count ms' (all_landed core ps) own' stands
         (owns_header tree spaces nodes g node)
-        (owns_space tree spaces nodes g space (no_root places nestings setting spaces g by space count ms' (all_landed core ps) x.1 may.1.2) node.there group.kind range)
-        (enter (Split by) e ms' x.1) may.1.2 room refl x.0)
+        (owns_space tree spaces nodes g space (no_root places nestings setting spaces g by space count ms' (all_landed core ps) x.1 may.2) node.there group.kind range)
+        (enter (Split by) e ms' x.1) may.2 room refl x.0)
     come_moving group Shrink e may =
         come (cycles.before index) (the_law.few_before index)
         (λ ms' own' x. shrink_together core image places nestings setting plan (first_of spaces) cycles firsts main there g index has.op the_law ms' (all_landed core ps) own'

@@ -35,6 +35,7 @@ use Rattle.fk_sim_match.specs.Nodes.{first_of}
 use Rattle.fk_lockstep_nodes.specs.Steps.{KeepsOrDoes, StepsBy}
 use Rattle.fk_sim_rounds.specs.After.{actings, tree_after, owner_after, DoesStep, AllGoOn}
 use Rattle.fk_sim_rounds.specs.Rounds.{IsKnownRound}
+use Rattle.fk_lockstep.proofs.Changes.{few}
 use Rattle.fk_sim_rounds.proofs.TreeAfter as after
 use Rattle.fk_sim_rounds.proofs.TreeAfter.{Moving, ByEnd, ByShrink, BySplit, ByNone, moving, some_move, some_leave, no_leave}
 use Rattle.fk_sim_rounds.proofs.Moved.{AreWho, are_who}
@@ -350,7 +351,8 @@ module _ (core : List CoreOp) (setting : Setting) (spaces : ℕ → Space) (old 
         let at : (tree_after old did).places number ≡ m
         = after.enters setting.processors old sound did round long number by lt is ∙ ap (λ y. place_in g first (entered_part by (values y))) who_is ∙ ap (place_in g first) e in
         let x = after.part_of_split setting.processors old sound did round long g by i is
-        (after.part_below by (values r.has) (values (who (actings did) (lowest (trees.members old g)))) i (round.known g (o.Split by) is).1 e) in
+        (few by (values (who (actings did) number)) (values (who (actings did) (lowest (trees.members old g)))) i (round.divide g number by is (sound.placed number lt).member)
+        (ap (λ y. entered_part by (values y)) who_is ∙ e)) in
         let member = after.in_part setting.processors old sound did round long m number x.0 (subst (λ k. trees.is_member number (trees.members old k) ≡ true) (sym x.1) (sound.placed number lt).member)
         (x.2 number (ap (λ y. entered_part by (values y)) who_is ∙ e)) in
         let some = has_some (tree_after old did) m number member in

@@ -56,6 +56,7 @@ use Rattle.fk_sim_rounds.proofs.Harts.{AllAre, LockLeft, steps_apart, steps_to_g
 use Rattle.fk_sim_rounds.proofs.Groups.{somebody, there_are, many_length}
 use Rattle.fk_sim_rounds.proofs.Trees.{some_there}
 use Rattle.fk_sim_rounds.proofs.Moved.{kind_there, lowest_there, is_busy, many_moved, AreWho, are_who, TreeMoves}
+use Rattle.fk_lockstep.proofs.Changes.{few}
 use Rattle.fk_sim_rounds.proofs.TreeAfter as after
 use Rattle.fk_sim_rounds.proofs.TreeAfter.{moves_some}
 use Rattle.fk_sim_rounds.proofs.Counts.{mark, count_from, count_is}
@@ -414,7 +415,10 @@ module _ (core : List CoreOp) (image : Image) (places : Places) (nestings : Nest
         → size_in (number_of p) ≡ size_of_part by fact.ps (Some i)
     split_size by divides m p h i e =
         let first = after.first_of_parts setting.processors old before.sound ds round long g in
-        let below = after.part_below by (values p.runner.has) (values (who (actings ds) (lowest (trees.members old g)))) i (round.known g (o.Split by) divides).1 e in
+        let member = subst (λ k. trees.is_member m.number (trees.members old k) ≡ true) h.at (before.sound.placed m.number h.lt).member in
+        let below =
+        few by (values (who (actings ds) m.number)) (values (who (actings ds) (lowest (trees.members old g)))) i (round.divide g m.number by divides member)
+        (ap (λ q. part by (values q)) h.who_is ∙ e) in
         let at : new.places m.number ≡ first + i = after.part_place setting.processors old before.sound ds round long m.number g by i h.lt h.at divides (ap (λ q. part by (values q)) h.who_is ∙ e) in
         ap size_in h.number_is ∙ ap (λ k. length (trees.members new k)) at
         ∙ sized (first + i) (λ q. is_in i (part by (values q))) (after.split_members setting.processors old before.sound ds round long g by i divides below)

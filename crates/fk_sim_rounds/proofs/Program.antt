@@ -12,11 +12,9 @@ use Rattle.fk_meaning_operation.specs.declared.kinds.Class.{Class}
 use Rattle.fk_meaning_operation.specs.declared.kinds.Class.TheVariants.{Local, Request, Tree}
 use Rattle.fk_meaning_operation.specs.declared.operation.Multiprefix.{Multiprefix}
 use Rattle.fk_meaning_operation.specs.declared.operation.SplitKind.{SplitKind}
-use Rattle.fk_meaning_operation.specs.declared.operation.SplitKind.TheVariants.{IfElse, Fork}
 use Rattle.fk_meaning_operation.specs.declared.operation.Operation.{Operation}
 use Rattle.fk_meaning_operation.specs.declared.operation.Operation.TheVariants as o
 use Rattle.fk_meaning.specs.Processor.{Processor, values, last}
-use Rattle.fk_meaning.specs.Group.{parts}
 use Rattle.fk_meaning.specs.Round.{State}
 use Rattle.fk_core.specs.declared.op.CoreOp.{CoreOp}
 use Rattle.fk_core.specs.Next.{Position, landing, step_by, step_of, next}
@@ -29,7 +27,7 @@ use Rattle.fk_sim_block.specs.Next.{OpAt, step_at}
 use Rattle.fk_sim_block.specs.Ready.{is_alone, IsReady}
 use Rattle.fk_sim_block.specs.Node.{Nestings}
 use Rattle.fk_sim_block.specs.Lockstep.{IsInStart, AreInStart, AreOfSize, IsInGroup, AreInGroup, NoneIs, IsLowest}
-use Rattle.fk_sim_block.specs.Parts.{is_implicit, parts_of, IsToDivide, AllAreToDivide, IsInPart, AreInPart}
+use Rattle.fk_sim_block.specs.Parts.{parts_of, IsToDivide, AllAreToDivide, IsInPart, AreInPart}
 use Rattle.fk_sim_block.specs.Law.{is_shared_step, IsAskedOf, way_by, way_of}
 use Rattle.fk_sim_block.specs.Found.{FindsFrame}
 use Rattle.fk_sim_block.specs.Laws.{AllGo}
@@ -172,16 +170,10 @@ all_parted : (core : List CoreOp) (nestings : Nestings) (ps : List Owner) → Ea
 all_parted core nestings [] each = tt
 all_parted core nestings (p ∷ ps) each = (each.0, all_parted core nestings ps each.1)
 
-all_divide : (core : List CoreOp) (by : SplitKind) (space : Space) (count : ℕ) (ps : List Owner) → Each (λ p. IsToDivide by space count (landed core p)) ps
-    → AllAreToDivide by space count (all_landed core ps)
-all_divide core by space count [] each = tt
-all_divide core by space count (p ∷ ps) each = (each.0, all_divide core by space count ps each.1)
-
--- an implicit split has as many parts for all
-same_parts : (by : SplitKind) (vs ws : List ℕ) → is_implicit by ≡ true → parts by vs ≡ parts by ws
-same_parts IfElse vs ws implicit = refl
-same_parts Fork vs ws implicit = absurd (false≢true implicit)
-same_parts by vs ws implicit = refl
+all_divide : (core : List CoreOp) (nestings : Nestings) (by : SplitKind) (space : Space) (count : ℕ) (ps : List Owner) → Each (λ p. IsToDivide nestings by space count (landed core p)) ps
+    → AllAreToDivide nestings by space count (all_landed core ps)
+all_divide core nestings by space count [] each = tt
+all_divide core nestings by space count (p ∷ ps) each = (each.0, all_divide core nestings by space count ps each.1)
 
 length_add : (b : Bool) (p : Owner) (ps : List Owner) → length (add b p ps) ≤ suc (length ps)
 length_add true p ps = omega arith
@@ -353,24 +345,28 @@ module _ (core : List CoreOp) (nestings : Nestings) (processors : ℕ) (s : Stat
       at_least (suc n) ne = omega arith
 
   -- they have one space, which they divide into as many parts
-  divides : (by : SplitKind) → is_implicit by ≡ true → (i : ℕ) (p : Owner) → slice_get nodes i ≡ Some g → slice_get ps i ≡ Some p
-      → IsToDivide by p0.runner.has.level.space (parts_of by p0) (landed core p)
-  divides by implicit i p at is = record { group = (in_step i p at is).group; space_is = one_space i p at is; count_is = same_parts by (values p.runner.has) (values p0.runner.has) implicit }
+  divides : (by : SplitKind) → step0.operation ≡ o.Split by → (i : ℕ) (p : Owner) → slice_get nodes i ≡ Some g → slice_get ps i ≡ Some p
+      → IsToDivide nestings by p0.runner.has.level.space (parts_of by p0) (landed core p)
+  divides by e i p at is =
+      let x = together i p at is in
+      record {
+        group = (in_step i p at is).group;
+        space_is = one_space i p at is;
+        count_is = x.divide (step_at core (landing core p0.runner.left.at) step0.op step0.operation p0.runner.left.callers) by (ap (next core) x.left ∙ next_at) e;
+        asked = (moves_by (o.Split by) refl refl e i p at is).1;
+      }
 
   may_move : (done : Operation) → is_alone done ≡ false → is_shared_step done ≡ false → step0.operation ≡ done → MayMoveInStep nestings done (landed core p0) → MayMove nestings done (all_landed core (of_node g nodes ps))
   may_move (o.Split by) not_alone not_shared e first_may = (
-    first_may.0,
-    (
-      p0.runner.has.level.space,
-      parts_of by p0,
-      record {
-        some = some_members;
-        few = few_members;
-        is_space = first_may.1;
-        all = all_divide core by p0.runner.has.level.space (parts_of by p0) group
-            (each_of (λ p. IsToDivide by p0.runner.has.level.space (parts_of by p0) (landed core p)) g nodes ps (divides by first_may.0));
-      },
-    ),
+    p0.runner.has.level.space,
+    parts_of by p0,
+    record {
+      some = some_members;
+      few = few_members;
+      is_space = first_may.0;
+      all = all_divide core nestings by p0.runner.has.level.space (parts_of by p0) group
+          (each_of (λ p. IsToDivide nestings by p0.runner.has.level.space (parts_of by p0) (landed core p)) g nodes ps (divides by e));
+    },
   )
   may_move o.Shrink not_alone not_shared e first_may =
       (few_members, all_parted core nestings group (each_of (λ p. IsInPart nestings (landed core p)) g nodes ps (moves_by o.Shrink refl refl e)))

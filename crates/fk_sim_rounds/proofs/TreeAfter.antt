@@ -22,7 +22,7 @@ use Rattle.fk_lockstep_nodes.proofs.Nodes.{nodes_step}
 use Rattle.fk_sim_match.specs.Change.{HasSame}
 use Rattle.fk_sim_match.proofs.Rounds.{not_none, leaf_place, lockstep_kind}
 use Rattle.fk_sim_block.specs.Owner.{Doing}
-use Rattle.fk_sim_block.specs.Parts.{is_implicit}
+use Rattle.fk_lockstep.proofs.Changes.{few}
 use Rattle.fk_sim_rounds.specs.After.{actings, tree_after, ArePlaces}
 use Rattle.fk_sim_rounds.specs.Rounds.{StepIsKnown, IsKnownRound}
 use Rattle.fk_sim_rounds.proofs.Moved.{TreeMoves, has_same, kind_there, lowest_there}
@@ -113,31 +113,6 @@ is_there x k kind = not_none x (kind_there x k kind)
 
 -- ---- parts
 
--- an implicit split has as many parts for all, and each enters one of these
-pub part_below : (by : SplitKind) (vs ws : List ℕ) (i : ℕ) → is_implicit by ≡ true → part by vs ≡ Some i → i < parts by ws
-part_below IfAlone vs ws i implicit e = by_value (last vs == 0) e
-  where
-    by_value : (b : Bool) → (if b then None else Some 0) ≡ Some i → i < 1
-    by_value true f = absurd (cc)
-    by_value false f = let same : 0 ≡ i = cc in omega (arith, same)
-part_below IfElse vs ws i implicit e = by_value (last vs == 0) e
-  where
-    by_value : (b : Bool) → (if b then Some 1 else Some 0) ≡ Some i → i < 2
-    by_value true f = let same : 1 ≡ i = cc in omega (arith, same)
-    by_value false f = let same : 0 ≡ i = cc in omega (arith, same)
-part_below AndThen vs ws i implicit e = by_value (last vs == 0) e
-  where
-    by_value : (b : Bool) → (if b then None else Some 0) ≡ Some i → i < 1
-    by_value true f = absurd (cc)
-    by_value false f = let same : 0 ≡ i = cc in omega (arith, same)
-part_below OrElse vs ws i implicit e = by_value (last vs == 0) e
-  where
-    by_value : (b : Bool) → (if b then Some 0 else None) ≡ Some i → i < 1
-    by_value true f = let same : 0 ≡ i = cc in omega (arith, same)
-    by_value false f = absurd (cc)
-part_below Loop vs ws i implicit e = let same : 0 ≡ i = cc in omega (arith, same)
-part_below Fork vs ws i implicit e = absurd (false≢true implicit)
-
 -- one waits, or enters a part
 pub waits_or : (x : Option ℕ) → (x ≡ None) ⊎ ((i : ℕ) × (x ≡ Some i))
 waits_or None = inl refl
@@ -158,7 +133,7 @@ module _ (p : ℕ) (old : Tree) (sound : IsSound p old) where
   may_step g o.Farm known = group_steps g o.Farm known (λ e. cc)
   may_step g o.Seq known = group_steps g o.Seq known (λ e. cc)
   may_step g o.End known = group_steps g o.End known (λ e. cc)
-  may_step g (o.Split by) known = group_steps g (o.Split by) known.0 (λ e. cc)
+  may_step g (o.Split by) known = group_steps g (o.Split by) known (λ e. cc)
   may_step g o.Shrink known = group_steps g o.Shrink known.0 (λ e. cc)
   may_step g operation known = absurd known
 
@@ -166,7 +141,7 @@ module _ (p : ℕ) (old : Tree) (sound : IsSound p old) where
   pub moving_group : (g : ℕ) (operation : Operation) → moves_some operation ≡ true → StepIsKnown old g operation → trees.kind old g ≡ Some Lockstep
   moving_group g o.End moves known = known
   moving_group g o.Shrink moves known = known.0
-  moving_group g (o.Split by) moves known = known.0
+  moving_group g (o.Split by) moves known = known
   moving_group g operation moves known = absurd (false≢true moves)
 
   -- ---- a group that ends
@@ -198,7 +173,7 @@ module _ (p : ℕ) (old : Tree) (sound : IsSound p old) where
     waiting_stays o.Farm known = no_group_waits (trees.parent old g) known refl
     waiting_stays o.Seq known = no_group_waits (trees.parent old g) known refl
     waiting_stays o.End known = no_group_waits (trees.parent old g) known refl
-    waiting_stays (o.Split by) known = no_group_waits (trees.parent old g) known.0 refl
+    waiting_stays (o.Split by) known = no_group_waits (trees.parent old g) known refl
     waiting_stays o.Shrink known = no_group_waits (trees.parent old g) known.0 refl
     waiting_stays operation known = absurd known
 
@@ -558,7 +533,7 @@ module _ (p : ℕ) (old : Tree) (sound : IsSound p old) (ds : List Doing) (round
           → old.places h ≡ x.group
       from_group kind i is enters' here =
           let g = old.places h in
-          let below : i < count_at g kind = part_below kind (values (who (actings ds) h)) (values (who (actings ds) (lowest (trees.members old g)))) i (round.known g (o.Split kind) is).1 enters' in
+          let below : i < count_at g kind = few kind (values (who (actings ds) h)) (values (who (actings ds) (lowest (trees.members old g)))) i (round.divide g h kind is (sound.placed h lt).member) enters' in
           let bound : m < step.first g + count_at g kind = omega (arith, below, here) in
           let mine : m < (by g (round.does g)).given = subst (λ y. m < (by g y).given) (sym is) bound in
           let its = x.below in

@@ -19,7 +19,7 @@ use Rattle.fk_sim_block.specs.Ready.{is_alone, IsReady}
 use Rattle.fk_sim_block.specs.Block.{gone_to}
 use Rattle.fk_sim_block.specs.Node.{Nestings, first_word}
 use Rattle.fk_sim_block.specs.Found.{FindsFrame}
-use Rattle.fk_sim_block.specs.Parts.{is_implicit, AreToDivide, AreInPart}
+use Rattle.fk_sim_block.specs.Parts.{AreToDivide, AreInPart}
 use Rattle.fk_sim_block.specs.Joint.{is_meeting, word_of}
 use Rattle.fk_sim_block.specs.Start.{IsInRoot}
 use Rattle.fk_sim_block.specs.Law.{is_shared_step, IsAskedOf}
@@ -122,7 +122,7 @@ pub record StepsAlike (operation : Operation) (ps : List Owner) : Type 0 where
 
 abbrev pub MayMove : Nestings → Operation → List Owner → Type 0
 MayMove nestings (Split by) ps =
-    (is_implicit by ≡ true) × ((space : Space) × (count : ℕ) × AreToDivide by space count ps)
+    (space : Space) × (count : ℕ) × AreToDivide nestings by space count ps
 MayMove nestings Shrink ps = (length ps ≤ 1024) × AreInPart nestings ps
 MayMove nestings End ps = IsAskedToMove nestings End 0 ps
 MayMove nestings operation ps = ⊥

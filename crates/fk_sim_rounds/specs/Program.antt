@@ -18,7 +18,7 @@ use Rattle.fk_sim_block.specs.Next.{OpAt}
 use Rattle.fk_sim_block.specs.Ready.{IsReady}
 use Rattle.fk_sim_block.specs.Node.{Nestings}
 use Rattle.fk_sim_block.specs.Lockstep.{IsInStart, IsInGroup}
-use Rattle.fk_sim_block.specs.Parts.{is_implicit, IsInPart}
+use Rattle.fk_sim_block.specs.Parts.{IsAskedToSplit, IsInPart}
 use Rattle.fk_sim_block.specs.Law.{is_shared_step}
 use Rattle.fk_sim_rounds.specs.Next.{landed, MayAlone, HaveNext}
 use Rattle.fk_sim_rounds.specs.After.{ArePlaces, runners_of}
@@ -26,7 +26,7 @@ use Rattle.fk_sim_rounds.specs.After.{ArePlaces, runners_of}
 -- What a member of a group in lockstep may do by which it comes to another node, or others do.
 abbrev pub MayMoveInStep : Nestings → Operation → Owner → Type 0
 MayMoveInStep nestings (Split by) p =
-    (is_implicit by ≡ true) × IsSpace p.runner.has.level.space
+    IsSpace p.runner.has.level.space × IsAskedToSplit by nestings p
 MayMoveInStep nestings Shrink p = IsInPart nestings p
 MayMoveInStep nestings End p = IsInStart nestings p ⊎ IsInPart nestings p
 MayMoveInStep nestings operation p = ⊥

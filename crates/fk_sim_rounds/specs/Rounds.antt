@@ -6,11 +6,14 @@ use Rattle.fk_tree.specs.declared.node.Kind.TheVariants.{Lockstep, Waiting, Asyn
 use Rattle.fk_tree.specs.Tree as trees
 use Rattle.fk_tree.specs.Tree.{Tree, is_member}
 use Rattle.fk_tree.specs.Sound.{IsSound}
+use Rattle.fk_meaning_operation.specs.declared.operation.SplitKind.{SplitKind}
 use Rattle.fk_meaning_operation.specs.declared.operation.Operation.{Operation}
 use Rattle.fk_meaning_operation.specs.declared.operation.Operation.TheVariants.{Farm, Seq, End}
 use Rattle.fk_meaning_operation.specs.declared.operation.Operation.TheVariants.{Meet, Resume}
 use Rattle.fk_meaning_operation.specs.declared.operation.Operation.TheVariants.{Split, Shrink}
-use Rattle.fk_meaning.specs.Processor.{Setting}
+use Rattle.fk_meaning.specs.Processor.{Setting, values}
+use Rattle.fk_meaning.specs.Group.{parts}
+use Rattle.fk_meaning.specs.Round.{lowest, who}
 use Rattle.fk_core.specs.declared.op.CoreOp.{CoreOp}
 use Rattle.fk_image.specs.declared.Image.{Image}
 use Rattle.fk_machine.specs.Hart.{Hart, Setting as MachineSetting}
@@ -24,7 +27,6 @@ use Rattle.fk_sim_block.specs.Owner.{Owner, Doing, core_source}
 use Rattle.fk_sim_block.specs.Stands.{Places}
 use Rattle.fk_sim_block.specs.Block.{IsRunning}
 use Rattle.fk_sim_block.specs.Node.{Nestings}
-use Rattle.fk_sim_block.specs.Parts.{is_implicit}
 use Rattle.fk_sim_block.specs.Law.{Cycles, GroupLaw}
 use Rattle.fk_sim_match.specs.Nodes.{first_of, HaveSpaces, plan_of}
 use Rattle.fk_sim_match.specs.Behind.{blocks_of}
@@ -61,7 +63,7 @@ AllStandIn tree g = (h : ℕ) → is_member h (trees.members tree g) ≡ true �
 -- What all who stand at a node may do together in a known round: those who have waited for their
 -- parts go on, those of a body come to its end, and a group comes to a body, divides or ends. Some
 -- may leave a part that isn't in the root. The beginning of the group of `start` (`RoundsStart`)
--- and `fork` aren't among these steps.
+-- isn't among these steps.
 abbrev pub StepIsKnown : Tree → (g : ℕ) → Operation → Type 0
 StepIsKnown tree g Resume =
     ((first : ℕ) × (parts : ℕ) × (trees.kind tree g ≡ Some (Waiting first parts)))
@@ -71,17 +73,22 @@ StepIsKnown tree g (Meet true) =
 StepIsKnown tree g Farm = trees.kind tree g ≡ Some Lockstep
 StepIsKnown tree g Seq = trees.kind tree g ≡ Some Lockstep
 StepIsKnown tree g End = trees.kind tree g ≡ Some Lockstep
-StepIsKnown tree g (Split by) = (trees.kind tree g ≡ Some Lockstep) × (is_implicit by ≡ true)
+StepIsKnown tree g (Split by) = trees.kind tree g ≡ Some Lockstep
 StepIsKnown tree g Shrink =
     (trees.kind tree g ≡ Some Lockstep) × (trees.parent tree g ≢ 0)
 StepIsKnown tree g operation = ⊥
 
--- A known round: at each node nobody changes the tree, or all who stand there do one known step.
+-- A known round: at each node nobody changes the tree, or all who stand there do one known step. The
+-- members of a group that divides make as many parts.
 pub record IsKnownRound (tree : Tree) (ds : List Doing) : Type 0 where
   pub does : ℕ → Option Operation
   pub steps : StepsBy tree does 0 (actings ds)
   pub known : (g : ℕ) (operation : Operation) → does g ≡ Some operation
       → StepIsKnown tree g operation
+  pub divide : (g h : ℕ) (by : SplitKind) → does g ≡ Some (Split by)
+      → is_member h (trees.members tree g) ≡ true
+      → parts by (values (who (actings ds) h))
+      ≡ parts by (values (who (actings ds) (lowest (trees.members tree g))))
 
 -- A known round in which a group ends.
 pub record EndsGroup (tree : Tree) (ds : List Doing) : Type 0 where

@@ -1,17 +1,20 @@
 -- What each group does next, in a state that a run has come to.
-use Rattle.std.proofs.Common.{◌≡◌, ◌≢◌, ◌⊎◌, inl, inr, ℕ, zero, suc, ◌+◌, true, List, [], ◌∷◌, length, map, Some, refl, sym, ap, ◌∙◌, subst, arith}
+use Rattle.std.proofs.Common.{◌≡◌, ◌≢◌, ◌⊎◌, inl, inr, ℕ, zero, suc, ◌+◌, ◌≤◌, true, List, [], ◌∷◌, length, map, Some, refl, sym, ap, ◌∙◌, subst, arith}
 use Rattle.std.specs.Prelude.{All, slice_get}
 use Rattle.std.proofs.lemmas.List.Elements.{All-head, All-tail}
 use Rattle.fk_space.specs.Space.{IsSpace}
 use Rattle.fk_meaning_operation.specs.Kinds.{class_of}
+use Rattle.fk_meaning_operation.specs.declared.operation.SplitKind.{SplitKind}
+use Rattle.fk_meaning_operation.specs.declared.operation.SplitKind.TheVariants.{Fork}
 use Rattle.fk_meaning_operation.specs.declared.operation.Operation.{Operation}
 use Rattle.fk_meaning_operation.specs.declared.operation.Operation.TheVariants as o
 use Rattle.fk_tree.specs.declared.node.Kind.TheVariants.{Lockstep}
 use Rattle.fk_tree.specs.Tree as trees
+use Rattle.fk_tree.proofs.Lists.{length-between}
 use Rattle.fk_meaning.specs.Processor.{Level, Setting}
 use Rattle.fk_meaning.specs.Round.{State, body_of}
 use Rattle.fk_core.specs.declared.op.CoreOp.{CoreOp}
-use Rattle.fk_core.specs.Next.{Position, next}
+use Rattle.fk_core.specs.Next.{Position, landing, next}
 use Rattle.fk_lockstep.proofs.Round.{first_is, at_below}
 use Rattle.fk_lockstep_tree.specs.Where.{Where, InRoot, InGroup}
 use Rattle.fk_lockstep_tree.specs.Ranges.{ranges_of}
@@ -19,10 +22,11 @@ use Rattle.fk_lockstep_tree.specs.Placed.{AreLevels}
 use Rattle.fk_lockstep_tree.proofs.Paths.{at_node, lockstep_place}
 use Rattle.fk_lockstep_tree.proofs.Moves.{ends_in_root}
 use Rattle.fk_sim_block.specs.Owner.{Owner}
+use Rattle.fk_sim_block.specs.Next.{OpAt}
 use Rattle.fk_sim_block.specs.Ready.{is_no_step}
 use Rattle.fk_sim_block.specs.Node.{Nestings}
 use Rattle.fk_sim_block.specs.Lockstep.{IsInStart}
-use Rattle.fk_sim_block.specs.Parts.{IsInPart}
+use Rattle.fk_sim_block.specs.Parts.{IsAskedToSplit, IsInPart}
 use Rattle.fk_sim_rounds.specs.Next.{landed}
 use Rattle.fk_sim_rounds.specs.After.{runners_of}
 use Rattle.fk_sim_rounds.specs.Program.{MayMoveInStep, MayInStep, IsInStep, AllInStep}
@@ -67,7 +71,7 @@ one_of (l ∷ []) e = (l, refl)
 one_of (l ∷ m ∷ outer) e = absurd (omega (arith, e))
 
 module _ (core : List CoreOp) (nestings : Nestings) (main : ℕ) (setting : Setting) (s : State Position) (ps : List Owner) (g : ℕ) (list : IsOfTree core nestings main)
-    (is : IsReached core nestings setting s) (runners : s.runners ≡ runners_of ps) (kind : trees.kind s.tree g ≡ Some Lockstep) where
+    (is : IsReached core nestings setting s) (few : setting.processors ≤ 1024) (runners : s.runners ≡ runners_of ps) (kind : trees.kind s.tree g ≡ Some Lockstep) where
   module _ (h : ℕ) (p : Owner) (at : slice_get s.runners h ≡ Some p.runner) (leads : Leading core p.runner.left) where
     spaces_are : All IsSpace (map (λ (l : Level). l.space) (p.runner.has.level ∷ p.runner.has.outer))
     spaces_are = is.spaces h p.runner at
@@ -75,22 +79,19 @@ module _ (core : List CoreOp) (nestings : Nestings) (main : ℕ) (setting : Sett
     -- in a part, which it is about to leave
     in_part : (around beyond : Level) (further : List Level) → p.runner.has.outer ≡ around ∷ beyond ∷ further → leaves_part leads.operation ≡ true → IsInPart nestings (landed core p)
     in_part around beyond further e leaves =
-        let placed = is.stands.tree.placed h p.runner at in
-        let levels = subst (λ (ls : List Level). AreLevels setting s.tree (ranges_of s) h (s.tree.places h) p.runner.has.level ls) e placed.levels in
-        let numbers = levels.2 in
         let spaces = subst (λ (ls : List Level). All IsSpace (map (λ (l : Level). l.space) (p.runner.has.level ∷ ls))) e spaces_are in
         let long : length p.runner.has.outer ≡ suc (suc (length further)) = ap (λ (ls : List Level). length ls) e in
+        let saved = (is.saves h p.runner at).some leads.op leads.operation leads.at (omega (arith, long)) leaves in
         record {
           around = around;
           beyond = beyond;
           further = further;
           outer = e;
-          number = sym numbers.number;
-          rank = sym numbers.rank;
           is_space =
               All-head IsSpace around.space (map (λ (l : Level). l.space) (beyond ∷ further))
               (All-tail IsSpace p.runner.has.level.space (map (λ (l : Level). l.space) (around ∷ beyond ∷ further)) spaces);
-          saved = (is.saves h p.runner at).some leads.op leads.operation leads.at (omega (arith, long)) leaves;
+          saved = saved;
+          numbers = (is.numbers h p.runner at).around leads.op leads.operation around (beyond ∷ further) leads.at leaves e saved;
         }
 
     part_at : (n : ℕ) → length p.runner.has.outer ≡ suc (suc n) → leaves_part leads.operation ≡ true → IsInPart nestings (landed core p)
@@ -110,8 +111,26 @@ module _ (core : List CoreOp) (nestings : Nestings) (main : ℕ) (setting : Sett
     ends_at zero e leaves = inl (start_at e)
     ends_at (suc n) e leaves = inr (part_at n e leaves)
 
+    -- what a `fork` saves of its level
+    few_there : p.runner.has.level.size ≤ 1024
+    few_there = let size = level_size p.runner.has.outer (is.stands.tree.placed h p.runner at).levels in omega (arith, few, size)
+      where
+        level_size : (outer : List Level) → AreLevels setting s.tree (ranges_of s) h (s.tree.places h) p.runner.has.level outer → p.runner.has.level.size ≤ setting.processors
+        level_size [] levels = let same = ap (λ (l : Level). l.size) levels.1 in omega (arith, same)
+        level_size (l ∷ outer) levels =
+            let n = s.tree.places h in
+            let most = length-between 0 setting.processors (trees.members s.tree n) (is.stands.sound.ascending n) (λ k has. let lt = is.stands.sound.within n k has in (omega arith, lt)) in
+            let same = levels.1.size in
+            omega (arith, most, same)
+
+    asked : (by : SplitKind) → leads.operation ≡ o.Split by → IsAskedToSplit by nestings (landed core p)
+    asked Fork same =
+        let numbers = is.numbers h p.runner at in
+        record { number = numbers.small; size = few_there; frames = numbers.taken leads.op (subst (λ (op : Operation). OpAt core (landing core p.runner.left.at) leads.op op) same leads.at) }
+    asked by same = tt
+
     may_move : (n : ℕ) → length p.runner.has.outer ≡ suc n → (op : Operation) → leads.operation ≡ op → MovesAt n op → MayMoveInStep nestings op (landed core p)
-    may_move n e (o.Split by) same moves = (moves, All-head IsSpace p.runner.has.level.space (map (λ (l : Level). l.space) p.runner.has.outer) spaces_are)
+    may_move n e (o.Split by) same moves = (All-head IsSpace p.runner.has.level.space (map (λ (l : Level). l.space) p.runner.has.outer) spaces_are, asked by same)
     may_move n e o.Shrink same moves = shrinks_at n moves e (ap leaves_part same)
     may_move n e o.End same moves = ends_at n e (ap leaves_part same)
     may_move n e op same moves = absurd moves
@@ -159,4 +178,4 @@ reached_groups_have_next core nestings main setting s nodes ps g list is few pla
     let same : n ≡ s.tree.places (0 + i) = first_is n (s.tree.places (0 + i)) (sym at ∙ here) in
     let none : 0 + i ≡ i = omega arith in
     subst (λ j. IsInStep core nestings j (landed core p)) (sym none)
-    (one_in_step core nestings main setting s ps g list is runners kind i p there (ap s.tree.places (sym none) ∙ sym same ∙ e))))
+    (one_in_step core nestings main setting s ps g list is few runners kind i p there (ap s.tree.places (sym none) ∙ sym same ∙ e))))

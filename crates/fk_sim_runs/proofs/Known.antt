@@ -4,8 +4,6 @@ use Rattle.std.specs.Prelude.{is_none}
 use Rattle.std.proofs.lemmas.Bool.{cond-true}
 use Rattle.std.proofs.lemmas.List.{length-map}
 use Rattle.fk_space.specs.Space.{Space}
-use Rattle.fk_meaning_operation.specs.declared.operation.SplitKind.{SplitKind}
-use Rattle.fk_meaning_operation.specs.declared.operation.SplitKind.TheVariants.{Fork}
 use Rattle.fk_meaning_operation.specs.declared.operation.Operation.{Operation}
 use Rattle.fk_meaning_operation.specs.declared.operation.Operation.TheVariants as o
 use Rattle.fk_tree.specs.Tree as trees
@@ -29,7 +27,6 @@ use Rattle.fk_lockstep_tree.specs.Rounds.{IsSingle}
 use Rattle.fk_lockstep_tree.proofs.Acts.{stepping_length}
 use Rattle.fk_lockstep_tree.proofs.Known.{rounds_are_known}
 use Rattle.fk_sim_block.specs.Owner.{Commons, Owner, Doing, core_source}
-use Rattle.fk_sim_block.specs.Parts.{is_implicit}
 use Rattle.fk_sim_rounds.specs.After.{actings}
 use Rattle.fk_sim_rounds.specs.Next.{JumpsLead}
 use Rattle.fk_sim_rounds.specs.Rounds.{AllStandIn, StepIsKnown, IsKnownRound}
@@ -55,15 +52,11 @@ counts_single (s ∷ stages) (suc h) = counts_single stages h
 abbrev IsKnown : Tree → List Doing → Type 0
 IsKnown tree ds = IsKnownRound tree ds ⊎ BeginsGroup tree ds
 
-implicit : (by : SplitKind) → by ≢ Fork → is_implicit by ≡ true
-implicit Fork ne = absurd (ne refl)
-implicit by ne = refl
-
 -- each step that fits is known, but the beginning of a group
 known_step : (tree : Tree) (g : ℕ) (op : Operation) → op ≢ o.Begin → StepFits tree g op → AllStandIn tree g → StepIsKnown tree g op
 known_step tree g o.Begin other fits stand = absurd (other refl)
 known_step tree g o.Resume other fits stand = (fits, stand)
-known_step tree g (o.Split by) other fits stand = (fits.0, implicit by fits.1)
+known_step tree g (o.Split by) other fits stand = fits
 known_step tree g o.Shrink other fits stand = fits
 known_step tree g o.Farm other fits stand = fits
 known_step tree g o.Seq other fits stand = fits
@@ -108,6 +101,7 @@ module _ (p : ℕ) (tree : Tree) (sound : IsSound p tree) (ds : List Doing) (man
         does = known.does;
         steps = known.steps;
         known = λ g op e. known_step tree g op (not_begin other g op e) (known.fits g op e) (known.may g op e).stand;
+        divide = known.divide;
       }))
       (begins_or_not (known.does 0))
     where
@@ -142,6 +136,7 @@ module _ (core : List CoreOp) (leads : JumpsLead core) (setting : Setting) (s : 
       (record {
         left = ap landing_of t.left;
         branch = λ step onward e is. t.branch step onward (sym (next_landed core leads r'.0.left) ∙ e) is;
+        divide = λ step by e is. t.divide step by (sym (next_landed core leads r'.0.left) ∙ e) is;
         groups = t.groups;
         size = t.size;
       }))

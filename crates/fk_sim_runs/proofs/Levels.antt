@@ -61,7 +61,8 @@ waiting_groups zero = refl
 waiting_groups (suc n) = refl
 
 divided_groups : (by : SplitKind) (n : ℕ) (onward : Bool) (to : Where) → divides by n onward ≡ Some to → groups_at to ≡ groups_behind (o.Split by) onward (suc n)
-divided_groups s.Fork n onward to e = absurd (cc)
+divided_groups s.Fork n true to e = comes_to (InGroup (suc n)) to e
+divided_groups s.Fork n false to e = comes_to (Waits (suc n)) to e
 divided_groups s.IfElse n onward to e = comes_to (InGroup (suc n)) to e
 divided_groups s.IfAlone n true to e = comes_to (InGroup (suc n)) to e
 divided_groups s.IfAlone n false to e = comes_to (Waits (suc n)) to e
@@ -212,17 +213,17 @@ around_step highest lowest size place to op p e is = by (changes_tree op) refl
 nesting_framed : (words : ℕ) (ns : List Nest) → nesting (take_frame words ns) ≡ nesting ns
 nesting_framed words [] = refl
 nesting_framed words (OfFunction frame ∷ ns) = refl
-nesting_framed words (OfPart frame ∷ ns) = refl
+nesting_framed words (OfPart b frame ∷ ns) = refl
 
 nesting_left : (ns : List Nest) (outside : ℕ) → IsInPart ns → nesting (tail ns) + outside ≡ (nesting ns + outside) - 1
 nesting_left [] outside part = absurd part
 nesting_left (OfFunction frame ∷ ns) outside part = absurd part
-nesting_left (OfPart frame ∷ ns) outside part = omega arith
+nesting_left (OfPart b frame ∷ ns) outside part = omega arith
 
 some_part : (ns : List Nest) → IsInPart ns → 1 ≤ nesting ns
 some_part [] part = absurd part
 some_part (OfFunction frame ∷ ns) part = absurd part
-some_part (OfPart frame ∷ ns) part = omega arith
+some_part (OfPart b frame ∷ ns) part = omega arith
 
 module _ (core : List CoreOp) (main : ℕ) (local : HasLocalFrames core main) where
   abbrev At : (outside index : ℕ) → Type 0
@@ -293,7 +294,7 @@ module _ (core : List CoreOp) (main : ℕ) (local : HasLocalFrames core main) wh
   behind_called (o.Split by) i outside plain asks group stands onward other none = let few = stands.called other none in absurd (omega (arith, few, none, group))
   behind_called o.Shrink i outside plain asks group stands onward other none =
       let few = stands.called other none in
-      let some = some_part (local.nests i) asks in
+      let some = some_part (local.nests i) asks.0 in
       absurd (omega (arith, few, some))
   behind_called o.End i outside plain asks group stands onward other none =
       let few = stands.called other none in
@@ -313,7 +314,7 @@ module _ (core : List CoreOp) (main : ℕ) (local : HasLocalFrames core main) wh
   behind_parts (o.Split by) i outside plain asks true = omega arith
   behind_parts (o.Split by) i outside plain asks false = refl
   behind_parts o.Shrink i outside plain asks true = refl
-  behind_parts o.Shrink i outside plain asks false = nesting_left (local.nests i) outside asks
+  behind_parts o.Shrink i outside plain asks false = nesting_left (local.nests i) outside asks.0
   behind_parts o.End i outside plain asks onward = nesting_left (local.nests i) outside asks
   behind_parts (o.Frame number words) i outside plain asks onward = ap (λ (n : ℕ). n + outside) (nesting_framed words (local.nests i))
   behind_parts (o.Enter arguments) i outside plain asks onward = absurd plain
@@ -480,8 +481,8 @@ module _ (core : List CoreOp) (main : ℕ) (local : HasLocalFrames core main) wh
       by true e = let none = stands.outermost e in omega (arith, none, many)
       by false e = let some = some_part (local.nests i) part in omega (arith, some)
 
-  part_asked : (op : Operation) (i : ℕ) → leaves_part op ≡ true → AsksAt op i → IsInPart (local.nests i)
-  part_asked o.Shrink i leaves asks = asks
+  pub part_asked : (op : Operation) (i : ℕ) → leaves_part op ≡ true → AsksAt op i → IsInPart (local.nests i)
+  part_asked o.Shrink i leaves asks = asks.0
   part_asked o.End i leaves asks = asks
   part_asked op i leaves asks = absurd (cc)
 

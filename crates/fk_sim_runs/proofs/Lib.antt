@@ -7,6 +7,8 @@ pub mod Ways
 pub mod Root
 -- the frames of parts
 pub mod Finds
+-- what they save of `@` and `$`
+pub mod Numbers
 -- what each processor does next
 pub mod Nexts
 -- and each group

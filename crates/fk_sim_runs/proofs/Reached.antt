@@ -40,6 +40,7 @@ use Rattle.fk_sim_runs.proofs.Trees.{is_space}
 use Rattle.fk_sim_runs.proofs.Levels.{levels_are_told, saves_levels}
 use Rattle.fk_sim_runs.proofs.Ways.{leading, goes_within}
 use Rattle.fk_sim_runs.proofs.Finds.{finds_frame}
+use Rattle.fk_sim_runs.proofs.Numbers.{saves_numbers}
 
 abbrev IsThere : List CoreOp → Position → Type 0
 IsThere core w = StaysInList core w ⊎ (w ≡ the_end core)
@@ -160,6 +161,7 @@ runs_reach stay core nestings main list words firsts input p schedule some given
           let leads = main_goes core nestings main list words firsts input p some space in
           let there = all_there core nestings main list words firsts input p given.room schedule possible single none h r at in
           saves_levels core main list.frames nestings list.levels r (levels_are_told core main list.frames leads words firsts input p schedule h r at) (callers_within core r.left there);
+      numbers = λ h r at. saves_numbers core nestings main list setting r (lists_tell_frames core main list.frames words firsts input p schedule space h r at);
       within = all_there core nestings main list words firsts input p given.room schedule possible single none;
       depth = λ h r op at stands. list.well_formed.depths words firsts input p schedule possible none h r op at stands;
       may = λ h r op operation at stands is_read. list.may words firsts input p schedule space h r op operation at stands is_read;

@@ -5,8 +5,6 @@ use Rattle.std.proofs.lemmas.List.Elements.{All-cons, All-head, All-tail}
 use Rattle.fk_meaning_operation.specs.Kinds.{class_of}
 use Rattle.fk_meaning_operation.specs.declared.kinds.Class.{Class}
 use Rattle.fk_meaning_operation.specs.declared.kinds.Class.TheVariants as class
-use Rattle.fk_meaning_operation.specs.declared.operation.SplitKind.{SplitKind}
-use Rattle.fk_meaning_operation.specs.declared.operation.SplitKind.TheVariants.{Fork}
 use Rattle.fk_meaning_operation.specs.declared.operation.Operation.{Operation}
 use Rattle.fk_meaning_operation.specs.declared.operation.Operation.TheVariants as o
 use Rattle.fk_tree.specs.declared.node.Kind.{Kind}
@@ -20,10 +18,9 @@ use Rattle.fk_sim_block.specs.Next.{OpAt, step_at}
 use Rattle.fk_sim_block.specs.Ready.{is_no_step, MayDo}
 use Rattle.fk_sim_block.specs.Lists.{StaysInList}
 use Rattle.fk_sim_block.specs.Node.{Nestings}
-use Rattle.fk_sim_block.specs.Parts.{is_implicit}
 use Rattle.fk_sim_block.specs.Law.{is_shared_step}
 use Rattle.fk_sim_rounds.proofs.Way.{no_jump}
-use Rattle.fk_lockstep_tree.specs.Where.{Where, InRoot, Waits, InGroup, InBody, BehindBody, stays, divides, shrinks, goes}
+use Rattle.fk_lockstep_tree.specs.Where.{Where, InRoot, Waits, InGroup, InBody, BehindBody, stays, shrinks, goes}
 use Rattle.fk_lockstep_tree.specs.Placed.{where_in}
 use Rattle.fk_sim_runs.specs.Lists.{IsOfTree}
 use Rattle.fk_sim_runs.specs.Reached.{the_end}
@@ -32,7 +29,7 @@ use Rattle.fk_sim_runs.specs.Reached.{the_end}
 
 -- the steps by which members of a group come to other nodes
 abbrev pub MovesAt : (depth : ℕ) → Operation → Type 0
-MovesAt n (o.Split by) = is_implicit by ≡ true
+MovesAt n (o.Split by) = Unit {0}
 MovesAt n o.Shrink = n ≢ 0
 MovesAt n o.End = Unit {0}
 MovesAt n op = ⊥
@@ -49,10 +46,6 @@ stays_plain class.Local place to e = refl
 stays_plain class.Request place to e = refl
 stays_plain class.Tree place to e = absurd (cc)
 
-not_fork : (by : SplitKind) (n : ℕ) (onward : Bool) (to : Where) → divides by n onward ≡ Some to → is_implicit by ≡ true
-not_fork Fork n onward to e = absurd (cc)
-not_fork by n onward to e = refl
-
 not_start : (n : ℕ) (onward : Bool) (to : Where) → shrinks n onward ≡ Some to → n ≢ 0
 not_start zero onward to e = absurd (cc)
 not_start (suc n) onward to e = λ zero_is. omega (arith, zero_is)
@@ -68,7 +61,7 @@ step_of_place (Waits n) op onward to e = absurd (cc)
 step_of_place (InGroup n) o.Agree onward to e = inr (inl refl)
 step_of_place (InGroup n) (o.Frame nesting words) onward to e = inr (inl refl)
 step_of_place (InGroup n) o.Block onward to e = inr (inl refl)
-step_of_place (InGroup n) (o.Split by) onward to e = inr (inr (not_fork by n onward to e))
+step_of_place (InGroup n) (o.Split by) onward to e = inr (inr tt)
 step_of_place (InGroup n) o.Shrink onward to e = inr (inr (not_start n onward to e))
 step_of_place (InGroup n) o.Farm onward to e = inr (inl refl)
 step_of_place (InGroup n) o.Seq onward to e = inr (inl refl)

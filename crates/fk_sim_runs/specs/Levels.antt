@@ -1,9 +1,11 @@
 -- The levels that the frames of calls save, by the parts that the calls are in.
-use Rattle.std.specs.Prelude.{◌≡◌, ℕ, ◌+◌, ◌<◌, ◌≤◌, Bool, true, false, List, [], ◌∷◌, length, Some}
-use Rattle.std.specs.Prelude.{slice_get}
+use Rattle.std.specs.Prelude.{◌≡◌, ℕ, suc, ◌+◌, ◌-◌, ◌^◌, ◌<◌, ◌≤◌, Bool, true, false, List, []}
+use Rattle.std.specs.Prelude.{◌∷◌, length, Some, slice_get}
 use Rattle.fk_meaning_operation.specs.declared.operation.Operation.{Operation}
-use Rattle.fk_meaning_operation.specs.declared.operation.Operation.TheVariants.{Shrink, End}
-use Rattle.fk_meaning.specs.Processor.{setting_of}
+use Rattle.fk_meaning_operation.specs.declared.operation.Operation.TheVariants.{Split, Shrink}
+use Rattle.fk_meaning_operation.specs.declared.operation.Operation.TheVariants.{End}
+use Rattle.fk_meaning_operation.specs.declared.operation.SplitKind.TheVariants.{Fork}
+use Rattle.fk_meaning.specs.Processor.{Level, setting_of}
 use Rattle.fk_meaning.specs.Round.{Runner}
 use Rattle.fk_meaning.specs.Schedule.{Schedule, run}
 use Rattle.fk_core.specs.declared.op.CoreOp.{CoreOp}
@@ -14,6 +16,7 @@ use Rattle.fk_lockstep_tree.specs.Where.{InRoot, Goes}
 use Rattle.fk_sim_block.specs.Next.{OpAt}
 use Rattle.fk_sim_block.specs.Node.{Nestings}
 use Rattle.fk_sim_block.specs.Lockstep.{NoneSaved}
+use Rattle.fk_sim_block.specs.Parts.{HasFrameWords, HasNumbersBy}
 
 -- The outermost part that a processor is in is the group of a `start`, in `main`. So no part is
 -- around `main`, and a call of another function, with these nests, has parts of its own only where
@@ -71,3 +74,17 @@ pub record SavesLevels (core : List CoreOp) (nestings : Nestings)
   pub some : (op : CoreOp) (operation : Operation)
       → OpAt core (landing core r.left.at) op operation → 2 ≤ length r.has.outer
       → leaves_part operation ≡ true → 0 < nestings.levels (landing core r.left.at)
+
+-- `@` is small. Where a processor is about to `fork` in a part of its call, it is told how many words
+-- the frames of its group have taken. Where it is about to leave a part of its call, it has the `@`
+-- and `$` of the group around, unless a `fork` left that level.
+pub record SavesNumbers (core : List CoreOp) (nestings : Nestings)
+    (r : Runner Position) : Type 0 where
+  pub small : r.has.level.number < 2 ^ 16
+  pub taken : (op : CoreOp) → let i = landing core r.left.at in OpAt core i op (Split Fork)
+      → HasFrameWords (nestings.levels i) (nestings.forks (suc i) (nestings.levels i)) r.has.level
+  pub around : (op : CoreOp) (operation : Operation) (l : Level) (further : List Level)
+      → let i = landing core r.left.at in
+      OpAt core i op operation → leaves_part operation ≡ true → r.has.outer ≡ l ∷ further
+      → 0 < nestings.levels i
+      → HasNumbersBy (nestings.forks i (nestings.levels i - 1)) l r.has.level

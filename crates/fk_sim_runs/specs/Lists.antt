@@ -4,7 +4,7 @@ use Rattle.fk_meaning_operation.specs.declared.operation.Operation.{Operation}
 use Rattle.fk_core.specs.declared.op.CoreOp.{CoreOp}
 use Rattle.fk_core.specs.Next.{position, landing, is_jump, follows, next}
 use Rattle.fk_core.specs.WellFormed.{IsOperation, IsWellFormed}
-use Rattle.fk_lockstep_frames.specs.Nests.{nesting, levels_of}
+use Rattle.fk_lockstep_frames.specs.Nests.{nesting, levels_of, forks_of}
 use Rattle.fk_lockstep_frames.specs.Lists.{HasLocalFrames}
 use Rattle.fk_lockstep_tree.specs.Runs.{AlwaysInTree}
 use Rattle.fk_sim_block.specs.Next.{OpAt}
@@ -27,6 +27,9 @@ pub record IsOfTree (core : List CoreOp) (nestings : Nestings) (main : ℕ) : Ty
   pub levels : (i : ℕ) → i < length core
       → nestings.levels i ≡ levels_of (frames.in_main i) (frames.nests i)
   pub nest : (i : ℕ) → i < length core → nestings.nest i ≡ nesting (frames.nests i)
+  -- Of each level it is told whether a `fork` left it.
+  pub forks : (i level : ℕ) → i < length core → level < nestings.levels i
+      → nestings.forks i level ≡ forks_of (frames.in_main i) (frames.nests i) level
   -- In every such run processors are where their operations, the tree and their levels tell. The
   -- members of a group in lockstep are at one index and have one space, and those who begin a group
   -- are at one index.

@@ -16,7 +16,7 @@ use Rattle.fk_sim_rounds.specs.InRange.{AreGiven}
 use Rattle.fk_sim_block.specs.Node.{Nestings}
 use Rattle.fk_sim_block.specs.Found.{FindsFrame}
 use Rattle.fk_sim_runs.specs.Lists.{IsOfTree}
-use Rattle.fk_sim_runs.specs.Levels.{SavesLevels}
+use Rattle.fk_sim_runs.specs.Levels.{SavesLevels, SavesNumbers}
 
 -- The position of a processor with nothing left to do.
 abbrev pub the_end : List CoreOp → Position
@@ -27,8 +27,8 @@ abbrev pub HasSpaces : Processor → Type 0
 HasSpaces p = All IsSpace (spaces_of p)
 
 -- What is known of a reached state: processors are where their operations, the tree and their
--- levels tell, their levels have spaces, and their frames save these levels. Each processor is in
--- the list or at its end, has as many values as its operation expects, may do it, finds the frame
+-- levels tell, their levels have spaces, and their frames save these levels and their numbers. Each
+-- processor is in the list or at its end, has as many values as its operation expects, may do it, finds the frame
 -- that it asks for, and has words alone.
 pub record IsReached (core : List CoreOp) (nestings : Nestings) (setting : Setting)
     (s : State Position) : Type 0 where
@@ -36,6 +36,8 @@ pub record IsReached (core : List CoreOp) (nestings : Nestings) (setting : Setti
   pub spaces : (h : ℕ) (r : Runner Position) → slice_get s.runners h ≡ Some r → HasSpaces r.has
   pub saves : (h : ℕ) (r : Runner Position) → slice_get s.runners h ≡ Some r
       → SavesLevels core nestings r
+  pub numbers : (h : ℕ) (r : Runner Position) → slice_get s.runners h ≡ Some r
+      → SavesNumbers core nestings r
   pub within : (h : ℕ) (r : Runner Position) → slice_get s.runners h ≡ Some r
       → StaysInList core r.left ⊎ (r.left ≡ the_end core)
   pub depth : (h : ℕ) (r : Runner Position) (op : CoreOp) → slice_get s.runners h ≡ Some r

@@ -1,0 +1,90 @@
+-- How the group around each index of a flat list was left, where a `fork` divided it: its members
+-- have taken a frame of so many words in the part around, and give it back at the end of theirs.
+use Rattle.std.specs.Prelude.{ℕ, zero, suc, ◌==◌, Bool, List, [], ◌∷◌, map, length, slice_get, Option}
+use Rattle.std.specs.Prelude.{Some, None, if◌then◌else◌}
+use Rattle.fk_meaning_operation.specs.declared.operation.SplitKind.{SplitKind}
+use Rattle.fk_meaning_operation.specs.declared.operation.SplitKind.TheVariants.{Fork}
+use Rattle.fk_meaning_operation.specs.declared.operation.Operation.{Operation}
+use Rattle.fk_meaning_operation.specs.declared.operation.Operation.TheVariants.{Split, Resume}
+use Rattle.fk_meaning_operation.specs.declared.operation.Operation.TheVariants.{Frame, Begin, End}
+use Rattle.fk_core.specs.declared.op.CoreOp.{CoreOp}
+use Rattle.fk_core_levels.specs.Count.{read, opens}
+
+-- A part that is open: whether a `fork` divided the group around, and how many words the frame of
+-- that group has.
+pub record OpenPart : Type 0 where
+  pub fork : Option ℕ
+  pub words : ℕ
+
+-- The open parts at an operation, the innermost first, and how many words its frame has.
+pub record Parts : Type 0 where
+  pub open : List OpenPart
+  pub words : ℕ
+
+abbrev pub no_part : Parts
+no_part = record { open = []; words = 0 }
+
+-- At a resume the parts before it have ended.
+abbrev pub closed : List OpenPart → Parts
+closed [] = no_part
+closed (part ∷ open) = record { open = open; words = part.words }
+
+abbrev pub come_to : Option Operation → Parts → Parts
+come_to (Some Resume) parts = closed parts.open
+come_to operation parts = parts
+
+-- How the group around the innermost part was left.
+abbrev pub fork_of : List OpenPart → Option ℕ
+fork_of [] = None
+fork_of (part ∷ open) = part.fork
+
+-- How the group at a level was left. Level 0 is the outermost.
+abbrev pub fork_at : List OpenPart → (level : ℕ) → Option ℕ
+fork_at [] level = None
+fork_at (part ∷ open) level = if length open == level then part.fork else fork_at open level
+
+abbrev pub left_by : SplitKind → (words : ℕ) → Option ℕ
+left_by Fork words = Some words
+left_by by words = None
+
+abbrev pub opened : SplitKind → Parts → Parts
+opened by parts = record {
+    open = record { fork = left_by by parts.words; words = parts.words } ∷ parts.open;
+    words = 0;
+  }
+
+-- A frame of number 0 is the function's own, and in no part.
+abbrev pub taken : (number words : ℕ) → Parts → Parts
+taken zero words parts = parts
+taken (suc number) words parts = record parts { words = words }
+
+-- A split opens a part without a frame, and the next part begins after the end of another.
+abbrev pub leave : Option Operation → Parts → Parts
+leave (Some (Split by)) parts = opened by parts
+leave (Some (Frame number words)) parts = taken number words parts
+leave (Some Begin) parts = record parts { words = 0 }
+leave (Some End) parts = record parts { words = 0 }
+leave operation parts = parts
+
+-- In the opening of a call no part is open.
+abbrev pub open_from : Parts → (opening : Bool) → List CoreOp → List (List OpenPart)
+open_from parts opening [] = []
+open_from parts opening (op ∷ ops) =
+    let there = come_to (read op) parts in
+    (if opening then [] else there.open)
+    ∷ open_from (leave (read op) there) (opens opening op) ops
+
+abbrev pub open_parts : List CoreOp → List (List OpenPart)
+open_parts ops = open_from no_part false ops
+
+-- At each index, how the group around the innermost part was left.
+abbrev pub forks : List CoreOp → List (Option ℕ)
+forks ops = map fork_of (open_parts ops)
+
+abbrev pub fork_in : Option (List OpenPart) → (level : ℕ) → Option ℕ
+fork_in None level = None
+fork_in (Some open) level = fork_at open level
+
+-- At an index, how the group at a level was left.
+abbrev pub level_forks : List CoreOp → (index level : ℕ) → Option ℕ
+level_forks ops index level = fork_in (slice_get (open_parts ops) index) level
