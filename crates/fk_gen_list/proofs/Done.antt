@@ -25,7 +25,7 @@ use Rattle.fk_gen_list.specs.Generable.{IsGenerable, DoesTheList, GivesWholeCode
 use Rattle.fk_gen_list.specs.Kinds.{HasBlockOf, block_of}
 use Rattle.fk_gen_list.specs.Layout.{placed, all_placed, front, place, all_lines, IsLaid}
 use Rattle.fk_gen_list.proofs.InImage.{IsAssembled, bound_in}
-use Rattle.fk_gen_list.proofs.Laid.{places, has_labels, has_opening, has_shared, has_start, has_heap, has_one_part, has_two_parts, has_block}
+use Rattle.fk_gen_list.proofs.Laid.{places, has_labels, has_opening, has_shared, has_start, has_heap, has_one_part, has_two_parts, has_fork, has_block}
 use Rattle.fk_gen_list.proofs.AllPlaced.{placed_get, all_from}
 use Rattle.fk_gen_list.proofs.Clears.{few_clears}
 use Rattle.fk_gen_list.proofs.Whole.{assembled}
@@ -125,6 +125,7 @@ module _ (core : List CoreOp) (kept : List Set) (saved : List Levels) (main : â„
               parts = record {
                 one = has_one_part block_of opening globals ops a laid image built;
                 two = has_two_parts block_of opening globals ops a laid image built;
+                fork = has_fork block_of opening globals ops a laid image built;
               };
             },
           ),
