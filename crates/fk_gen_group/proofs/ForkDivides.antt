@@ -325,7 +325,7 @@ module _ (core : List CoreOp) (image : Image) (bound : ℕ → ℕ) (places : Pl
             at = at_next c e;
             low = λ x lt ne. near c x ne ∙ ap (λ l. l x) has.local ∙ written.below x lt;
             head = λ some. head_is c e some;
-            high = λ x le. near c x (λ f. omega (arith, below, le, f)) ∙ ap (λ l. l x) has.local ∙ written.above x (omega (arith, below, le));
+            high = λ x le. near c x (λ f. omega (arith, begins, below, le, f)) ∙ ap (λ l. l x) has.local ∙ written.above x (omega (arith, below, le));
             saved = by_fork (nestings.forks (suc i) (nestings.levels i)) refl;
             node = kept.1 10 ∙ has.node ∙ ap (λ (s : Space). control_address s.low) child;
             size = kept.1 20 ∙ has.size_is;

@@ -19,11 +19,11 @@ use Rattle.fk_core.specs.Next.{is_jump}
 use Rattle.fk_core.specs.Numbers.{operation_of}
 use Rattle.fk_meaning_store.specs.Store.{address_of}
 use Rattle.fk_isa.specs.declared.instruction.Instruction.{Instruction}
-use Rattle.fk_isa.specs.declared.instruction.Instruction.TheVariants.{Add}
+use Rattle.fk_isa.specs.declared.instruction.Instruction.TheVariants.{Add, Jal, Sw}
 use Rattle.fk_asm.specs.Block.{MarkedLine}
 use Rattle.fk_gen.specs.declared.placed.Levels.{Levels}
 use Rattle.fk_gen.specs.declared.placed.Placed.{Placed}
-use Rattle.fk_gen.specs.Lines.{quiet, commits, first_commits, high_part, load_by, load_number, add_by, add_number}
+use Rattle.fk_gen.specs.Lines.{quiet, commits, first_commits, high_part, load_by, load_number, add_by, add_number, goes_to, at_value, label_of}
 use Rattle.fk_gen.specs.Registers.{t0, t1}
 use Rattle.fk_gen.specs.Operands.{operand, result}
 use Rattle.fk_core_liveness.specs.declared.set.Set.{Set}
