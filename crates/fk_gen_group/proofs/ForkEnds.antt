@@ -208,9 +208,10 @@ module _ (core : List CoreOp) (image : Image) (bound : ℕ → ℕ) (places : Pl
         (subst (λ a. HasOuter places nestings setting.processors (number_of p) m.hart.local (a ∷ callers) p.runner.has.outer) en.index came.member.node.outer.0)) in
         let levels = opens.levels in
         let last : nestings.levels i - 1 ≡ nestings.levels op.target = omega arith in
-        let some : nestings.forks i (nestings.levels op.target) ≡ Some words = ap (nestings.forks i) (sym last) ∙ forked in
-        (subst (λ f. HasLevelBy f m.hart.local (frames_word (length callers)) (saved_at places nestings (length callers) i + 4 * nestings.levels op.target) (nestings.levels op.target) part.around (part.beyond ∷ part.further)) some told.0,
-        told.1)
+        let some : nestings.forks i (nestings.levels op.target) ≡ Some words = ap (nestings.forks i) (sym last) ∙ forked in (
+          subst (λ f. HasLevelBy f m.hart.local (frames_word (length callers)) (saved_at places nestings (length callers) i + 4 * nestings.levels op.target) (nestings.levels op.target) part.around (part.beyond ∷ part.further)) some told.0,
+          told.1,
+        )
 
     word_at : (w k : ℕ) → w ≡ out + k → IsSlot places n w m.hart → m.hart.local (slot_of w m.hart) ≡ m.hart.local (saved_at places nestings (length callers) i + 4 * nestings.levels op.target + k)
     word_at w k e slot =

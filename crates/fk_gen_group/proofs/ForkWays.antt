@@ -157,7 +157,6 @@ saves told first h s word size share index rank b =
     stays : (r : ℕ) → 7 < r → r < 28 → h.registers r ≡ first.registers r
     stays r lt less = b.others r (λ e. omega arith) (λ e. omega arith) (λ e. omega arith) (λ e. omega arith) (λ e. omega arith) (λ e. omega arith) (λ e. omega arith) (λ e. omega arith)
 
-
 -- ---- the ways
 
 module _ (image : Image) (bound : ℕ → ℕ) (places : Places) (shared : HasParts image bound) (t : MachineSetting) (number link target site : ℕ)

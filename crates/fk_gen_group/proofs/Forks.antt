@@ -87,8 +87,7 @@ module _ (core : List CoreOp) (image : Image) (bound : ℕ → ℕ) (places : Pl
       let within = at.0 in
       let address = at.1 in
       let index : value_word place' m.hart ≡ frame_end n - place' = omega arith in
-      let many = length_before k vs in
-      (
+      let many = length_before k vs in (
         omega arith,
         address ∙ ap local_address (sym index),
         ap m.hart.local index ∙ operand_is (value_in m.hart n) place' (before k vs) (values_before k (value_in m.hart n) vs en.at.stands.running.values) (omega arith) (omega arith),

@@ -301,10 +301,7 @@ fn emit_away(into: &mut Assembler, target: u32) -> Result<(), AllocError>
 {
     emit_lines(
         into,
-        &[BlockLine::goes_to(
-            Instruction::Jal(ZERO, 0),
-            FIRST_LABEL + target,
-        )],
+        &[BlockLine::goes_to(Instruction::Jal(ZERO, 0), FIRST_LABEL + target)],
     )
 }
 
@@ -375,7 +372,10 @@ fn emit_header_frames(into: &mut Assembler) -> Result<(), AllocError>
     ensures begun { OnErr result (HasBegun s.header_frames into.old into.new) }
 {
     let place = at_value(FRAMES_PLACE);
-    emit_lines(into, &[BlockLine::quiet(Instruction::Lw(FRAMES, END, place))])
+    emit_lines(
+        into,
+        &[BlockLine::quiet(Instruction::Lw(FRAMES, END, place))],
+    )
 }
 
 // A line that may do the operation.
