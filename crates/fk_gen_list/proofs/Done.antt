@@ -66,6 +66,7 @@ module _ (core : List CoreOp) (kept : List Set) (saved : List Levels) (main : �
       (has_operands core is.frames i here.back op operation stands fits is.blocks short (omega (arith, back))) (omega arith)
       (λ step. let there : op.target < length core = is.blocks.targets i op operation stands (step_has_target operation step) in omega arith)
       (is.levels i op operation stands)
+      (is.values i op operation stands)
       (is.blocks.operations i op operation stands)
 
   has_by : length core < 2 ^ 31 → (i : ℕ) (op : CoreOp) → slice_get core i ≡ Some op → (jump : Bool) → is_jump op ≡ jump → HasBlockOf (placed core globals kept saved i op)

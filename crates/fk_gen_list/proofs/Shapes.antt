@@ -250,12 +250,6 @@ block_all n p few jumps leads = by (kind_of p.op)
 
 -- ---- in a list
 
--- a `fork` has no block
-no_fork : {A : Type 0} → HasOwnBlock (o.Split split.Fork) → A
-no_fork (inl alone) = absurd (cc)
-no_fork (inr (inl halt)) = absurd (cc)
-no_fork (inr (inr step)) = absurd (cc)
-
 leads_by : (core : List CoreOp) (kept : List Set) (saved : List Levels) (main : ℕ) (firsts : List ℕ) (i : ℕ) (op : CoreOp) (operation : Option Operation)
     → IsGenerable core kept saved main firsts → slice_get core i ≡ Some op → is_jump op ≡ false → operation_of op.kind op.number ≡ operation
     → Leads (length core) (back_by operation core i) op operation
@@ -272,7 +266,7 @@ leads_by core kept saved main firsts i op (Some (o.Split split.IfElse)) is e qui
 leads_by core kept saved main firsts i op (Some (o.Split split.AndThen)) is e quiet' read = is.blocks.targets i op (o.Split split.AndThen) (record { stands = e; no_jump = quiet'; is_read = read }) refl
 leads_by core kept saved main firsts i op (Some (o.Split split.OrElse)) is e quiet' read = is.blocks.targets i op (o.Split split.OrElse) (record { stands = e; no_jump = quiet'; is_read = read }) refl
 leads_by core kept saved main firsts i op (Some (o.Split split.Loop)) is e quiet' read = is.blocks.targets i op (o.Split split.Loop) (record { stands = e; no_jump = quiet'; is_read = read }) refl
-leads_by core kept saved main firsts i op (Some (o.Split split.Fork)) is e quiet' read = no_fork (is.blocks.operations i op (o.Split split.Fork) (record { stands = e; no_jump = quiet'; is_read = read }))
+leads_by core kept saved main firsts i op (Some (o.Split split.Fork)) is e quiet' read = is.blocks.targets i op (o.Split split.Fork) (record { stands = e; no_jump = quiet'; is_read = read }) refl
 leads_by core kept saved main firsts i op (Some o.Shrink) is e quiet' read = is.blocks.targets i op o.Shrink (record { stands = e; no_jump = quiet'; is_read = read }) refl
 leads_by core kept saved main firsts i op operation is e quiet' read = tt
 
