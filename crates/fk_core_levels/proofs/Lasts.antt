@@ -53,17 +53,17 @@ last_fork (part ∷ open) =
     sym (ap (λ b. if b then part.fork else fork_at open (length (part ∷ open) - 1)) (eq-eqb (length open) (length (part ∷ open) - 1) same))
 
 -- at each index
-told_at : (saved : List Levels) (opens : List (List OpenPart)) → map (λ (l : Levels). l.count) saved ≡ map (λ (o : List OpenPart). length o) opens
-    → map (λ (l : Levels). l.fork) saved ≡ map fork_of opens → (i : ℕ)
-    → (levels_in saved i).fork ≡ fork_in (slice_get opens i) ((levels_in saved i).count - 1)
+told_at : (saved : List Levels) (stacks : List (List OpenPart)) → map (λ (l : Levels). l.count) saved ≡ map (λ (o : List OpenPart). length o) stacks
+    → map (λ (l : Levels). l.fork) saved ≡ map fork_of stacks → (i : ℕ)
+    → (levels_in saved i).fork ≡ fork_in (slice_get stacks i) ((levels_in saved i).count - 1)
 told_at [] [] counts forks i = refl
-told_at [] (o ∷ opens) counts forks i = absurd (cc)
+told_at [] (o ∷ stacks) counts forks i = absurd (cc)
 told_at (l ∷ saved) [] counts forks i = absurd (cc)
-told_at (l ∷ saved) (o ∷ opens) counts forks zero =
+told_at (l ∷ saved) (o ∷ stacks) counts forks zero =
     let count : l.count ≡ length o = cc in
     let fork : l.fork ≡ fork_of o = cc in
     fork ∙ last_fork o ∙ ap (λ n. fork_at o (n - 1)) (sym count)
-told_at (l ∷ saved) (o ∷ opens) counts forks (suc i) = told_at saved opens (cc) (cc) i
+told_at (l ∷ saved) (o ∷ stacks) counts forks (suc i) = told_at saved stacks (cc) (cc) i
 
 pub levels_tell_forks : (core : List CoreOp) (saved : List Levels) → AreLevels core saved → (i : ℕ) → (levels_in saved i).fork ≡ level_forks core i ((levels_in saved i).count - 1)
 levels_tell_forks core saved are i = told_at saved (open_parts core) (are.count ∙ sym (open_many no_part false core)) are.fork i

@@ -268,7 +268,7 @@ module _ (core : List CoreOp) (image : Image) (bound : ℕ → ℕ) (places : Pl
         let ordered = part.is_space.ordered in
         let within = part.is_space.within in
         let top = part.is_space.shared in
-        let sum = sum_of_low ((fronted told m.hart).registers node_register) (low_part number) number (number_of_low_part number e) in
+        let sum = sum_of_low (m.hart.local (slot_of (out + 1) m.hart)) (low_part number) number (number_of_low_part number e) in
         ap (λ x. word_sum x 0) sum ∙ omega arith
     sum_tells told false e c more =
         let node = node_is in
@@ -276,7 +276,7 @@ module _ (core : List CoreOp) (image : Image) (bound : ℕ → ℕ) (places : Pl
         let ordered = part.is_space.ordered in
         let within = part.is_space.within in
         let top = part.is_space.shared in
-        let sum = sum_of_parts ((fronted told m.hart).registers node_register) (word_sum (high_part number * 4096) (low_part number)) number (number_of_parts number) in
+        let sum = sum_of_parts (m.hart.local (slot_of (out + 1) m.hart)) (word_sum (high_part number * 4096) (low_part number)) number (number_of_parts number) in
         ap (λ x. word_sum x 0) sum ∙ omega arith
 
     frames_are : (told : Told) → (ended_hart told m.hart).registers frames_register ≡ control_address part.around.space.frames
