@@ -1,5 +1,5 @@
 -- The lines of the sum and the one that takes it are the code.
-use Rattle.std.proofs.Common.{◌*◌, map, arith, refl, length-append}
+use Rattle.std.proofs.Common.{◌+◌, ◌*◌, map, arith, refl, length-append}
 use Rattle.fk_gen.specs.Lines.{quiet, add_number}
 use Rattle.fk_gen.proofs.Emitted.{on_err, on_ok, when_err, many_lines, followed, added_both, begun_front, begun_behind}
 use Rattle.fk_gen_group.specs.Splits.{found_line}
