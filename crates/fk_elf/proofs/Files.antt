@@ -82,12 +82,16 @@ image-of bytes image is = record {
 -- the words of the image's front are its sizes
 front-says : (code globals words more : ℕ) → words < 2 ^ 32 → more < 2 ^ 32 → code / 4 < 2 ^ 32 → globals / 4 < 2 ^ 32 → image_front code globals ≡ image_front (4 * words) (4 * more) → (code / 4 ≡ words) × (globals / 4 ≡ more)
 front-says code globals words more p q r s e =
-    let spelled = append_cancel_left (codes "FK95") _ _ e in
-    let rest = append_cancel_left (word_bytes 1) _ _ spelled in
-    let first = append-injective (word_bytes (code / 4)) _ (word_bytes (4 * words / 4)) _ (length-word_bytes (code / 4) ∙ sym (length-word_bytes (4 * words / 4))) rest in
-    let second = append-injective (word_bytes (globals / 4)) _ (word_bytes (4 * more / 4)) _ (length-word_bytes (globals / 4) ∙ sym (length-word_bytes (4 * more / 4))) first.1 in
-    let one = word_bytes-injective (code / 4) (4 * words / 4) r (omega (arith, p)) first.0 in
-    let two = word_bytes-injective (globals / 4) (4 * more / 4) s (omega (arith, q)) second.0 in
+    let c = code / 4 in
+    let g = globals / 4 in
+    let w = 4 * words / 4 in
+    let m = 4 * more / 4 in
+    let all : flat_map word_bytes (1 ∷ c ∷ g ∷ []) ≡ flat_map word_bytes (1 ∷ w ∷ m ∷ []) = append_cancel_left (codes "FK95") (flat_map word_bytes (1 ∷ c ∷ g ∷ [])) (flat_map word_bytes (1 ∷ w ∷ m ∷ [])) e in
+    let rest : flat_map word_bytes (c ∷ g ∷ []) ≡ flat_map word_bytes (w ∷ m ∷ []) = append_cancel_left (word_bytes 1) (flat_map word_bytes (c ∷ g ∷ [])) (flat_map word_bytes (w ∷ m ∷ [])) all in
+    let first = append-injective (word_bytes c) (flat_map word_bytes (g ∷ [])) (word_bytes w) (flat_map word_bytes (m ∷ [])) (length-word_bytes c ∙ sym (length-word_bytes w)) rest in
+    let second = append-injective (word_bytes g) [] (word_bytes m) [] (length-word_bytes g ∙ sym (length-word_bytes m)) first.1 in
+    let one : c ≡ w = word_bytes-injective c w r (omega (arith, p)) first.0 in
+    let two : g ≡ m = word_bytes-injective g m s (omega (arith, q)) second.0 in
     (omega (arith, one), omega (arith, two))
 
 -- the bytes of an image, as they stand in a file with its length
@@ -101,14 +105,14 @@ elf-of bytes image has is =
     let code = 4 * vec_len image.code in
     let globals = 4 * vec_len image.globals in
     let same : image_front (code_size bytes) (global_size bytes) ++ (count_part bytes ++ (content_part bytes ++ entry_part bytes)) ≡ image_front code globals ++ (counts image ++ (contents image ++ entries image)) = is.spelling ∙ image-parts image in
-    let front = append-injective _ _ _ _ (length-front (code_size bytes) (global_size bytes) ∙ sym (length-front code globals)) same in
+    let front = append-injective (image_front (code_size bytes) (global_size bytes)) (count_part bytes ++ (content_part bytes ++ entry_part bytes)) (image_front code globals) (counts image ++ (contents image ++ entries image)) (length-front (code_size bytes) (global_size bytes) ∙ sym (length-front code globals)) same in
     let long : length (count_part bytes) ≡ 8 = omega (arith, has.1, c.least, length-take 8 (drop (148 + size) bytes), length-drop (148 + size) bytes) in
-    let counted = append-injective _ _ _ _ (long ∙ sym (length-counts image)) front.1 in
+    let counted = append-injective (count_part bytes) (content_part bytes ++ entry_part bytes) (counts image) (contents image ++ entries image) (long ∙ sym (length-counts image)) front.1 in
     let sizes = front-says (code_size bytes) (global_size bytes) (vec_len image.code) (vec_len image.globals) (omega (arith, s.code)) (omega (arith, s.globals)) (omega (arith, a.most)) (omega (arith, b.most)) front.0 in
     let code_is : code_size bytes ≡ code = omega (arith, sizes.0, a.aligned) in
     let globals_is : global_size bytes ≡ globals = omega (arith, sizes.1, b.aligned) in
     let filled : length (content_part bytes) ≡ length (contents image) = omega (arith, has.1, code_is, globals_is, length-contents image, length-take size (drop 148 bytes), length-drop 148 bytes) in
-    let parts = append-injective _ _ _ _ filled counted.1 in
+    let parts = append-injective (content_part bytes) (entry_part bytes) (contents image) (entries image) filled counted.1 in
     let entries_are : entry_size bytes ≡ entry_bytes image = omega (arith, has.1, c.least, ap length parts.1, length-entries image, length-drop (156 + size) bytes) in
     let header : take 148 bytes ≡ header_bytes code globals (entry_bytes image) = front-same bytes has.0 ∙ ap (λ (n : ℕ). header_bytes n (global_size bytes) (entry_size bytes)) code_is ∙ ap (λ (n : ℕ). header_bytes code n (entry_size bytes)) globals_is ∙ ap (header_bytes code globals) entries_are in
     record {

@@ -5,7 +5,7 @@ use Rattle.fk_image.specs.Refusals.{word_at}
 use Rattle.fk_image.specs.Spelling.{word_bytes}
 use Rattle.fk_image.proofs.Images.{length-words}
 use Rattle.fk_elf.specs.Files.{entries_kind, file_header, globals_address, header_bytes, header_words, program_header}
-use Rattle.fk_elf.specs.Refusals.{HasHeader, IsHeaderByte, IsSize, code_size, entry_size, global_size}
+use Rattle.fk_elf.specs.Refusals.{HasHeader, IsHeaderByte, IsSize, IsSizeAt, code_size, entry_size, global_size}
 use Rattle.fk_elf.proofs.Words.{word-in, word_bytes-wraps}
 
 pub length-header_words : (code globals entries : ℕ) → length (header_words code globals entries) ≡ 37
@@ -84,3 +84,18 @@ header-wraps code globals entries p q at_p at_q =
     let behind = globals_address ∷ globals_address ∷ globals ∷ 4194304 ∷ 6 ∷ 4 ∷ third in
     let more = file_header ++ program_header 1 148 0 code code 5 ++ program_header 1 (148 + code) globals_address globals 4194304 6 ++ entries_kind ∷ [] in
     other-word front behind p (148 + code) from_p ∙ other-word more (0 ∷ 0 ∷ entries ∷ 0 ∷ 4 ∷ 4 ∷ []) q (148 + code + globals) from_q
+
+-- a byte that is the headers' one, by the sizes that were read
+headers-same : (bytes header : List ℕ) (code globals entries : ℕ) → code ≡ code_size bytes → globals ≡ global_size bytes → entries ≡ entry_size bytes → header ≡ header_bytes code globals entries → header ≡ header_bytes (code_size bytes) (global_size bytes) (entry_size bytes)
+headers-same bytes header code globals entries p q r made =
+    made ∙ ap (λ (n : ℕ). header_bytes n globals entries) p ∙ ap (λ (n : ℕ). header_bytes (code_size bytes) n entries) q ∙ ap (header_bytes (code_size bytes) (global_size bytes)) r
+
+pub is-header-byte : (bytes header : List ℕ) (code globals entries offset : ℕ) → code ≡ code_size bytes → globals ≡ global_size bytes → entries ≡ entry_size bytes → header ≡ header_bytes code globals entries → get_or bytes offset 0 ≡ get_or header offset 0 → IsSizeAt code globals entries offset → IsHeaderByte bytes offset
+is-header-byte bytes header code globals entries offset p q r made same size = record {
+  same = same ∙ ap (λ (xs : List ℕ). get_or xs offset 0) (headers-same bytes header code globals entries p q r made);
+  size = rw (p, q, r) at size;
+}
+
+pub was-header-byte : (bytes header : List ℕ) (code globals entries offset : ℕ) → code ≡ code_size bytes → globals ≡ global_size bytes → entries ≡ entry_size bytes → header ≡ header_bytes code globals entries → IsHeaderByte bytes offset → (get_or bytes offset 0 ≡ get_or header offset 0) × IsSizeAt code globals entries offset
+was-header-byte bytes header code globals entries offset p q r made is =
+    (is.same ∙ ap (λ (xs : List ℕ). get_or xs offset 0) (sym (headers-same bytes header code globals entries p q r made)), rw (p, q, r) is.size)

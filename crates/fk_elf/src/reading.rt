@@ -1,11 +1,11 @@
 //! Reading a file.
 
-ghost use Rattle.std.specs.Prelude.{◌≡◌, ◌*◌, ◌+◌, ◌≤◌, List, ℕ, length, IfErr, IfOk, OnOk};
-ghost use Rattle.fk_image.specs.Refusals.{word_at};
-ghost use Rattle.fk_image.specs.Refusals.{IsFault as IsImageFault};
-ghost use Rattle.fk_elf.specs.Files.{IsElfOf};
+ghost use Rattle.std.specs.Prelude.{◌≡◌, ℕ, ◌+◌, ◌*◌, ◌<◌, ◌≤◌, ◌↔◌, List, length, IfErr, IfOk};
+ghost use Rattle.std.specs.Prelude.{IsTrue, OnOk};
+ghost use Rattle.fk_image.specs.Refusals.{IsFault as IsImageFault, word_at};
+ghost use Rattle.fk_elf.specs.Files.{IsElfOf, header_bytes};
 ghost use Rattle.fk_elf.specs.Parts.{IsSizesOf, image_bytes};
-ghost use Rattle.fk_elf.specs.Refusals.{HasHeader, HasLength, IsFault, IsRefusedElf};
+ghost use Rattle.fk_elf.specs.Refusals.{HasHeader, HasLength, IsFault, IsHeaderByte, IsRefusedElf};
 
 use crate::fault::ElfFault;
 use crate::header::{HEADER_SIZE, Sizes};
@@ -21,8 +21,8 @@ pub fn read_elf(alloc: Global, bytes: &[u8]) -> Result<Image, ElfFault>
 {
     let sizes = read_header(bytes)?;
     check_length(bytes, sizes)?;
-    let image = reordered(alloc, bytes, sizes).map_err(ElfFault::Memory)?;
-    match read_image(alloc, &image) {
+    let parts = reordered(alloc, bytes, sizes).map_err(ElfFault::Memory)?;
+    match read_image(alloc, &parts) {
         Ok(image) => Ok(image),
         Err(fault) => Err(elf_fault(fault)),
     }
@@ -44,11 +44,23 @@ fn read_header(bytes: &[u8]) -> Result<Sizes, ElfFault>
     };
     let header = sizes.header();
     for offset in 0..HEADER_SIZE {
-        if bytes[offset] != header[offset] || !sizes.is_size_at(offset) {
+        if !is_header_byte(bytes, sizes, &header, offset) {
             return Err(ElfFault::ElfHeader(offset as u32));
         }
     }
     Ok(sizes)
+}
+
+/// Whether the byte at this offset is that of the headers which the sizes demand, and a size that
+/// begins here is in range.
+fn is_header_byte(bytes: &[u8], sizes: Sizes, header: &[u8; HEADER_SIZE], offset: usize) -> bool
+    requires sizes { IsSizesOf bytes.now sizes }
+    requires header { header.now ≡ header_bytes sizes.code sizes.globals sizes.entries }
+    requires long { 148 ≤ length bytes.now }
+    requires within { offset < 148 }
+    ensures { IsTrue result ↔ IsHeaderByte bytes.now offset }
+{
+    bytes[offset] == header[offset] && sizes.is_size_at(offset)
 }
 
 /// Tests that there are as many bytes as the headers ask for.

@@ -1,5 +1,6 @@
-use Rattle.std.proofs.Common.{◌≡◌, ◌+◌, ◌*◌, ◌++◌, List, ℕ, arith, ap, drop, length, take, vec_len, sym, ◌∙◌, rules}
-use Rattle.std.proofs.lemmas.List.{drop-drop, drop-take}
+use Rattle.std.proofs.Common.{◌≡◌, ◌+◌, ◌*◌, ◌++◌, ap, drop, length, take, vec_len, sym, ◌∙◌, arith, rules}
+use Rattle.std.proofs.lemmas.List.{drop-take}
+use Rattle.fk_image.specs.Spelling.{IsImageOf}
 use Rattle.fk_image.proofs.Parts.{drop-next, take-same}
 use Rattle.fk_elf.specs.Files.{entry_bytes, header_bytes}
 use Rattle.fk_elf.proofs.Files.{image-cut, image-long}
@@ -8,17 +9,17 @@ use Rattle.fk_elf.proofs.writing.write_elf.Goals as goal
 
 pub split_at-requires : goal.split_at-requires
 split_at-requires c =
-    omega (arith, ap length c.deref.ensures.value, image-long c.in_ok-written.written.items c.args.image.now (c.in_ok-written.ensures tt))
+    omega (arith, ap length c.deref.ensures.value, image-long c.in_ok-written.written.items c.args.image.now c.in_ok-written.ensures)
 
 pub split_at-requires-3 : goal.split_at-requires-3
 split_at-requires-3 c =
-    omega (arith, ap length c.deref.ensures.value, image-long c.in_ok-written.written.items c.args.image.now (c.in_ok-written.ensures tt), c.split_at.ensures.back_len, c.sizes_of-sizes.ensures.code, c.sizes_of-sizes.ensures.globals)
+    omega (arith, ap length c.deref.ensures.value, image-long c.in_ok-written.written.items c.args.image.now c.in_ok-written.ensures, c.split_at.ensures.back_len, c.sizes_of-sizes.ensures.code, c.sizes_of-sizes.ensures.globals)
 
 pub returns : goal.returns
 returns c =
     let image = c.args.image.now in
     let bytes = c.in_ok-written.written.items in
-    let is = c.in_ok-written.ensures tt in
+    let is : IsImageOf bytes image = c.in_ok-written.ensures in
     let sizes = c.sizes_of-sizes.ensures in
     let code = 4 * vec_len image.code in
     let globals = 4 * vec_len image.globals in
