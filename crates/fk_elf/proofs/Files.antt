@@ -41,9 +41,9 @@ file-begins bytes image limits is =
 
 -- a file's parts are those of its image
 pub record HasParts (bytes : List ℕ) (image : Image) : Type 0 where
-  pub contents : content_part bytes ≡ contents image
-  pub counts : count_part bytes ≡ counts image
-  pub entries : entry_part bytes ≡ entries image
+  pub filled : content_part bytes ≡ contents image
+  pub counted : count_part bytes ≡ counts image
+  pub listed : entry_part bytes ≡ entries image
 
 pub file-has : (bytes : List ℕ) (image : Image) → IsWithinLimits image → bytes ≡ elf_file image → HasParts bytes image
 file-has bytes image limits is =
@@ -55,9 +55,9 @@ file-has bytes image limits is =
     let here = subst (λ (bs : List ℕ). Cut bs (contents image) (counts image) (entries image) 148 (code + globals) 8) (sym (is ∙ file-parts image)) parts in
     let last : 156 + (code_size bytes + global_size bytes) ≡ 148 + (code + globals) + 8 = omega (arith, size) in
     record {
-      contents = ap (λ (n : ℕ). take n (drop 148 bytes)) size ∙ here.first;
-      counts = ap (λ (n : ℕ). take 8 (drop (148 + n) bytes)) size ∙ here.second;
-      entries = ap (λ (n : ℕ). drop n bytes) last ∙ here.third;
+      filled = ap (λ (n : ℕ). take n (drop 148 bytes)) size ∙ here.first;
+      counted = ap (λ (n : ℕ). take 8 (drop (148 + n) bytes)) size ∙ here.second;
+      listed = ap (λ (n : ℕ). drop n bytes) last ∙ here.third;
     }
 
 same-parts : (f a b c p q r s : List ℕ) → f ≡ p → a ≡ q → b ≡ r → c ≡ s → f ++ (a ++ (b ++ c)) ≡ p ++ (q ++ (r ++ s))
@@ -69,7 +69,7 @@ file-spells bytes image limits is =
     let at = file-begins bytes image limits is in
     let has = file-has bytes image limits is in
     let front : image_front (code_size bytes) (global_size bytes) ≡ image_front (4 * vec_len image.code) (4 * vec_len image.globals) = ap (λ (n : ℕ). image_front n (global_size bytes)) at.code_is ∙ ap (image_front (4 * vec_len image.code)) at.globals_is in
-    same-parts _ _ _ _ _ _ _ _ front has.counts has.contents has.entries ∙ sym (image-parts image)
+    same-parts _ _ _ _ _ _ _ _ front has.counted has.filled has.listed ∙ sym (image-parts image)
 
 -- they are its bytes
 pub image-of : (bytes : List ℕ) (image : Image) → IsElfOf bytes image → IsImageOf (image_bytes bytes) image
