@@ -1,6 +1,10 @@
 -- The parts of a file, in the order of an image.
 use Rattle.std.specs.Prelude.{◌≡◌, ℕ, ◌+◌, ◌/◌, List, [], ◌∷◌, ◌++◌, codes, drop, flat_map, take}
+use Rattle.fk_image.specs.declared.fault.ImageFault.{ImageFault}
+use Rattle.fk_image.specs.declared.fault.ImageFault.TheVariants as images
 use Rattle.fk_image.specs.Spelling.{word_bytes}
+use Rattle.fk_elf.specs.declared.fault.ElfFault.{ElfFault}
+use Rattle.fk_elf.specs.declared.fault.ElfFault.TheVariants as files
 use Rattle.fk_elf.specs.declared.header.Sizes.{Sizes}
 use Rattle.fk_elf.specs.Refusals.{HasHeader, code_size, entry_size, global_size}
 
@@ -31,3 +35,12 @@ abbrev pub image_bytes : List ℕ → List ℕ
 image_bytes bytes =
     image_front (code_size bytes) (global_size bytes)
     ++ (count_part bytes ++ (content_part bytes ++ entry_part bytes))
+
+-- The fault of a file, or that of an image, is a lack of memory.
+abbrev pub IsMemory : ElfFault → Type 0
+IsMemory (files.Memory e) = Unit {0}
+IsMemory fault = ⊥
+
+abbrev pub IsImageMemory : ImageFault → Type 0
+IsImageMemory (images.Memory e) = Unit {0}
+IsImageMemory fault = ⊥

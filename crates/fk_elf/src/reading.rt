@@ -4,7 +4,7 @@ ghost use Rattle.std.specs.Prelude.{◌≡◌, ℕ, ◌+◌, ◌*◌, ◌<◌, �
 ghost use Rattle.std.specs.Prelude.{IsTrue, OnOk};
 ghost use Rattle.fk_image.specs.Refusals.{IsFault as IsImageFault, word_at};
 ghost use Rattle.fk_elf.specs.Files.{IsElfOf, header_bytes};
-ghost use Rattle.fk_elf.specs.Parts.{IsSizesOf, image_bytes};
+ghost use Rattle.fk_elf.specs.Parts.{IsImageMemory, IsMemory, IsSizesOf, image_bytes};
 ghost use Rattle.fk_elf.specs.Refusals.{HasHeader, HasLength, IsFault, IsHeaderByte, IsRefusedElf};
 
 use crate::fault::ElfFault;
@@ -105,8 +105,9 @@ fn reordered(alloc: Global, bytes: &[u8], sizes: Sizes) -> Result<Vec<u8>, Alloc
 /// The fault of a file whose parts, in the order of an image, have this fault. Counts that are past
 /// their limits, or that don't fit the size of the entries, are words or a length at fault there.
 fn elf_fault(fault: ImageFault) -> ElfFault
-    ensures { (bytes : List ℕ) → HasLength bytes → IsImageFault (image_bytes bytes) fault
+    ensures fault { (bytes : List ℕ) → HasLength bytes → IsImageFault (image_bytes bytes) fault
         → IsFault bytes result }
+    ensures memory { IsMemory result → IsImageMemory fault }
 {
     match fault {
         ImageFault::BadTable(entry) => ElfFault::ElfTable(entry),

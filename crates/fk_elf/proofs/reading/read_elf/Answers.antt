@@ -17,4 +17,4 @@ returns-in-Err-clause-fault c =
     let bytes = c.args.bytes.now in
     let made : c.in_ok-parts.parts.items ≡ image_bytes bytes = search rules in
     let same : c.deref.result.now ≡ image_bytes bytes = c.deref.ensures.value ∙ made in
-    c.elf_fault.ensures bytes c.in_ok-check_length.ensures.length (subst (λ (bs : List ℕ). IsImageFault bs c.in-Err.fault) same c.in-Err.ensures.fault)
+    c.elf_fault.ensures.fault bytes c.in_ok-check_length.ensures.length (subst (λ (bs : List ℕ). IsImageFault bs c.in-Err.fault) same c.in-Err.ensures.fault)
