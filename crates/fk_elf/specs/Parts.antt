@@ -6,7 +6,7 @@ use Rattle.fk_image.specs.Spelling.{word_bytes}
 use Rattle.fk_elf.specs.declared.fault.ElfFault.{ElfFault}
 use Rattle.fk_elf.specs.declared.fault.ElfFault.TheVariants as files
 use Rattle.fk_elf.specs.declared.header.Sizes.{Sizes}
-use Rattle.fk_elf.specs.Refusals.{HasHeader, code_size, entry_size, global_size}
+use Rattle.fk_elf.specs.Refusals.{code_size, entry_size, global_size}
 
 -- The sizes are those that these bytes say.
 pub record IsSizesOf (bytes : List ℕ) (sizes : Sizes) : Type 0 where
