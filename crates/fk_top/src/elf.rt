@@ -44,7 +44,7 @@ pub fn put_image<'a>(alloc: Global, file: &[u8], name: &'a str) -> Result<Ending
 // The ending where these bytes are put under a name.
 fn putting<'a>(alloc: Global, name: &'a str, bytes: Vec<u8>) -> Ending<'a>
     requires { length bytes.items ≤ 5435036 }
-    ensures { outcome_of result ≡ wrote name.now bytes.entry.items }
+    ensures { outcome_of result ≡ wrote name.now bytes.items }
 {
     let line = LastLine::Reported(Report::Wrote(bytes.len() as u32));
     Ending {
