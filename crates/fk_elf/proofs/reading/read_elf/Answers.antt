@@ -11,10 +11,3 @@ returns-in-Ok-clause-image c =
     let made : c.in_ok-parts.parts.items ≡ image_bytes bytes = search rules in
     let same : c.deref.result.now ≡ image_bytes bytes = c.deref.ensures.value ∙ made in
     elf-of bytes c.in-Ok.image c.in_ok-check_length.ensures.length (subst (λ (bs : List ℕ). IsImageOf bs c.in-Ok.image) same c.in-Ok.ensures.image)
-
-pub returns-in-Err-clause-fault : goal.returns-in-Err-clause-fault
-returns-in-Err-clause-fault c =
-    let bytes = c.args.bytes.now in
-    let made : c.in_ok-parts.parts.items ≡ image_bytes bytes = search rules in
-    let same : c.deref.result.now ≡ image_bytes bytes = c.deref.ensures.value ∙ made in
-    c.elf_fault.ensures.fault bytes c.in_ok-check_length.ensures.length (subst (λ (bs : List ℕ). IsImageFault bs c.in-Err.fault) same c.in-Err.ensures.fault)
