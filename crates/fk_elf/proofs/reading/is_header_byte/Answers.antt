@@ -1,4 +1,3 @@
-use Rattle.std.proofs.lemmas.Bool.{false≢true}
 use Rattle.fk_elf.proofs.Headers.{is-header-byte, was-header-byte}
 use Rattle.fk_elf.proofs.reading.is_header_byte.Goals as goal
 

@@ -1,5 +1,4 @@
 use Rattle.std.proofs.Common.{◌≡◌, List, ℕ, subst, ◌∙◌, rules}
-use Rattle.fk_image.specs.Refusals.{IsFault as IsImageFault}
 use Rattle.fk_image.specs.Spelling.{IsImageOf}
 use Rattle.fk_elf.specs.Parts.{image_bytes}
 use Rattle.fk_elf.proofs.Files.{elf-of}
