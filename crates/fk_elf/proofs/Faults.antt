@@ -1,12 +1,11 @@
 -- The fault of a file's parts, in the order of an image, is that of the file.
-use Rattle.std.proofs.Common.{◌≡◌, ◌≢◌, ℕ, zero, suc, ◌+◌, ◌-◌, ◌*◌, ◌/◌, ◌%◌, ◌^◌, ◌<◌, ◌≤◌, ◌⊎◌, List, [], ◌∷◌, ◌++◌, codes, flat_map, get_or, length, take, drop, vec_len, refl, sym, ap, subst, ◌∙◌, arith, inl, inr}
+use Rattle.std.proofs.Common.{◌≡◌, ◌≢◌, ℕ, zero, suc, ◌+◌, ◌*◌, ◌/◌, ◌<◌, ◌≤◌, List, [], ◌∷◌, ◌++◌, flat_map, get_or, length, drop, vec_len, refl, sym, ap, ◌∙◌, arith, inl, inr}
 use Rattle.std.specs.declared.alloc.AllocError.{AllocError}
 use Rattle.std.proofs.lemmas.Bool.{cases_lt}
 use Rattle.std.proofs.lemmas.List.{get_or-take, length-append, length-drop, length-take}
 use Rattle.fk_image.specs.declared.Image.{Image}
 use Rattle.fk_image.specs.declared.fault.ImageFault.{ImageFault}
 use Rattle.fk_image.specs.declared.fault.ImageFault.TheVariants.{Magic, Version, Short, LongTail, BadTable, BadWord, Memory}
-use Rattle.fk_image.specs.Limits.{IsSite}
 use Rattle.fk_image.specs.Refusals as image_file
 use Rattle.fk_image.specs.Refusals.{IsFirstBad, IsNextCommit, word_at}
 use Rattle.fk_image.specs.Spelling.{word_bytes}
@@ -19,7 +18,7 @@ use Rattle.fk_elf.specs.declared.fault.ElfFault.TheVariants.{ElfHeader, ElfShort
 use Rattle.fk_elf.specs.declared.fault.ElfFault.TheVariants.{Memory as ElfMemory}
 use Rattle.fk_elf.specs.Files.{IsElfOf, entry_bytes, header_bytes}
 use Rattle.fk_elf.specs.Parts.{content_part, count_part, entry_part, image_bytes, image_front}
-use Rattle.fk_elf.specs.Refusals.{HasBadSizes, HasHeader, HasLength, HasSizes, IsEntry, IsRefusedElf, code_size, code_words, commit_count, commit_of, counts_place, entry_size, global_size, needed, site_count, site_of}
+use Rattle.fk_elf.specs.Refusals.{HasBadSizes, HasHeader, HasLength, HasSizes, IsEntry, IsRefusedElf, code_size, code_words, commit_count, commit_of, counts_place, entry_size, global_size, site_count, site_of}
 use Rattle.fk_elf.proofs.Files.{file-begins, file-long, image-counts, image-of, small}
 use Rattle.fk_elf.proofs.Headers.{code-size, entry-size, global-size}
 use Rattle.fk_elf.proofs.Parts.{cut, length-front}

@@ -1,18 +1,16 @@
 -- The file of an image and its bytes as an image say the same.
-use Rattle.std.proofs.Common.{◌≡◌, ℕ, ◌+◌, ◌*◌, ◌/◌, ◌^◌, ◌<◌, ◌≤◌, List, [], ◌∷◌, ◌++◌, All, codes, flat_map, get_or, length, take, drop, vec_len, refl, sym, ap, subst, ◌∙◌, arith}
+use Rattle.std.proofs.Common.{◌≡◌, ℕ, ◌+◌, ◌*◌, ◌/◌, ◌^◌, ◌<◌, ◌≤◌, List, [], ◌∷◌, ◌++◌, codes, flat_map, get_or, length, take, drop, vec_len, sym, ap, subst, ◌∙◌, arith}
 use Rattle.std.proofs.lemmas.List.{append-nil, append_cancel_left, length-append, length-drop, length-take}
-use Rattle.std.proofs.lemmas.List.Elements.{All-append, All-from_recursion}
 use Rattle.fk_image.specs.declared.Image.{Image}
 use Rattle.fk_image.specs.Limits.{IsWithinLimits}
 use Rattle.fk_image.specs.Refusals.{word_at}
-use Rattle.fk_image.specs.Spelling.{AreAlike, IsImageOf, IsWord, commit_words, header_words as image_header, image_words, site_words, spelled, word_bytes}
+use Rattle.fk_image.specs.Spelling.{AreAlike, IsImageOf, commit_words, header_words as image_header, image_words, site_words, spelled, word_bytes}
 use Rattle.fk_image.proofs.Commits.{few_of_image}
-use Rattle.fk_image.proofs.Parts.{words-parts}
 use Rattle.fk_image.proofs.Same.{one_image as same_image}
 use Rattle.fk_image.proofs.Words.{length-word_bytes, word_at-drop, word_bytes-injective}
-use Rattle.fk_elf.specs.Files.{IsElfOf, elf_file, elf_words, entry_bytes, header_bytes, header_words}
+use Rattle.fk_elf.specs.Files.{IsElfOf, elf_file, entry_bytes, header_bytes}
 use Rattle.fk_elf.specs.Parts.{content_part, count_part, entry_part, image_bytes, image_front}
-use Rattle.fk_elf.specs.Refusals.{HasHeader, HasLength, code_size, entry_size, global_size, needed}
+use Rattle.fk_elf.specs.Refusals.{HasLength, code_size, entry_size, global_size}
 use Rattle.fk_elf.proofs.Headers.{Begins, begins, code-size, entry-size, front-same, global-size, length-header_bytes}
 use Rattle.fk_elf.proofs.Parts.{Cut, contents, counts, cut, entries, file-parts, image-parts, length-contents, length-counts, length-entries, length-front, whole}
 use Rattle.fk_elf.proofs.Words.{append-injective, word-in}

@@ -1,7 +1,6 @@
 -- The headers of a file, and what they say.
-use Rattle.std.proofs.Common.{◌≡◌, ℕ, ◌+◌, ◌*◌, ◌%◌, ◌^◌, ◌<◌, ◌≤◌, List, [], ◌∷◌, ◌++◌, flat_map, get_or, length, take, refl, sym, ap, ◌∙◌, arith}
-use Rattle.std.proofs.lemmas.List.{ext_get_or, get_or-take, length-append, length-take-le, take_at}
-use Rattle.fk_image.specs.Refusals.{word_at}
+use Rattle.std.proofs.Common.{◌≡◌, ℕ, ◌+◌, ◌%◌, ◌^◌, ◌<◌, List, [], ◌∷◌, ◌++◌, flat_map, get_or, length, take, refl, sym, ap, ◌∙◌, arith}
+use Rattle.std.proofs.lemmas.List.{ext_get_or, get_or-take, length-take-le, take_at}
 use Rattle.fk_image.specs.Spelling.{word_bytes}
 use Rattle.fk_image.proofs.Images.{length-words}
 use Rattle.fk_elf.specs.Files.{entries_kind, file_header, globals_address, header_bytes, header_words, program_header}

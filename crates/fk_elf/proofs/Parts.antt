@@ -1,9 +1,9 @@
 -- The parts of a file and of an image, one after the other.
 use Rattle.std.proofs.Common.{◌≡◌, ℕ, ◌+◌, ◌*◌, ◌/◌, List, [], ◌∷◌, ◌++◌, codes, flat_map, length, take, drop, vec_len, refl, sym, ap, ◌∙◌, append_assoc, arith}
-use Rattle.std.proofs.lemmas.List.{append-nil, drop-drop, drop_at, length-append, take-append-drop, take_at}
+use Rattle.std.proofs.lemmas.List.{drop-drop, drop_at, length-append, take-append-drop, take_at}
 use Rattle.std.proofs.lemmas.List.Concat.{flat_map-append}
 use Rattle.fk_image.specs.declared.Image.{Image}
-use Rattle.fk_image.specs.Spelling.{commit_words, header_words, image_words, site_words, spelled, word_bytes}
+use Rattle.fk_image.specs.Spelling.{commit_words, site_words, spelled, word_bytes}
 use Rattle.fk_image.proofs.Images.{length-commits, length-sites, length-words}
 use Rattle.fk_elf.specs.Files.{elf_file, entry_bytes, header_bytes, header_words as elf_header}
 use Rattle.fk_elf.specs.Parts.{content_part, count_part, entry_part, image_front}
