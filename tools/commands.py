@@ -187,6 +187,33 @@ def build(name, to):
     return ["build", name, "-o", to]
 
 
+def elf(name, to):
+    return ["elf", name, "-o", to]
+
+
+def unelf(name, to):
+    return ["unelf", name, "-o", to]
+
+
+def elf_file(code, of_globals=(), sites=(), commits=()):
+    """The ELF file of an image."""
+    words = [len(sites), len(commits)] + [word for row in (*sites, *commits) for word in row]
+    sizes = [4 * len(code), 4 * len(of_globals), 4 * len(words)]
+    header = b"\x7fELF\1\1\1" + bytes(9) + struct.pack("<2H5I6H", 2, 243, 1, 0, 52, 0, 0, 52, 32, 3, 0, 0, 0)
+    parts = [(1, 0, sizes[0], 5), (1, 0x10000000, 4194304, 6), (0x60000095, 0, 0, 4)]
+    offset = 148
+    for (kind, address, memory, flags), size in zip(parts, sizes):
+        header += struct.pack("<8I", kind, offset, address, address, size, memory, flags, 4)
+        offset += size
+    words = [*code, *of_globals, *words]
+    return header + struct.pack("<%dI" % len(words), *words)
+
+
+def replaced(there, at, byte):
+    """Bytes of which one is another."""
+    return there[:at] + bytes([byte]) + there[at + 1 :]
+
+
 LISTED = b"00000000: 300002b7  lui t0, 0x30000\n00000004: 0002a623  sw zero, 12(t0)\n"
 FINISHED = r"finished after \d+ cycles\n"
 NO_COMMAND = [
@@ -198,6 +225,9 @@ NO_COMMAND = [
     ["build", "sums.f95"],
     ["list"],
     ["list", "atomic.image", "more"],
+    ["elf", "halt.image"],
+    ["unelf", "halt.elf", "more", "-o", "none.image"],
+    ["elf", "halt.image", "--harts", "1", "-o", "none.elf"],
     run("sums.f95", harts=0),
     run("sums.f95", harts=1025),
     run("sums.f95", harts="+1"),
@@ -423,6 +453,39 @@ ROWS += [
     Row(build("globals.f95", "globals.image"), 0, b"", r"built \d+ words\n"),
     Row(execute("globals.image"), 0, b"1\n", FINISHED),
     Row(["list", "long.image"], 0, UNKNOWN_WORDS, r"listed 60000 words\n"),
+]
+
+# ELF files of images, and bytes that are none
+HALT_ELF = elf_file([DEVICES, HALT], commits=[(4, 1)])
+NO_ELF = {
+    "no bytes": (b"", r"28 ElfShort 0 148"),
+    "a short header": (HALT_ELF[:147], r"28 ElfShort 147 148"),
+    "a byte too few": (HALT_ELF[:-1], r"28 ElfShort 171 172"),
+    "a byte too many": (HALT_ELF + b"\0", r"29 ElfTail 172"),
+    "another machine": (replaced(HALT_ELF, 18, 0xF4), r"27 ElfHeader 18"),
+    "a size that isn't whole words": (replaced(HALT_ELF, 68, 9), r"27 ElfHeader 68"),
+    "a site too many": (replaced(HALT_ELF, 156, 1), r"30 ElfSizes"),
+    "a commit without a count": (replaced(HALT_ELF, 168, 0), r"31 ElfTable 0"),
+    "an image": (FILES["halt.image"] + bytes(148), r"27 ElfHeader 0"),
+}
+assert len(HALT_ELF) == 172 and HALT_ELF[:20].hex() == "7f454c460101010000000000000000000200f300"
+FILES["halt.elf"] = HALT_ELF
+FILES.update({f"{title}.elf": content for title, (content, _) in NO_ELF.items()})
+ROWS += [
+    Row(elf("halt.image", "made.elf"), 0, b"", r"wrote 172 bytes\n", files={"made.elf": HALT_ELF}, given=b"x"),
+    Row(unelf("made.elf", "made.image"), 0, b"", r"wrote 40 bytes\n", files={"made.image": FILES["halt.image"]}),
+    Row(elf("fault.image", "made.elf"), 0, b"", r"wrote 176 bytes\n", files={"made.elf": elf_file([DEVICES, FAULT], sites=[(12, 7, 9)])}),
+    Row(unelf("made.elf", "made.image"), 0, b"", r"wrote 44 bytes\n", files={"made.image": BAD_ADDRESS}),
+    # the globals too
+    Row(build("second.f95", "globals.image"), 0, b"", r"built \d+ words\n"),
+    Row(elf("globals.image", "globals.elf"), 0, b"", r"wrote \d+ bytes\n"),
+    Row(unelf("globals.elf", "back.image"), 0, b"", r"wrote \d+ bytes\n"),
+    Row(execute("back.image"), 0, b"", FINISHED),
+    *[Row(unelf(f"{title}.elf", "none.image"), 12, b"", rf"refused {report}\n", files={"none.image": None}) for title, (_, report) in NO_ELF.items()],
+    Row(elf("halt.elf", "none.elf"), 9, b"", r"refused 13 Magic\n", files={"none.elf": None}),
+    Row(elf("short.image", "none.elf"), 9, b"", r"refused 15 Short 27 28\n", files={"none.elf": None}),
+    Row(unelf("absent.elf", "none.image"), 3, b"", r"read fault\n", files={"none.image": None}),
+    Row(elf("halt.image", "absent/x.elf"), 4, b"", "", files={"absent": None}),
 ]
 
 

@@ -4,6 +4,8 @@
 #[cfg(test)]
 mod asm;
 #[cfg(test)]
+mod elf;
+#[cfg(test)]
 mod image;
 #[cfg(test)]
 mod input;

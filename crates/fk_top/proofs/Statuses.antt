@@ -10,15 +10,15 @@ use Rattle.fk_compile.specs.Faithful.{IsFaithful}
 use Rattle.fk_compile.specs.Laws.{IsUntrapped}
 use Rattle.fk_compile.proofs.Untrapped.{never_traps}
 use Rattle.fk_top_words.specs.Arguments.{Text}
-use Rattle.fk_top_words.specs.Command.{Command, Run, Build, Exec, ListCode, Reads, ReadsRun}
+use Rattle.fk_top_words.specs.Command.{Command, Run, Build, Exec, ListCode, Elf, Unelf, Reads, ReadsRun}
 use Rattle.fk_layout_globals.specs.Rows.{Row}
 use Rattle.fk_top.specs.declared.status.Status.{Status}
-use Rattle.fk_top.specs.declared.status.Status.TheVariants.{Done, Refused, SourceFault, CycleBound, Trap, ImageRefused, InputRefused}
+use Rattle.fk_top.specs.declared.status.Status.TheVariants.{Done, Refused, SourceFault, CycleBound, Trap, ImageRefused, InputRefused, ElfRefused}
 use Rattle.fk_top.specs.Words.{Runs, IsRun, IsExec}
 use Rattle.fk_top.specs.Outcome.{Outcome, EndsOn, ComesTo, status_of}
 use Rattle.fk_top.proofs.Inputs.{is_input}
 
--- the command reads a source, or bytes of an image, or runs an image of bytes
+-- the command reads a source, or bytes of an image or of an ELF file, or runs an image of bytes
 abbrev pub ReadsSource : Command → Type 0
 ReadsSource (Run file harts cycles show) = Unit {0}
 ReadsSource (Build file image) = Unit {0}
@@ -27,7 +27,12 @@ ReadsSource command = ⊥
 abbrev pub ReadsImage : Command → Type 0
 ReadsImage (Exec image harts cycles) = Unit {0}
 ReadsImage (ListCode image) = Unit {0}
+ReadsImage (Elf image file) = Unit {0}
 ReadsImage command = ⊥
+
+abbrev pub ReadsElf : Command → Type 0
+ReadsElf (Unelf file image) = Unit {0}
+ReadsElf command = ⊥
 
 abbrev pub RunsImage : Command → Type 0
 RunsImage (Exec image harts cycles) = Unit {0}
@@ -38,6 +43,7 @@ abbrev pub IsOf : Status → Command → Type 0
 IsOf Done command = Unit {0}
 IsOf Refused command = ReadsSource command
 IsOf ImageRefused command = ReadsImage command
+IsOf ElfRefused command = ReadsElf command
 IsOf CycleBound command = Runs command
 IsOf InputRefused command = Runs command
 IsOf SourceFault command = Runs command
@@ -110,6 +116,10 @@ outcome_is_of words (Exec f p n) bytes text outcome reads (inl r) = is_of (Exec 
 outcome_is_of words (Exec f p n) bytes text outcome reads (inr r) = of_image text r.image f p n outcome r.ends
 outcome_is_of words (ListCode f) bytes text outcome reads (inl r) = is_of (ListCode f) outcome _ r.is tt
 outcome_is_of words (ListCode f) bytes text outcome reads (inr r) = is_of (ListCode f) outcome _ r.is tt
+outcome_is_of words (Elf i f) bytes text outcome reads (inl r) = is_of (Elf i f) outcome _ r.is tt
+outcome_is_of words (Elf i f) bytes text outcome reads (inr r) = is_of (Elf i f) outcome _ r.is tt
+outcome_is_of words (Unelf f i) bytes text outcome reads (inl r) = is_of (Unelf f i) outcome _ r.is tt
+outcome_is_of words (Unelf f i) bytes text outcome reads (inr r) = is_of (Unelf f i) outcome _ r.is tt
 
 -- what alone runs an image of bytes is `exec`
 pub is_exec : (words : List Text) (command : Command) → Reads words command → RunsImage command → IsExec words
@@ -117,6 +127,8 @@ is_exec words (Run f p n show) reads none = absurd none
 is_exec words (Build f i) reads none = absurd none
 is_exec words (Exec f p n) reads is = (f, p, n, reads)
 is_exec words (ListCode f) reads none = absurd none
+is_exec words (Elf i f) reads none = absurd none
+is_exec words (Unelf f i) reads none = absurd none
 
 pub is_run : (words : List Text) (command : Command) → Reads words command → Runs command → IsRun words
 is_run words command reads runs = (command, reads, runs)

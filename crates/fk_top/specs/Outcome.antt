@@ -5,11 +5,13 @@ use Rattle.std.specs.List.{range_with_len}
 use Rattle.fk_num.specs.Limits.{most_data_words, most_text_bytes}
 use Rattle.fk_image.specs.declared.Image.{Image}
 use Rattle.fk_image.specs.Spelling.{IsImageOf}
+use Rattle.fk_elf.specs.Files.{IsElfOf}
 use Rattle.fk_asm.specs.Listing as lines
 use Rattle.fk_top_input.specs.declared.fault.InputFault.{InputFault}
 use Rattle.fk_top_input.specs.Input.{input_of}
 use Rattle.fk_top_words.specs.Arguments.{Text}
-use Rattle.fk_top_words.specs.Command.{Command, Run, Build, Exec, ListCode}
+use Rattle.fk_top_words.specs.Command.{Command, Run, Build, Exec, ListCode, Elf}
+use Rattle.fk_top_words.specs.Command.{Unelf}
 use Rattle.fk_machine.specs.declared.stand.Stand.{Stand}
 use Rattle.fk_machine.specs.declared.stand.Stand.TheVariants.{Running, Finished, Faulted, Trapped}
 use Rattle.fk_machine.specs.Cycle.{Machine}
@@ -23,8 +25,9 @@ use Rattle.fk_top.specs.declared.report.Report.TheVariants as reports
 use Rattle.fk_top.specs.declared.status.Status.{Status}
 use Rattle.fk_top.specs.declared.status.Status.TheVariants.{Done, Refused, SourceFault, CycleBound}
 use Rattle.fk_top.specs.declared.status.Status.TheVariants.{Trap, ImageRefused, InputRefused}
+use Rattle.fk_top.specs.declared.status.Status.TheVariants.{ElfRefused}
 use Rattle.fk_top.specs.Report.{fault_kind, trap_kind, line_of, no_global_line, show_line}
-use Rattle.fk_top.specs.Refused.{IsRefusedBy, IsNoImageAs, input_report_of}
+use Rattle.fk_top.specs.Refused.{IsNoElfAs, IsNoImageAs, IsRefusedBy, input_report_of}
 
 -- A file that is put: its name and its bytes.
 pub record Put : Type 0 where
@@ -101,6 +104,16 @@ built name bytes image =
       line = line_of (reports.Built (vec_len image.code));
     }
 
+-- These bytes are put under a name.
+abbrev pub wrote : List ℕ → List ℕ → Outcome
+wrote name bytes =
+    record {
+      status = Done;
+      put = Some (record { name = name; bytes = bytes });
+      output = [];
+      line = line_of (reports.Wrote (length bytes));
+    }
+
 -- One line for each word of code, from an address on.
 abbrev pub listing : ℕ → List ℕ → List ℕ
 listing address [] = []
@@ -128,6 +141,12 @@ pub record RefusesImage (bytes : List ℕ) (outcome : Outcome) : Type 0 where
   pub report : Report
   pub refused : IsNoImageAs bytes report
   pub is : outcome ≡ silent ImageRefused (line_of report)
+
+-- The bytes are the file of no image, and the call is refused.
+pub record RefusesElf (bytes : List ℕ) (outcome : Outcome) : Type 0 where
+  pub report : Report
+  pub refused : IsNoElfAs bytes report
+  pub is : outcome ≡ silent ElfRefused (line_of report)
 
 -- a name is asked for, but the source, which has an image, has no shared variable of that name
 pub record LacksGlobal (source : List ℕ) (show : Option Text) (outcome : Outcome) : Type 0 where
@@ -200,6 +219,22 @@ pub record ListsImage (bytes : List ℕ) (outcome : Outcome) : Type 0 where
   pub spelled : IsImageOf bytes image
   pub is : outcome ≡ listed image
 
+-- The ELF file of the image of the bytes is put under a name.
+pub record PutsElf (bytes name : List ℕ) (outcome : Outcome) : Type 0 where
+  pub image : Image
+  pub spelled : IsImageOf bytes image
+  pub file : List ℕ
+  pub made : IsElfOf file image
+  pub is : outcome ≡ wrote name file
+
+-- The bytes of the image whose ELF file was read are put under a name.
+pub record PutsFromElf (file name : List ℕ) (outcome : Outcome) : Type 0 where
+  pub image : Image
+  pub made : IsElfOf file image
+  pub bytes : List ℕ
+  pub spelled : IsImageOf bytes image
+  pub is : outcome ≡ wrote name bytes
+
 -- The outcome of a command, for the bytes that it read and those of the input.
 abbrev pub ComesTo : Command → List ℕ → List ℕ → Outcome → Type 0
 ComesTo (Run file harts cycles show) source text outcome =
@@ -210,3 +245,7 @@ ComesTo (Build file image) source text outcome = RefusesSource source outcome
 ComesTo (Exec image harts cycles) bytes text outcome = RefusesImage bytes outcome
     ⊎ RunsImage bytes text harts cycles outcome
 ComesTo (ListCode image) bytes text outcome = RefusesImage bytes outcome ⊎ ListsImage bytes outcome
+ComesTo (Elf image file) bytes text outcome = RefusesImage bytes outcome
+    ⊎ PutsElf bytes file outcome
+ComesTo (Unelf file image) bytes text outcome = RefusesElf bytes outcome
+    ⊎ PutsFromElf bytes image outcome

@@ -18,7 +18,9 @@ use Rattle.fk_top.specs.declared.report.Report.TheVariants.{GlobalsTooLarge, Sou
 use Rattle.fk_top.specs.declared.report.Report.TheVariants.{Version, Short, LongTail, BadTable}
 use Rattle.fk_top.specs.declared.report.Report.TheVariants.{BadWord, NotANumber, OutOfRange}
 use Rattle.fk_top.specs.declared.report.Report.TheVariants.{TooMany, NotBuilt, CommandLine}
-use Rattle.fk_top.specs.declared.report.Report.TheVariants.{ReadFault}
+use Rattle.fk_top.specs.declared.report.Report.TheVariants.{ReadFault, Wrote}
+use Rattle.fk_top.specs.declared.report.Report.TheVariants.{ElfHeader, ElfShort, ElfTail}
+use Rattle.fk_top.specs.declared.report.Report.TheVariants.{ElfSizes, ElfTable}
 
 -- The fault of an operation, by its kind. Most kinds have none.
 abbrev pub fault_kind : ℕ → FaultKind
@@ -63,6 +65,7 @@ abbrev pub text_of : Report → List ℕ
 text_of (Finished cycles) = codes "finished after " ++ decimal cycles ++ codes " cycles"
 text_of (Built words) = codes "built " ++ decimal words ++ codes " words"
 text_of (Listed words) = codes "listed " ++ decimal words ++ codes " words"
+text_of (Wrote bytes) = codes "wrote " ++ decimal bytes ++ codes " bytes"
 text_of (Fault kind place processor cycles) =
     codes "fault " ++ fault_name kind ++ codes " at " ++ place_text place
     ++ codes " by processor " ++ decimal processor ++ codes " after " ++ decimal cycles
@@ -94,6 +97,12 @@ text_of (NotANumber word) = codes "refused 19 NotANumber " ++ decimal word
 text_of (OutOfRange word) = codes "refused 20 OutOfRange " ++ decimal word
 text_of (TooMany word) = codes "refused 21 TooMany " ++ decimal word
 text_of NotBuilt = codes "refused 22 NotBuilt"
+text_of (ElfHeader offset) = codes "refused 27 ElfHeader " ++ decimal offset
+text_of (ElfShort bytes wanted) =
+    codes "refused 28 ElfShort " ++ decimal bytes ++ codes " " ++ decimal wanted
+text_of (ElfTail wanted) = codes "refused 29 ElfTail " ++ decimal wanted
+text_of ElfSizes = codes "refused 30 ElfSizes"
+text_of (ElfTable entry) = codes "refused 31 ElfTable " ++ decimal entry
 text_of CommandLine = codes "refused command line"
 text_of ReadFault = codes "read fault"
 

@@ -4,6 +4,7 @@
 mod bytes;
 mod call;
 mod command;
+mod elf;
 mod ending;
 mod find;
 mod input;

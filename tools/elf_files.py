@@ -1,0 +1,95 @@
+#!/usr/bin/env python3
+"""Makes the ELF file of each example's image, and the image of that file, and compares.
+
+    tools/elf_files.py [PROGRAM]
+
+PROGRAM is ./fork95 where it isn't given. The image must come back unchanged. Where GNU readelf is there, it must find the
+three program headers; where riscv64-unknown-elf-objdump is there (Debian: binutils-riscv64-unknown-elf), it must read the
+code as `list` does. A file that a linker made must be refused at the first byte that differs. The last line counts what
+passed and failed.
+"""
+import re
+import shutil
+import struct
+import subprocess
+import sys
+import tempfile
+from pathlib import Path
+
+sys.dont_write_bytecode = True
+from riscv_texts import disassembled, translated
+
+TOP = Path(__file__).resolve().parent.parent
+SECONDS = 120
+# offset, two addresses, two sizes and flags of a program header, as readelf prints them
+HEADER = re.compile(r"^  \S+ +" + " +".join([r"0x([0-9a-f]+)"] * 5) + r" +([RWE ]+?) +0x4$", re.M)
+
+
+def run(*words):
+    return subprocess.run([str(word) for word in words], stdin=subprocess.DEVNULL, capture_output=True, timeout=SECONDS, text=True)
+
+
+def headers_of(file):
+    """The program headers that readelf finds."""
+    rows = HEADER.findall(run("readelf", "-h", "-l", file).stdout)
+    return [(*(int(number, 16) for number in numbers), flags.replace(" ", "")) for *numbers, flags in rows]
+
+
+def wanted_headers(image):
+    """The program headers that an image should have."""
+    code, of_globals, sites, commits = struct.unpack_from("<4I", image, 8)
+    first, second, third = 4 * code, 4 * of_globals, 8 + 12 * sites + 8 * commits
+    return [
+        (148, 0, 0, first, first, "RE"),
+        (148 + first, 0x10000000, 0x10000000, second, 4194304, "RW"),
+        (148 + first + second, 0, 0, third, 0, "R"),
+    ]
+
+
+def listed(file):
+    """The texts of the code of a file, as objdump reads them."""
+    content = file.read_bytes()
+    offset, size = struct.unpack_from("<I", content, 56)[0], struct.unpack_from("<I", content, 68)[0]
+    words = struct.unpack_from(f"<{size // 4}I", content, offset)
+    return [translated(4 * place, text) for place, text in enumerate(disassembled(words))]
+
+
+def fault_of(program, source, folder):
+    """What is wrong with the file of a source's image, if anything."""
+    image, file, back = (Path(folder, name) for name in ("image", "file", "back"))
+    for words in (("build", source, "-o", image), ("elf", image, "-o", file), ("unelf", file, "-o", back)):
+        ended = run(program, *words)
+        if ended.returncode:
+            return f"{words[0]}: status {ended.returncode}: {ended.stderr.strip()}"
+    if back.read_bytes() != image.read_bytes():
+        return "the image that comes back is another"
+    if shutil.which("readelf") and headers_of(file) != wanted_headers(image.read_bytes()):
+        return f"readelf finds {headers_of(file)}"
+    if shutil.which("riscv64-unknown-elf-objdump"):
+        lines = [line[20:] for line in run(program, "list", image).stdout.splitlines()]
+        if listed(file) != lines:
+            return "objdump reads the code otherwise than `list`"
+    return None
+
+
+def fault_of_linked(program, folder):
+    """What is wrong with the refusal of a file of a linker: this interpreter, of another class."""
+    ended = run(program, "unelf", Path(sys.executable).resolve(), "-o", Path(folder, "none"))
+    wanted = (12, "refused 27 ElfHeader 4")
+    return None if (ended.returncode, ended.stderr.strip()) == wanted else f"{ended.returncode}, {ended.stderr.strip()}"
+
+
+def main():
+    program = str(Path(sys.argv[1]).resolve()) if len(sys.argv) > 1 else str(TOP / "fork95")
+    with tempfile.TemporaryDirectory() as folder:
+        rows = {it.stem: fault_of(program, it, folder) for it in sorted((TOP / "examples").glob("*.f95"))}
+        rows["a file of a linker"] = fault_of_linked(program, folder)
+    failed = {row: fault for row, fault in rows.items() if fault}
+    for row, fault in failed.items():
+        print(f"{row}: {fault}")
+    print(f"{len(rows) - len(failed)} passed, {len(failed)} failed")
+    return 1 if failed else 0
+
+
+if __name__ == "__main__":
+    sys.exit(main())
