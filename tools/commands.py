@@ -195,18 +195,22 @@ def unelf(name, to):
     return ["unelf", name, "-o", to]
 
 
-def elf_file(code, of_globals=(), sites=(), commits=()):
-    """The ELF file of an image."""
-    words = [len(sites), len(commits)] + [word for row in (*sites, *commits) for word in row]
-    sizes = [4 * len(code), 4 * len(of_globals), 4 * len(words)]
+def elf_header(*sizes):
+    """The headers of an ELF file whose code, globals and entries have these sizes in bytes. They have 148 bytes."""
     header = b"\x7fELF\1\1\1" + bytes(9) + struct.pack("<2H5I6H", 2, 243, 1, 0, 52, 0, 0, 52, 32, 3, 0, 0, 0)
     parts = [(1, 0, sizes[0], 5), (1, 0x10000000, 4194304, 6), (0x60000095, 0, 0, 4)]
     offset = 148
     for (kind, address, memory, flags), size in zip(parts, sizes):
-        header += struct.pack("<8I", kind, offset, address, address, size, memory, flags, 4)
+        header += struct.pack("<8I", kind, offset % 2**32, address, address, size, memory, flags, 4)
         offset += size
-    words = [*code, *of_globals, *words]
-    return header + struct.pack("<%dI" % len(words), *words)
+    return header
+
+
+def elf_file(code, of_globals=(), sites=(), commits=()):
+    """The ELF file of an image."""
+    entries = [len(sites), len(commits)] + [word for row in (*sites, *commits) for word in row]
+    words = [*code, *of_globals, *entries]
+    return elf_header(4 * len(code), 4 * len(of_globals), 4 * len(entries)) + struct.pack("<%dI" % len(words), *words)
 
 
 def replaced(there, at, byte):

@@ -4,8 +4,8 @@
     tools/elf_files.py [PROGRAM]
 
 PROGRAM is ./fork95 where it isn't given. The image must come back unchanged. Where GNU readelf is there, it must find the
-three program headers; where riscv64-unknown-elf-objdump is there (Debian: binutils-riscv64-unknown-elf), it must read the
-code as `list` does. A file that a linker made must be refused at the first byte that differs. The last line counts what
+three program headers. Where GNU's tools for RISC-V are there (Debian: binutils-riscv64-unknown-elf), objdump must read the
+code as `list` does. Files that a GNU linker made must be refused at the first byte that differs. The last line counts what
 passed and failed.
 """
 import re
@@ -17,10 +17,12 @@ import tempfile
 from pathlib import Path
 
 sys.dont_write_bytecode = True
+from commands import elf_header
 from riscv_texts import disassembled, translated
 
 TOP = Path(__file__).resolve().parent.parent
 SECONDS = 120
+HEADERS = 148
 # offset, two addresses, two sizes and flags of a program header, as readelf prints them
 HEADER = re.compile(r"^  \S+ +" + " +".join([r"0x([0-9a-f]+)"] * 5) + r" +([RWE ]+?) +0x4$", re.M)
 
@@ -40,18 +42,16 @@ def wanted_headers(image):
     code, of_globals, sites, commits = struct.unpack_from("<4I", image, 8)
     first, second, third = 4 * code, 4 * of_globals, 8 + 12 * sites + 8 * commits
     return [
-        (148, 0, 0, first, first, "RE"),
-        (148 + first, 0x10000000, 0x10000000, second, 4194304, "RW"),
-        (148 + first + second, 0, 0, third, 0, "R"),
+        (HEADERS, 0, 0, first, first, "RE"),
+        (HEADERS + first, 0x10000000, 0x10000000, second, 4194304, "RW"),
+        (HEADERS + first + second, 0, 0, third, 0, "R"),
     ]
 
 
 def listed(file):
-    """The texts of the code of a file, as objdump reads them."""
-    content = file.read_bytes()
-    offset, size = struct.unpack_from("<I", content, 56)[0], struct.unpack_from("<I", content, 68)[0]
-    words = struct.unpack_from(f"<{size // 4}I", content, offset)
-    return [translated(4 * place, text) for place, text in enumerate(disassembled(words))]
+    """The texts of the code of a file, as objdump reads them. The size of the code stands at byte 68."""
+    size = struct.unpack_from("<I", file.read_bytes(), 68)[0]
+    return [translated(HEADERS + 4 * place, text) for place, text in enumerate(disassembled(file, HEADERS, HEADERS + size))]
 
 
 def fault_of(program, source, folder):
@@ -72,10 +72,24 @@ def fault_of(program, source, folder):
     return None
 
 
-def fault_of_linked(program, folder):
-    """What is wrong with the refusal of a file of a linker: this interpreter, of another class."""
-    ended = run(program, "unelf", Path(sys.executable).resolve(), "-o", Path(folder, "none"))
-    wanted = (12, "refused 27 ElfHeader 4")
+def linked(folder):
+    """Files that a GNU linker made: this interpreter and, where the tools for RISC-V are there, one of 32 bits."""
+    yield Path(sys.executable).resolve()
+    if shutil.which("riscv64-unknown-elf-ld"):
+        source, made, file = (Path(folder, name) for name in ("source.s", "made.o", "linked"))
+        source.write_text(".globl _start\n_start: lui t0, 0x30000\nsw zero, 12(t0)\n", encoding="utf-8")
+        subprocess.run(["riscv64-unknown-elf-as", "-march=rv32ima", "-mabi=ilp32", "-o", made, source], check=True)
+        subprocess.run(["riscv64-unknown-elf-ld", "-m", "elf32lriscv", "-o", file, made], check=True)
+        yield file
+
+
+def fault_of_linked(program, file, folder):
+    """What is wrong with the refusal of a file of a linker, if anything."""
+    content = file.read_bytes()
+    sizes = [struct.unpack_from("<I", content, offset)[0] for offset in (68, 100, 132)]
+    first = next(offset for offset, byte in enumerate(elf_header(*sizes)) if content[offset] != byte)
+    ended = run(program, "unelf", file, "-o", Path(folder, "none"))
+    wanted = (12, f"refused 27 ElfHeader {first}")
     return None if (ended.returncode, ended.stderr.strip()) == wanted else f"{ended.returncode}, {ended.stderr.strip()}"
 
 
@@ -83,7 +97,7 @@ def main():
     program = str(Path(sys.argv[1]).resolve()) if len(sys.argv) > 1 else str(TOP / "fork95")
     with tempfile.TemporaryDirectory() as folder:
         rows = {it.stem: fault_of(program, it, folder) for it in sorted((TOP / "examples").glob("*.f95"))}
-        rows["a file of a linker"] = fault_of_linked(program, folder)
+        rows |= {f"a linker's {it.name}": fault_of_linked(program, it, folder) for it in linked(folder)}
     failed = {row: fault for row, fault in rows.items() if fault}
     for row, fault in failed.items():
         print(f"{row}: {fault}")

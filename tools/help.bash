@@ -105,11 +105,11 @@ help_with_words() {
             for word in --harts --cycles; do
                 [[ " $* " == *" $word"[\ =]* ]] || echo "$1 needs $word N."
             done ;;
-        build) [[ " $* " == *" -o"* ]] || echo "build needs -o IMAGE." ;;
+        build | elf | unelf) [[ " $* " == *" -o"* ]] || echo "$1 needs -o and the name of a file." ;;
         list) ;;
         *) echo "${1-} is no command." ;;
     esac
-    usage | head -6
+    usage | sed '/^$/,$d'
 }
 
 # Runs the program with the words given, and helps behind its report where standard error is a terminal.
@@ -124,7 +124,7 @@ run_with_help() {
     cat "$report" >&2
     last=$(tail -n 1 "$report")
     case $status in
-        0 | 8 | 9) ;;
+        0 | 8 | 9 | 12) ;;
         *) help_with "$last" "$status" "$@" >&2 ;;
     esac
     exit "$status"

@@ -31,15 +31,13 @@ def words():
     return [int(word.replace("_", ""), 16) for word in found][FIRST_VECTOR:] + EXTRA
 
 
-def disassembled(numbers):
-    """The texts of objdump, of words that stand at the addresses 0, 4 and so on."""
-    with tempfile.TemporaryDirectory() as folder:
-        code = Path(folder) / "code"
-        code.write_bytes(struct.pack(f"<{len(numbers)}I", *numbers))
-        command = ["riscv64-unknown-elf-objdump", "-D", "-b", "binary", "-m", "riscv:rv32", "-M", "no-aliases", code]
-        printed = subprocess.run(command, check=True, capture_output=True, text=True).stdout
+def disassembled(file, first, last):
+    """The texts of objdump, of the words of a file from one offset to another. It is told where the words are."""
+    command = ["riscv64-unknown-elf-objdump", "-d", "-z", "-j", ".data", "-b", "binary", "-m", "riscv:rv32", "-M", "no-aliases"]
+    command += [f"--start-address={first}", f"--stop-address={last}", file]
+    printed = subprocess.run(command, check=True, capture_output=True, text=True).stdout
     lines = re.findall(r"^ *([0-9a-f]+):\t[0-9a-f]{8} *\t(.*)$", printed, re.MULTILINE)
-    assert [int(address, 16) for address, _ in lines] == list(range(0, 4 * len(numbers), 4))
+    assert [int(address, 16) for address, _ in lines] == list(range(first, last, 4))
     return [text for _, text in lines]
 
 
@@ -61,7 +59,11 @@ def translated(address, text):
 
 def main():
     numbers = words()
-    texts = [translated(4 * i, text) for i, text in enumerate(disassembled(numbers))]
+    with tempfile.TemporaryDirectory() as folder:
+        code = Path(folder) / "code"
+        code.write_bytes(struct.pack(f"<{len(numbers)}I", *numbers))
+        lines = disassembled(code, 0, 4 * len(numbers))
+    texts = [translated(4 * i, text) for i, text in enumerate(lines)]
     rows = "".join(f'    (0x{n:08x}, b"{t}"),\n' for n, t in zip(numbers, texts))
     rows = re.sub(r"0x([0-9a-f]{4})([0-9a-f]{4}),", r"0x\1_\2,", rows)
     OUT.write_text(

@@ -333,7 +333,7 @@ IsOfUnaccepted status = (status ≡ Memory) ⊎ (status ≡ InputRefused)
 pub record IsAnswer (call : Call) (status : Status) : Type 0 where
   -- Each status has its cause. The status, the bytes that were put, and those that `out` and `err`
   -- got are those of one image. It is faithful to the bytes that were fetched, or these are its
-  -- bytes.
+  -- bytes or its ELF file.
   pub answer : HasCause call status
   -- Words that are no command.
   pub usage : status ≡ Usage → IsNoCommand call.request.words
