@@ -1,0 +1,5 @@
+pub mod Touched
+pub mod Served
+pub mod Least
+pub mod Marked
+pub mod First
