@@ -27,4 +27,7 @@ pub enum CommandWords<'a> {
     Exec(RunWords<'a>),
     /// `list IMAGE`: lists the code of an image.
     List(&'a str),
+    /// `audit FILE --harts P --cycles N`: compiles a source, runs it, and tells which PRAM the run
+    /// needed.
+    Audit(RunWords<'a>),
 }
