@@ -15,7 +15,7 @@ use crate::command::{file_of, most_bytes};
 use crate::ending::{Ending, silent};
 use crate::input::take_input;
 use crate::report::Report;
-use crate::source::{build_source, run_source};
+use crate::source::{audit_source, build_source, run_source};
 use crate::status::Status;
 use fk_ports::{Source, Store, StoreFault};
 use fk_top_words::{CommandWords, WordsFault, read_words};
@@ -100,5 +100,6 @@ fn command_ending<'a>(
         CommandWords::Build(_, image) => build_source(alloc, bytes, image),
         CommandWords::Exec(run) => run_bytes(alloc, bytes, text, run),
         CommandWords::List(_) => list_bytes(alloc, bytes),
+        CommandWords::Audit(run) => audit_source(alloc, bytes, text, run),
     }
 }
