@@ -1,7 +1,7 @@
 -- Touches are marked, one after another.
 use Rattle.std.proofs.Common.{◌≡◌, ◌≢◌, ℕ, ◌+◌, ◌^◌, ◌<◌, ◌≤◌, List, length, take, set, get_or, cond, Bool, true, false, ◌&&◌, Option, Some, None, ◌⊎◌, inl, inr, refl, sym, ap, subst, ◌∙◌, arith}
 use Rattle.std.proofs.Common.{eq-eqb, ne_eqb}
-use Rattle.std.specs.Prelude.{◌==◌, slice_index, slice_set, count_by}
+use Rattle.std.specs.Prelude.{◌==◌, All, slice_index, slice_set}
 use Rattle.std.proofs.lemmas.Bool.{cases_eq, cases_lt}
 use Rattle.std.proofs.lemmas.Grind.{get_or-set_at}
 use Rattle.std.proofs.lemmas.List.{get_or-set_other}
@@ -30,21 +30,19 @@ pub more_least : (x : ℕ) (F G : ℕ → ℕ) → OneMore x F G → (w : ℕ) �
 more_least x F G more w = let e = more w in omega (arith, e)
 
 -- a touch that counts
-pub counted_more : (stand : Stand) (kind : AccessKind) (ts : List Touch) (i : ℕ) (d t : Touch) → i < length ts → get_or ts i d ≡ t → is_counted stand kind t ≡ true
-    → OneMore t.word (counted stand kind (take i ts)) (counted stand kind (take (i + 1) ts))
-counted_more stand kind ts i d t within same yes w =
+counted_more : (stand : Stand) (kind : AccessKind) (ts : List Touch) (i : ℕ) (d : Touch) → i < length ts → is_counted stand kind (get_or ts i d) ≡ true
+    → OneMore (get_or ts i d).word (counted stand kind (take i ts)) (counted stand kind (take (i + 1) ts))
+counted_more stand kind ts i d within yes w =
     sum_by_more (λ x. cond (is_counted stand kind x && (x.word == w)) 1 0) ts i d within
-    ∙ ap (λ x. counted stand kind (take i ts) w + cond (is_counted stand kind x && (x.word == w)) 1 0) same
-    ∙ ap (λ b. counted stand kind (take i ts) w + cond (b && (t.word == w)) 1 0) yes
+    ∙ ap (λ b. counted stand kind (take i ts) w + cond (b && ((get_or ts i d).word == w)) 1 0) yes
 
 -- one that doesn't
-pub counted_same : (stand : Stand) (kind : AccessKind) (ts : List Touch) (i : ℕ) (d t : Touch) → i < length ts → get_or ts i d ≡ t → is_counted stand kind t ≡ false
+counted_same : (stand : Stand) (kind : AccessKind) (ts : List Touch) (i : ℕ) (d : Touch) → i < length ts → is_counted stand kind (get_or ts i d) ≡ false
     → (w : ℕ) → counted stand kind (take (i + 1) ts) w ≡ counted stand kind (take i ts) w
-counted_same stand kind ts i d t within same no w =
+counted_same stand kind ts i d within no w =
     let e : counted stand kind (take (i + 1) ts) w ≡ counted stand kind (take i ts) w + 0 =
     sum_by_more (λ x. cond (is_counted stand kind x && (x.word == w)) 1 0) ts i d within
-    ∙ ap (λ x. counted stand kind (take i ts) w + cond (is_counted stand kind x && (x.word == w)) 1 0) same
-    ∙ ap (λ b. counted stand kind (take i ts) w + cond (b && (t.word == w)) 1 0) no in
+    ∙ ap (λ b. counted stand kind (take i ts) w + cond (b && ((get_or ts i d).word == w)) 1 0) no in
     omega (arith, e)
 
 -- ---- marks and the least word that is touched twice
@@ -143,6 +141,40 @@ count_marked cycle x other F G marks least inside within more free m =
       least_is = least_is;
     }
 
+-- one touch more, that counts
+pub marked_counted : (stand : Stand) (kind : AccessKind) (cycle : ℕ) (ts : List Touch) (i : ℕ) (d : Touch) (other marks marks' : List ℕ) (least least' : Option ℕ)
+    → i < length ts → All (λ t. t.word < 2 ^ 20) ts → length marks ≡ 2 ^ 20 → is_counted stand kind (get_or ts i d) ≡ true
+    → marks' ≡ cond (slice_index other (get_or ts i d).word == cycle) marks (slice_set marks (get_or ts i d).word cycle)
+    → least' ≡ cond (slice_index other (get_or ts i d).word == cycle) least (cond (slice_index marks (get_or ts i d).word == cycle) (lesser least (get_or ts i d).word) least)
+    → AreMarked cycle other (counted stand kind (take i ts)) marks least → AreMarked cycle other (counted stand kind (take (i + 1) ts)) marks' least'
+marked_counted stand kind cycle ts i d other marks marks' least least' inside all sized yes marks_are least_is m =
+    let x = (get_or ts i d).word in
+    let F = counted stand kind (take i ts) in
+    let G = counted stand kind (take (i + 1) ts) in
+    let within : x < 2 ^ 20 = all i d inside in
+    let room : x < length marks = omega (arith, within, sized) in
+    let more : OneMore x F G = counted_more stand kind ts i d inside yes in
+    let again = cond (slice_index marks x == cycle) (lesser least x) least in
+    elim (cases_eq (slice_index other x) cycle) [
+      | inl e ↦
+          let b = eq-eqb (slice_index other x) cycle e in
+          subst (λ ms. AreMarked cycle other G ms least') (sym (marks_are ∙ ap (λ b. cond b marks (slice_set marks x cycle)) b))
+          (subst (λ l. AreMarked cycle other G marks l) (sym (least_is ∙ ap (λ b. cond b least again) b))
+          (pass_marked cycle other F G marks least (same_at_other cycle x other F G more e) m))
+      | inr free ↦
+          let b = ne_eqb (slice_index other x) cycle free in
+          subst (λ ms. AreMarked cycle other G ms least') (sym (marks_are ∙ ap (λ b. cond b marks (slice_set marks x cycle)) b))
+          (subst (λ l. AreMarked cycle other G (slice_set marks x cycle) l) (sym (least_is ∙ ap (λ b. cond b least again) b))
+          (count_marked cycle x other F G marks least room within more free m))
+    ]
+
+-- one that doesn't
+pub marked_passed : (stand : Stand) (kind : AccessKind) (cycle : ℕ) (ts : List Touch) (i : ℕ) (d : Touch) (other marks : List ℕ) (least : Option ℕ)
+    → i < length ts → is_counted stand kind (get_or ts i d) ≡ false
+    → AreMarked cycle other (counted stand kind (take i ts)) marks least → AreMarked cycle other (counted stand kind (take (i + 1) ts)) marks least
+marked_passed stand kind cycle ts i d other marks least inside no m =
+    pass_marked cycle other (counted stand kind (take i ts)) (counted stand kind (take (i + 1) ts)) marks least (λ w ne. counted_same stand kind ts i d inside no w) m
+
 -- ---- words that are read and have the mark of a write
 
 abbrev pub IsShared : ℕ → List ℕ → (ℕ → ℕ) → ℕ → Type 0
@@ -172,6 +204,33 @@ count_shared cycle x written F G least within more is_written is =
       | inr apart ↦ let e = more_other x F G more w apart in let some = has.1 in inl (has.0, omega (arith, e, some))
     ] in
     least_more (IsShared cycle written F) (IsShared cycle written G) x least within (is_written, omega (arith, one)) there back is
+
+-- one touch more, that counts
+pub shared_counted : (stand : Stand) (kind : AccessKind) (cycle : ℕ) (ts : List Touch) (i : ℕ) (d : Touch) (written : List ℕ) (least least' : Option ℕ)
+    → i < length ts → All (λ t. t.word < 2 ^ 20) ts → is_counted stand kind (get_or ts i d) ≡ true
+    → least' ≡ cond (slice_index written (get_or ts i d).word == cycle) (lesser least (get_or ts i d).word) least
+    → IsLeast (IsShared cycle written (counted stand kind (take i ts))) least → IsLeast (IsShared cycle written (counted stand kind (take (i + 1) ts))) least'
+shared_counted stand kind cycle ts i d written least least' inside all yes least_is is =
+    let x = (get_or ts i d).word in
+    let F = counted stand kind (take i ts) in
+    let G = counted stand kind (take (i + 1) ts) in
+    let within : x < 2 ^ 20 = all i d inside in
+    let more : OneMore x F G = counted_more stand kind ts i d inside yes in
+    elim (cases_eq (slice_index written x) cycle) [
+      | inl e ↦
+          subst (λ l. IsLeast (IsShared cycle written G) l) (sym (least_is ∙ ap (λ b. cond b (lesser least x) least) (eq-eqb (slice_index written x) cycle e)))
+          (count_shared cycle x written F G least within more e is)
+      | inr ne ↦
+          subst (λ l. IsLeast (IsShared cycle written G) l) (sym (least_is ∙ ap (λ b. cond b (lesser least x) least) (ne_eqb (slice_index written x) cycle ne)))
+          (pass_shared cycle written F G least (same_unwritten cycle x written F G more ne) is)
+    ]
+
+-- one that doesn't
+pub shared_passed : (stand : Stand) (kind : AccessKind) (cycle : ℕ) (ts : List Touch) (i : ℕ) (d : Touch) (written : List ℕ) (least : Option ℕ)
+    → i < length ts → is_counted stand kind (get_or ts i d) ≡ false
+    → IsLeast (IsShared cycle written (counted stand kind (take i ts))) least → IsLeast (IsShared cycle written (counted stand kind (take (i + 1) ts))) least
+shared_passed stand kind cycle ts i d written least inside no is =
+    pass_shared cycle written (counted stand kind (take i ts)) (counted stand kind (take (i + 1) ts)) least (λ w e. counted_same stand kind ts i d inside no w) is
 
 -- ---- both kinds
 

@@ -25,21 +25,42 @@ fn is_counted(stand: Stand, kind: AccessKind, touch: Touch) -> bool
     is_served(stand, touch.hart) && kind.is_same(touch.kind)
 }
 
-// Marks a word with a cycle. Gives the least word that was marked again.
+// The lesser of a word and the least one so far, if the word has the mark of this cycle.
 #[inline(always)]
-fn mark_word(marks: &mut [u32], word: u32, cycle: u32, least: Option<u32>) -> Option<u32>
-    requires { word < length marks.old }
-    ensures marks { marks.new ≡ slice_set marks.old word cycle }
-    ensures least { result ≡ (if slice_index marks.old word == cycle
-        then lesser least word else least) }
+fn least_marked(marks: &[u32], word: u32, cycle: u32, least: Option<u32>) -> Option<u32>
+    requires { word < length marks.now }
+    ensures { result ≡ (if slice_index marks.now word == cycle then lesser least word else least) }
 {
-    let is_marked = marks[word as usize] == cycle;
-    marks[word as usize] = cycle;
-    if is_marked {
+    if marks[word as usize] == cycle {
         lesser(least, word)
     } else {
         least
     }
+}
+
+// Marks a word with the cycle, unless `other` has marked it. Gives the least word that was marked
+// again.
+#[inline(always)]
+fn mark_word(
+    other: &[u32],
+    marks: &mut [u32],
+    word: u32,
+    cycle: u32,
+    least: Option<u32>,
+) -> Option<u32>
+    requires other { word < length other.now }
+    requires marks { word < length marks.old }
+    ensures marks { marks.new ≡ (if slice_index other.now word == cycle
+        then marks.old else slice_set marks.old word cycle) }
+    ensures least { result ≡ (if slice_index other.now word == cycle then least
+        else (if slice_index marks.old word == cycle then lesser least word else least)) }
+{
+    if other[word as usize] == cycle {
+        return least;
+    }
+    let least = least_marked(marks, word, cycle, least);
+    marks[word as usize] = cycle;
+    least
 }
 
 // Marks with the cycle the words that touches of a kind touch, except for words that `other` has
@@ -65,9 +86,7 @@ fn mark(
     let mut least = None;
     for touch in touches {
         if is_counted(stand, kind, *touch) {
-            if other[touch.word as usize] != cycle {
-                least = mark_word(marks, touch.word, cycle, least);
-            }
+            least = mark_word(other, marks, touch.word, cycle, least);
         }
     }
     least
@@ -83,9 +102,7 @@ fn least_shared(touches: &[Touch], stand: Stand, cycle: u32, written: &[u32]) ->
     let mut least = None;
     for touch in touches {
         if is_counted(stand, AccessKind::Read, *touch) {
-            if written[touch.word as usize] == cycle {
-                least = lesser(least, touch.word);
-            }
+            least = least_marked(written, touch.word, cycle, least);
         }
     }
     least
