@@ -1,5 +1,5 @@
 pub mod Touched
 pub mod Served
-pub mod Least
+pub mod LeastWords
 pub mod Marked
 pub mod First

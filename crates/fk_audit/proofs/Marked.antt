@@ -10,7 +10,7 @@ use Rattle.fk_machine.specs.declared.stand.Stand.{Stand}
 use Rattle.fk_audit.specs.declared.access.AccessKind.{AccessKind}
 use Rattle.fk_audit.specs.declared.touch.Touch.{Touch}
 use Rattle.fk_audit.specs.Mark.{IsMark, IsLeast, lesser, least_of, is_counted, counted}
-use Rattle.fk_audit.proofs.Least.{least_same, least_either, least_more}
+use Rattle.fk_audit.proofs.LeastWords.{least_same, least_either, least_more}
 
 -- ---- counts of one touch more
 
