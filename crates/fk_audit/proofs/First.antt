@@ -13,7 +13,7 @@ use Rattle.fk_audit.specs.Mark.{IsLeast, first_of}
 ran_before : (m : Machine) (k n : ℕ) → k ≤ n → is_running (after n m).stand ≡ true → is_running (after k m).stand ≡ true
 ran_before m k n le running =
     elim (cases_Bool (is_running (after k m).stand)) [
-      | inl yes ↦ yes
+      | inl ran ↦ ran
       | inr stopped ↦ absurd (both_ways _ (ap (λ (l : Machine). is_running l.stand) (after-stopped m k n le stopped) ∙ stopped) running)
     ]
 

@@ -3,3 +3,4 @@ pub mod Served
 pub mod LeastWords
 pub mod Marked
 pub mod First
+pub mod Clashing

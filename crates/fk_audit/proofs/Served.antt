@@ -110,11 +110,11 @@ count_with : (p : Touch → Bool) (o : Option Touch) (ts : List Touch) → count
 count_with p None ts = omega arith
 count_with p (Some t) ts = sum_by-cons (λ x. cond (p x) 1 0) t ts
 
-both : (a b : Bool) → cond (a && b) 1 0 ≡ cond a (cond b 1 0) 0
+both : (a b : Bool) → ◌≡◌ {A = ℕ} (cond (a && b) 1 0) (cond a (cond b 1 0) 0)
 both true b = refl
 both false b = refl
 
-nothing : (a : Bool) → 0 ≡ cond a 0 0
+nothing : (a : Bool) → ◌≡◌ {A = ℕ} 0 (cond a 0 0)
 nothing true = refl
 nothing false = refl
 
