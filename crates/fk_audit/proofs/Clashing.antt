@@ -1,5 +1,5 @@
 -- Counts of touches, as the clashes of a cycle.
-use Rattle.std.proofs.Common.{◌≡◌, ℕ, ◌+◌, ◌≤◌, Option, sym, arith, ◌∙◌}
+use Rattle.std.proofs.Common.{◌≡◌, ℕ, ◌+◌, ◌≤◌, Option, arith}
 use Rattle.fk_machine.specs.Cycle.{Machine}
 use Rattle.fk_audit.specs.declared.access.AccessKind.TheVariants.{Read, Write}
 use Rattle.fk_audit.specs.Clash.{Clashes, touching}

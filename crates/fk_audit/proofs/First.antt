@@ -1,12 +1,12 @@
 -- The first clash of a run.
-use Rattle.std.proofs.Common.{◌≡◌, ℕ, suc, ◌+◌, ◌<◌, ◌≤◌, Bool, true, false, Option, Some, None, inl, inr, refl, sym, ap, subst, ◌∙◌, arith}
+use Rattle.std.proofs.Common.{◌≡◌, ℕ, suc, ◌+◌, ◌≤◌, true, false, Option, Some, None, inl, inr, refl, ap, subst, ◌∙◌, arith}
 use Rattle.std.proofs.lemmas.Bool.{cases_lt, cases_Bool, both_ways}
 use Rattle.fk_machine.specs.Cycle.{Machine, is_running}
 use Rattle.fk_machine.specs.Run.{after}
 use Rattle.fk_machine.proofs.Runs.{after-stopped}
 use Rattle.fk_audit.specs.declared.access.AccessKind.{AccessKind}
 use Rattle.fk_audit.specs.declared.verdict.Clash.{Clash}
-use Rattle.fk_audit.specs.Clash.{Clashes, IsFirst, IsFirstOf}
+use Rattle.fk_audit.specs.Clash.{Clashes, IsFirstOf}
 use Rattle.fk_audit.specs.Mark.{IsLeast, first_of}
 
 -- a machine that runs has run

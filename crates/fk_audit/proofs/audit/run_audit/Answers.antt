@@ -1,11 +1,10 @@
-use Rattle.std.proofs.Common.{◌≡◌, ◌≢◌, ℕ, suc, ◌+◌, ◌≤◌, true, cond, refl, sym, ap, subst, ◌∙◌, add-one, arith, rules}
+use Rattle.std.proofs.Common.{◌≡◌, ◌≢◌, ℕ, suc, ◌+◌, true, cond, refl, sym, ap, subst, ◌∙◌, add-one, arith, rules}
 use Rattle.fk_machine.specs.declared.stand.Stand.TheVariants.{Running}
 use Rattle.fk_machine.specs.Cycle.{Machine, cycle, is_running, after_turns, turns_of}
 use Rattle.fk_machine.specs.Run.{after}
 use Rattle.fk_machine.specs.View.{machine_of}
 use Rattle.fk_machine.proofs.Runs.{after-stopped, is_running-other}
 use Rattle.fk_audit.specs.declared.access.AccessKind.TheVariants.{Read, Write}
-use Rattle.fk_audit.specs.declared.verdict.Clash.{Clash}
 use Rattle.fk_audit.specs.Clash.{Clashes, IsFirstOf}
 use Rattle.fk_audit.specs.Mark.{AreUpTo, IsLeast, first_of}
 use Rattle.fk_audit.proofs.First.{first_none, first_more, first_stays}

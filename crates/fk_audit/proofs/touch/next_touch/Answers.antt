@@ -1,5 +1,4 @@
-use Rattle.std.proofs.Common.{◌≡◌, ◌/◌, map, Some, None, sym, ap, refl, ◌∙◌, rules}
-use Rattle.std.specs.Prelude.{slice_get}
+use Rattle.std.proofs.Common.{◌≡◌, map, Some, None, sym, ap, refl, ◌∙◌, rules}
 use Rattle.fk_isa.specs.Step.{HartState, hart_of}
 use Rattle.fk_machine.specs.Step.{state_of}
 use Rattle.fk_machine.specs.View.{code_of, machine_of}

@@ -1,4 +1,4 @@
-use Rattle.std.proofs.Common.{◌≡◌, ℕ, List, map, ap, ◌∙◌}
+use Rattle.std.proofs.Common.{◌≡◌, ℕ, List, ap, ◌∙◌}
 use Rattle.fk_machine.specs.declared.stand.Stand.{Stand}
 use Rattle.fk_machine.specs.Cycle.{Machine, cycle}
 use Rattle.fk_machine.specs.View.{machine_of}
@@ -18,9 +18,9 @@ returns-clause-read c =
     let touches = c.as_slice.ensures.value ∙ c.collect.ensures.touches in
     let same : (kind : AccessKind) (w : ℕ) → counted c.cycle-stand.result kind c.as_slice.result.now w ≡ touching kind m w =
     λ kind w.
-        ap (λ (s : Stand). counted s kind c.as_slice.result.now w) stand
-        ∙ ap (λ (ts : List Touch). counted (cycle m).stand kind ts w) touches
-        ∙ counted_touches m kind w c.requires.running in
+    ap (λ (s : Stand). counted s kind c.as_slice.result.now w) stand
+    ∙ ap (λ (ts : List Touch). counted (cycle m).stand kind ts w) touches
+    ∙ counted_touches m kind w c.requires.running in
     least_read_clash m (counted c.cycle-stand.result Read c.as_slice.result.now) (counted c.cycle-stand.result Write c.as_slice.result.now) c.least_words.result.read (same Read) (same Write) c.least_words.ensures.least_read
 
 pub returns-clause-write : goal.returns-clause-write
@@ -30,7 +30,7 @@ returns-clause-write c =
     let touches = c.as_slice.ensures.value ∙ c.collect.ensures.touches in
     let same : (kind : AccessKind) (w : ℕ) → counted c.cycle-stand.result kind c.as_slice.result.now w ≡ touching kind m w =
     λ kind w.
-        ap (λ (s : Stand). counted s kind c.as_slice.result.now w) stand
-        ∙ ap (λ (ts : List Touch). counted (cycle m).stand kind ts w) touches
-        ∙ counted_touches m kind w c.requires.running in
+    ap (λ (s : Stand). counted s kind c.as_slice.result.now w) stand
+    ∙ ap (λ (ts : List Touch). counted (cycle m).stand kind ts w) touches
+    ∙ counted_touches m kind w c.requires.running in
     least_write_clash m (counted c.cycle-stand.result Read c.as_slice.result.now) (counted c.cycle-stand.result Write c.as_slice.result.now) c.least_words.result.write (same Read) (same Write) c.least_words.ensures.least_write
