@@ -1,19 +1,19 @@
 -- The first clash of a run.
-use Rattle.std.proofs.Common.{◌≡◌, ℕ, suc, ◌+◌, ◌<◌, ◌≤◌, Bool, true, false, Option, Some, None, inl, inr, refl, sym, ap, subst, ◌∙◌, arith}
+use Rattle.std.proofs.Common.{◌≡◌, ℕ, suc, ◌+◌, ◌≤◌, true, false, Option, Some, None, inl, inr, refl, ap, subst, ◌∙◌, arith}
 use Rattle.std.proofs.lemmas.Bool.{cases_lt, cases_Bool, both_ways}
 use Rattle.fk_machine.specs.Cycle.{Machine, is_running}
 use Rattle.fk_machine.specs.Run.{after}
 use Rattle.fk_machine.proofs.Runs.{after-stopped}
 use Rattle.fk_audit.specs.declared.access.AccessKind.{AccessKind}
 use Rattle.fk_audit.specs.declared.verdict.Clash.{Clash}
-use Rattle.fk_audit.specs.Clash.{Clashes, IsFirst, IsFirstOf}
+use Rattle.fk_audit.specs.Clash.{Clashes, IsFirstOf}
 use Rattle.fk_audit.specs.Mark.{IsLeast, first_of}
 
 -- a machine that runs has run
 ran_before : (m : Machine) (k n : ℕ) → k ≤ n → is_running (after n m).stand ≡ true → is_running (after k m).stand ≡ true
 ran_before m k n le running =
     elim (cases_Bool (is_running (after k m).stand)) [
-      | inl yes ↦ yes
+      | inl ran ↦ ran
       | inr stopped ↦ absurd (both_ways _ (ap (λ (l : Machine). is_running l.stand) (after-stopped m k n le stopped) ∙ stopped) running)
     ]
 

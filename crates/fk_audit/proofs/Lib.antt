@@ -1,5 +1,6 @@
 pub mod Touched
 pub mod Served
-pub mod Least
+pub mod LeastWords
 pub mod Marked
 pub mod First
+pub mod Clashing

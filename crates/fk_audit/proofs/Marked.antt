@@ -1,5 +1,5 @@
 -- Touches are marked, one after another.
-use Rattle.std.proofs.Common.{◌≡◌, ◌≢◌, ℕ, ◌+◌, ◌^◌, ◌<◌, ◌≤◌, List, length, take, set, get_or, cond, Bool, true, false, ◌&&◌, Option, Some, None, ◌⊎◌, inl, inr, refl, sym, ap, subst, ◌∙◌, arith}
+use Rattle.std.proofs.Common.{◌≡◌, ◌≢◌, ℕ, ◌+◌, ◌^◌, ◌<◌, ◌≤◌, List, length, take, get_or, cond, true, false, ◌&&◌, Option, None, ◌⊎◌, inl, inr, refl, sym, ap, subst, ◌∙◌, arith}
 use Rattle.std.proofs.Common.{eq-eqb, ne_eqb}
 use Rattle.std.specs.Prelude.{◌==◌, All, slice_index, slice_set}
 use Rattle.std.proofs.lemmas.Bool.{cases_eq, cases_lt}
@@ -10,7 +10,7 @@ use Rattle.fk_machine.specs.declared.stand.Stand.{Stand}
 use Rattle.fk_audit.specs.declared.access.AccessKind.{AccessKind}
 use Rattle.fk_audit.specs.declared.touch.Touch.{Touch}
 use Rattle.fk_audit.specs.Mark.{IsMark, IsLeast, lesser, least_of, is_counted, counted}
-use Rattle.fk_audit.proofs.Least.{least_same, least_either, least_more}
+use Rattle.fk_audit.proofs.LeastWords.{least_same, least_either, least_more}
 
 -- ---- counts of one touch more
 
@@ -32,17 +32,17 @@ more_least x F G more w = let e = more w in omega (arith, e)
 -- a touch that counts
 counted_more : (stand : Stand) (kind : AccessKind) (ts : List Touch) (i : ℕ) (d : Touch) → i < length ts → is_counted stand kind (get_or ts i d) ≡ true
     → OneMore (get_or ts i d).word (counted stand kind (take i ts)) (counted stand kind (take (i + 1) ts))
-counted_more stand kind ts i d within yes w =
+counted_more stand kind ts i d within counts w =
     sum_by_more (λ x. cond (is_counted stand kind x && (x.word == w)) 1 0) ts i d within
-    ∙ ap (λ b. counted stand kind (take i ts) w + cond (b && ((get_or ts i d).word == w)) 1 0) yes
+    ∙ ap (λ b. counted stand kind (take i ts) w + cond (b && ((get_or ts i d).word == w)) 1 0) counts
 
 -- one that doesn't
 counted_same : (stand : Stand) (kind : AccessKind) (ts : List Touch) (i : ℕ) (d : Touch) → i < length ts → is_counted stand kind (get_or ts i d) ≡ false
     → (w : ℕ) → counted stand kind (take (i + 1) ts) w ≡ counted stand kind (take i ts) w
-counted_same stand kind ts i d within no w =
+counted_same stand kind ts i d within passes w =
     let e : counted stand kind (take (i + 1) ts) w ≡ counted stand kind (take i ts) w + 0 =
     sum_by_more (λ x. cond (is_counted stand kind x && (x.word == w)) 1 0) ts i d within
-    ∙ ap (λ b. counted stand kind (take i ts) w + cond (b && ((get_or ts i d).word == w)) 1 0) no in
+    ∙ ap (λ b. counted stand kind (take i ts) w + cond (b && ((get_or ts i d).word == w)) 1 0) passes in
     omega (arith, e)
 
 -- ---- marks and the least word that is touched twice
@@ -116,7 +116,11 @@ count_marked cycle x other F G marks least inside within more free m =
     elim (cases_eq (slice_index marks x) cycle) [
       | inl again ↦
           let none = mine.untouched in
-          let two : 2 ≤ G x = omega (arith, one, again, none) in
+          let two : 2 ≤ G x =
+          elim (cases_lt (F x) 1) [
+            | inl zero ↦ let less = none (omega (arith, zero)) in absurd (omega (arith, again, less))
+            | inr some ↦ omega (arith, one, some)
+          ] in
           let back : (w : ℕ) → Q w → P w ⊎ (w ≡ x) =
           λ w has. elim (cases_eq x w) [
             | inl same ↦ inr (sym same)
@@ -147,13 +151,13 @@ pub marked_counted : (stand : Stand) (kind : AccessKind) (cycle : ℕ) (ts : Lis
     → marks' ≡ cond (slice_index other (get_or ts i d).word == cycle) marks (slice_set marks (get_or ts i d).word cycle)
     → least' ≡ cond (slice_index other (get_or ts i d).word == cycle) least (cond (slice_index marks (get_or ts i d).word == cycle) (lesser least (get_or ts i d).word) least)
     → AreMarked cycle other (counted stand kind (take i ts)) marks least → AreMarked cycle other (counted stand kind (take (i + 1) ts)) marks' least'
-marked_counted stand kind cycle ts i d other marks marks' least least' inside all sized yes marks_are least_is m =
+marked_counted stand kind cycle ts i d other marks marks' least least' inside all sized counts marks_are least_is m =
     let x = (get_or ts i d).word in
     let F = counted stand kind (take i ts) in
     let G = counted stand kind (take (i + 1) ts) in
     let within : x < 2 ^ 20 = all i d inside in
     let room : x < length marks = omega (arith, within, sized) in
-    let more : OneMore x F G = counted_more stand kind ts i d inside yes in
+    let more : OneMore x F G = counted_more stand kind ts i d inside counts in
     let again = cond (slice_index marks x == cycle) (lesser least x) least in
     elim (cases_eq (slice_index other x) cycle) [
       | inl e ↦
@@ -172,8 +176,8 @@ marked_counted stand kind cycle ts i d other marks marks' least least' inside al
 pub marked_passed : (stand : Stand) (kind : AccessKind) (cycle : ℕ) (ts : List Touch) (i : ℕ) (d : Touch) (other marks : List ℕ) (least : Option ℕ)
     → i < length ts → is_counted stand kind (get_or ts i d) ≡ false
     → AreMarked cycle other (counted stand kind (take i ts)) marks least → AreMarked cycle other (counted stand kind (take (i + 1) ts)) marks least
-marked_passed stand kind cycle ts i d other marks least inside no m =
-    pass_marked cycle other (counted stand kind (take i ts)) (counted stand kind (take (i + 1) ts)) marks least (λ w ne. counted_same stand kind ts i d inside no w) m
+marked_passed stand kind cycle ts i d other marks least inside passes m =
+    pass_marked cycle other (counted stand kind (take i ts)) (counted stand kind (take (i + 1) ts)) marks least (λ w ne. counted_same stand kind ts i d inside passes w) m
 
 -- ---- words that are read and have the mark of a write
 
@@ -210,12 +214,12 @@ pub shared_counted : (stand : Stand) (kind : AccessKind) (cycle : ℕ) (ts : Lis
     → i < length ts → All (λ t. t.word < 2 ^ 20) ts → is_counted stand kind (get_or ts i d) ≡ true
     → least' ≡ cond (slice_index written (get_or ts i d).word == cycle) (lesser least (get_or ts i d).word) least
     → IsLeast (IsShared cycle written (counted stand kind (take i ts))) least → IsLeast (IsShared cycle written (counted stand kind (take (i + 1) ts))) least'
-shared_counted stand kind cycle ts i d written least least' inside all yes least_is is =
+shared_counted stand kind cycle ts i d written least least' inside all counts least_is is =
     let x = (get_or ts i d).word in
     let F = counted stand kind (take i ts) in
     let G = counted stand kind (take (i + 1) ts) in
     let within : x < 2 ^ 20 = all i d inside in
-    let more : OneMore x F G = counted_more stand kind ts i d inside yes in
+    let more : OneMore x F G = counted_more stand kind ts i d inside counts in
     elim (cases_eq (slice_index written x) cycle) [
       | inl e ↦
           subst (λ l. IsLeast (IsShared cycle written G) l) (sym (least_is ∙ ap (λ b. cond b (lesser least x) least) (eq-eqb (slice_index written x) cycle e)))
@@ -229,8 +233,8 @@ shared_counted stand kind cycle ts i d written least least' inside all yes least
 pub shared_passed : (stand : Stand) (kind : AccessKind) (cycle : ℕ) (ts : List Touch) (i : ℕ) (d : Touch) (written : List ℕ) (least : Option ℕ)
     → i < length ts → is_counted stand kind (get_or ts i d) ≡ false
     → IsLeast (IsShared cycle written (counted stand kind (take i ts))) least → IsLeast (IsShared cycle written (counted stand kind (take (i + 1) ts))) least
-shared_passed stand kind cycle ts i d written least inside no is =
-    pass_shared cycle written (counted stand kind (take i ts)) (counted stand kind (take (i + 1) ts)) least (λ w e. counted_same stand kind ts i d inside no w) is
+shared_passed stand kind cycle ts i d written least inside passes is =
+    pass_shared cycle written (counted stand kind (take i ts)) (counted stand kind (take (i + 1) ts)) least (λ w e. counted_same stand kind ts i d inside passes w) is
 
 -- ---- both kinds
 
@@ -257,7 +261,11 @@ least_write cycle earlier written R W twice shared before marks two both =
           let mark = shared_there.0 in
           let some = shared_there.1 in
           let none = (marks w).untouched in
-          let one : 1 ≤ W w = omega (arith, mark, none) in
+          let one : 1 ≤ W w =
+          elim (cases_lt (W w) 1) [
+            | inl zero ↦ let less = none (omega (arith, zero)) in absurd (omega (arith, mark, less))
+            | inr enough ↦ enough
+          ] in
           (omega (arith, one, some), one)
     ])
     (λ w has. let all = has.0 in let one = has.1 in elim (cases_lt (W w) 2) [

@@ -1,7 +1,7 @@
 -- The touches of a cycle are those of the harts that were served and didn't trap.
 use Rattle.std.proofs.Common.{◌≡◌, ℕ, suc, ◌+◌, ◌<◌, ◌≤◌, List, [], ◌∷◌, map, cond, Bool, true, false, ◌&&◌, Option, Some, None, refl, sym, ap, ◌∙◌, arith}
 use Rattle.std.proofs.Common.{◌/◌, eq-eqb, ne_eqb, lt-ltb, le-ltb, le-leb}
-use Rattle.std.specs.Prelude.{◌==◌, nat_lt, nat_le, count_by, slice_get}
+use Rattle.std.specs.Prelude.{◌==◌, count_by, slice_get}
 use Rattle.std.proofs.Math.Path.{fun_ext}
 use Rattle.std.proofs.lemmas.Bool.{lt-leb}
 use Rattle.std.proofs.lemmas.List.Sums.{sum_by-cons}
@@ -21,7 +21,7 @@ use Rattle.fk_audit.specs.declared.access.Access.{Access}
 use Rattle.fk_audit.specs.declared.access.AccessKind.{AccessKind}
 use Rattle.fk_audit.specs.declared.touch.Touch.{Touch}
 use Rattle.fk_audit.specs.Access.{is_kind, access_at}
-use Rattle.fk_audit.specs.Touch.{touch_at, touch_by, touch_of, with_touch, has_trapped, touches_from, touches}
+use Rattle.fk_audit.specs.Touch.{touch_at, touch_by, touch_of, with_touch, has_trapped, touches_from}
 use Rattle.fk_audit.specs.Clash.{is_of, touching}
 use Rattle.fk_audit.specs.Mark.{next_touch, next_touches, is_served, is_counted, counted}
 
@@ -110,11 +110,11 @@ count_with : (p : Touch → Bool) (o : Option Touch) (ts : List Touch) → count
 count_with p None ts = omega arith
 count_with p (Some t) ts = sum_by-cons (λ x. cond (p x) 1 0) t ts
 
-both : (a b : Bool) → cond (a && b) 1 0 ≡ cond a (cond b 1 0) 0
+both : (a b : Bool) → ◌≡◌ {A = ℕ} (cond (a && b) 1 0) (cond a (cond b 1 0) 0)
 both true b = refl
 both false b = refl
 
-nothing : (a : Bool) → 0 ≡ cond a 0 0
+nothing : (a : Bool) → ◌≡◌ {A = ℕ} 0 (cond a 0 0)
 nothing true = refl
 nothing false = refl
 

@@ -1,14 +1,17 @@
 -- What harts touch, as it is collected.
-use Rattle.std.proofs.Common.{◌≡◌, ℕ, zero, suc, ◌+◌, ◌*◌, ◌/◌, ◌%◌, ◌<◌, List, [], ◌∷◌, ◌++◌, map, take, length, cond, Bool, true, false, Option, Some, None, refl, sym, ap, subst, ◌∙◌, arith, eq-eqb}
+use Rattle.std.proofs.Common.{◌≡◌, ℕ, zero, suc, ◌+◌, ◌*◌, ◌/◌, ◌%◌, ◌<◌, List, [], ◌∷◌, ◌++◌, map, take, length, cond, true, false, Option, Some, None, refl, sym, ap, subst, ◌∙◌, arith, eq-eqb}
 use Rattle.std.specs.Prelude.{◌==◌, slice_get, option_map}
 use Rattle.std.proofs.lemmas.Option.{slice_get-map, same_Some, slice_get-get_or}
 use Rattle.fk_isa.specs.declared.instruction.Instruction.{Instruction}
 use Rattle.fk_isa.specs.Find.{row}
 use Rattle.fk_isa.specs.Step.{HartState}
 use Rattle.fk_audit.specs.declared.access.Access.{Access}
+use Rattle.fk_audit.specs.declared.access.AccessKind.{AccessKind}
 use Rattle.fk_audit.specs.declared.touch.Touch.{Touch}
+use Rattle.fk_machine.specs.declared.place.Location.{Location}
+use Rattle.fk_machine.specs.declared.place.Location.TheVariants.{SharedWord, ControlWord, LocalWord, DeviceWord, Nowhere}
 use Rattle.fk_audit.specs.Access.{access_at}
-use Rattle.fk_audit.specs.Touch.{touch_by, touch_of, with_touch}
+use Rattle.fk_audit.specs.Touch.{touch_at, touch_by, touch_of, with_touch}
 use Rattle.fk_audit.specs.Mark.{next_touch, next_touches}
 
 -- the instruction at the address of a hart, by the word that is read there
@@ -75,3 +78,11 @@ fresh = record { registers = λ r. 0; pc = 0; ended = false }
 
 pub some_hart : (hs : List HartState) (n : ℕ) → n < length hs → (h : HartState) × (slice_get hs n ≡ Some h)
 some_hart hs n within = (_, slice_get-get_or hs n fresh within)
+
+-- an access outside shared data is no touch
+pub no_touch : (number : ℕ) (kind : AccessKind) (place : Location) → ((word : ℕ) → place ≡ SharedWord word → ⊥) → None ≡ touch_at number kind place
+no_touch number kind (SharedWord word) not = absurd (not word refl)
+no_touch number kind (ControlWord word) not = refl
+no_touch number kind (LocalWord word) not = refl
+no_touch number kind (DeviceWord device) not = refl
+no_touch number kind Nowhere not = refl

@@ -1,6 +1,6 @@
 -- Which harts touch which words of shared data in a cycle.
-use Rattle.std.specs.Prelude.{ℕ, suc, ◌/◌, ◌==◌, nat_lt, nat_le, if◌then◌else◌, List, [], ◌∷◌}
-use Rattle.std.specs.Prelude.{Option, Some, None, Bool, true, false, slice_get}
+use Rattle.std.specs.Prelude.{ℕ, suc, ◌/◌, ◌==◌, if◌then◌else◌, List, [], ◌∷◌}
+use Rattle.std.specs.Prelude.{Option, Some, None, Bool, false, slice_get}
 use Rattle.fk_isa.specs.declared.instruction.Instruction.{Instruction}
 use Rattle.fk_isa.specs.Step.{HartState}
 use Rattle.fk_machine.specs.declared.place.Location.{Location}

@@ -1,5 +1,5 @@
 -- A cycle of the code is a cycle of the machine.
-use Rattle.std.proofs.Common.{◌≡◌, ℕ, ◌+◌, List, Option, length, map, cond, sym, ap, subst, ◌∙◌}
+use Rattle.std.proofs.Common.{◌≡◌, ℕ, ◌+◌, List, Option, map, cond, sym, ap, subst, ◌∙◌}
 use Rattle.fk_machine.specs.declared.stand.Stand.{Stand}
 use Rattle.fk_machine.specs.declared.stand.Stand.TheVariants.{Running}
 use Rattle.fk_isa.specs.declared.hart.Hart.{Hart as HartState}

@@ -1,4 +1,4 @@
-use Rattle.std.proofs.Common.{◌≡◌, take, refl, sym, subst, ◌∙◌}
+use Rattle.std.proofs.Common.{take, refl, sym, subst, ◌∙◌}
 use Rattle.std.proofs.lemmas.List.{take_all}
 use Rattle.fk_audit.specs.declared.access.AccessKind.TheVariants.{Read}
 use Rattle.fk_audit.specs.Mark.{IsLeast, counted}

@@ -1,8 +1,8 @@
-use Rattle.std.proofs.Common.{◌≡◌, ◌≢◌, ℕ, ◌≤◌, take, refl, sym, subst, arith, ◌∙◌}
+use Rattle.std.proofs.Common.{◌≢◌, ℕ, ◌≤◌, take, refl, sym, subst, arith, ◌∙◌}
 use Rattle.std.specs.Prelude.{slice_index}
 use Rattle.std.proofs.lemmas.List.{take_all}
 use Rattle.fk_audit.specs.Mark.{IsLeast, IsMark, counted}
-use Rattle.fk_audit.proofs.Marked.{AreMarked, none_marked, marked_counted, marked_passed}
+use Rattle.fk_audit.proofs.Marked.{none_marked, marked_counted, marked_passed}
 use Rattle.fk_audit.proofs.marking.mark.Goals as goal
 use Rattle.fk_audit.proofs.marking.mark.Goals.{then-is_counted, else-is_counted}
 
