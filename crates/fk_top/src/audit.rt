@@ -33,7 +33,11 @@ struct Audited {
     cycles: u32,
 }
 
-/// The ending of the audit of an image on an input text. Fails if there isn't enough memory.
+/// The most bytes of the lines of a verdict.
+const VERDICT_BYTES: usize = 160;
+
+/// The ending of the audit of an image on an input text. Fails if there isn't enough memory. All
+/// memory is taken before the run.
 pub fn audit_ending<'a>(
     alloc: Global,
     image: &Image,
@@ -49,11 +53,14 @@ pub fn audit_ending<'a>(
         Ok(numbers) => numbers,
         Err(fault) => return refused(alloc, Status::InputRefused, input_report_of(fault)),
     };
+    let mut output = Vec::with_capacity(alloc, VERDICT_BYTES)?;
     let audited = audit_image(alloc, image, input.as_slice(), run.harts, run.cycles)?;
+    let lines = verdict_text(audited.verdict);
+    output.extend_from_slice(lines.as_slice()).unwrap();
     Ok(Ending {
         status: status_of(audited.stand),
         put: None,
-        output: verdict_text(audited.verdict).as_slice().to_vec(alloc)?,
+        output,
         shown: None,
         line: LastLine::Reported(stand_report(
             image,
