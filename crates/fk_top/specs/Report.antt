@@ -138,5 +138,5 @@ clash_text (Some clash) =
 
 abbrev pub verdict_text : Verdict → List ℕ
 verdict_text v =
-    codes "verdict " ++ pram_name v.read v.write ++ codes "\nread" ++ clash_text v.read
-    ++ codes "\nwrite" ++ clash_text v.write ++ codes "\n"
+    codes "verdict " ++ pram_name v.read v.write ++ 10 ∷ codes "read" ++ clash_text v.read
+    ++ 10 ∷ codes "write" ++ clash_text v.write ++ 10 ∷ []

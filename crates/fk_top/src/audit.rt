@@ -25,6 +25,7 @@ use fk_top_words::RunWords;
 use std::alloc::{AllocError, Global};
 
 /// The result of a run that was audited.
+#[derive(Clone, Copy)]
 struct Audited {
     verdict: Verdict,
     /// The status of the machine.
