@@ -161,7 +161,8 @@ class Row:
 
     words: list
     status: int
-    out: bytes = b""
+    # standard output, or a pattern of it
+    out: bytes | re.Pattern = b""
     report: str = ""
     # files that must be there afterwards with these bytes (or of which a function holds), or not at all
     files: dict = field(default_factory=dict)
@@ -181,6 +182,10 @@ def run(name, harts=1, cycles=1000000):
 
 def execute(name, harts=1, cycles=1000000):
     return ["exec", name, "--harts", str(harts), "--cycles", str(cycles)]
+
+
+def audit(name, harts=1, cycles=1000000):
+    return ["audit", name, "--harts", str(harts), "--cycles", str(cycles)]
 
 
 def build(name, to):
@@ -659,6 +664,54 @@ ROWS += [
 ]
 
 
+# Which PRAM a run needed.
+EREW = b"verdict EREW\nread none\nwrite none\n"
+
+
+def crew(address):
+    return re.compile(rb"verdict CREW\nread [1-9]\d* 0x%08x\nwrite none\n" % address)
+
+
+def crcw(address):
+    return re.compile(rb"verdict CRCW\nread none\nwrite [1-9]\d* 0x%08x\n" % address)
+
+
+SHARED_DATA = 0x10000000
+SOME_NUMBERS = b"7 3 9 1 5"
+FILES.update({path.name: path.read_bytes() for path in (TOP / "examples").glob("greatest_*.f95")})
+FILES.update(
+    {
+        "one_sum.f95": b"sh int x; void main(void) { x = 1 + 2 + 3; }",
+        "ranks.f95": b"sh int x; void main(void) { start { x = $; } }",
+        "own.f95": b"sh int y; sh int x[64]; void main(void) { start { x[$] = $; } }",
+        "prints.f95": b"sh int x; void main(void) { putint(x); }",
+        "faults.f95": b"sh int x; void main(void) { int *p = &x; if (__PROC_NR__ == 1) p = 0; x = *p; }",
+    }
+)
+ROWS += [
+    Row(audit("one_sum.f95"), 0, EREW, FINISHED),
+    Row(audit("ranks.f95", harts=4), 0, crcw(SHARED_DATA), FINISHED),
+    Row(audit("ranks.f95", harts=1024), 0, crcw(SHARED_DATA), FINISHED),
+    Row(audit("ranks.f95"), 0, EREW, FINISHED),
+    Row(audit("own.f95", harts=64), 0, EREW, FINISHED),
+    # the program's own output isn't written
+    Row(audit("prints.f95", harts=3), 0, crew(SHARED_DATA), FINISHED),
+    Row(audit("prints.f95", harts=3, cycles=0), 7, EREW, AT_ONCE),
+    Row(audit("greatest_erew.f95", harts=8), 0, EREW, FINISHED, given=SOME_NUMBERS),
+    Row(audit("greatest_crew.f95", harts=8), 0, crew(SHARED_DATA + 4), FINISHED, given=SOME_NUMBERS),
+    Row(audit("greatest_crcw.f95", harts=8), 0, crcw(SHARED_DATA), FINISHED, given=SOME_NUMBERS),
+    Row(audit("faults.f95", harts=2), 6, EREW, r"fault BadAddress at 1:75 by processor 1 after \d+ cycles\n"),
+    # what is refused, and in which order
+    Row(audit("undeclared.f95"), 1, b"", r"refused 8 Rule 1 at 1:26\n", given=b"x"),
+    Row(audit("empty.f95"), 10, b"", r"refused 19 NotANumber 2\n", given=b"12 x"),
+    Row(audit("absent.f95"), 3, b"", r"read fault\n"),
+    Row(audit("refused.f95"), 3, b"", r"read fault\n", given_from="."),
+    Row(audit("one_sum.f95"), 4, b"", "", out_to="/dev/full"),
+    Row(audit("one_sum.f95", harts=1025), 2, b"", r"refused command line\n"),
+    Row(audit("one_sum.f95") + ["--show", "x"], 2, b"", r"refused command line\n"),
+]
+
+
 def limited(row):
     """What sets the limits of a row, if it has any, where its command begins."""
 
@@ -671,6 +724,10 @@ def limited(row):
             resource.setrlimit(resource.RLIMIT_FSIZE, (row.file_bytes, row.file_bytes))
 
     return limit if row.memory or row.file_bytes else None
+
+
+def is_output(out, wanted):
+    return bool(wanted.fullmatch(out)) if isinstance(wanted, re.Pattern) else out == wanted
 
 
 def faults(program, row, folder):
@@ -691,8 +748,8 @@ def faults(program, row, folder):
     out, report = ended.stdout or b"", (ended.stderr or b"").decode(errors="replace")
     if ended.returncode != row.status:
         yield f"status {ended.returncode}, not {row.status}"
-    if out != row.out:
-        yield f"standard output {out[:100]!r}, not {row.out[:100]!r}"
+    if not is_output(out, row.out):
+        yield f"standard output {out[:100]!r}, not {row.out!r:.100}"
     if not re.fullmatch(row.report, report):
         yield f"standard error {report[:200]!r}, not {row.report!r}"
     for name, wanted in row.files.items():

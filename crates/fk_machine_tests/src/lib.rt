@@ -6,6 +6,8 @@ mod asm;
 #[cfg(test)]
 mod elf;
 #[cfg(test)]
+mod audit;
+#[cfg(test)]
 mod image;
 #[cfg(test)]
 mod input;

@@ -10,11 +10,11 @@ use Rattle.fk_top.specs.declared.ending.PutFile.{PutFile}
 use Rattle.fk_top.specs.declared.report.Report.TheVariants as reports
 use Rattle.fk_top.specs.declared.status.Status.{Status}
 use Rattle.fk_top.specs.declared.status.Status.TheVariants.{ReadFault, WriteFault}
-use Rattle.fk_top_words.specs.Command.{Command, Run, Build, Exec, ListCode, Elf, Unelf, Reads}
+use Rattle.fk_top_words.specs.Command.{Command, Run, Build, Exec, ListCode, Elf, Unelf, Audit, Reads}
 use Rattle.fk_top.specs.Words.{IsPut}
 use Rattle.fk_top.specs.Report.{line_of}
 use Rattle.fk_top.specs.Ending.{outcome_of, put_of}
-use Rattle.fk_top.specs.Outcome.{Outcome, EndsOn, ComesTo, silent}
+use Rattle.fk_top.specs.Outcome.{Outcome, EndsOn, EndsAudit, ComesTo, silent}
 use Rattle.fk_top.specs.Call.{Given, Request, Sunk, call_of, Ends, HasCause}
 
 -- the same request, with an equal count of faults
@@ -37,6 +37,10 @@ nothing_run : (image : Image) (text : List ℕ) (p n : ℕ) (shown : Option Row)
 nothing_run image text p n shown outcome (inl r) = ap (λ (o : Outcome). o.put) r.is
 nothing_run image text p n shown outcome (inr r) = ap (λ (o : Outcome). o.put) r.is
 
+nothing_audited : (image : Image) (text : List ℕ) (p n : ℕ) (outcome : Outcome) → EndsAudit image text p n outcome → outcome.put ≡ None
+nothing_audited image text p n outcome (inl r) = ap (λ (o : Outcome). o.put) r.is
+nothing_audited image text p n outcome (inr r) = ap (λ (o : Outcome). o.put) r.is
+
 pub nothing_by : (words : List (List ℕ)) (command : Command) (bytes text : List ℕ) (outcome : Outcome) → Reads words command → ComesTo command bytes text outcome → ¬ IsPut words → outcome.put ≡ None
 nothing_by words (Run f p n s) bytes text outcome reads (inl r) not = ap (λ (o : Outcome). o.put) r.is
 nothing_by words (Run f p n s) bytes text outcome reads (inr (inl r)) not = ap (λ (o : Outcome). o.put) r.is
@@ -48,6 +52,8 @@ nothing_by words (ListCode f) bytes text outcome reads (inl r) not = ap (λ (o :
 nothing_by words (ListCode f) bytes text outcome reads (inr r) not = ap (λ (o : Outcome). o.put) r.is
 nothing_by words (Elf i f) bytes text outcome reads comes not = absurd (not (Elf i f, reads, tt))
 nothing_by words (Unelf f i) bytes text outcome reads comes not = absurd (not (Unelf f i, reads, tt))
+nothing_by words (Audit f p n) bytes text outcome reads (inl r) not = ap (λ (o : Outcome). o.put) r.is
+nothing_by words (Audit f p n) bytes text outcome reads (inr r) not = nothing_audited r.image text p n outcome r.ends
 
 -- what fails to be put is there
 pub some_file : {A E : Type 0} (put : Option PutFile) (r : Result A E) (e : E) → (put ≡ None → IsOk r) → r ≡ Err e → IsSome (option_map put_of put)

@@ -14,7 +14,7 @@ use Rattle.fk_elf.specs.Files.{IsElfOf}
 use Rattle.fk_top_input.specs.declared.fault.InputFault.{InputFault}
 use Rattle.fk_top_input.specs.Input.{input_of}
 use Rattle.fk_top_words.specs.Arguments.{Text}
-use Rattle.fk_top_words.specs.Command.{Command, Run, Build, Exec, ListCode, Elf, Unelf, Reads}
+use Rattle.fk_top_words.specs.Command.{Command, Run, Build, Exec, ListCode, Elf, Unelf, Audit, Reads}
 use Rattle.fk_top_words.proofs.OneCommand.{one_command}
 use Rattle.fk_layout_globals.specs.Rows.{Row}
 use Rattle.fk_compile_text.specs.Text.{IsChecked, HasGlobal}
@@ -22,7 +22,7 @@ use Rattle.fk_compile.specs.Faithful.{IsFaithful, words_by}
 use Rattle.fk_top.specs.declared.status.Status.{Status}
 use Rattle.fk_top.specs.declared.status.Status.TheVariants.{Done, Refused, Usage, ReadFault, WriteFault, Memory, SourceFault, CycleBound, Trap, ImageRefused, InputRefused, ElfRefused}
 use Rattle.fk_top.specs.Words.{Runs, Puts, IsPut, file_of, most_bytes, most_input}
-use Rattle.fk_top.specs.Outcome.{Outcome, EndsOn, ComesTo, RefusesSource, RefusesImage, RefusesElf, LacksGlobal, IsShown, most_numbers}
+use Rattle.fk_top.specs.Outcome.{Outcome, EndsOn, EndsAudit, ComesTo, RefusesSource, RefusesImage, RefusesElf, LacksGlobal, IsShown, most_numbers}
 use Rattle.fk_top.specs.Refused.{IsRefusedBy, IsNoElfAs, IsNoImageAs}
 use Rattle.fk_top.specs.Call.{Call, Request, Ends, IsUnread, IsFileUnread, IsInputUnread, IsCut, IsOutOfMemory, HasEnded, HasCause, IsInOrder, IsReadable, IsAccepted, IsInputBeside, IsOfStand, IsOfAccepted, IsOfUnreadable, IsOfUnaccepted, IsText, IsImage, IsElf, AreCut}
 use Rattle.fk_top.proofs.Lost.{no_more, moved, few_input}
@@ -62,6 +62,7 @@ taken (Exec f p n) text = take 1048577 text
 taken (ListCode f) text = []
 taken (Elf i f) text = []
 taken (Unelf f i) text = []
+taken (Audit f p n) text = take 1048577 text
 
 no_bytes : (bytes : List ℕ) → length bytes ≤ 0 → bytes ≡ []
 no_bytes [] le = refl
@@ -78,6 +79,7 @@ taken_is request (Exec f p n) text got told moves = first_of_told _ _ text got 1
 taken_is request (ListCode f) text got told moves = moves.appended ∙ no_bytes moves.bytes moves.few
 taken_is request (Elf i f) text got told moves = moves.appended ∙ no_bytes moves.bytes moves.few
 taken_is request (Unelf f i) text got told moves = moves.appended ∙ no_bytes moves.bytes moves.few
+taken_is request (Audit f p n) text got told moves = first_of_told _ _ text got 1048577 (told tt) moves
 
 -- what a command comes to over the first bytes of its file and of the input
 abbrev pub ComesToFirst : Command → List ℕ → List ℕ → Outcome → Type 0
@@ -105,6 +107,10 @@ no_put_run : (image : Image) (text : List ℕ) (p n : ℕ) (shown : Option Row) 
 no_put_run image text p n shown outcome (inl r) some = nothing_put outcome _ r.is refl some
 no_put_run image text p n shown outcome (inr r) some = nothing_put outcome _ r.is refl some
 
+no_put_audit : (image : Image) (text : List ℕ) (p n : ℕ) (outcome : Outcome) → EndsAudit image text p n outcome → IsSome outcome.put → ⊥
+no_put_audit image text p n outcome (inl r) some = nothing_put outcome _ r.is refl some
+no_put_audit image text p n outcome (inr r) some = nothing_put outcome _ r.is refl some
+
 put_by : (command : Command) (bytes text : List ℕ) (outcome : Outcome) → ComesTo command bytes text outcome → IsSome outcome.put → Puts command
 put_by (Run f p n s) bytes text outcome (inl r) some = nothing_put outcome _ r.is refl some
 put_by (Run f p n s) bytes text outcome (inr (inl r)) some = nothing_put outcome _ r.is refl some
@@ -116,6 +122,8 @@ put_by (ListCode f) bytes text outcome (inl r) some = nothing_put outcome _ r.is
 put_by (ListCode f) bytes text outcome (inr r) some = nothing_put outcome _ r.is refl some
 put_by (Elf i f) bytes text outcome comes some = tt
 put_by (Unelf f i) bytes text outcome comes some = tt
+put_by (Audit f p n) bytes text outcome (inl r) some = nothing_put outcome _ r.is refl some
+put_by (Audit f p n) bytes text outcome (inr r) some = no_put_audit r.image text p n outcome r.ends some
 
 -- the words of a call that puts are those of one
 pub puts_by : (request : Request) (outcome : Outcome) → Ends request outcome → IsSome outcome.put → IsPut request.words
@@ -280,6 +288,13 @@ accepted_run image text p n globals shown outcome status count input same (inl r
 accepted_run image text p n globals shown outcome status count input same (inr r) =
     (r.input, sym (input_of_taken (most_numbers (vec_len image.globals)) text) ∙ r.numbers, status-of outcome _ status r.is same)
 
+accepted_audit : (image : Image) (text : List ℕ) (p n globals : ℕ) (outcome : Outcome) (status : Status) → vec_len image.globals ≡ globals
+    → IsInputBeside globals text → outcome.status ≡ status → EndsAudit image (take 1048577 text) p n outcome → IsOfStand image text p n status
+accepted_audit image text p n globals outcome status count input same (inl r) =
+    absurd (not_beside (vec_len image.globals) globals text r.fault count r.refused input)
+accepted_audit image text p n globals outcome status count input same (inr r) =
+    (r.input, sym (input_of_taken (most_numbers (vec_len image.globals)) text) ∙ r.numbers, status-of outcome _ status r.is same)
+
 accepted_ends : (command : Command) (bytes text : List ℕ) (outcome : Outcome) (status : Status) → IsReadable command bytes → IsAccepted command bytes text → outcome.status ≡ status → ComesToFirst command bytes text outcome → IsOfAccepted command bytes text status
 accepted_ends (Run f p n s) source text outcome status is input same (inl r) = absurd (not_refused source outcome is.0 r)
 accepted_ends (Run f p n s) source text outcome status is input same (inr (inl r)) = absurd (not_lacking source s outcome is.1 is.0 is.2 r)
@@ -300,6 +315,11 @@ accepted_ends (Elf i f) bytes text outcome status is input same (inl r) = absurd
 accepted_ends (Elf i f) bytes text outcome status is input same (inr r) = inr (status-of outcome _ status r.is same)
 accepted_ends (Unelf f i) bytes text outcome status is input same (inl r) = absurd (not_elf_refused bytes outcome is r)
 accepted_ends (Unelf f i) bytes text outcome status is input same (inr r) = inr (status-of outcome _ status r.is same)
+accepted_ends (Audit f p n) source text outcome status is input same (inl r) = absurd (not_refused source outcome is r)
+accepted_ends (Audit f p n) source text outcome status is input same (inr r) =
+    let built = subst (λ (b : List ℕ). IsFaithful b r.image) (read_text source is) r.compiled in
+    let count = globals_of source r.image input.0 input.1 built input.2 in
+    inr (r.image, built, accepted_audit r.image text p n (length (words_by input.0 input.1)) outcome status count input.3 same r.ends)
 
 -- where the file isn't
 unreadable_ends : (command : Command) (bytes text : List ℕ) (outcome : Outcome) (status : Status) → ¬ IsReadable command bytes → outcome.status ≡ status → ComesToFirst command bytes text outcome → IsOfUnreadable command status
@@ -317,6 +337,8 @@ unreadable_ends (Elf i f) bytes text outcome status none same (inl r) = inr (sta
 unreadable_ends (Elf i f) bytes text outcome status none same (inr r) = absurd (none (image_read bytes r.image r.spelled))
 unreadable_ends (Unelf f i) bytes text outcome status none same (inl r) = inr (status-of outcome _ status r.is same)
 unreadable_ends (Unelf f i) bytes text outcome status none same (inr r) = absurd (none (file_read bytes r.image r.made))
+unreadable_ends (Audit f p n) source text outcome status none same (inl r) = inr (status-of outcome _ status r.is same)
+unreadable_ends (Audit f p n) source text outcome status none same (inr r) = absurd (none (read_built source r.image r.compiled))
 
 -- and where the input isn't
 unaccepted_ends : (command : Command) (bytes text : List ℕ) (outcome : Outcome) (status : Status) → IsReadable command bytes → ¬ IsAccepted command bytes text → outcome.status ≡ status → ComesToFirst command bytes text outcome → IsOfUnaccepted status
@@ -344,6 +366,17 @@ unaccepted_ends (Exec f p n) bytes text outcome status is none same (inr r) = by
 unaccepted_ends (ListCode f) bytes text outcome status is none same comes = absurd (none tt)
 unaccepted_ends (Elf i f) bytes text outcome status is none same comes = absurd (none tt)
 unaccepted_ends (Unelf f i) bytes text outcome status is none same comes = absurd (none tt)
+unaccepted_ends (Audit f p n) source text outcome status is none same (inl r) = absurd (not_refused source outcome is r)
+unaccepted_ends (Audit f p n) source text outcome status is none same (inr r) = by r.ends
+  where
+    faithful : IsFaithful source r.image
+    faithful = subst (λ (b : List ℕ). IsFaithful b r.image) (read_text source is) r.compiled
+
+    by : EndsAudit r.image (take 1048577 text) p n outcome → IsOfUnaccepted status
+    by (inl refuses) = inr (status-of outcome _ status refuses.is same)
+    by (inr runs) =
+        let count = globals_of source r.image faithful.program faithful.facts faithful faithful.checked in
+        absurd (none (faithful.program, faithful.facts, faithful.checked, beside (vec_len r.image.globals) _ text runs.input count runs.numbers))
 
 -- want of memory is an answer in any case
 memory_accepted : (command : Command) (bytes text : List ℕ) (status : Status) → status ≡ Memory → IsOfAccepted command bytes text status
@@ -353,6 +386,7 @@ memory_accepted (Exec f p n) bytes text status is = inl is
 memory_accepted (ListCode f) bytes text status is = inl is
 memory_accepted (Elf i f) bytes text status is = inl is
 memory_accepted (Unelf f i) bytes text status is = inl is
+memory_accepted (Audit f p n) bytes text status is = inl is
 
 memory_unreadable : (command : Command) (status : Status) → status ≡ Memory → IsOfUnreadable command status
 memory_unreadable (Run f p n s) status is = inl is
@@ -361,6 +395,7 @@ memory_unreadable (Exec f p n) status is = inl is
 memory_unreadable (ListCode f) status is = inl is
 memory_unreadable (Elf i f) status is = inl is
 memory_unreadable (Unelf f i) status is = inl is
+memory_unreadable (Audit f p n) status is = inl is
 
 -- ---- the answers to what is in order, and to what isn't
 

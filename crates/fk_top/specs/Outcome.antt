@@ -11,11 +11,14 @@ use Rattle.fk_top_input.specs.declared.fault.InputFault.{InputFault}
 use Rattle.fk_top_input.specs.Input.{input_of}
 use Rattle.fk_top_words.specs.Arguments.{Text}
 use Rattle.fk_top_words.specs.Command.{Command, Run, Build, Exec, ListCode, Elf}
-use Rattle.fk_top_words.specs.Command.{Unelf}
+use Rattle.fk_top_words.specs.Command.{Unelf, Audit}
 use Rattle.fk_machine.specs.declared.stand.Stand.{Stand}
 use Rattle.fk_machine.specs.declared.stand.Stand.TheVariants.{Running, Finished, Faulted, Trapped}
-use Rattle.fk_machine.specs.Cycle.{Machine}
+use Rattle.fk_machine.specs.Cycle.{Machine, machine_opening}
 use Rattle.fk_machine.specs.Run.{machine, output_of}
+use Rattle.fk_audit.specs.declared.access.AccessKind.TheVariants.{Read, Write}
+use Rattle.fk_audit.specs.declared.verdict.Verdict.{Verdict}
+use Rattle.fk_audit.specs.Clash.{IsFirstOf}
 use Rattle.fk_layout_globals.specs.Rows.{Row}
 use Rattle.fk_compile_text.specs.Text.{HasGlobal}
 use Rattle.fk_compile.specs.Faithful.{IsFaithful}
@@ -27,6 +30,7 @@ use Rattle.fk_top.specs.declared.status.Status.TheVariants.{Done, Refused, Sourc
 use Rattle.fk_top.specs.declared.status.Status.TheVariants.{Trap, ImageRefused, InputRefused}
 use Rattle.fk_top.specs.declared.status.Status.TheVariants.{ElfRefused}
 use Rattle.fk_top.specs.Report.{fault_kind, trap_kind, line_of, no_global_line, show_line}
+use Rattle.fk_top.specs.Report.{verdict_text}
 use Rattle.fk_top.specs.Refused.{IsNoElfAs, IsNoImageAs, IsRefusedBy, input_report_of}
 
 -- A file that is put: its name and its bytes.
@@ -91,6 +95,26 @@ ran image input harts bound shown =
       output = with_shown (output_of image input harts bound) shown m;
       line = line_of (stand_report image bound m.stand m.begun);
     }
+
+-- ---- the audit of a run
+
+-- The outcome of an audit with this verdict of running the machine of an image on these input
+-- numbers for at most `bound` cycles. The program's own output isn't printed.
+abbrev pub audited : Image → List ℕ → ℕ → ℕ → Verdict → Outcome
+audited image input harts bound verdict =
+    let m = machine image input harts bound in
+    record {
+      status = status_of m.stand;
+      put = None;
+      output = verdict_text verdict;
+      line = line_of (stand_report image bound m.stand m.begun);
+    }
+
+-- The verdict tells the first clash of each kind in that run.
+pub record IsVerdict (image : Image) (input : List ℕ) (harts bound : ℕ)
+    (verdict : Verdict) : Type 0 where
+  pub read : IsFirstOf Read (machine_opening image input harts) bound verdict.read
+  pub write : IsFirstOf Write (machine_opening image input harts) bound verdict.write
 
 -- ---- an image that is put or listed
 
@@ -199,6 +223,26 @@ pub record RunsSource (source text : List ℕ) (harts cycles : ℕ) (show : Opti
   pub is_shown : IsShown source show shown
   pub ends : EndsOn image text harts cycles shown outcome
 
+-- The machine of an image ran on the numbers of the text, and was audited.
+pub record AuditsOn (image : Image) (text : List ℕ) (harts cycles : ℕ)
+    (outcome : Outcome) : Type 0 where
+  pub input : List ℕ
+  pub numbers : numbers_for image text ≡ Ok input
+  pub verdict : Verdict
+  pub is_verdict : IsVerdict image input harts cycles verdict
+  pub is : outcome ≡ audited image input harts cycles verdict
+
+-- The outcome of an audit for an image and an input text.
+abbrev pub EndsAudit : Image → List ℕ → ℕ → ℕ → Outcome → Type 0
+EndsAudit image text harts cycles outcome = RefusesInput image text outcome
+    ⊎ AuditsOn image text harts cycles outcome
+
+-- An image of the source was run and audited, or the input was refused.
+pub record AuditsSource (source text : List ℕ) (harts cycles : ℕ) (outcome : Outcome) : Type 0 where
+  pub image : Image
+  pub compiled : IsFaithful source image
+  pub ends : EndsAudit image text harts cycles outcome
+
 -- The bytes of an image of the source are put under a name.
 pub record PutsImage (source name : List ℕ) (outcome : Outcome) : Type 0 where
   pub image : Image
@@ -249,3 +293,5 @@ ComesTo (Elf image file) bytes text outcome = RefusesImage bytes outcome
     ⊎ PutsElf bytes file outcome
 ComesTo (Unelf file image) bytes text outcome = RefusesElf bytes outcome
     ⊎ PutsFromElf bytes image outcome
+ComesTo (Audit file harts cycles) source text outcome = RefusesSource source outcome
+    ⊎ AuditsSource source text harts cycles outcome

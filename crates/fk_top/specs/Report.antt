@@ -1,10 +1,12 @@
 -- The report lines.
 use Rattle.std.specs.Prelude.{ℕ, Bool, true, false, List, [], ◌∷◌, ◌++◌, ◌==◌, if◌then◌else◌, codes}
-use Rattle.std.specs.Prelude.{flat_map}
+use Rattle.std.specs.Prelude.{flat_map, Option, Some, None}
 use Rattle.std.specs.Fmt.{decimal, signed_decimal}
 use Rattle.fk_num.specs.Word.{signed}
 use Rattle.fk_syntax.specs.declared.place.Place.{Place}
 use Rattle.fk_asm.specs.Listing.{eight_digits}
+use Rattle.fk_audit.specs.declared.verdict.Clash.{Clash}
+use Rattle.fk_audit.specs.declared.verdict.Verdict.{Verdict}
 use Rattle.fk_top.specs.declared.kinds.FaultKind.{FaultKind}
 use Rattle.fk_top.specs.declared.kinds.FaultKind.TheVariants as fault
 use Rattle.fk_top.specs.declared.kinds.TrapKind.{TrapKind}
@@ -129,3 +131,21 @@ words_text are_signed words = flat_map (word_text are_signed) words
 -- The line that shows a variable: its name, and its words as numbers.
 abbrev pub show_line : List ℕ → Bool → List ℕ → List ℕ
 show_line name are_signed words = name ++ codes " =" ++ words_text are_signed words ++ 10 ∷ []
+
+-- ---- the text of an audit
+
+-- The PRAM that a run needed, by its first clash of reads and its first clash of writes.
+abbrev pub pram_name : Option Clash → Option Clash → List ℕ
+pram_name None None = codes "EREW"
+pram_name (Some read) None = codes "CREW"
+pram_name read (Some write) = codes "CRCW"
+
+abbrev pub clash_text : Option Clash → List ℕ
+clash_text None = codes " none"
+clash_text (Some clash) =
+    codes " " ++ decimal clash.cycle ++ codes " 0x" ++ eight_digits clash.address
+
+abbrev pub verdict_text : Verdict → List ℕ
+verdict_text v =
+    codes "verdict " ++ pram_name v.read v.write ++ 10 ∷ codes "read" ++ clash_text v.read
+    ++ 10 ∷ codes "write" ++ clash_text v.write ++ 10 ∷ []

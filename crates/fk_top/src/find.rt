@@ -16,7 +16,7 @@ use crate::elf::{put_elf, put_image};
 use crate::ending::{Ending, silent};
 use crate::input::take_input;
 use crate::report::Report;
-use crate::source::{build_source, run_source};
+use crate::source::{audit_source, build_source, run_source};
 use crate::status::Status;
 use fk_ports::{Source, Store, StoreFault};
 use fk_top_words::{CommandWords, WordsFault, read_words};
@@ -103,5 +103,6 @@ fn command_ending<'a>(
         CommandWords::List(_) => list_bytes(alloc, bytes),
         CommandWords::Elf(_, file) => put_elf(alloc, bytes, file),
         CommandWords::Unelf(_, image) => put_image(alloc, bytes, image),
+        CommandWords::Audit(run) => audit_source(alloc, bytes, text, run),
     }
 }

@@ -1,6 +1,7 @@
 //! The commands: from the words of a command line to a status.
 #![tactic(auto)]
 
+mod audit;
 mod bytes;
 mod call;
 mod command;

@@ -7,7 +7,8 @@ use Rattle.fk_top_words.specs.declared.command.CommandWords.TheVariants as words
 
 -- The commands: compile a file and run it, and then show a variable, if one is named; compile a
 -- file into an image; run an image; list an image's code; make the ELF file of an image, and the
--- image of an ELF file. A run is by this many harts, for at most this many cycles.
+-- image of an ELF file; compile a file, run it, and tell which PRAM the run needed. A run is by this
+-- many harts, for at most this many cycles.
 pub data Command : Type 0 where
   Run : (file : Text) (harts cycles : ℕ) (show : Option Text) → Command
   Build : (file image : Text) → Command
@@ -15,6 +16,7 @@ pub data Command : Type 0 where
   ListCode : (image : Text) → Command
   Elf : (image file : Text) → Command
   Unelf : (file image : Text) → Command
+  Audit : (file : Text) (harts cycles : ℕ) → Command
 
 abbrev pub once_or_never : Option Text → List Text
 once_or_never None = []
@@ -57,6 +59,8 @@ ReadsBehind word words (ListCode image) = (word ≡ codes "list") × Gives words
 ReadsBehind word words (Elf image file) = (word ≡ codes "elf") × Gives words (two_files image file)
 ReadsBehind word words (Unelf file image) =
     (word ≡ codes "unelf") × Gives words (two_files file image)
+ReadsBehind word words (Audit file harts cycles) = (word ≡ codes "audit")
+    × ReadsRun words file harts cycles None
 
 -- The words of each command, those after the program's name.
 abbrev pub Reads : List Text → Command → Type 0
@@ -75,3 +79,4 @@ command_of (words.Exec r) = Exec r.file.now r.harts r.cycles
 command_of (words.List image) = ListCode image.now
 command_of (words.Elf image file) = Elf image.now file.now
 command_of (words.Unelf file image) = Unelf file.now image.now
+command_of (words.Audit r) = Audit r.file.now r.harts r.cycles

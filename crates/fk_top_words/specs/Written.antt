@@ -82,5 +82,6 @@ written_app = record {
   top = record written_top { is_leaf = false };
   subs = written_command (codes "run") run_parts ∷ written_command (codes "build") put_parts
       ∷ written_command (codes "exec") exec_parts ∷ written_command (codes "list") list_parts
-      ∷ written_command (codes "elf") put_parts ∷ written_command (codes "unelf") put_parts ∷ [];
+      ∷ written_command (codes "elf") put_parts ∷ written_command (codes "unelf") put_parts
+      ∷ written_command (codes "audit") exec_parts ∷ [];
 }

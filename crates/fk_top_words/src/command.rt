@@ -31,4 +31,7 @@ pub enum CommandWords<'a> {
     Elf(&'a str, &'a str),
     /// `unelf FILE -o IMAGE`: puts the image of an ELF file.
     Unelf(&'a str, &'a str),
+    /// `audit FILE --harts P --cycles N`: compiles a source, runs it, and tells which PRAM the run
+    /// needed.
+    Audit(RunWords<'a>),
 }

@@ -119,5 +119,6 @@ pub(crate) fn commands<'a>(alloc: Global) -> Result<Command<'a>, AllocError>
     let images = holding(sources, running(alloc, "exec"));
     let images = holding(images, reading(alloc, "list"));
     let files = holding(images, putting(alloc, "elf"));
-    holding(files, putting(alloc, "unelf"))
+    let files = holding(files, putting(alloc, "unelf"));
+    holding(files, running(alloc, "audit"))
 }
