@@ -102,7 +102,7 @@ help_with() {
 help_with_words() {
     local word
     case ${1-} in
-        run | exec)
+        run | exec | audit)
             for word in --harts --cycles; do
                 [[ " $* " == *" $word"[\ =]* ]] || echo "$1 needs $word N."
             done ;;
@@ -116,7 +116,7 @@ help_with_words() {
 # Runs the program with the words given, and helps behind its report where standard error is a terminal.
 run_with_help() {
     local report status=0 last
-    if [ -t 0 ] && [[ ${1-} == run || ${1-} == exec ]]; then
+    if [ -t 0 ] && [[ ${1-} == run || ${1-} == exec || ${1-} == audit ]]; then
         echo "fork95: reading input numbers; Ctrl-D ends them" >&2
     fi
     report=$(mktemp)
