@@ -2,6 +2,7 @@
 use Rattle.std.proofs.Common.{◌≡◌, ℕ, suc, ◌+◌, ◌<◌, ◌≤◌, List, [], ◌∷◌, map, cond, Bool, true, false, ◌&&◌, Option, Some, None, refl, sym, ap, ◌∙◌, arith}
 use Rattle.std.proofs.Common.{◌/◌, eq-eqb, ne_eqb, lt-ltb, le-ltb, le-leb}
 use Rattle.std.specs.Prelude.{◌==◌, count_by, slice_get}
+use Rattle.std.specs.Option.{option_flatten}
 use Rattle.std.proofs.Math.Path.{fun_ext}
 use Rattle.std.proofs.lemmas.Bool.{lt-leb}
 use Rattle.std.proofs.lemmas.List.Sums.{sum_by-cons}
@@ -20,7 +21,7 @@ use Rattle.fk_machine.specs.Cycle.{Machine, Turns, after_effect, turn, turns, tu
 use Rattle.fk_audit.specs.declared.access.Access.{Access}
 use Rattle.fk_audit.specs.declared.access.AccessKind.{AccessKind}
 use Rattle.fk_audit.specs.declared.touch.Touch.{Touch}
-use Rattle.fk_audit.specs.Access.{is_kind, access_at}
+use Rattle.fk_audit.specs.Access.{is_kind, access_by}
 use Rattle.fk_audit.specs.Touch.{touch_at, touch_by, touch_of, with_touch, has_trapped, touches_from}
 use Rattle.fk_audit.specs.Clash.{is_of, touching}
 use Rattle.fk_audit.specs.Mark.{next_touch, next_touches, is_served, is_counted, counted}
@@ -134,7 +135,7 @@ count_access q p number (Some access) = count_at q p number access.kind (place_o
 -- a hart's touch is its own
 count_own : (q : ℕ → Bool) (p : Touch → Bool) (code : List (Option Instruction)) (number : ℕ) (h : HartState)
     → count_one (λ t. q t.hart && p t) (touch_of code number h) ≡ cond (q number) (count_one p (touch_of code number h)) 0
-count_own q p code number h = count_access q p number (access_at (slice_get code (h.pc / 4)) h)
+count_own q p code number h = count_access q p number (access_by (option_flatten (slice_get code (h.pc / 4))) h)
 
 -- ---- harts above the one that ended the cycle
 

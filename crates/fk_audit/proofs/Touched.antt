@@ -1,41 +1,30 @@
 -- What harts touch, as it is collected.
-use Rattle.std.proofs.Common.{◌≡◌, ℕ, zero, suc, ◌+◌, ◌*◌, ◌/◌, ◌%◌, ◌<◌, List, [], ◌∷◌, ◌++◌, map, take, length, cond, true, false, Option, Some, None, refl, sym, ap, subst, ◌∙◌, arith, eq-eqb}
-use Rattle.std.specs.Prelude.{◌==◌, slice_get, option_map}
-use Rattle.std.proofs.lemmas.Option.{slice_get-map, same_Some, slice_get-get_or}
+use Rattle.std.proofs.Common.{◌≡◌, ℕ, zero, suc, ◌+◌, ◌/◌, ◌<◌, List, [], ◌∷◌, ◌++◌, take, length, cond, true, false, Option, Some, None, refl, sym, ap, subst, ◌∙◌, arith}
+use Rattle.std.specs.Prelude.{slice_get}
+use Rattle.std.specs.Option.{option_flatten}
+use Rattle.std.proofs.lemmas.Option.{same_Some, slice_get-get_or}
 use Rattle.fk_isa.specs.declared.instruction.Instruction.{Instruction}
-use Rattle.fk_isa.specs.Find.{row}
 use Rattle.fk_isa.specs.Step.{HartState}
 use Rattle.fk_audit.specs.declared.access.Access.{Access}
 use Rattle.fk_audit.specs.declared.access.AccessKind.{AccessKind}
 use Rattle.fk_audit.specs.declared.touch.Touch.{Touch}
 use Rattle.fk_machine.specs.declared.place.Location.{Location}
 use Rattle.fk_machine.specs.declared.place.Location.TheVariants.{SharedWord, ControlWord, LocalWord, DeviceWord, Nowhere}
-use Rattle.fk_audit.specs.Access.{access_at}
+use Rattle.fk_audit.specs.Access.{access_by}
 use Rattle.fk_audit.specs.Touch.{touch_at, touch_by, touch_of, with_touch}
 use Rattle.fk_audit.specs.Mark.{next_touch, next_touches}
-
--- the instruction at the address of a hart, by the word that is read there
-pub row_at : (words : List ℕ) (rows : List (Option Instruction)) (pc : ℕ) (word : Option ℕ) → word ≡ cond (pc / 4 * 4 % 4 == 0) (slice_get words (pc / 4 * 4 / 4)) None → map row words ≡ rows
-    → slice_get rows (pc / 4) ≡ option_map row word
-row_at words rows pc word is same =
-    let aligned : pc / 4 * 4 % 4 ≡ 0 = omega arith in
-    let index : pc / 4 * 4 / 4 ≡ pc / 4 = omega arith in
-    let there : word ≡ slice_get words (pc / 4) =
-    is ∙ ap (λ b. cond b (slice_get words (pc / 4 * 4 / 4)) None) (eq-eqb (pc / 4 * 4 % 4) 0 aligned) ∙ ap (slice_get words) index in
-    ap (λ l. slice_get l (pc / 4)) (sym same) ∙ slice_get-map row words (pc / 4) ∙ ap (option_map row) (sym there)
 
 -- a hart that has ended touches nothing
 pub ended_touch : (code : List (Option Instruction)) (number : ℕ) (h : HartState) → h.ended ≡ true → None ≡ next_touch code number h
 ended_touch code number h ended = sym (ap (λ b. cond b None (touch_of code number h)) ended)
 
 -- one that has not ended
-pub live_touch : (code : List (Option Instruction)) (number : ℕ) (h : HartState) (there : Option (Option Instruction)) (access : Option Access) → h.ended ≡ false → slice_get code (h.pc / 4) ≡ there → access_at there h ≡ access
-    → touch_by number access ≡ next_touch code number h
-live_touch code number h there access live is accesses =
-    sym (
-    ap (λ b. cond b None (touch_of code number h)) live
-    ∙ ap (λ r. touch_by number (access_at r h)) is
-    ∙ ap (touch_by number) accesses)
+pub live_touch : (code : List (Option Instruction)) (number : ℕ) (h : HartState) (i : Option Instruction) (access : Option Access) → h.ended ≡ false → i ≡ option_flatten (slice_get code (h.pc / 4))
+    → access ≡ access_by i h → touch_by number access ≡ next_touch code number h
+live_touch code number h i access live is accesses =
+    ap (touch_by number) accesses
+    ∙ ap (λ r. touch_by number (access_by r h)) is
+    ∙ sym (ap (λ b. cond b None (touch_of code number h)) live)
 
 -- what holds of the hart that is read holds of the hart with its number
 pub of_hart : (hs : List HartState) (number : ℕ) (read : HartState) (P : HartState → Type 0) → slice_get hs number ≡ Some read → P read → (h : HartState) → slice_get hs number ≡ Some h → P h

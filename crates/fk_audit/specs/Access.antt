@@ -33,8 +33,7 @@ noted (After effect h access) = access
 abbrev pub access_of : Instruction → HartState → Option Access
 access_of i h = noted (step notes 0 i h None)
 
--- The access at a word of the code, if there is one, and it is an instruction.
-abbrev pub access_at : Option (Option Instruction) → HartState → Option Access
-access_at None h = None
-access_at (Some None) h = None
-access_at (Some (Some i)) h = access_of i h
+-- The access of the instruction of a hart, if there is one.
+abbrev pub access_by : Option Instruction → HartState → Option Access
+access_by None h = None
+access_by (Some i) h = access_of i h

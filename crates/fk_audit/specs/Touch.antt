@@ -1,6 +1,7 @@
 -- Which harts touch which words of shared data in a cycle.
 use Rattle.std.specs.Prelude.{ℕ, suc, ◌/◌, ◌==◌, if◌then◌else◌, List, [], ◌∷◌}
 use Rattle.std.specs.Prelude.{Option, Some, None, Bool, false, slice_get}
+use Rattle.std.specs.Option.{option_flatten}
 use Rattle.fk_isa.specs.declared.instruction.Instruction.{Instruction}
 use Rattle.fk_isa.specs.Step.{HartState}
 use Rattle.fk_machine.specs.declared.place.Location.{Location}
@@ -15,7 +16,7 @@ use Rattle.fk_machine.specs.Cycle.{Machine, turns_of}
 use Rattle.fk_audit.specs.declared.access.Access.{Access}
 use Rattle.fk_audit.specs.declared.access.AccessKind.{AccessKind}
 use Rattle.fk_audit.specs.declared.touch.Touch.{Touch}
-use Rattle.fk_audit.specs.Access.{access_at}
+use Rattle.fk_audit.specs.Access.{access_by}
 
 -- Only an access to a word of shared data is a touch: of that word, by the hart with this number.
 abbrev pub touch_at : ℕ → AccessKind → Location → Option Touch
@@ -33,7 +34,8 @@ touch_by number (Some access) = touch_at number access.kind (place_of access.add
 -- What the next instruction of the hart with this number touches, if the hart is served and doesn't
 -- trap.
 abbrev pub touch_of : List (Option Instruction) → ℕ → HartState → Option Touch
-touch_of code number h = touch_by number (access_at (slice_get code (h.pc / 4)) h)
+touch_of code number h =
+    touch_by number (access_by (option_flatten (slice_get code (h.pc / 4))) h)
 
 abbrev pub with_touch : Option Touch → List Touch → List Touch
 with_touch None touches = touches

@@ -8,7 +8,6 @@ ghost use Rattle.fk_machine.specs.View.{machine_of};
 ghost use Rattle.fk_audit.specs.Mark.{is_served, next_touch, next_touches};
 
 use crate::access::{Access, AccessKind};
-use fk_isa::decode;
 use fk_machine::place::{Location, place_at};
 use fk_machine::{Machine, Stand};
 
@@ -33,7 +32,7 @@ fn next_touch(machine: &Machine, number: u32) -> Option<Touch>
     if hart.ended {
         return None;
     }
-    let instruction = decode(machine.code(hart.pc / 4 * 4)?)?;
+    let instruction = machine.instruction(hart.pc)?;
     let access = Access::of(instruction, hart)?;
     match place_at(access.address) {
         Location::SharedWord(word) => Some(Touch {

@@ -38,9 +38,6 @@ shared_of s = record {
 abbrev pub row_of : CodeWord → Option Instruction
 row_of w = if w.is_known then Some w.instruction else None
 
-abbrev pub word_of : CodeWord → ℕ
-word_of w = w.word
-
 abbrev pub setting_of : SettingState → Setting
 setting_of t = record {
   code = map row_of t.code.items;
@@ -63,4 +60,4 @@ machine_of m =
 
 -- The words of the code, those that are no instructions too.
 abbrev pub code_of : MachineState → List ℕ
-code_of m = map word_of m.setting.code.items
+code_of m = m.setting.words.items

@@ -10,7 +10,7 @@ use crate::stand::Stand;
 use crate::turns::{LOCAL_STRIDE, stand_after, take_turns};
 use crate::zeros::zeros;
 use fk_image::Image;
-use fk_isa::Hart;
+use fk_isa::{Hart, Instruction};
 use std::alloc::{AllocError, Global};
 
 /// A machine that runs an image: its harts, what they share, and its status.
@@ -35,8 +35,10 @@ pub struct Machine {
 impl Machine {
     ghost use Rattle.std.specs.Prelude.{◌-◌, ◌<◌, ◌^◌, ◌++◌, [], length, IfOk, OnOk, OnErr};
     ghost use Rattle.std.specs.Prelude.{◌/◌, ◌%◌, ◌==◌, Some, None, if◌then◌else◌, map, slice_get};
+    ghost use Rattle.std.specs.Prelude.{IfSome};
+    ghost use Rattle.std.specs.Option.{option_flatten};
     ghost use Rattle.fk_image.specs.Limits.{IsWithinLimits};
-    ghost use Rattle.fk_isa.specs.Find.{row};
+    ghost use Rattle.fk_isa.specs.Fits.{Fits};
     ghost use Rattle.fk_isa.specs.Step.{hart_of};
     ghost use Rattle.fk_machine.specs.declared.stand.Stand.TheVariants.{Running};
     ghost use Rattle.fk_machine.specs.Cycle.{machine_opening, cycle};
@@ -215,16 +217,25 @@ impl Machine {
 
     /// The word of the code at an address. There is none if the address is no multiple of 4, or is
     /// past the code.
-    #[tactic(auto, unfolding(crate::specs::View::machine_of), using(crate::proofs::Decoded::rows_of_words, crate::proofs::Decoded::word_at))]
     pub fn code(&self, address: u32) -> Option<u32>
-        ensures word { result ≡ (if address % 4 == 0
+        ensures { result ≡ (if address % 4 == 0
             then slice_get (code_of self.now) (address / 4) else None) }
-        ensures rows { map row (code_of self.now) ≡ (machine_of self.now).code }
     {
         if address % 4 != 0 {
             return None;
         }
-        let word = self.setting.code.get((address / 4) as usize)?;
-        Some(word.word)
+        self.setting.words.get((address / 4) as usize).copied()
+    }
+
+    /// The instruction that a hart with this pc does next. There is none if it traps because the pc
+    /// is past the code, or because the word there is no instruction.
+    #[inline(always)]
+    #[tactic(auto, unfolding(crate::specs::View::machine_of), using(crate::proofs::Rows::row_there))]
+    pub fn instruction(&self, pc: u32) -> Option<Instruction>
+        ensures instruction { result
+            ≡ option_flatten (slice_get (machine_of self.now).code (pc / 4)) }
+        ensures fits { IfSome result Fits }
+    {
+        self.setting.code.get((pc / 4) as usize)?.row()
     }
 }

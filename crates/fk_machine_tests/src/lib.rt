@@ -4,9 +4,9 @@
 #[cfg(test)]
 mod asm;
 #[cfg(test)]
-mod elf;
-#[cfg(test)]
 mod audit;
+#[cfg(test)]
+mod elf;
 #[cfg(test)]
 mod image;
 #[cfg(test)]

@@ -5,6 +5,7 @@ ghost use Rattle.fk_machine.specs.View.{machine_of};
 
 use crate::input::repeated;
 use fk_image::Image;
+use fk_isa::decode;
 use fk_machine::stand::{ACCESS, EBREAK, ECALL, FETCH, MISALIGNED, UNKNOWN};
 use fk_machine::{Machine, Stand};
 use std::alloc::{AllocError, Global};
@@ -453,14 +454,25 @@ fn images_run_as_they_are_told(rt: HostRuntime) -> Result<(), AllocError> {
     Ok(())
 }
 
+// Whether a machine has this word of code at this place, and the instruction that it is.
+fn has_word(machine: &Machine, index: usize, word: u32) -> bool {
+    if index >= 1000 {
+        return false;
+    }
+    let address = 4 * index as u32;
+    machine.code(address) == Some(word) && machine.instruction(address) == decode(word)
+}
+
 // Whether a machine has these words of code, and none beside them.
 fn has_code(machine: &Machine, code: &[u32]) -> bool {
     for (index, word) in code.iter().enumerate() {
-        if index >= 1000 || machine.code(4 * index as u32) != Some(*word) {
+        if !has_word(machine, index, *word) {
             return false;
         }
     }
-    machine.code(2) == None && machine.code(0xffff_fffc) == None
+    machine.code(2) == None
+        && machine.code(0xffff_fffc) == None
+        && machine.instruction(0xffff_fffc) == None
 }
 
 #[test]

@@ -1,10 +1,9 @@
 use Rattle.std.proofs.Common.{◌≡◌, map, take}
 use Rattle.fk_isa.specs.Find.{row}
-use Rattle.fk_machine.specs.View.{row_of, word_of}
+use Rattle.fk_machine.specs.View.{row_of}
 use Rattle.fk_machine.proofs.setting.Setting.new.Given as goal
 
 abbrev pub invariant-loop-word : goal.invariant-loop-word
 invariant-loop-word l = record {
-  decoded : map row_of l.words.items ≡ map row (take l.word-index l.code);
-  kept : map word_of l.words.items ≡ take l.word-index l.code;
+  decoded : map row_of l.decoded.items ≡ map row (take l.word-index l.code);
 }
