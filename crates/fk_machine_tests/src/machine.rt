@@ -5,7 +5,7 @@ ghost use Rattle.fk_machine.specs.View.{machine_of};
 
 use crate::input::repeated;
 use fk_image::Image;
-use fk_isa::decode;
+use fk_isa::encode;
 use fk_machine::stand::{ACCESS, EBREAK, ECALL, FETCH, MISALIGNED, UNKNOWN};
 use fk_machine::{Machine, Stand};
 use std::alloc::{AllocError, Global};
@@ -460,7 +460,10 @@ fn has_word(machine: &Machine, index: usize, word: u32) -> bool {
         return false;
     }
     let address = 4 * index as u32;
-    machine.code(address) == Some(word) && machine.instruction(address) == decode(word)
+    match machine.instruction(address) {
+        Some(instruction) => machine.code(address) == Some(word) && encode(instruction) == word,
+        None => false,
+    }
 }
 
 // Whether a machine has these words of code, and none beside them.
@@ -472,7 +475,7 @@ fn has_code(machine: &Machine, code: &[u32]) -> bool {
     }
     machine.code(2) == None
         && machine.code(0xffff_fffc) == None
-        && machine.instruction(0xffff_fffc) == None
+        && machine.instruction(0xffff_fffc).is_none()
 }
 
 #[test]
