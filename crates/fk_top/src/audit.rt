@@ -63,12 +63,7 @@ pub fn audit_ending<'a>(
         put: None,
         output,
         shown: None,
-        line: LastLine::Reported(stand_report(
-            image,
-            run.cycles,
-            audited.stand,
-            audited.cycles,
-        )),
+        line: LastLine::Reported(stand_report(image, run.cycles, audited.stand, audited.cycles)),
     })
 }
 
