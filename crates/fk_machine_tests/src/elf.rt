@@ -185,7 +185,10 @@ fn refused_at(offset: u32) -> Option<u32> {
 // Whether the file is refused there.
 fn is_refused_at(alloc: Global, offset: u32) -> Result<bool, AllocError> {
     let mut bytes = Vec::from_slice(alloc, &ONE_COMMIT_FILE)?;
-    bytes[offset as usize] = bytes[offset as usize].wrapping_add(1);
+    let place = offset as usize;
+    if place < bytes.len() {
+        bytes[place] = bytes[place].wrapping_add(1);
+    }
     match read_elf(alloc, &bytes) {
         Err(ElfFault::ElfHeader(at)) => Ok(refused_at(offset) == Some(at)),
         Err(ElfFault::ElfShort(_, _)) => Ok(refused_at(offset).is_none()),

@@ -1,4 +1,4 @@
-use Rattle.std.proofs.Common.{◌≤◌, length, arith, inr}
+use Rattle.std.proofs.Common.{inr}
 use Rattle.fk_top.proofs.Readable.{elf_short}
 use Rattle.fk_top.proofs.Refusing.{refusing_image}
 use Rattle.fk_top.proofs.elf.put_elf.Goals as goal

@@ -1,4 +1,4 @@
-use Rattle.std.proofs.Common.{◌≤◌, length, arith, inr}
+use Rattle.std.proofs.Common.{arith, inr}
 use Rattle.fk_top.proofs.Readable.{image_short}
 use Rattle.fk_top.proofs.Refusing.{refusing_elf}
 use Rattle.fk_top.proofs.elf.put_image.Goals as goal
