@@ -162,7 +162,8 @@ class Row:
 
     words: list
     status: int
-    out: bytes = b""
+    # standard output, or a pattern of it
+    out: bytes | re.Pattern = b""
     report: str = ""
     # files that must be there afterwards with these bytes (or of which a function holds), or not at all
     files: dict = field(default_factory=dict)
@@ -184,8 +185,43 @@ def execute(name, harts=1, cycles=1000000):
     return ["exec", name, "--harts", str(harts), "--cycles", str(cycles)]
 
 
+def audit(name, harts=1, cycles=1000000):
+    return ["audit", name, "--harts", str(harts), "--cycles", str(cycles)]
+
+
 def build(name, to):
     return ["build", name, "-o", to]
+
+
+def elf(name, to):
+    return ["elf", name, "-o", to]
+
+
+def unelf(name, to):
+    return ["unelf", name, "-o", to]
+
+
+def elf_header(*sizes):
+    """The headers of an ELF file whose code, globals and entries have these sizes in bytes. They have 148 bytes."""
+    header = b"\x7fELF\1\1\1" + bytes(9) + struct.pack("<2H5I6H", 2, 243, 1, 0, 52, 0, 0, 52, 32, 3, 0, 0, 0)
+    parts = [(1, 0, sizes[0], 5), (1, 0x10000000, 4194304, 6), (0x60000095, 0, 0, 4)]
+    offset = 148
+    for (kind, address, memory, flags), size in zip(parts, sizes):
+        header += struct.pack("<8I", kind, offset % 2**32, address, address, size, memory, flags, 4)
+        offset += size
+    return header
+
+
+def elf_file(code, of_globals=(), sites=(), commits=()):
+    """The ELF file of an image."""
+    entries = [len(sites), len(commits)] + [word for row in (*sites, *commits) for word in row]
+    words = [*code, *of_globals, *entries]
+    return elf_header(4 * len(code), 4 * len(of_globals), 4 * len(entries)) + struct.pack("<%dI" % len(words), *words)
+
+
+def replaced(there, at, byte):
+    """Bytes of which one is another."""
+    return there[:at] + bytes([byte]) + there[at + 1 :]
 
 
 LISTED = b"00000000: 300002b7  lui t0, 0x30000\n00000004: 0002a623  sw zero, 12(t0)\n"
@@ -199,6 +235,9 @@ NO_COMMAND = [
     ["build", "sums.f95"],
     ["list"],
     ["list", "atomic.image", "more"],
+    ["elf", "halt.image"],
+    ["unelf", "halt.elf", "more", "-o", "none.image"],
+    ["elf", "halt.image", "--harts", "1", "-o", "none.elf"],
     run("sums.f95", harts=0),
     run("sums.f95", harts=1025),
     run("sums.f95", harts="+1"),
@@ -426,6 +465,39 @@ ROWS += [
     Row(["list", "long.image"], 0, UNKNOWN_WORDS, r"listed 60000 words\n"),
 ]
 
+# ELF files of images, and bytes that are none
+HALT_ELF = elf_file([DEVICES, HALT], commits=[(4, 1)])
+NO_ELF = {
+    "no bytes": (b"", r"28 ElfShort 0 148"),
+    "a short header": (HALT_ELF[:147], r"28 ElfShort 147 148"),
+    "a byte too few": (HALT_ELF[:-1], r"28 ElfShort 171 172"),
+    "a byte too many": (HALT_ELF + b"\0", r"29 ElfTail 172"),
+    "another machine": (replaced(HALT_ELF, 18, 0xF4), r"27 ElfHeader 18"),
+    "a size that isn't whole words": (replaced(HALT_ELF, 68, 9), r"27 ElfHeader 68"),
+    "a site too many": (replaced(HALT_ELF, 156, 1), r"30 ElfSizes"),
+    "a commit without a count": (replaced(HALT_ELF, 168, 0), r"31 ElfTable 0"),
+    "an image": (FILES["halt.image"] + bytes(148), r"27 ElfHeader 0"),
+}
+assert len(HALT_ELF) == 172 and HALT_ELF[:20].hex() == "7f454c460101010000000000000000000200f300"
+FILES["halt.elf"] = HALT_ELF
+FILES.update({f"{title}.elf": content for title, (content, _) in NO_ELF.items()})
+ROWS += [
+    Row(elf("halt.image", "made.elf"), 0, b"", r"wrote 172 bytes\n", files={"made.elf": HALT_ELF}, given=b"x"),
+    Row(unelf("made.elf", "made.image"), 0, b"", r"wrote 40 bytes\n", files={"made.image": FILES["halt.image"]}),
+    Row(elf("fault.image", "made.elf"), 0, b"", r"wrote 176 bytes\n", files={"made.elf": elf_file([DEVICES, FAULT], sites=[(12, 7, 9)])}),
+    Row(unelf("made.elf", "made.image"), 0, b"", r"wrote 44 bytes\n", files={"made.image": BAD_ADDRESS}),
+    # the globals too
+    Row(build("second.f95", "globals.image"), 0, b"", r"built \d+ words\n"),
+    Row(elf("globals.image", "globals.elf"), 0, b"", r"wrote \d+ bytes\n"),
+    Row(unelf("globals.elf", "back.image"), 0, b"", r"wrote \d+ bytes\n"),
+    Row(execute("back.image"), 0, b"", FINISHED),
+    *[Row(unelf(f"{title}.elf", "none.image"), 12, b"", rf"refused {report}\n", files={"none.image": None}) for title, (_, report) in NO_ELF.items()],
+    Row(elf("halt.elf", "none.elf"), 9, b"", r"refused 13 Magic\n", files={"none.elf": None}),
+    Row(elf("short.image", "none.elf"), 9, b"", r"refused 15 Short 27 28\n", files={"none.elf": None}),
+    Row(unelf("absent.elf", "none.image"), 3, b"", r"read fault\n", files={"none.image": None}),
+    Row(elf("halt.image", "absent/x.elf"), 4, b"", "", files={"absent": None}),
+]
+
 
 # programs of the asynchronous language, and those that fault
 for title, (harts, given, text, out) in PROGRAMS.items():
@@ -599,6 +671,54 @@ ROWS += [
 ]
 
 
+# Which PRAM a run needed.
+EREW = b"verdict EREW\nread none\nwrite none\n"
+
+
+def crew(address):
+    return re.compile(rb"verdict CREW\nread [1-9]\d* 0x%08x\nwrite none\n" % address)
+
+
+def crcw(address):
+    return re.compile(rb"verdict CRCW\nread none\nwrite [1-9]\d* 0x%08x\n" % address)
+
+
+SHARED_DATA = 0x10000000
+SOME_NUMBERS = b"7 3 9 1 5"
+FILES.update({path.name: path.read_bytes() for path in (TOP / "examples").glob("greatest_*.f95")})
+FILES.update(
+    {
+        "one_sum.f95": b"sh int x; void main(void) { x = 1 + 2 + 3; }",
+        "ranks.f95": b"sh int x; void main(void) { start { x = $; } }",
+        "own.f95": b"sh int y; sh int x[64]; void main(void) { start { x[$] = $; } }",
+        "prints.f95": b"sh int x; void main(void) { putint(x); }",
+        "faults.f95": b"sh int x; void main(void) { int *p = &x; if (__PROC_NR__ == 1) p = 0; x = *p; }",
+    }
+)
+ROWS += [
+    Row(audit("one_sum.f95"), 0, EREW, FINISHED),
+    Row(audit("ranks.f95", harts=4), 0, crcw(SHARED_DATA), FINISHED),
+    Row(audit("ranks.f95", harts=1024), 0, crcw(SHARED_DATA), FINISHED),
+    Row(audit("ranks.f95"), 0, EREW, FINISHED),
+    Row(audit("own.f95", harts=64), 0, EREW, FINISHED),
+    # the program's own output isn't written
+    Row(audit("prints.f95", harts=3), 0, crew(SHARED_DATA), FINISHED),
+    Row(audit("prints.f95", harts=3, cycles=0), 7, EREW, AT_ONCE),
+    Row(audit("greatest_erew.f95", harts=8), 0, EREW, FINISHED, given=SOME_NUMBERS),
+    Row(audit("greatest_crew.f95", harts=8), 0, crew(SHARED_DATA + 4), FINISHED, given=SOME_NUMBERS),
+    Row(audit("greatest_crcw.f95", harts=8), 0, crcw(SHARED_DATA), FINISHED, given=SOME_NUMBERS),
+    Row(audit("faults.f95", harts=2), 6, EREW, r"fault BadAddress at 1:75 by processor 1 after \d+ cycles\n"),
+    # what is refused, and in which order
+    Row(audit("undeclared.f95"), 1, b"", r"refused 8 Rule 1 at 1:26\n", given=b"x"),
+    Row(audit("empty.f95"), 10, b"", r"refused 19 NotANumber 2\n", given=b"12 x"),
+    Row(audit("absent.f95"), 3, b"", r"read fault\n"),
+    Row(audit("refused.f95"), 3, b"", r"read fault\n", given_from="."),
+    Row(audit("one_sum.f95"), 4, b"", "", out_to="/dev/full"),
+    Row(audit("one_sum.f95", harts=1025), 2, b"", r"refused command line\n"),
+    Row(audit("one_sum.f95") + ["--show", "x"], 2, b"", r"refused command line\n"),
+]
+
+
 def limited(row):
     """What sets the limits of a row, if it has any, where its command begins."""
 
@@ -611,6 +731,10 @@ def limited(row):
             resource.setrlimit(resource.RLIMIT_FSIZE, (row.file_bytes, row.file_bytes))
 
     return limit if row.memory or row.file_bytes else None
+
+
+def is_output(out, wanted):
+    return bool(wanted.fullmatch(out)) if isinstance(wanted, re.Pattern) else out == wanted
 
 
 def faults(program, row, folder):
@@ -631,8 +755,8 @@ def faults(program, row, folder):
     out, report = ended.stdout or b"", (ended.stderr or b"").decode(errors="replace")
     if ended.returncode != row.status:
         yield f"status {ended.returncode}, not {row.status}"
-    if out != row.out:
-        yield f"standard output {out[:100]!r}, not {row.out[:100]!r}"
+    if not is_output(out, row.out):
+        yield f"standard output {out[:100]!r}, not {row.out!r:.100}"
     if not re.fullmatch(row.report, report):
         yield f"standard error {report[:200]!r}, not {row.report!r}"
     for name, wanted in row.files.items():

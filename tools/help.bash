@@ -7,6 +7,9 @@ Usage:
   fork95 build FILE -o IMAGE                           compile to an image
   fork95 exec IMAGE --harts P --cycles N               run an image
   fork95 list IMAGE                                    print an image's code
+  fork95 elf IMAGE -o FILE                             make an image's ELF file
+  fork95 unelf FILE -o IMAGE                           make the image of such a file
+  fork95 audit FILE --harts P --cycles N               compile, run, and tell which PRAM the run needed
   fork95 explain RULE|NAME                             explain a rule (1 to 40) or the name in a report
 
 P is 1 to 1024, N is 0 to 4294967295. Give no input by </dev/null.
@@ -99,21 +102,21 @@ help_with() {
 help_with_words() {
     local word
     case ${1-} in
-        run | exec)
+        run | exec | audit)
             for word in --harts --cycles; do
                 [[ " $* " == *" $word"[\ =]* ]] || echo "$1 needs $word N."
             done ;;
-        build) [[ " $* " == *" -o"* ]] || echo "build needs -o IMAGE." ;;
+        build | elf | unelf) [[ " $* " == *" -o"* ]] || echo "$1 needs -o and the name of a file." ;;
         list) ;;
         *) echo "${1-} is no command." ;;
     esac
-    usage | head -6
+    usage | sed '/^$/,$d'
 }
 
 # Runs the program with the words given, and helps behind its report where standard error is a terminal.
 run_with_help() {
     local report status=0 last
-    if [ -t 0 ] && [[ ${1-} == run || ${1-} == exec ]]; then
+    if [ -t 0 ] && [[ ${1-} == run || ${1-} == exec || ${1-} == audit ]]; then
         echo "fork95: reading input numbers; Ctrl-D ends them" >&2
     fi
     report=$(mktemp)
@@ -122,7 +125,7 @@ run_with_help() {
     cat "$report" >&2
     last=$(tail -n 1 "$report")
     case $status in
-        0 | 8 | 9) ;;
+        0 | 8 | 9 | 12) ;;
         *) help_with "$last" "$status" "$@" >&2 ;;
     esac
     exit "$status"

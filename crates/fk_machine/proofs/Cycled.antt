@@ -1,6 +1,5 @@
 -- A cycle of the code is a cycle of the machine.
-use Rattle.std.proofs.Common.{◌≡◌, ℕ, ◌+◌, suc, List, [], ◌∷◌, Option, length, map, cond, sym, ap, subst, ◌∙◌, refl}
-use Rattle.fk_num.specs.Word.{Memory}
+use Rattle.std.proofs.Common.{◌≡◌, ℕ, ◌+◌, List, Option, map, cond, sym, ap, subst, ◌∙◌}
 use Rattle.fk_machine.specs.declared.stand.Stand.{Stand}
 use Rattle.fk_machine.specs.declared.stand.Stand.TheVariants.{Running}
 use Rattle.fk_isa.specs.declared.hart.Hart.{Hart as HartState}
@@ -9,17 +8,14 @@ use Rattle.fk_machine.specs.Hart.{Hart, Shared}
 use Rattle.fk_machine.specs.Cycle.{Machine, turns, turns_of, setting_of as setting_in, unprinted, stand_after, is_running, cycle, after_turns}
 use Rattle.fk_machine.specs.View.{harts_of, local_of, shared_of, row_of, setting_of, machine_of}
 use Rattle.fk_machine.specs.Does.{TurnsGive}
-
-length-harts_of : (n : ℕ) (hs : List HartState) (w : ℕ → Memory) → length (harts_of n hs w) ≡ length hs
-length-harts_of n [] w = refl
-length-harts_of n (h ∷ hs) w = ap suc (length-harts_of (suc n) hs w)
+use Rattle.fk_machine.proofs.Harts.{harts_length}
 
 -- the setting of the code is that of the machine
 setting_is : (m : MachineState) → setting_of m.setting ≡ setting_in (machine_of m)
 unfolding machine_of
 setting_is m =
     ap (λ n. record { code = map row_of m.setting.code.items; harts = n; inputs = m.setting.inputs; finished = m.setting.finished })
-    (m.counted ∙ m.harts.ok.0 ∙ sym (length-harts_of 0 m.harts.items (local_of m.locals.items)))
+    (m.counted ∙ m.harts.ok.0 ∙ sym (harts_length 0 m.harts.items (local_of m.locals.items)))
 
 -- a machine that runs, after its turns
 abbrev pub machine_after : Machine → List Hart → Shared → Stand → Machine

@@ -1,13 +1,24 @@
 -- The view of harts.
-use Rattle.std.proofs.Common.{◌≡◌, ℕ, zero, suc, List, [], ◌∷◌, false, ◌&&◌, ap, ◌∙◌, refl}
+use Rattle.std.proofs.Common.{◌≡◌, ℕ, zero, suc, List, [], ◌∷◌, false, ◌&&◌, length, map, ap, ◌∙◌, refl}
 use Rattle.std.specs.Prelude.{replicate, slice_index}
 use Rattle.std.proofs.Math.Path.{fun_ext}
 use Rattle.std.specs.List.{list_all}
 use Rattle.fk_num.specs.Word.{Memory}
 use Rattle.fk_isa.specs.declared.hart.Hart.{Hart as HartState}
+use Rattle.fk_isa.specs.Step.{hart_of as state}
 use Rattle.fk_machine.specs.Cycle.{all_ended, first_hart}
+use Rattle.fk_machine.specs.Step.{state_of}
 use Rattle.fk_machine.specs.View.{hart_of, harts_of}
 use Rattle.fk_machine.proofs.IndexZeros.{index_zeros}
+
+pub harts_length : (n : ℕ) (hs : List HartState) (w : ℕ → Memory) → length (harts_of n hs w) ≡ length hs
+harts_length n [] w = refl
+harts_length n (h ∷ hs) w = ap suc (harts_length (suc n) hs w)
+
+-- the harts without their local memories
+pub harts_states : (n : ℕ) (hs : List HartState) (w : ℕ → Memory) → map state_of (harts_of n hs w) ≡ map state hs
+harts_states n [] w = refl
+harts_states n (h ∷ hs) w = ap (λ states. state h ∷ states) (harts_states (suc n) hs w)
 
 pub all_ended-harts_of : (n : ℕ) (hs : List HartState) (w : ℕ → Memory) → all_ended (harts_of n hs w) ≡ list_all (λ h. h.ended) hs
 all_ended-harts_of n [] w = refl

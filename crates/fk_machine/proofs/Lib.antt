@@ -9,3 +9,4 @@ pub mod Opened
 pub mod Runs
 pub mod Places
 pub mod Performs
+pub mod Rows

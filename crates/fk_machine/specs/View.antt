@@ -57,3 +57,7 @@ machine_of m =
       begun = m.setting.finished;
       stand = m.stand;
     }
+
+-- The words of the code, those that are no instructions too.
+abbrev pub code_of : MachineState → List ℕ
+code_of m = m.setting.words.items

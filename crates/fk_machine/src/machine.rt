@@ -10,7 +10,7 @@ use crate::stand::Stand;
 use crate::turns::{LOCAL_STRIDE, stand_after, take_turns};
 use crate::zeros::zeros;
 use fk_image::Image;
-use fk_isa::Hart;
+use fk_isa::{Hart, Instruction};
 use std::alloc::{AllocError, Global};
 
 /// A machine that runs an image: its harts, what they share, and its status.
@@ -34,12 +34,18 @@ pub struct Machine {
 #[tactic(auto, unfolding(crate::specs::View::machine_of))]
 impl Machine {
     ghost use Rattle.std.specs.Prelude.{◌-◌, ◌<◌, ◌^◌, ◌++◌, [], length, IfOk, OnOk, OnErr};
+    ghost use Rattle.std.specs.Prelude.{◌/◌, ◌%◌, ◌==◌, Some, None, if◌then◌else◌, map, slice_get};
+    ghost use Rattle.std.specs.Prelude.{IfSome};
+    ghost use Rattle.std.specs.Option.{option_flatten};
     ghost use Rattle.fk_image.specs.Limits.{IsWithinLimits};
+    ghost use Rattle.fk_isa.specs.Fits.{Fits};
+    ghost use Rattle.fk_isa.specs.Step.{hart_of};
     ghost use Rattle.fk_machine.specs.declared.stand.Stand.TheVariants.{Running};
     ghost use Rattle.fk_machine.specs.Cycle.{machine_opening, cycle};
     ghost use Rattle.fk_machine.specs.Run.{after, output_in};
     ghost use Rattle.fk_machine.specs.Early.{StoppedEarly};
-    ghost use Rattle.fk_machine.specs.View.{machine_of};
+    ghost use Rattle.fk_machine.specs.Step.{state_of};
+    ghost use Rattle.fk_machine.specs.View.{code_of, machine_of};
 
     /// A machine with `harts` harts before its first cycle. Shared data begins with the globals of
     /// the image, then the input numbers, then zeros.
@@ -57,7 +63,9 @@ impl Machine {
         requires few_harts { harts ≤ 1024 }
         requires few_inputs { length input.now ≤ 65536 }
         requires room { vec_len image.now.globals + length input.now ≤ most_data_words }
-        ensures { IfOk result (λ m. machine_of m ≡ machine_opening image.now input.now harts) }
+        ensures machine { IfOk result
+            (λ m. machine_of m ≡ machine_opening image.now input.now harts) }
+        ensures code { IfOk result (λ m. code_of m ≡ image.now.code.items) }
     {
         let setting = Setting::new(alloc, &image.code, harts, input.len() as u32)?;
         let shared = SharedState::new(alloc, &image.globals, input, harts)?;
@@ -79,6 +87,7 @@ impl Machine {
         ensures cycle { machine_of self.new ≡ cycle (machine_of self.old) }
         ensures stand { result ≡ (machine_of self.new).stand }
         ensures count { (machine_of self.new).begun ≤ (machine_of self.old).begun + 1 }
+        ensures code { code_of self.new ≡ code_of self.old }
     {
         if self.stand != Stand::Running {
             return self.stand;
@@ -94,6 +103,7 @@ impl Machine {
         requires count { (machine_of self.old).begun < 2 ^ 32 - 1 }
         ensures cycle { machine_of self.new ≡ cycle (machine_of self.old) }
         ensures stand { result ≡ self.new.stand }
+        ensures code { code_of self.new ≡ code_of self.old }
     {
         let mut stop = None;
         take_turns(
@@ -122,6 +132,7 @@ impl Machine {
         ensures quiet { output_in (result - 1) (machine_of self.old) ≡ [] }
         ensures some { 1 ≤ result }
         ensures few { result ≤ cycles }
+        ensures code { code_of self.new ≡ code_of self.old }
     {
         self.shared.output.clear();
         for done in 0..cycles {
@@ -146,6 +157,7 @@ impl Machine {
             (output.new.items ≡ output.old.items ++ output_in cycles (machine_of self.old)) }
         ensures early { OnErr result (StoppedEarly cycles (machine_of self.old) output.old.items
             (machine_of self.new) output.new.items) }
+        ensures code { code_of self.new ≡ code_of self.old }
     {
         let mut left = cycles;
         while left > 0 && self.stand == Stand::Running {
@@ -183,5 +195,47 @@ impl Machine {
         ensures { result ≡ (machine_of self.now).shared.words index }
     {
         self.shared.words[index as usize]
+    }
+
+    /// The number of harts.
+    pub fn harts(&self) -> u32
+        ensures harts { result ≡ length (machine_of self.now).harts }
+        ensures few { result ≤ 1024 }
+    {
+        self.setting.harts
+    }
+
+    /// The hart with this number.
+    #[tactic(auto, unfolding(crate::specs::View::machine_of), using(crate::proofs::Harts::harts_length))]
+    pub fn hart(&self, number: u32) -> &Hart
+        requires { number < length (machine_of self.now).harts }
+        ensures { slice_get (map state_of (machine_of self.now).harts) number
+            ≡ Some (hart_of result.now) }
+    {
+        &self.harts[number as usize]
+    }
+
+    /// The word of the code at an address. There is none if the address is no multiple of 4, or is
+    /// past the code.
+    pub fn code(&self, address: u32) -> Option<u32>
+        ensures { result ≡ (if address % 4 == 0
+            then slice_get (code_of self.now) (address / 4) else None) }
+    {
+        if address % 4 != 0 {
+            return None;
+        }
+        self.setting.words.get((address / 4) as usize).copied()
+    }
+
+    /// The instruction that a hart with this pc does next. There is none if it traps because the pc
+    /// is past the code, or because the word there is no instruction.
+    #[inline(always)]
+    #[tactic(auto, unfolding(crate::specs::View::machine_of), using(crate::proofs::Rows::row_there))]
+    pub fn instruction(&self, pc: u32) -> Option<Instruction>
+        ensures instruction { result
+            ≡ option_flatten (slice_get (machine_of self.now).code (pc / 4)) }
+        ensures fits { IfSome result Fits }
+    {
+        self.setting.code.get((pc / 4) as usize)?.row()
     }
 }

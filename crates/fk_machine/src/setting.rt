@@ -21,6 +21,7 @@ pub struct CodeWord {
 }
 
 impl CodeWord {
+    ghost use Rattle.std.specs.Prelude.{IfSome};
     ghost use Rattle.fk_isa.specs.Find.{row};
     ghost use Rattle.fk_machine.specs.View.{row_of};
 
@@ -38,12 +39,27 @@ impl CodeWord {
             },
         }
     }
+
+    /// The instruction that the word is, if it is one.
+    #[inline(always)]
+    pub fn row(&self) -> Option<Instruction>
+        ensures row { result ≡ row_of self.now }
+        ensures fits { IfSome result Fits }
+    {
+        if self.is_known {
+            Some(self.instruction)
+        } else {
+            None
+        }
+    }
 }
 
 /// The code, and the numbers that devices give.
 #[derive(Drop)]
 pub struct Setting {
     pub code: Vec<CodeWord>,
+    /// The words of the code, as the image has them.
+    pub words: Vec<u32>,
     /// The number of harts.
     pub harts: u32,
     /// The number of input numbers.
@@ -62,16 +78,18 @@ impl Setting {
     pub fn new(alloc: Global, code: &[u32], harts: u32, inputs: u32) -> Result<Setting, AllocError>
         requires { length code.now ≤ most_code_words }
         ensures code { IfOk result (λ t. map row_of t.code.items ≡ map row code.now) }
+        ensures words { IfOk result (λ t. t.words.items ≡ code.now) }
         ensures harts { IfOk result (λ t. t.harts ≡ harts) }
         ensures inputs { IfOk result (λ t. t.inputs ≡ inputs) }
         ensures finished { IfOk result (λ t. t.finished ≡ 0) }
     {
-        let mut words = Vec::with_capacity(alloc, code.len())?;
+        let mut decoded = Vec::with_capacity(alloc, code.len())?;
         for word in code {
-            words.push(CodeWord::of(*word))?;
+            decoded.push(CodeWord::of(*word))?;
         }
         Ok(Setting {
-            code: words,
+            code: decoded,
+            words: Vec::from_slice(alloc, code)?,
             harts,
             inputs,
             finished: 0,

@@ -5,6 +5,7 @@ ghost use Rattle.fk_machine.specs.View.{machine_of};
 
 use crate::input::repeated;
 use fk_image::Image;
+use fk_isa::encode;
 use fk_machine::stand::{ACCESS, EBREAK, ECALL, FETCH, MISALIGNED, UNKNOWN};
 use fk_machine::{Machine, Stand};
 use std::alloc::{AllocError, Global};
@@ -332,21 +333,35 @@ static CASES: [Case; 17] = [
     HIGHEST,
 ];
 
-// A new machine for a case.
-fn machine_for(rt: &impl Abort, alloc: Global, case: &Case) -> Result<Machine, AllocError>
+// A new machine with this code, these globals and this input.
+pub(crate) fn machine_for(
+    rt: &impl Abort,
+    alloc: Global,
+    code: &[u32],
+    globals: &[u32],
+    input: &[u32],
+    harts: u32,
+) -> Result<Machine, AllocError>
     ensures { IfOk result (λ machine. (machine_of machine).begun ≡ 0) }
 {
-    assert!(rt; 1 <= case.code.len() && case.code.len() <= 1000);
-    assert!(rt; case.globals.len() <= 1000 && case.input.len() <= 1000);
-    assert!(rt; 1 <= case.harts && case.harts <= 1024);
+    assert!(rt; 1 <= code.len() && code.len() <= 1000);
+    assert!(rt; globals.len() <= 1000 && input.len() <= 1000);
+    assert!(rt; 1 <= harts && harts <= 1024);
     let image = Image {
-        code: case.code.to_vec(alloc)?,
-        globals: case.globals.to_vec(alloc)?,
+        code: code.to_vec(alloc)?,
+        globals: globals.to_vec(alloc)?,
         sites: Vec::new(alloc),
         commits: Vec::new(alloc),
     };
-    let machine = Machine::new(alloc, &image, case.input, case.harts)?;
+    let machine = Machine::new(alloc, &image, input, harts)?;
     Ok(machine)
+}
+
+// A new machine for a case.
+fn machine_of_case(rt: &impl Abort, alloc: Global, case: &Case) -> Result<Machine, AllocError>
+    ensures { IfOk result (λ machine. (machine_of machine).begun ≡ 0) }
+{
+    machine_for(rt, alloc, case.code, case.globals, case.input, case.harts)
 }
 
 // The number of texts that the last cycle printed, if it printed nothing else.
@@ -416,14 +431,14 @@ fn comes_true(
     case: &Case,
     bytes: &mut Vec<u8>,
 ) -> Result<(), AllocError> {
-    let mut machine = machine_for(rt, alloc, case)?;
+    let mut machine = machine_of_case(rt, alloc, case)?;
     let times = times_printed(&mut machine, case);
     assert!(rt;
         times == Some(case.times) && stands(&machine, case),
         "{}",
         case.name
     );
-    let mut machine = machine_for(rt, alloc, case)?;
+    let mut machine = machine_of_case(rt, alloc, case)?;
     let all = appends(alloc, &mut machine, case, bytes)?;
     assert!(rt; all && stands(&machine, case), "{} at once", case.name);
     Ok(())
@@ -436,5 +451,41 @@ fn images_run_as_they_are_told(rt: HostRuntime) -> Result<(), AllocError> {
     for case in &CASES {
         comes_true(&rt, alloc, case, &mut bytes)?;
     }
+    Ok(())
+}
+
+// Whether a machine has this word of code at this place, and the instruction that it is.
+fn has_word(machine: &Machine, index: usize, word: u32) -> bool {
+    if index >= 1000 {
+        return false;
+    }
+    let address = 4 * index as u32;
+    match machine.instruction(address) {
+        Some(instruction) => machine.code(address) == Some(word) && encode(instruction) == word,
+        None => false,
+    }
+}
+
+// Whether a machine has these words of code, and none beside them.
+fn has_code(machine: &Machine, code: &[u32]) -> bool {
+    for (index, word) in code.iter().enumerate() {
+        if !has_word(machine, index, *word) {
+            return false;
+        }
+    }
+    machine.code(2) == None
+        && machine.code(0xffff_fffc) == None
+        && machine.instruction(0xffff_fffc).is_none()
+}
+
+#[test]
+fn the_code_and_the_harts_are_told(rt: HostRuntime) -> Result<(), AllocError> {
+    let mut machine = machine_of_case(&rt, rt.alloc(), &TWO_PRINT)?;
+    assert!(rt; has_code(&machine, TWO_PRINT.code));
+    machine.cycle();
+    machine.cycle();
+    assert!(rt; machine.harts() == 2);
+    let hart = machine.hart(1);
+    assert!(rt; hart.pc == 8 && hart.word(6) == 1 && !hart.ended);
     Ok(())
 }

@@ -10,11 +10,11 @@ use Rattle.fk_top.specs.declared.ending.PutFile.{PutFile}
 use Rattle.fk_top.specs.declared.report.Report.TheVariants as reports
 use Rattle.fk_top.specs.declared.status.Status.{Status}
 use Rattle.fk_top.specs.declared.status.Status.TheVariants.{ReadFault, WriteFault}
-use Rattle.fk_top_words.specs.Command.{Command, Run, Build, Exec, ListCode, Reads}
-use Rattle.fk_top.specs.Words.{IsBuild}
+use Rattle.fk_top_words.specs.Command.{Command, Run, Build, Exec, ListCode, Elf, Unelf, Audit, Reads}
+use Rattle.fk_top.specs.Words.{IsPut}
 use Rattle.fk_top.specs.Report.{line_of}
 use Rattle.fk_top.specs.Ending.{outcome_of, put_of}
-use Rattle.fk_top.specs.Outcome.{Outcome, EndsOn, ComesTo, silent}
+use Rattle.fk_top.specs.Outcome.{Outcome, EndsOn, EndsAudit, ComesTo, silent}
 use Rattle.fk_top.specs.Call.{Given, Request, Sunk, call_of, Ends, HasCause}
 
 -- the same request, with an equal count of faults
@@ -32,20 +32,28 @@ same_cause request files old new faults first after out err status d e cause =
     subst (λ n. HasCause (call_of request (record { files = record { before = old; after = new }; faults = record { before = n; after = after } }) out err) status) e
     (subst (λ f. HasCause (call_of request (record { files = record { before = f; after = new }; faults = record { before = faults; after = after } }) out err) status) d cause)
 
--- a command that is no build puts nothing
+-- a command that puts no file puts nothing
 nothing_run : (image : Image) (text : List ℕ) (p n : ℕ) (shown : Option Row) (outcome : Outcome) → EndsOn image text p n shown outcome → outcome.put ≡ None
 nothing_run image text p n shown outcome (inl r) = ap (λ (o : Outcome). o.put) r.is
 nothing_run image text p n shown outcome (inr r) = ap (λ (o : Outcome). o.put) r.is
 
-pub nothing_by : (words : List (List ℕ)) (command : Command) (bytes text : List ℕ) (outcome : Outcome) → Reads words command → ComesTo command bytes text outcome → ¬ IsBuild words → outcome.put ≡ None
+nothing_audited : (image : Image) (text : List ℕ) (p n : ℕ) (outcome : Outcome) → EndsAudit image text p n outcome → outcome.put ≡ None
+nothing_audited image text p n outcome (inl r) = ap (λ (o : Outcome). o.put) r.is
+nothing_audited image text p n outcome (inr r) = ap (λ (o : Outcome). o.put) r.is
+
+pub nothing_by : (words : List (List ℕ)) (command : Command) (bytes text : List ℕ) (outcome : Outcome) → Reads words command → ComesTo command bytes text outcome → ¬ IsPut words → outcome.put ≡ None
 nothing_by words (Run f p n s) bytes text outcome reads (inl r) not = ap (λ (o : Outcome). o.put) r.is
 nothing_by words (Run f p n s) bytes text outcome reads (inr (inl r)) not = ap (λ (o : Outcome). o.put) r.is
 nothing_by words (Run f p n s) bytes text outcome reads (inr (inr r)) not = nothing_run r.image text p n r.shown outcome r.ends
-nothing_by words (Build f i) bytes text outcome reads comes not = absurd (not (f, i, reads))
+nothing_by words (Build f i) bytes text outcome reads comes not = absurd (not (Build f i, reads, tt))
 nothing_by words (Exec f p n) bytes text outcome reads (inl r) not = ap (λ (o : Outcome). o.put) r.is
 nothing_by words (Exec f p n) bytes text outcome reads (inr r) not = nothing_run r.image text p n None outcome r.ends
 nothing_by words (ListCode f) bytes text outcome reads (inl r) not = ap (λ (o : Outcome). o.put) r.is
 nothing_by words (ListCode f) bytes text outcome reads (inr r) not = ap (λ (o : Outcome). o.put) r.is
+nothing_by words (Elf i f) bytes text outcome reads comes not = absurd (not (Elf i f, reads, tt))
+nothing_by words (Unelf f i) bytes text outcome reads comes not = absurd (not (Unelf f i, reads, tt))
+nothing_by words (Audit f p n) bytes text outcome reads (inl r) not = ap (λ (o : Outcome). o.put) r.is
+nothing_by words (Audit f p n) bytes text outcome reads (inr r) not = nothing_audited r.image text p n outcome r.ends
 
 -- what fails to be put is there
 pub some_file : {A E : Type 0} (put : Option PutFile) (r : Result A E) (e : E) → (put ≡ None → IsOk r) → r ≡ Err e → IsSome (option_map put_of put)
@@ -57,12 +65,12 @@ no_file None e = refl
 no_file (Some file) e = absurd (cc)
 
 -- nor does a call with other words
-pub nothing_of : (request : Request) (outcome : Outcome) → Ends request outcome → ¬ IsBuild request.words → outcome.put ≡ None
+pub nothing_of : (request : Request) (outcome : Outcome) → Ends request outcome → ¬ IsPut request.words → outcome.put ≡ None
 nothing_of request outcome (inl none) not = ap (λ (o : Outcome). o.put) none.1
 nothing_of request outcome (inr (inl unread)) not = ap (λ (o : Outcome). o.put) unread.1
 nothing_of request outcome (inr (inr read)) not = nothing_by request.words read.command read.bytes read.text outcome read.reads read.comes_to not
 
-pub nothing_put : (request : Request) (outcome : Outcome) (put : Option PutFile) → outcome.put ≡ option_map put_of put → Ends request outcome → ¬ IsBuild request.words → put ≡ None
+pub nothing_put : (request : Request) (outcome : Outcome) (put : Option PutFile) → outcome.put ≡ option_map put_of put → Ends request outcome → ¬ IsPut request.words → put ≡ None
 nothing_put request outcome put same ends not = no_file put (sym same ∙ nothing_of request outcome ends not)
 
 -- the faults of what is read are told: they are as before where the answer is neither a write fault nor a read fault

@@ -8,3 +8,4 @@ pub mod Unread
 pub mod Answered
 pub mod Statuses
 pub mod Whole
+pub mod Audited

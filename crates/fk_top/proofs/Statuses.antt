@@ -10,24 +10,30 @@ use Rattle.fk_compile.specs.Faithful.{IsFaithful}
 use Rattle.fk_compile.specs.Laws.{IsUntrapped}
 use Rattle.fk_compile.proofs.Untrapped.{never_traps}
 use Rattle.fk_top_words.specs.Arguments.{Text}
-use Rattle.fk_top_words.specs.Command.{Command, Run, Build, Exec, ListCode, Reads, ReadsRun}
+use Rattle.fk_top_words.specs.Command.{Command, Run, Build, Exec, ListCode, Elf, Unelf, Audit, Reads, ReadsRun}
 use Rattle.fk_layout_globals.specs.Rows.{Row}
 use Rattle.fk_top.specs.declared.status.Status.{Status}
-use Rattle.fk_top.specs.declared.status.Status.TheVariants.{Done, Refused, SourceFault, CycleBound, Trap, ImageRefused, InputRefused}
+use Rattle.fk_top.specs.declared.status.Status.TheVariants.{Done, Refused, SourceFault, CycleBound, Trap, ImageRefused, InputRefused, ElfRefused}
 use Rattle.fk_top.specs.Words.{Runs, IsRun, IsExec}
-use Rattle.fk_top.specs.Outcome.{Outcome, EndsOn, ComesTo, status_of}
+use Rattle.fk_top.specs.Outcome.{Outcome, EndsOn, EndsAudit, ComesTo, status_of}
 use Rattle.fk_top.proofs.Inputs.{is_input}
 
--- the command reads a source, or bytes of an image, or runs an image of bytes
+-- the command reads a source, or bytes of an image or of an ELF file, or runs an image of bytes
 abbrev pub ReadsSource : Command → Type 0
 ReadsSource (Run file harts cycles show) = Unit {0}
 ReadsSource (Build file image) = Unit {0}
+ReadsSource (Audit file harts cycles) = Unit {0}
 ReadsSource command = ⊥
 
 abbrev pub ReadsImage : Command → Type 0
 ReadsImage (Exec image harts cycles) = Unit {0}
 ReadsImage (ListCode image) = Unit {0}
+ReadsImage (Elf image file) = Unit {0}
 ReadsImage command = ⊥
+
+abbrev pub ReadsElf : Command → Type 0
+ReadsElf (Unelf file image) = Unit {0}
+ReadsElf command = ⊥
 
 abbrev pub RunsImage : Command → Type 0
 RunsImage (Exec image harts cycles) = Unit {0}
@@ -38,6 +44,7 @@ abbrev pub IsOf : Status → Command → Type 0
 IsOf Done command = Unit {0}
 IsOf Refused command = ReadsSource command
 IsOf ImageRefused command = ReadsImage command
+IsOf ElfRefused command = ReadsElf command
 IsOf CycleBound command = Runs command
 IsOf InputRefused command = Runs command
 IsOf SourceFault command = Runs command
@@ -71,6 +78,16 @@ within_run : (words : List Text) (file : Text) (harts cycles : ℕ) (show : Opti
 within_run [] file harts cycles show reads = absurd reads
 within_run (word ∷ words) file harts cycles show reads = within words file harts cycles show reads.1
 
+within_audit : (words : List Text) (file : Text) (harts cycles : ℕ) → Reads words (Audit file harts cycles) → AreInBounds harts cycles
+within_audit [] file harts cycles reads = absurd reads
+within_audit (word ∷ words) file harts cycles reads = within words file harts cycles None reads.1
+
+of_audited : (file : Text) (harts cycles : ℕ) (stand : Stand) → IsUntrapped stand → IsOf (status_of stand) (Audit file harts cycles)
+of_audited file harts cycles Running is = tt
+of_audited file harts cycles Finished is = tt
+of_audited file harts cycles (Faulted site hart) is = tt
+of_audited file harts cycles (Trapped hart pc kind) is = absurd is
+
 of_untrapped : (file : Text) (harts cycles : ℕ) (show : Option Text) (stand : Stand) → IsUntrapped stand → IsOf (status_of stand) (Run file harts cycles show)
 of_untrapped file harts cycles show Running is = tt
 of_untrapped file harts cycles show Finished is = tt
@@ -95,6 +112,13 @@ of_source source text image f p n show shown outcome faithful bounds (inr r) =
     let stand = never_traps source image r.input p n faithful input bounds.some bounds.few bounds.bound in
     is_of (Run f p n show) outcome _ r.is (of_untrapped f p n show (machine image r.input p n).stand stand)
 
+of_audit : (source text : List ℕ) (image : Image) (f : Text) (p n : ℕ) (outcome : Outcome) → IsFaithful source image → AreInBounds p n → EndsAudit image text p n outcome → IsOf outcome.status (Audit f p n)
+of_audit source text image f p n outcome faithful bounds (inl r) = is_of (Audit f p n) outcome _ r.is tt
+of_audit source text image f p n outcome faithful bounds (inr r) =
+    let input = is_input image text r.input faithful.faithful.limits r.numbers in
+    let stand = never_traps source image r.input p n faithful input bounds.some bounds.few bounds.bound in
+    is_of (Audit f p n) outcome _ r.is (of_audited f p n (machine image r.input p n).stand stand)
+
 of_image : (text : List ℕ) (image : Image) (f : Text) (p n : ℕ) (outcome : Outcome) → EndsOn image text p n None outcome → IsOf outcome.status (Exec f p n)
 of_image text image f p n outcome (inl r) = is_of (Exec f p n) outcome _ r.is tt
 of_image text image f p n outcome (inr r) = is_of (Exec f p n) outcome _ r.is (of_stand f p n (machine image r.input p n).stand)
@@ -110,6 +134,12 @@ outcome_is_of words (Exec f p n) bytes text outcome reads (inl r) = is_of (Exec 
 outcome_is_of words (Exec f p n) bytes text outcome reads (inr r) = of_image text r.image f p n outcome r.ends
 outcome_is_of words (ListCode f) bytes text outcome reads (inl r) = is_of (ListCode f) outcome _ r.is tt
 outcome_is_of words (ListCode f) bytes text outcome reads (inr r) = is_of (ListCode f) outcome _ r.is tt
+outcome_is_of words (Elf i f) bytes text outcome reads (inl r) = is_of (Elf i f) outcome _ r.is tt
+outcome_is_of words (Elf i f) bytes text outcome reads (inr r) = is_of (Elf i f) outcome _ r.is tt
+outcome_is_of words (Unelf f i) bytes text outcome reads (inl r) = is_of (Unelf f i) outcome _ r.is tt
+outcome_is_of words (Unelf f i) bytes text outcome reads (inr r) = is_of (Unelf f i) outcome _ r.is tt
+outcome_is_of words (Audit f p n) bytes text outcome reads (inl r) = is_of (Audit f p n) outcome _ r.is tt
+outcome_is_of words (Audit f p n) bytes text outcome reads (inr r) = of_audit bytes text r.image f p n outcome r.compiled (within_audit words f p n reads) r.ends
 
 -- what alone runs an image of bytes is `exec`
 pub is_exec : (words : List Text) (command : Command) → Reads words command → RunsImage command → IsExec words
@@ -117,6 +147,9 @@ is_exec words (Run f p n show) reads none = absurd none
 is_exec words (Build f i) reads none = absurd none
 is_exec words (Exec f p n) reads is = (f, p, n, reads)
 is_exec words (ListCode f) reads none = absurd none
+is_exec words (Elf i f) reads none = absurd none
+is_exec words (Unelf f i) reads none = absurd none
+is_exec words (Audit f p n) reads none = absurd none
 
 pub is_run : (words : List Text) (command : Command) → Reads words command → Runs command → IsRun words
 is_run words command reads runs = (command, reads, runs)

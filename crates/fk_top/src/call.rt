@@ -21,10 +21,10 @@ use std::alloc::{AllocError, Global};
 /// standard input, standard output and standard error.
 ///
 /// The commands are `run FILE --harts P --cycles N [--show NAME]`, `build FILE -o IMAGE`, `exec
-/// IMAGE --harts P --cycles N` and `list IMAGE`. `run` and `exec` take the input numbers from
-/// `input`, once the file is read. A file is put before anything is given. Output is given when the
-/// run has ended, followed by the line of the variable that is shown. The report is the last line
-/// that `err` gets.
+/// IMAGE --harts P --cycles N`, `list IMAGE`, `elf IMAGE -o FILE` and `unelf FILE -o IMAGE`. `run`
+/// and `exec` take the input numbers from `input`, once the file is read. A file is put before
+/// anything is given. Output is given when the run has ended, followed by the line of the variable
+/// that is shown. The report is the last line that `err` gets.
 ///
 /// `IsAnswer` says, fact by fact, what holds of the words, the status, and what the store and the
 /// sinks have before the call and after it.

@@ -1,9 +1,11 @@
 //! The commands: from the words of a command line to a status.
 #![tactic(auto)]
 
+mod audit;
 mod bytes;
 mod call;
 mod command;
+mod elf;
 mod ending;
 mod find;
 mod input;

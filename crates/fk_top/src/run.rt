@@ -71,8 +71,8 @@ pub fn run_ending<'a>(
 /// input they have at most 524,288 words.
 const MOST_NUMBERS: usize = 65_536;
 
-// The most numbers of an input beside this many globals.
-fn most_numbers(globals: usize) -> u32
+/// The most numbers of an input beside this many globals.
+pub fn most_numbers(globals: usize) -> u32
     requires { globals ≤ most_data_words }
     ensures { result ≡ most_numbers globals }
 {

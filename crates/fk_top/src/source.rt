@@ -5,9 +5,11 @@ ghost use Rattle.fk_image.specs.Limits.{IsWithinLimits};
 ghost use Rattle.fk_layout_globals.specs.View.{row_of};
 ghost use Rattle.fk_compile_text.specs.Text.{HasRows};
 ghost use Rattle.fk_compile.specs.Faithful.{IsFaithful};
-ghost use Rattle.fk_top.specs.Outcome.{LacksGlobal, PutsImage, RefusesSource, RunsSource};
+ghost use Rattle.fk_top.specs.Outcome.{AuditsSource, LacksGlobal, PutsImage, RefusesSource};
+ghost use Rattle.fk_top.specs.Outcome.{RunsSource};
 ghost use Rattle.fk_top.specs.Ending.{outcome_of};
 
+use crate::audit::audit_ending;
 use crate::ending::{Ending, LastLine, PutFile, no_global, refused_source};
 use crate::refused::last_line_of;
 use crate::report::Report;
@@ -70,6 +72,23 @@ fn run_and_show<'a>(
             run_ending(alloc, &compiled.image, text, run, Some(variable))
         }
         None => Ok(no_global(alloc, name)),
+    }
+}
+
+/// Compiles a source, runs it on an input text, and tells which PRAM the run needed. Fails if there
+/// isn't enough memory.
+pub fn audit_source<'a>(
+    alloc: Global,
+    source: &[u8],
+    text: &[u8],
+    run: RunWords,
+) -> Result<Ending<'a>, AllocError>
+    ensures { IfOk result (λ e. RefusesSource source.now (outcome_of e)
+        ⊎ AuditsSource source.now text.now run.entry.harts run.entry.cycles (outcome_of e)) }
+{
+    match compile(alloc, source) {
+        Ok(compiled) => audit_ending(alloc, &compiled.image, text, run),
+        Err(refusal) => refused_source(alloc, last_line_of(refusal)),
     }
 }
 

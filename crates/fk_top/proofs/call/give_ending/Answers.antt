@@ -1,4 +1,4 @@
-use Rattle.std.proofs.Common.{refl, sym}
+use Rattle.std.proofs.Common.{sym}
 use Rattle.fk_ports.proofs.Given.{append_known-nil}
 use Rattle.fk_top.specs.Ending.{outcome_of}
 use Rattle.fk_top.proofs.Answered.{some_file}

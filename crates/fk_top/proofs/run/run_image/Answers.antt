@@ -10,7 +10,7 @@ use Rattle.fk_top.proofs.run.run_image.Goals as goal
 
 pub run-requires : goal.run-requires
 run-requires c =
-    omega (arith, ap (λ (m : Machine). m.begun) c.in_ok-machine.ensures, c.ranges.bound.fits)
+    omega (arith, ap (λ (m : Machine). m.begun) c.in_ok-machine.ensures.machine, c.ranges.bound.fits)
 
 pub returns-clause-output : goal.returns-clause-output
 returns-clause-output c =
@@ -18,9 +18,9 @@ returns-clause-output c =
     let output =
     c.in_ok-run.ensures.output
     ∙ ap (λ bytes. bytes ++ output_in bound (machine_of c.in_ok-machine.machine)) c.new-output.ensures.items
-    ∙ ap (output_in bound) c.in_ok-machine.ensures
+    ∙ ap (output_in bound) c.in_ok-machine.ensures.machine
     ∙ sym (output_of-after c.args.image.now c.args.input.now c.args.harts bound) in
-    let end = c.in_ok-run.ensures.machine ∙ ap (after bound) c.in_ok-machine.ensures ∙ sym (machine-after c.args.image.now c.args.input.now c.args.harts bound) in
+    let end = c.in_ok-run.ensures.machine ∙ ap (after bound) c.in_ok-machine.ensures.machine ∙ sym (machine-after c.args.image.now c.args.input.now c.args.harts bound) in
     let shown = option_map variable_of c.args.variable in
     c.in_ok-show.ensures c.run.new.output.items
     ∙ ap (λ bytes. with_shown bytes shown (machine_of c.run.new.self)) output
@@ -29,9 +29,9 @@ returns-clause-output c =
 pub returns-clause-stand : goal.returns-clause-stand
 returns-clause-stand c =
     c.stand.ensures
-    ∙ ap (λ (m : Machine). m.stand) (c.in_ok-run.ensures.machine ∙ ap (after c.args.bound) c.in_ok-machine.ensures ∙ sym (machine-after c.args.image.now c.args.input.now c.args.harts c.args.bound))
+    ∙ ap (λ (m : Machine). m.stand) (c.in_ok-run.ensures.machine ∙ ap (after c.args.bound) c.in_ok-machine.ensures.machine ∙ sym (machine-after c.args.image.now c.args.input.now c.args.harts c.args.bound))
 
 pub returns-clause-cycles : goal.returns-clause-cycles
 returns-clause-cycles c =
     c.cycles.ensures
-    ∙ ap (λ (m : Machine). m.begun) (c.in_ok-run.ensures.machine ∙ ap (after c.args.bound) c.in_ok-machine.ensures ∙ sym (machine-after c.args.image.now c.args.input.now c.args.harts c.args.bound))
+    ∙ ap (λ (m : Machine). m.begun) (c.in_ok-run.ensures.machine ∙ ap (after c.args.bound) c.in_ok-machine.ensures.machine ∙ sym (machine-after c.args.image.now c.args.input.now c.args.harts c.args.bound))

@@ -6,9 +6,9 @@ use Rattle.fk_machine.proofs.Locals.{local_of-zeros}
 use Rattle.fk_machine.proofs.Opened.{opened}
 use Rattle.fk_machine.proofs.machine.Machine.new.Goals as goal
 
-pub returns : goal.returns
+pub returns-clause-machine : goal.returns-clause-machine
 unfolding machine_of
-returns c =
+returns-clause-machine c =
     let locals = c.in_ok-locals.locals.items in
     let harts = c.in_ok-first_harts.ensures.harts (local_of locals) (local_of-zeros locals c.in_ok-locals.ensures.zero) in
     let setting = c.in_ok-setting.ensures in
@@ -16,3 +16,6 @@ returns c =
     let code = setting.code ∙ ap (map row) c.deref.ensures.value in
     let words = shared.words ∙ ap (λ globals. slice_index (globals ++ c.args.input.now)) c.deref-2.ensures.value in
     opened c.args.image.now c.args.input.now c.args.harts _ _ _ _ _ _ _ _ code harts words shared.control shared.output shared.reserved setting.inputs setting.finished
+
+pub returns-clause-code : goal.returns-clause-code
+returns-clause-code c = c.in_ok-setting.ensures.words ∙ c.deref.ensures.value

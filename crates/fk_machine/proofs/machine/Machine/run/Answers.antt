@@ -1,4 +1,4 @@
-use Rattle.std.proofs.Common.{◌≡◌, ◌≢◌, ◌+◌, ◌-◌, sym, ap, ◌∙◌, ◌++◌, append-nil, append_assoc, arith, rules}
+use Rattle.std.proofs.Common.{◌≡◌, ◌≢◌, ◌+◌, ◌-◌, sym, ap, ◌∙◌, ◌++◌, append-nil, append_assoc, refl, arith, rules}
 use Rattle.fk_machine.specs.declared.stand.Stand.TheVariants.{Running}
 use Rattle.fk_machine.specs.Cycle.{Machine, is_running}
 use Rattle.fk_machine.specs.Run.{after, output_in}
@@ -16,6 +16,7 @@ loop-left-init c =
       ran = ap (λ i. after i m) (sym none);
       printed = sym (append-nil c.args.output.now.items) ∙ ap (λ i. c.args.output.now.items ++ output_in i m) (sym none);
       count = c.requires;
+      code = refl;
     }
 
 pub loop-left-preserved : goal.loop-left-preserved
@@ -40,6 +41,7 @@ loop-left-preserved c =
           ∙ ap (λ (l : Machine). bytes ++ (output_in done start ++ output_in r l)) so_far.ran
           ∙ ap (λ l. bytes ++ l) (sym (output_in-sum start done r) ∙ ap (λ i. output_in i start) sum);
       count = omega (arith, begun-after m r, ap (λ (l : Machine). l.begun) given.machine, so_far.count, given.few);
+      code = given.code ∙ so_far.code;
     }
 
 pub returns-in_err-extend_from_slice-clause-early : goal.returns-in_err-extend_from_slice-clause-early
