@@ -34,7 +34,7 @@ core = pushes ∷ begins ∷ ends ∷ resumes ∷ halts ∷ []
 
 -- no private words, and all of it is `main`
 abbrev frames : Frames
-frames = record { keeps = λ index word. false; is_main = λ index. true; group = λ index number. false; of_file = 0 }
+frames = record { keeps = λ index word. false; is_main = λ index. true; group = λ index. false; of_file = 0 }
 
 -- what is so of each operation is so of the one at an index
 each : (P : ℕ → CoreOp → Operation → Type 0) → P 0 pushes (Push 3) → P 1 begins Begin → P 2 ends End → P 3 resumes Resume → P 4 halts Halt
@@ -67,7 +67,7 @@ each P a b c d e (suc (suc (suc (suc zero)))) op operation stands reads =
 each P a b c d e (suc (suc (suc (suc (suc i))))) op operation stands reads = absurd (cc)
 
 flows : (i j : ℕ) → Flows core frames (λ word. false) i j
-flows i j = record { main = refl; kept = λ word keeps written. keeps; group = λ number told. told; own = refl }
+flows i j = record { main = refl; kept = λ word keeps written. keeps; group = refl }
 
 room : (index values : ℕ) → values ≤ 56 → HasRoom frames index values
 room index values few = record { header = omega arith; kept = λ word keeps. absurd (cc) }
@@ -75,7 +75,7 @@ room index values few = record { header = omega arith; kept = λ word keeps. abs
 suits : Suits core frames 0
 suits = record {
   begins = refl;
-  none = λ number. refl;
+  none = refl;
   few = omega arith;
   jumps = λ i op stands jump. flows i op.target;
   fits = λ i op operation stands.

@@ -104,12 +104,13 @@ module _ (core : List CoreOp) (image : Image) (places : Places) (bound : ℕ →
       (access_blocks_keep core image bound places i op operation stands a (ranges.words i op stands.stands).0
       (subst (λ o. HasBlock image bound places i (accesses.block_of o op.depth op.site)) stands.is_read has) (λ hires. code.heap) (suits.fits i op operation stands))
       setting t p h en
-  keeps_by i op operation stands alone false false f a has =
+  keeps_by i op operation stands alone false false f a has setting t p h en finds =
       let fits = suits.fits i op operation stands in
       keeps_in i op operation 0 (behind_in (kind_by false false false) (here i op) operation) f alone
       (expressions_keep core image places bound i op (levels_in saved i) operation stands
       (has_expression core places.frames i globals (levels_in saved i) op operation stands.is_read fits suits.few (ranges.words i op stands.stands).1 ranges.globals (words_at i op operation stands alone) alone f a)
       (subst (λ o. HasBlock image bound places i (block_or (levels_in saved i) o op)) stands.is_read has) suits.few fits)
+      setting t p h en finds
 
   -- the cycles of operations that processors do alone are those of their kinds
   by_kind : (i : ℕ) (op : CoreOp) (operation : Operation) → is_alone operation ≡ true
