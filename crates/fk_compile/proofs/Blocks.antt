@@ -1,4 +1,5 @@
--- Plain operations have blocks, with their targets in the list, and find their values.
+-- Operations other than the split of a `fork` have blocks, with their targets in the list, and find
+-- their values.
 use Rattle.std.proofs.Common.{◌≡◌, ℕ, suc, ◌<◌, ◌≤◌, List, [], length, true, false, arith, refl, inl, inr}
 use Rattle.std.proofs.lemmas.Option.{slice_get_within}
 use Rattle.std.proofs.lemmas.List.Elements.{All-head}
@@ -6,6 +7,7 @@ use Rattle.fk_meaning_operation.specs.declared.operation.Multiprefix.{Multiprefi
 use Rattle.fk_meaning_operation.specs.declared.operation.Multiprefix.TheVariants.{MpAdd, MpMax, MpAnd, MpOr}
 use Rattle.fk_meaning_operation.specs.declared.operation.Operation.{Operation}
 use Rattle.fk_meaning_operation.specs.declared.operation.Operation.TheVariants.{Branch, Enter, Combine, Begin, Agree, Frame, Block, Split, Shrink, End, Resume, Farm, Seq, Meet, Halt}
+use Rattle.fk_meaning_operation.specs.declared.operation.SplitKind.TheVariants.{IfAlone, IfElse, AndThen, OrElse, Loop, Fork}
 use Rattle.fk_core.specs.declared.op.CoreOp.{CoreOp}
 use Rattle.fk_core.specs.Next.{behind_jump}
 use Rattle.fk_core_flat.specs.Items.{straight, way_of}
@@ -29,8 +31,13 @@ combine_alone MpAnd = refl
 combine_alone MpOr = refl
 
 own_block : (operation : Operation) → is_plain operation ≡ true → HasOwnBlock operation
-own_block (Split split) plain = never plain
-own_block Shrink plain = never plain
+own_block (Split Fork) plain = never plain
+own_block (Split IfAlone) plain = inr (inr refl)
+own_block (Split IfElse) plain = inr (inr refl)
+own_block (Split AndThen) plain = inr (inr refl)
+own_block (Split OrElse) plain = inr (inr refl)
+own_block (Split Loop) plain = inr (inr refl)
+own_block Shrink plain = inr (inr refl)
 own_block Halt plain = inr (inl refl)
 own_block Begin plain = inr (inr refl)
 own_block Agree plain = inr (inr refl)
@@ -51,6 +58,8 @@ target_within core leads i op (Branch onward) stands none target = (leads.within
 target_within core leads i op Begin stands none target = (leads.within i op Begin stands.stands stands.is_read refl false).at
 target_within core leads i op Farm stands none target = (leads.within i op Farm stands.stands stands.is_read refl false).at
 target_within core leads i op Seq stands none target = (leads.within i op Seq stands.stands stands.is_read refl false).at
+target_within core leads i op (Split by) stands none target = (leads.within i op (Split by) stands.stands stands.is_read refl false).at
+target_within core leads i op Shrink stands none target = (leads.within i op Shrink stands.stands stands.is_read refl false).at
 target_within core leads i op End stands none target = (leads.within i op End stands.stands stands.is_read refl false).at
 target_within core leads i op Agree stands none target = let e = none refl in let within = slice_get_within core i op stands.stands in omega (arith, e, within)
 target_within core leads i op (Frame nesting words) stands none target = let e = none refl in let within = slice_get_within core i op stands.stands in omega (arith, e, within)
@@ -75,6 +84,8 @@ none depth = omega arith
 found_values : (operation : Operation) (depth : ℕ) → needs operation ≤ depth → values_of_step operation ≤ depth
 found_values Begin depth enough = enough
 found_values Agree depth enough = enough
+found_values (Split by) depth enough = enough
+found_values Shrink depth enough = enough
 found_values operation depth enough = none depth
 
 pub steps_find_values : StepsFindValues

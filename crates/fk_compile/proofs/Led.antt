@@ -172,9 +172,13 @@ module _ (tables : Tables) (may_call : (in_group : Bool) → (function : ℕ) �
     in_bodies b is main binding (f ∷ fs) may h i = (
       (λ e.
           let may' = subst (λ k. may_call false k ≡ true) (sym (eqb-true (binding_of tables f) binding e)) may in
-          let g = h.1 may' in
-          (false, g.0, ap w.is_main is, subst (λ who. BodyInPlace tables may_call false who f.body) (sym is) g.1,
-          λ main' framed. absurd (true≢false (sym framed ∙ ap is_some (i.1 may'))))),
+          let g = h.1 may' in (
+            false,
+            g.0,
+            ap w.is_main is,
+            subst (λ who. BodyInPlace tables may_call false who f.body) (sym is) g.1,
+            λ main' framed. absurd (true≢false (sym framed ∙ ap is_some (i.1 may'))),
+          )),
       in_bodies b is main binding fs may h.3 i.2,
     )
 

@@ -245,7 +245,7 @@ module _ (tables : Tables) (functions : (binding : ℕ) → Signature) (may_call
       (splits_or here.splits x (quit nowhere o.Shrink done) (agreed here.sync (quit nowhere (o.Branch true) done))
       (λ is. quits x o.Shrink (shrinks_out x.base))
       (λ is. wants.agrees_or tables functions may_call unshared frameless x here.sync (wants.agreed_there tables functions may_call unshared frameless x spot.at splits)
-          (quit nowhere (o.Branch true) done) (quits x (o.Branch true) (branches_out x.base))))
+      (quit nowhere (o.Branch true) done) (quits x (o.Branch true) (branches_out x.base))))
 
   ends_by : (x : Want) (spot : Spot) (condition : Option Tree) → TellsIf x condition → (b : Bool) → (note tables spot.at).splits ≡ b → by_test.EndsBy b (tested tables functions spot condition)
   ends_by x spot condition h b e = by_test.tests_end tables functions may_call (in_group x.base) spot condition h b e

@@ -6,13 +6,15 @@ pub mod Evaluating
 pub mod OneProgram
 pub mod GroupSteps
 pub mod Sites
-pub mod PlainTexts
 -- the blocks of a list are few where its text has few operations
 mod Small
 mod Aims
 mod Blocks
 mod PlainLists
-pub mod OneGroup
+-- levels of a list have room in its frames
+mod Rooms
+-- processors stay in the tree of groups
+pub mod Trees
 -- code is made of a list that is certain
 pub mod Generable
 -- the image of a text is within the limits of images

@@ -28,10 +28,9 @@ use Rattle.fk_lower_names.specs.WordLaws.{NumbersHaveRoom}
 use Rattle.fk_lower.specs.Depths.{AreTold}
 use Rattle.fk_lower_text.specs.Depths.{depths_of}
 use Rattle.fk_lower_laws.specs.Laws.{LoweredListsCanHaveGroups, count_of_file}
-use Rattle.fk_gen_list.specs.Laws.{none_saved}
 use Rattle.fk_compile.specs.OneProgram.{IsLaidOut}
 use Rattle.fk_compile.specs.PlainLists.{PlainListsHaveBlocks}
-use Rattle.fk_compile.specs.OneGroup.{PlainListsAreOfOneGroup}
+use Rattle.fk_compile.specs.Trees.{ListsAreOfTree}
 use Rattle.fk_compile.specs.Lists.{HasListOf, IsGrouped}
 
 -- what is so of a text that is built, where this is known of it
@@ -73,11 +72,11 @@ module _ (program : ProgramTree) (facts : Facts) (known : ProgramTables) (p : Is
       subst (λ (items : List ItemTree). length (sites_in (tables_of known) (functions_of items) (functions_of items)) ≤ 16000) (sym p.of.items)
       (subst (λ (t : Tables). length (sites_in t (functions_of program.items) (functions_of program.items)) ≤ 16000) (sym p.of.tables) p.laid.fits.sites)
 
-  -- and its list has one group at a time
-  pub grouped_list : LoweredListsCanHaveGroups → PlainListsHaveBlocks → PlainListsAreOfOneGroup → ArePlain (tables_by program facts) program
+  -- and its list keeps its processors in the tree of groups
+  pub grouped_list : LoweredListsCanHaveGroups → PlainListsHaveBlocks → ListsAreOfTree → ArePlain (tables_by program facts) program
       → (core : List CoreOp) (main : ℕ) → HasListOf (tables_of known) program core main → HasSites known core → AreTold (depths_of known (functions_in known)) core
       → IsGrouped core main (count_of_file program facts)
-  grouped_list can_have have_blocks are_of_one_group plain core main list sites told =
+  grouped_list can_have have_blocks are_of_tree plain core main list sites told =
       let tables = tables_by program facts in
       let own = subst (λ (t : Tables). HasListOf t program core main) p.of.tables list in
       let can = can_have program facts known p.of p.laid.correct p.laid.trim p.laid.proper p.laid.fits plain core own.entry own.flat told in
@@ -85,7 +84,7 @@ module _ (program : ProgramTree) (facts : Facts) (known : ProgramTables) (p : Is
       (record {
         can = can;
         blocks = have_blocks (bodies_of tables program) core own.entry p.shaped own.flat can.steady.plain can.steady.within.leads;
-        one_group = λ start. are_of_one_group program facts known p.of p.laid plain core own.entry own.flat told sites (none_saved start) (λ i. refl);
+        tree = are_of_tree program facts known p.of p.laid plain core own.entry own.flat told sites;
       })
 
 -- what is so of what is answered

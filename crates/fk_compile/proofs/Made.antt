@@ -1,6 +1,7 @@
 -- The image that is put together of the code of a text's list.
-use Rattle.std.proofs.Common.{◌≡◌, ℕ, ◌^◌, ◌<◌, ◌≤◌, true, List, [], ◌∷◌, All, length, refl, sym, ap, subst, ◌∙◌, arith}
-use Rattle.std.specs.Prelude.{map, vec_len}
+use Rattle.std.proofs.Common.{◌≡◌, ℕ, ◌^◌, ◌<◌, ◌≤◌, true, List, [], ◌∷◌, All, Ok, IfOk, length, refl, sym, ap, subst, ◌∙◌, arith}
+use Rattle.std.specs.Prelude.{Result, MatchResult, Vec, map, vec_len}
+use Rattle.std.specs.Result.{IsErrAnd}
 use Rattle.std.proofs.lemmas.List.{length-map}
 use Rattle.fk_syntax.specs.declared.facts.Facts.{Facts}
 use Rattle.fk_syntax.specs.declared.place.Place.{Place}
@@ -22,33 +23,45 @@ use Rattle.fk_asm.specs.declared.code.Code.{Code}
 use Rattle.fk_sim_block.specs.Node.{Gathering}
 use Rattle.fk_sim_block.specs.Law.{GroupLaw}
 use Rattle.fk_gen_list.specs.Cycles.{cycles_of}
-use Rattle.fk_gen_list.specs.Laws.{none_saved}
+use Rattle.fk_gen_list.specs.Laws.{nestings_of}
 use Rattle.fk_gen_list.specs.Whole.{GivesGroupLaw}
 use Rattle.fk_compile.specs.PlainLists.{StepsFindValues}
 use Rattle.fk_sim_runs.specs.Follow.{CarriesTrees}
+use Rattle.fk_core_levels.specs.Levels.{AreLevels}
 use Rattle.fk_core_liveness.specs.declared.set.Set.{Set}
+use Rattle.fk_core_liveness.specs.Live.{IsLeast, words_in}
+use Rattle.fk_gen.specs.declared.placed.Levels.{Levels}
 use Rattle.fk_lower_laws.specs.Certain.{HasFrames}
 use Rattle.fk_gen_list.specs.Generable.{IsGenerable, HasCode, places_in}
+use Rattle.fk_compile_text.proofs.Parts.{kept as passed}
 use Rattle.fk_compile.specs.Lists.{HasListOf, IsGrouped}
 use Rattle.fk_compile.specs.Faithful.{in_image, in_table, words_by}
+use Rattle.fk_compile.proofs.Rooms.{all_levels, shrinks_deep}
 use Rattle.fk_compile.proofs.Limits.{sites_fit, commits_fit, commits_rise}
 use Rattle.fk_compile.proofs.Theorem.{IsCompiled}
 
 -- the code of a list, of which the parts of a layout are handed over
-pub gives_the_law : (core ops : List CoreOp) (kept kept' : List Set) (main : ℕ) (firsts given : List ℕ) (count globals : ℕ) (code : Code) → ops ≡ core → kept' ≡ kept
-    → given ≡ firsts → globals ≡ count → GivesGroupLaw ops kept' main given globals code → GivesGroupLaw core kept main firsts count code
-gives_the_law core ops kept kept' main firsts given count globals code same_ops same_kept same_firsts same_count law =
-    let of_core = subst (λ (list : List CoreOp). GivesGroupLaw list kept' main given globals code) same_ops law in
-    let with_kept = subst (λ (sets : List Set). GivesGroupLaw core sets main given globals code) same_kept of_core in
-    subst (λ (n : ℕ). GivesGroupLaw core kept main firsts n code) same_count (subst (λ (ws : List ℕ). GivesGroupLaw core kept main ws globals code) same_firsts with_kept)
+pub gives_the_law : (core ops : List CoreOp) (kept kept' : List Set) (saved saved' : List Levels) (main : ℕ) (firsts given : List ℕ) (count globals : ℕ) (code : Code) → ops ≡ core → kept' ≡ kept
+    → saved' ≡ saved → given ≡ firsts → globals ≡ count → GivesGroupLaw ops kept' saved' main given globals code → GivesGroupLaw core kept saved main firsts count code
+gives_the_law core ops kept kept' saved saved' main firsts given count globals code same_ops same_kept same_saved same_firsts same_count law =
+    let of_core = subst (λ (list : List CoreOp). GivesGroupLaw list kept' saved' main given globals code) same_ops law in
+    let with_kept = subst (λ (sets : List Set). GivesGroupLaw core sets saved' main given globals code) same_kept of_core in
+    let with_saved = subst (λ (levels : List Levels). GivesGroupLaw core kept levels main given globals code) same_saved with_kept in
+    subst (λ (n : ℕ). GivesGroupLaw core kept saved main firsts n code) same_count (subst (λ (ws : List ℕ). GivesGroupLaw core kept saved main ws globals code) same_firsts with_saved)
 
 -- a list of which code is made
-pub is_generable : (core ops : List CoreOp) (kept kept' : List Set) (main : ℕ) (firsts given : List ℕ) → ops ≡ core → kept' ≡ kept → given ≡ firsts
-    → IsGenerable core kept main firsts → IsGenerable ops kept' main given
-is_generable core ops kept kept' main firsts given same_ops same_kept same_firsts h =
-    let with_firsts = subst (λ (ws : List ℕ). IsGenerable core kept main ws) (sym same_firsts) h in
-    let with_kept = subst (λ (sets : List Set). IsGenerable core sets main given) (sym same_kept) with_firsts in
-    subst (λ (list : List CoreOp). IsGenerable list kept' main given) (sym same_ops) with_kept
+pub is_generable : (core ops : List CoreOp) (kept kept' : List Set) (saved saved' : List Levels) (main : ℕ) (firsts given : List ℕ) → ops ≡ core → kept' ≡ kept → saved' ≡ saved → given ≡ firsts
+    → IsGenerable core kept saved main firsts → IsGenerable ops kept' saved' main given
+is_generable core ops kept kept' saved saved' main firsts given same_ops same_kept same_saved same_firsts h =
+    let with_firsts = subst (λ (ws : List ℕ). IsGenerable core kept saved main ws) (sym same_firsts) h in
+    let with_saved = subst (λ (levels : List Levels). IsGenerable core kept levels main given) (sym same_saved) with_firsts in
+    let with_kept = subst (λ (sets : List Set). IsGenerable core sets saved' main given) (sym same_kept) with_saved in
+    subst (λ (list : List CoreOp). IsGenerable list kept' saved' main given) (sym same_ops) with_kept
+
+-- the levels that are found for a list
+pub are_levels : {E D : Type 0} {Q : E → D → Type 0} (core ops : List CoreOp) (r : Result (Vec Levels) E) (m : Result (Vec Levels) D) (saved : Vec Levels) → ops ≡ core
+    → IfOk r (λ v. AreLevels ops v.items) → MatchResult r (λ x. m ≡ Ok x) (λ e. IsErrAnd m (Q e)) → m ≡ Ok saved → AreLevels core saved.items
+are_levels core ops r m saved same levels cases was = subst (λ (list : List CoreOp). AreLevels list saved.items) same (passed _ _ r m saved levels cases was)
 
 -- the sites of a layout, as an image has them
 as_in_image : (all : List (ℕ × Place)) → map in_table (map site all) ≡ map in_image all
@@ -65,13 +78,15 @@ module _ (program : ProgramTree) (facts : Facts) (layout : Layout) (laid : IsLay
       let held = layout.words.ok.0 in
       omega (arith, count, all, few, held)
 
-  module _ (core : List CoreOp) (kept : List Set) (main : ℕ) (code : Code) (image : Image) where
+  module _ (core : List CoreOp) (kept : List Set) (saved : List Levels) (main : ℕ) (code : Code) (image : Image) where
     -- what the code and the table of sites are, of which the image is put together
     pub record IsPutTogether : Type 0 where
       pub list : HasListOf (tables_by program facts) program core main
       pub grouped : IsGrouped core main (length layout.firsts.items)
       pub held : HasFrames core kept main (length layout.firsts.items)
-      pub law : GivesGroupLaw core kept main layout.firsts.items (vec_len layout.words) code
+      pub least : IsLeast core (words_in kept)
+      pub levels : AreLevels core saved
+      pub law : GivesGroupLaw core kept saved main layout.firsts.items (vec_len layout.words) code
       pub table : IsCommitTable (vec_len code.words) code.commits.items
       pub some : 1 ≤ vec_len code.words
       pub few : vec_len code.words ≤ 262144
@@ -96,22 +111,25 @@ module _ (program : ProgramTree) (facts : Facts) (layout : Layout) (laid : IsLay
       }
 
       given : StepsFindValues → (block : (index : ℕ) → ℕ) × (start : Gathering)
-          × GroupLaw core image (places_in core block p.held.frames) (none_saved start) (cycles_of core (vec_len layout.words) kept) layout.firsts.items main
-      given values = p.law image p.held.frames has p.held.suits p.held.keeps p.held.of_file (values core p.grouped.can.enough)
+          × GroupLaw core image (places_in core block p.held.frames) (nestings_of saved start) (cycles_of core (vec_len layout.words) kept saved) layout.firsts.items main
+      given values =
+          p.law image p.held.frames has p.held.suits p.held.keeps p.held.of_file (values core p.grouped.can.enough)
+          (λ block start. all_levels core main (length layout.firsts.items) kept p.grouped.can.steady.within.begins p.grouped.can.steady.within.leads p.held p.least saved p.levels
+          (shrinks_deep core main p.grouped.can.nests) start block)
 
       pub is_compiled : StepsFindValues → IsCompiled program facts core main image
       is_compiled values = let law = given values in record {
         list = p.list;
         places = places_in core law.0 p.held.frames;
-        nestings = none_saved law.1;
-        cycles = cycles_of core (vec_len layout.words) kept;
+        nestings = nestings_of saved law.1;
+        cycles = cycles_of core (vec_len layout.words) kept saved;
         carries =
             subst
             (λ (firsts : List ℕ).
-            CarriesTrees core main firsts (places_in core law.0 p.held.frames) (none_saved law.1) (cycles_of core (vec_len layout.words) kept) image)
+            CarriesTrees core main firsts (places_in core law.0 p.held.frames) (nestings_of saved law.1) (cycles_of core (vec_len layout.words) kept saved) image)
             laid.firsts
             (record {
-              one_group = p.grouped.one_group law.1;
+              tree = p.grouped.tree saved p.levels law.1;
               blocks = law.2;
               firsts_are_words = p.firsts_are_words;
               globals_are_words = subst (λ v. All (λ w. w < 2 ^ 32) v.items) (sym p.has_globals) p.globals_are_words;

@@ -1,5 +1,5 @@
 -- Code can be made of lists that can have groups.
-use Rattle.std.proofs.Common.{◌≡◌, ℕ, false, List, Some, slice_get, sym, subst, refl}
+use Rattle.std.proofs.Common.{◌≡◌, ℕ, false, List, length, Some, slice_get, sym, subst, refl}
 use Rattle.std.specs.Prelude.{IsSome}
 use Rattle.std.proofs.lemmas.Option.{slice_get_within}
 use Rattle.fk_core.specs.declared.op.CoreOp.{CoreOp}
@@ -7,6 +7,7 @@ use Rattle.fk_core.specs.Next.{is_jump}
 use Rattle.fk_core.specs.Numbers.{operation_of}
 use Rattle.fk_core.specs.WellFormed.{IsOperation, LeadsOn}
 use Rattle.fk_sim_block.proofs.Standing.{landing_here}
+use Rattle.fk_compile.proofs.Rooms.{level_words, shrinks_deep}
 use Rattle.fk_compile.specs.PlainLists.{GroupedListsAreGenerable}
 
 -- what is no jump is where an index leads, so it is an operation
@@ -18,7 +19,7 @@ are_operations core leads i op e f =
     subst (λ (x : CoreOp). IsSome (operation_of x.kind x.number)) same (subst IsSome (sym at.is_read) refl)
 
 pub grouped_lists_are_generable : GroupedListsAreGenerable
-grouped_lists_are_generable core kept main firsts can blocks leads live least words first_words =
+grouped_lists_are_generable core kept saved main firsts can blocks leads live least are words first_words =
     let held = can.held kept live least in
     record {
       blocks = blocks;
@@ -28,6 +29,8 @@ grouped_lists_are_generable core kept main firsts can blocks leads live least wo
       suits = held.suits;
       keeps = held.keeps;
       of_file = held.of_file;
+      levels = level_words core main (length firsts) kept can.steady.within.begins can.steady.within.leads held least saved are (shrinks_deep core main can.nests)
+          (record { there = λ i. record { at = 0; changes = λ r. false }; coming = λ i h. h });
       words = words;
       first_words = first_words;
     }

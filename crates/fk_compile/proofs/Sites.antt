@@ -10,7 +10,7 @@ use Rattle.fk_core.specs.declared.op.CoreOp.{CoreOp}
 use Rattle.fk_core.specs.Numbers.{operation_of}
 use Rattle.fk_core.specs.Next.{is_jump}
 use Rattle.fk_core_flat.specs.Items.{Item, jump, act, IsItem, Has, acts}
-use Rattle.fk_compile.specs.PlainTexts.{SitesAreOwn}
+use Rattle.fk_compile.specs.Trees.{SitesAreOwn}
 
 -- the item at an index is an operation with this site
 abbrev HasSite : (items : List Item) → (d s : ℕ) → Type 0

@@ -1,5 +1,5 @@
 -- The blocks of a list have few words, where its text has few operations.
-use Rattle.std.proofs.Common.{◌≡◌, ℕ, suc, ◌+◌, ◌*◌, ◌≤◌, Bool, true, false, List, [], ◌∷◌, length, sum_by, Some, refl, sym, ap, subst, arith}
+use Rattle.std.proofs.Common.{◌≡◌, ℕ, suc, ◌+◌, ◌*◌, ◌≤◌, Bool, true, false, List, [], ◌∷◌, length, sum_by, Option, Some, refl, sym, ap, subst, arith}
 use Rattle.std.specs.Prelude.{if◌then◌else◌}
 use Rattle.std.proofs.lemmas.List.Sums.{sum_by-cons}
 use Rattle.std.proofs.lemmas.Option.{same_Some}
@@ -75,3 +75,24 @@ lists_are_small known core has few =
     let jumps_few = has.few in
     let same = ap (λ (xs : List (ℕ × ℕ)). length xs) has.sites in
     omega (arith, words, jumps_few, same, length_ranked 0 (sites_of_text known), few)
+
+-- ---- each operation has a word
+
+some_word : (op : CoreOp) → 1 ≤ most_words op
+some_word op = by (is_jump op)
+  where
+    act : (operation : Option Operation) → 1 ≤ words_by operation
+    act (Some (o.Enter arguments)) = omega arith
+    act operation = omega arith
+
+    by : (b : Bool) → 1 ≤ (if b then 1 else words_by (operation_of op.kind op.number))
+    by true = omega arith
+    by false = act (operation_of op.kind op.number)
+
+pub few_operations : (core : List CoreOp) → length core ≤ sum_by most_words core
+few_operations [] = omega arith
+few_operations (op ∷ core) =
+    let rest = few_operations core in
+    let word = some_word op in
+    let sum = sum_by-cons most_words op core in
+    omega (arith, rest, word, sum)

@@ -236,7 +236,7 @@ inside w = record { want = w.want; inner = true }
 module _ (tables : Tables) (functions : (binding : ℕ) → Signature) (may_call : (in_group : Bool) → (function : ℕ) → Bool)
     (unshared : (binding : ℕ) → may_call false binding ≡ true → NoneShared (functions binding).parameters)
     (frameless : (binding : ℕ) → may_call false binding ≡ true → frame_at tables (functions binding).at 0 ≡ None) where
-  -- plain code of the right shape leads
+  -- code of the right shape without a `fork` leads
   abbrev pub Fine : Want → Coded → Type 0
   Fine w code = AllOf is_plain code → Shape w.part false w.exits code → Leads may_call w.function w.loop (place_of w.base) code (end_of_part w.base w.part)
 

@@ -1,4 +1,4 @@
--- Plain programs that are in place have one group at a time.
+-- The code of programs in place that have no `fork`.
 use Rattle.std.specs.Prelude.{◌≡◌, ℕ, Bool, None}
 use Rattle.fk_syntax.specs.Program.{ProgramTree}
 use Rattle.fk_meaning_forms.specs.Tables.{Tables, frame_at}
@@ -9,7 +9,7 @@ use Rattle.fk_lockstep_structure.specs.Inner.{FunctionsInner}
 use Rattle.fk_lockstep_tree.specs.Led.{AreLed}
 use Rattle.fk_compile_text.specs.Plain.{ArePlain}
 
--- The code of such a program leads from place to place, if only groups call functions with a frame.
+-- It leads each processor from place to place, if only groups call functions with a frame.
 abbrev pub ProgramsAreLed : Type 0
 ProgramsAreLed =
     (tables : Tables) (program : ProgramTree) (may_call : (in_group : Bool) → (function : ℕ) → Bool)

@@ -1,9 +1,8 @@
 pub mod Led
 pub mod OneProgram
 pub mod GroupSteps
-pub mod PlainTexts
+pub mod Trees
 pub mod PlainLists
-pub mod OneGroup
 pub mod Lists
 pub mod Faithful
 pub mod Laws

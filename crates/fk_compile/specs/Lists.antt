@@ -7,9 +7,11 @@ use Rattle.fk_core.specs.declared.op.CoreOp.{CoreOp}
 use Rattle.fk_core.specs.KeepsRuns.{HasCodeOf}
 use Rattle.fk_core_flat.specs.Laws.{IsFlat}
 use Rattle.fk_gen_list.specs.Generable.{HasBlocks}
+use Rattle.fk_core_levels.specs.Levels.{AreLevels}
+use Rattle.fk_gen.specs.declared.placed.Levels.{Levels}
 use Rattle.fk_sim_block.specs.Node.{Gathering}
-use Rattle.fk_gen_list.specs.Laws.{none_saved}
-use Rattle.fk_sim_runs.specs.Lists.{IsOfOneGroup}
+use Rattle.fk_gen_list.specs.Laws.{nestings_of}
+use Rattle.fk_sim_runs.specs.Lists.{IsOfTree}
 use Rattle.fk_lower_laws.specs.Laws.{CanHaveGroups}
 
 -- The list is flat, has the code of each function at its entry, and that of `main` at this index.
@@ -20,9 +22,11 @@ pub record HasListOf (tables : Tables) (program : ProgramTree) (core : List Core
   pub code : HasCodeOf tables program core entry
   pub begins : main ≡ entry (main_of tables program)
 
--- What is known of the list of a text in which no group splits: code with groups can be made of it,
--- its operations have blocks, and its processors are in one group at a time.
+-- What is known of the list of a text without a `fork`: code with groups can be made of it, its
+-- operations have blocks, and with the levels that are found for it its processors stay in the tree
+-- of groups.
 pub record IsGrouped (core : List CoreOp) (main firsts : ℕ) : Type 0 where
   pub can : CanHaveGroups core main firsts
   pub blocks : HasBlocks core
-  pub one_group : (start : Gathering) → IsOfOneGroup core (none_saved start) main
+  pub tree : (saved : List Levels) → AreLevels core saved → (start : Gathering)
+      → IsOfTree core (nestings_of saved start) main

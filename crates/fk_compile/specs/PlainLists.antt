@@ -1,4 +1,4 @@
--- Lists of plain operations have what code needs.
+-- Lists without a `fork` have what code needs.
 use Rattle.std.specs.Prelude.{◌≡◌, ℕ, ◌^◌, ◌<◌, ◌≤◌, List, All, length, sum_by}
 use Rattle.fk_meaning_operation.specs.declared.operation.Operation.{Operation}
 use Rattle.fk_meaning_forms.specs.Code.{Code}
@@ -10,9 +10,11 @@ use Rattle.fk_core_flat.specs.Items.{straight, way_of}
 use Rattle.fk_core_flat.specs.Laws.{AreShaped, IsFlat}
 use Rattle.fk_lower_text.specs.Lowered.{HasSites}
 use Rattle.fk_sim_block.specs.Next.{OpAt}
+use Rattle.fk_core_levels.specs.Levels.{AreLevels}
 use Rattle.fk_core_liveness.specs.declared.set.Set.{Set}
 use Rattle.fk_core_liveness.specs.Live.{IsLive, IsLeast, words_in}
 use Rattle.fk_core_typing.specs.Laws.{LeadsWithin}
+use Rattle.fk_gen.specs.declared.placed.Levels.{Levels}
 use Rattle.fk_gen_list.specs.Generable.{HasBlocks, IsGenerable, most_words}
 use Rattle.fk_gen_list.specs.Laws.{StepsHaveValues}
 use Rattle.fk_lower_laws.specs.FreeLaws.{IsPlain}
@@ -40,11 +42,11 @@ StepsFindValues = (core : List CoreOp) → HasEnough core → StepsHaveValues co
 -- and so are the first values of private variables of file scope.
 abbrev pub GroupedListsAreGenerable : Type 0
 GroupedListsAreGenerable =
-    (core : List CoreOp) (kept : List Set) (main : ℕ) (firsts : List ℕ)
+    (core : List CoreOp) (kept : List Set) (saved : List Levels) (main : ℕ) (firsts : List ℕ)
     → CanHaveGroups core main (length firsts) → HasBlocks core → LeadsOn core
-    → IsLive core (words_in kept) → IsLeast core (words_in kept)
+    → IsLive core (words_in kept) → IsLeast core (words_in kept) → AreLevels core saved
     → All (λ op. (op.site < 2 ^ 32) × (op.number < 2 ^ 32)) core → All (λ v. v < 2 ^ 32) firsts
-    → IsGenerable core kept main firsts
+    → IsGenerable core kept saved main firsts
 
 -- The blocks of a list have few words if its text has few operations.
 abbrev pub ListsAreSmall : Type 0

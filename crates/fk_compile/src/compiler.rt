@@ -52,7 +52,8 @@ pub fn compile<'a>(alloc: Global, source: &'a [u8]) -> Result<Compiled<'a>, Refu
         list.main,
         &layout.firsts,
         globals,
-    ).map_err(Refusal::Memory)?;
+    )
+    .map_err(Refusal::Memory)?;
     let sites = site_table(alloc, &layout.sites).map_err(Refusal::Memory)?;
     // These calls are facts for the proof, and do nothing.
     are_words(&layout.firsts);

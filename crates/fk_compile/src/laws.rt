@@ -1,22 +1,20 @@
-//! Laws of texts with one group at a time, of their lists, and of their images.
+//! Laws of texts without a `fork`, of their lists, and of their images.
 
 ghost use Rattle.fk_compile.specs.Led.{ProgramsAreLed};
 ghost use Rattle.fk_compile.specs.OneProgram.{AskedEvaluates, TypedEvaluates, ForksGiveValues};
 ghost use Rattle.fk_compile.specs.OneProgram.{CorrectProgramsHaveOneProgram, TextsHaveOneProgram};
 ghost use Rattle.fk_compile.specs.OneProgram.{TextsHaveOneSpace};
 ghost use Rattle.fk_compile.specs.GroupSteps.{TextsStepAsOne};
-ghost use Rattle.fk_compile.specs.PlainTexts.{SitesAreOwn, PlainProgramsHaveOneGroup};
+ghost use Rattle.fk_compile.specs.Trees.{SitesAreOwn, ProgramsStayInTrees, ListsAreOfTree};
 ghost use Rattle.fk_compile.specs.PlainLists.{StraightHasNoTarget, PlainListsHaveBlocks};
 ghost use Rattle.fk_compile.specs.PlainLists.{StepsFindValues, GroupedListsAreGenerable};
 ghost use Rattle.fk_compile.specs.PlainLists.{ListsAreSmall};
-ghost use Rattle.fk_compile.specs.OneGroup.{PlainListsAreOfOneGroup};
 ghost use Rattle.fk_compile.specs.Laws.{NeverTraps};
 
 use fk_lower_names::laws::texts_are_proper;
 use fk_parse_laws::laws::texts_are_trim;
 
-/// In a plain program that is in place the code leads each processor from place to place. A plain
-/// program has no splits.
+/// In a program in place that has no `fork` the code leads each processor from place to place.
 pub fn programs_are_led()
     ensures { ProgramsAreLed }
 {}
@@ -81,12 +79,12 @@ pub fn sites_are_own()
     ensures { SitesAreOwn }
 {}
 
-/// In every run of the list of a plain program that keeps all rules and has a layout, there is one
-/// group at most at a time, and its members in lockstep are at one index of the list. This holds
-/// after every schedule of possible rounds in which each processor does one operation at most. A
-/// plain program has no splits.
-pub fn plain_programs_have_one_group()
-    ensures { PlainProgramsHaveOneGroup }
+/// In every run of the list of a program without a `fork` that keeps all rules and has a layout,
+/// each processor is at one node of the tree of groups, as its operations and its levels tell, and
+/// the members of a group in lockstep are at one index of the list and have one space. This holds
+/// after every schedule of possible rounds in which each processor does one operation at most.
+pub fn programs_stay_in_trees()
+    ensures { ProgramsStayInTrees }
 {}
 
 /// The blocks of the list of a text of at most 16,000 operations have at most 256,000 words, if
@@ -100,8 +98,8 @@ pub fn straight_has_no_target()
     ensures { StraightHasNoTarget }
 {}
 
-/// Each operation of a flat list of plain operations, whose operations go on in the list, has a
-/// block, and its target is in the list.
+/// Each operation of a flat list without a `fork`, whose operations go on in the list, has a block,
+/// and its target is in the list.
 pub fn plain_lists_have_blocks()
     ensures { PlainListsHaveBlocks }
 {}
@@ -113,16 +111,16 @@ pub fn steps_find_values()
 {}
 
 /// Code can be made of a flat list that can have groups, has blocks and leads on, with the words
-/// that are live in it.
+/// that are live in it and the levels that are found for it.
 pub fn grouped_lists_are_generable()
     ensures { GroupedListsAreGenerable }
 {}
 
-/// The flat list of a plain program that keeps all rules and has a layout, with the depths and
-/// sites of its text, has one group at a time, as the laws of machines require. A plain program has
-/// no splits.
-pub fn plain_lists_are_of_one_group()
-    ensures { PlainListsAreOfOneGroup }
+/// The flat list of a program without a `fork` that keeps all rules and has a layout, with the
+/// depths and sites of its text and the levels that are found for it, keeps its processors in the
+/// tree of groups, as the laws of machines require.
+pub fn lists_are_of_tree()
+    ensures { ListsAreOfTree }
 {}
 
 /// A machine that runs an image of a text never traps: it goes on, has finished, or has faulted

@@ -15,6 +15,9 @@ ghost use Rattle.fk_lower_text.specs.Depths.{depths_of};
 ghost use Rattle.fk_lower_text.specs.Whole.{AreNumbered};
 ghost use Rattle.fk_lower_text.specs.Lowered.{IsLowerable, HasSites};
 ghost use Rattle.fk_core.specs.WellFormed.{LeadsOn};
+ghost use Rattle.fk_core_levels.specs.Levels.{AreLevels};
+ghost use Rattle.fk_core_liveness.specs.Live.{IsLeast, words_in};
+ghost use Rattle.fk_gen.specs.declared.placed.Levels.{Levels};
 ghost use Rattle.fk_lower_laws.specs.Certain.{HasFrames};
 ghost use Rattle.fk_lower_laws.specs.Laws.{count_of_file};
 ghost use Rattle.fk_gen_list.specs.Generable.{IsGenerable, most_words};
@@ -25,8 +28,7 @@ ghost use Rattle.fk_compile.specs.Lists.{HasListOf, IsGrouped};
 
 use crate::image::are_words;
 use crate::laws::{
-    grouped_lists_are_generable, lists_are_small, plain_lists_are_of_one_group,
-    plain_lists_have_blocks,
+    grouped_lists_are_generable, lists_are_of_tree, lists_are_small, plain_lists_have_blocks,
 };
 use fk_check_laws::laws::correct_programs_fit;
 use fk_compile_text::{Built, Refusal};
@@ -108,7 +110,7 @@ pub(crate) fn list_of(alloc: Global, text: &Built) -> Result<List, Refusal>
     texts_can_be_laid();
     lowered_lists_can_have_groups();
     plain_lists_have_blocks();
-    plain_lists_are_of_one_group();
+    lists_are_of_tree();
     lowered(alloc, &known)
 }
 
@@ -130,14 +132,16 @@ fn have_words(ops: &[CoreOp])
 }
 
 /// The private words that calls keep at each index of a list. Code can be made of the list with
-/// these, and with the first values of private variables of file scope. Fails only if there isn't
-/// enough memory.
+/// these, with the levels that are found for it, and with the first values of private variables of
+/// file scope. Fails only if there isn't enough memory.
 pub(crate) fn kept_words(alloc: Global, list: &List, firsts: &[u32]) -> Result<Vec<Set>, Refusal>
     requires { IsGrouped list.now.ops.items list.now.main (length firsts.now) }
     ensures held { IfOk result
         (λ kept. HasFrames list.now.ops.items kept.items list.now.main (length firsts.now)) }
+    ensures least { IfOk result (λ kept. IsLeast list.now.ops.items (words_in kept.items)) }
     ensures generable { IfOk result (λ kept. LeadsOn list.now.ops.items
-        → IsGenerable list.now.ops.items kept.items list.now.main firsts.now) }
+        → (saved : Listed Levels) → AreLevels list.now.ops.items saved
+        → IsGenerable list.now.ops.items kept.items saved list.now.main firsts.now) }
     ensures refused { IfErr result (λ refusal. (source : Listed ℕ) → IsRefusedText source refusal) }
 {
     // These calls are facts for the proof, and do nothing.

@@ -9,7 +9,8 @@ use Rattle.fk_lower_laws.specs.Certain.{HasFrames}
 use Rattle.fk_compile.specs.Lists.{IsGrouped}
 use Rattle.fk_gen_list.specs.Generable.{IsGenerable, most_words}
 use Rattle.fk_compile.specs.Faithful.{in_table}
-use Rattle.fk_compile.proofs.Made.{gives_the_law, is_generable, few_words, is_compiled}
+use Rattle.fk_compile.proofs.Made.{are_levels, gives_the_law, is_generable, few_words, is_compiled}
+use Rattle.fk_compile.proofs.Small.{few_operations}
 use Rattle.fk_compile.proofs.Theorem.{is_faithful}
 use Rattle.fk_compile.proofs.compiler.compile.Goals as goal
 
@@ -35,20 +36,30 @@ generate-requires-clause-globals c =
     let few = few_words (program_of text.tree) text.facts text.layout c.in_ok-text.ensures.laid c.in_ok-text.ensures.fits in
     omega (arith, few, c.len-globals.ensures)
 
+pub levels-requires-clause-small : goal.levels-requires-clause-small
+levels-requires-clause-small c =
+    let core = c.in_ok-list.list.ops.items in
+    let all = few_operations core in
+    let small = c.in_ok-list.ensures.small in
+    subst (λ (ops : List CoreOp). length ops < 2 ^ 31) (sym c.deref-2.ensures.value) (omega (arith, all, small))
+
 pub generate-requires-clause-list : goal.generate-requires-clause-list
 generate-requires-clause-list c =
     let list = c.in_ok-list.list in
     let kept = c.in_ok-kept.kept in
+    let saved = c.in_ok-saved.saved in
     let layout = c.in_ok-text.text.layout in
     let leads = c.in_ok-list.ensures.list.code.leads_on in
+    let are = are_levels list.ops.items c.deref-2.result.now c.levels.result c.map_err.result saved c.deref-2.ensures.value c.levels.ensures c.map_err.ensures.cases c.in_ok-saved.was in
     let generable =
-    subst (λ (firsts : List ℕ). IsGenerable list.ops.items kept.items list.main firsts) c.deref.ensures.value (c.in_ok-kept.ensures.generable leads) in
-    is_generable list.ops.items c.deref-2.result.now kept.items c.deref-3.result.now list.main layout.firsts.items c.deref-4.result.now
-    c.deref-2.ensures.value c.deref-3.ensures.value c.deref-4.ensures.value generable
+    subst (λ (firsts : List ℕ). IsGenerable list.ops.items kept.items saved.items list.main firsts) c.deref.ensures.value
+    (c.in_ok-kept.ensures.generable leads saved.items are) in
+    is_generable list.ops.items c.deref-3.result.now kept.items c.deref-4.result.now saved.items c.deref-5.result.now list.main layout.firsts.items c.deref-6.result.now
+    c.deref-3.ensures.value c.deref-4.ensures.value c.deref-5.ensures.value c.deref-6.ensures.value generable
 
 pub generate-requires-clause-small : goal.generate-requires-clause-small
 generate-requires-clause-small c =
-    subst (λ (ops : List CoreOp). sum_by most_words ops ≤ 256000) (sym c.deref-2.ensures.value) c.in_ok-list.ensures.small
+    subst (λ (ops : List CoreOp). sum_by most_words ops ≤ 256000) (sym c.deref-3.ensures.value) c.in_ok-list.ensures.small
 
 pub returns-clause-rows : goal.returns-clause-rows
 returns-clause-rows c =
@@ -70,8 +81,9 @@ returns-clause-faithful c =
     let code = c.in_ok-code.code in
     let sites = c.in_ok-sites.sites in
     let image : Image = record { code = code.words; globals = layout.words; sites = sites; commits = code.commits } in
-    let law = passed _ _ c.generate.result c.map_err.result code c.generate.ensures.group_law c.map_err.ensures.cases c.in_ok-code.was in
+    let law = passed _ _ c.generate.result c.map_err-2.result code c.generate.ensures.group_law c.map_err-2.ensures.cases c.in_ok-code.was in
     let kept = c.in_ok-kept.kept in
+    let saved = c.in_ok-saved.saved in
     let held = subst (λ (firsts : List ℕ). HasFrames list.ops.items kept.items list.main (length firsts)) c.deref.ensures.value c.in_ok-kept.ensures.held in
     record {
       short = c.in_ok-text.ensures.short;
@@ -82,26 +94,30 @@ returns-clause-faithful c =
       built = c.in_ok-text.ensures.built;
       faithful =
           is_faithful tree text.facts list.ops.items list.main image c.machines_follow_trees.ensures c.programs_are_followed.ensures
-          (is_compiled tree text.facts layout c.in_ok-text.ensures.laid c.in_ok-text.ensures.fits list.ops.items kept.items list.main code image
+          (is_compiled tree text.facts layout c.in_ok-text.ensures.laid c.in_ok-text.ensures.fits list.ops.items kept.items saved.items list.main code image
           (record {
             list = c.in_ok-list.ensures.list;
             grouped =
                 subst (λ (firsts : List ℕ). IsGrouped list.ops.items list.main (length firsts)) (sym c.in_ok-text.ensures.laid.firsts) c.in_ok-list.ensures.grouped;
             held = held;
+            least = c.in_ok-kept.ensures.least;
+            levels =
+                are_levels list.ops.items c.deref-2.result.now c.levels.result c.map_err.result saved c.deref-2.ensures.value c.levels.ensures c.map_err.ensures.cases c.in_ok-saved.was;
             law =
-                gives_the_law list.ops.items c.deref-2.result.now kept.items c.deref-3.result.now list.main layout.firsts.items c.deref-4.result.now (vec_len layout.words)
-                c.len-globals.result code c.deref-2.ensures.value c.deref-3.ensures.value c.deref-4.ensures.value c.len-globals.ensures law;
-            table = passed _ _ c.generate.result c.map_err.result code c.generate.ensures.table c.map_err.ensures.cases c.in_ok-code.was;
-            some = passed _ _ c.generate.result c.map_err.result code c.generate.ensures.some c.map_err.ensures.cases c.in_ok-code.was;
-            few = passed _ _ c.generate.result c.map_err.result code c.generate.ensures.few c.map_err.ensures.cases c.in_ok-code.was;
+                gives_the_law list.ops.items c.deref-3.result.now kept.items c.deref-4.result.now saved.items c.deref-5.result.now list.main layout.firsts.items c.deref-6.result.now
+                (vec_len layout.words) c.len-globals.result code c.deref-3.ensures.value c.deref-4.ensures.value c.deref-5.ensures.value c.deref-6.ensures.value
+                c.len-globals.ensures law;
+            table = passed _ _ c.generate.result c.map_err-2.result code c.generate.ensures.table c.map_err-2.ensures.cases c.in_ok-code.was;
+            some = passed _ _ c.generate.result c.map_err-2.result code c.generate.ensures.some c.map_err-2.ensures.cases c.in_ok-code.was;
+            few = passed _ _ c.generate.result c.map_err-2.result code c.generate.ensures.few c.map_err-2.ensures.cases c.in_ok-code.was;
             has_code = refl;
             has_commits = refl;
             has_globals = refl;
             has_sites =
-                passed _ _ c.site_table.result c.map_err-2.result sites c.site_table.ensures c.map_err-2.ensures.cases c.in_ok-sites.was
-                ∙ ap (λ (all : List Site). map in_table all) c.deref-5.ensures.value;
-            firsts_are_words = subst (λ (ws : List ℕ). All (λ w. w < 2 ^ 32) ws) c.deref-6.ensures.value c.are_words.ensures;
-            globals_are_words = subst (λ (ws : List ℕ). All (λ w. w < 2 ^ 32) ws) c.deref-7.ensures.value c.are_words-2.ensures;
+                passed _ _ c.site_table.result c.map_err-3.result sites c.site_table.ensures c.map_err-3.ensures.cases c.in_ok-sites.was
+                ∙ ap (λ (all : List Site). map in_table all) c.deref-7.ensures.value;
+            firsts_are_words = subst (λ (ws : List ℕ). All (λ w. w < 2 ^ 32) ws) c.deref-8.ensures.value c.are_words.ensures;
+            globals_are_words = subst (λ (ws : List ℕ). All (λ w. w < 2 ^ 32) ws) c.deref-9.ensures.value c.are_words-2.ensures;
           })
           c.steps_find_values.ensures);
     }
