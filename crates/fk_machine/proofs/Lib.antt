@@ -7,5 +7,6 @@ pub mod Harts
 pub mod Cycled
 pub mod Opened
 pub mod Runs
+pub mod Table
 pub mod Places
 pub mod Performs

@@ -1,10 +1,13 @@
 //! What stays the same in a cycle.
 
-ghost use Rattle.std.specs.Prelude.{◌≡◌, ◌≤◌, false, vec_len};
+ghost use Rattle.std.specs.Prelude.{◌≡◌, ◌≤◌, All, false, length, vec_len, IfOk};
+ghost use Rattle.fk_image.specs.Limits.{IsCommit};
 ghost use Rattle.fk_num.specs.Limits.{most_code_words};
 ghost use Rattle.fk_isa.specs.declared.instruction.Instruction.TheVariants.{Ebreak};
 ghost use Rattle.fk_isa.specs.Fits.{Fits};
 ghost use Rattle.fk_isa.specs.FitsProp.{Fits-prop};
+ghost use Rattle.fk_machine.specs.Commit.{commits_of};
+ghost use Rattle.fk_machine.specs.View.{entry_at};
 
 use fk_isa::{Instruction, decode};
 use std::alloc::{AllocError, Global};
@@ -40,10 +43,34 @@ impl CodeWord {
     }
 }
 
-/// The code, and the numbers that devices give.
+/// For each word of code what it commits, if it does: the count of operations, and the event.
+pub type CommitTable = Vec<Option<(u32, u32)>>;
+
+// The commits of `code_words` words of code, of which these are the entries. It puts the last entry
+// first, so that the first of several entries for a word would stay.
+fn commit_table(
+    alloc: Global,
+    code_words: usize,
+    entries: &[(u32, u32)],
+) -> Result<CommitTable, AllocError>
+    requires { All (IsCommit code_words) entries.now }
+    ensures { IfOk result (λ table. entry_at table.items ≡ commits_of entries.now) }
+{
+    let mut table = vec![in alloc; None; code_words]?;
+    let mut left = entries.len();
+    while left > 0 {
+        left -= 1;
+        let (address, word) = entries[left];
+        table[(address / 4) as usize] = Some((word % 256, word / 256));
+    }
+    Ok(table)
+}
+
+/// The code, what it commits, and the numbers that devices give.
 #[derive(Drop)]
 pub struct Setting {
     pub code: Vec<CodeWord>,
+    pub commits: CommitTable,
     /// The number of harts.
     pub harts: u32,
     /// The number of input numbers.
@@ -54,14 +81,22 @@ pub struct Setting {
 }
 
 impl Setting {
-    ghost use Rattle.std.specs.Prelude.{length, map, IfOk};
+    ghost use Rattle.std.specs.Prelude.{map};
     ghost use Rattle.fk_isa.specs.Find.{row};
     ghost use Rattle.fk_machine.specs.View.{row_of};
 
     /// The setting of the first cycle. Fails if there isn't enough memory.
-    pub fn new(alloc: Global, code: &[u32], harts: u32, inputs: u32) -> Result<Setting, AllocError>
-        requires { length code.now ≤ most_code_words }
+    pub fn new(
+        alloc: Global,
+        code: &[u32],
+        commits: &[(u32, u32)],
+        harts: u32,
+        inputs: u32,
+    ) -> Result<Setting, AllocError>
+        requires code { length code.now ≤ most_code_words }
+        requires commits { All (IsCommit (length code.now)) commits.now }
         ensures code { IfOk result (λ t. map row_of t.code.items ≡ map row code.now) }
+        ensures commits { IfOk result (λ t. entry_at t.commits.items ≡ commits_of commits.now) }
         ensures harts { IfOk result (λ t. t.harts ≡ harts) }
         ensures inputs { IfOk result (λ t. t.inputs ≡ inputs) }
         ensures finished { IfOk result (λ t. t.finished ≡ 0) }
@@ -72,9 +107,22 @@ impl Setting {
         }
         Ok(Setting {
             code: words,
+            commits: commit_table(alloc, code.len(), commits)?,
             harts,
             inputs,
             finished: 0,
         })
+    }
+
+    /// What a hart commits by running the instruction at this address.
+    pub fn commit_at(&self, pc: u32) -> Option<(u32, u32)>
+        ensures { result ≡ entry_at self.now.commits.items pc }
+    {
+        let index = (pc / 4) as usize;
+        if pc % 4 == 0 && index < self.commits.len() {
+            self.commits[index]
+        } else {
+            None
+        }
     }
 }
