@@ -194,7 +194,8 @@ impl Machine {
 
     /// The number of harts.
     pub fn harts(&self) -> u32
-        ensures harts { result ≡ length (machine_of self.now).harts }
+        ensures harts { length (machine_of self.now).harts ≡ result }
+        ensures committed { length (committed (machine_of self.now)) ≡ result }
         ensures some { 1 ≤ result }
         ensures few { result ≤ 1024 }
     {

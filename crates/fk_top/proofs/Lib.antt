@@ -1,7 +1,6 @@
 pub mod Readable
 pub mod Inputs
 pub mod Lost
-pub mod Pieces
 pub mod Causes
 pub mod Refusing
 pub mod Unread

@@ -1,6 +1,6 @@
 //! One call of the program.
 
-ghost use Rattle.std.specs.Prelude.{◌≡◌, ◌≢◌, ◌⊎◌, None, flat_map, map, option_map, string_bytes};
+ghost use Rattle.std.specs.Prelude.{◌≡◌, ◌≢◌, ◌⊎◌, None, map, option_map, string_bytes};
 ghost use Rattle.std.specs.Prelude.{IsErrOf, IsOk, OnErr, OnOk};
 ghost use Rattle.std.specs.Io.KnownBytes.{append_known};
 ghost use Rattle.fk_ports.specs.Faults.{HasRisen};
@@ -14,7 +14,7 @@ use crate::ending::{Ending, LastLine, PutFile, Shown};
 use crate::find::find_ending;
 use crate::status::Status;
 use fk_num::{signed_text, unsigned_text};
-use fk_ports::{Failed, Sink, Source, Store, StoreFault, give_all};
+use fk_ports::{Failed, Sink, Source, Store, StoreFault, give_all, give_pieces};
 use std::alloc::{AllocError, Global};
 
 /// One call of the program with these words, those after the program's name, a store of files,
@@ -187,21 +187,6 @@ fn give_frame<E: Sink>(err: &mut E, name: &[u8], words: u32) -> Result<(), Faile
             b"\n",
         ],
     )
-}
-
-// Gives pieces, one after another.
-fn give_pieces<K: Sink>(sink: &mut K, pieces: &[&[u8]]) -> Result<(), Failed>
-    ensures all { OnOk result (K.taken sink.new ≡ append_known (K.taken sink.old)
-        (flat_map (λ piece. piece.now) pieces.now)) }
-    ensures prefix { OnErr result (TakesPrefix (K.taken sink.old) (K.taken sink.new)
-        (flat_map (λ piece. piece.now) pieces.now)) }
-    ensures fault { OnErr result (HasRisen (K.faults sink.old) (K.faults sink.new)) }
-    ensures steady { OnOk result (K.faults sink.new ≡ K.faults sink.old) }
-{
-    for piece in pieces {
-        give_all(sink, *piece)?;
-    }
-    Ok(())
 }
 
 // Puts a file, if there is one.

@@ -4,7 +4,7 @@ use Rattle.fk_ports.specs.Known.{TakesPrefix}
 use Rattle.fk_ports.proofs.Given.{TakesPrefix-longer, TakesPrefix-after}
 use Rattle.fk_top.specs.declared.ending.Shown.{Shown}
 use Rattle.fk_top.specs.Ending.{shown_line, with_line}
-use Rattle.fk_top.proofs.Pieces.{on_err, err_then, part_of_same}
+use Rattle.fk_ports.proofs.Pieces.{on_err, err_then, part_of_same}
 use Rattle.fk_top.proofs.call.give_output.Goals as goal
 
 -- a part of the output

@@ -3,7 +3,7 @@ use Rattle.std.specs.Io.KnownBytes.{append_known}
 use Rattle.fk_ports.specs.Known.{TakesPrefix}
 use Rattle.fk_ports.proofs.Given.{append_known-append, TakesPrefix-longer, TakesPrefix-after}
 use Rattle.fk_top.specs.Report.{words_text, show_line}
-use Rattle.fk_top.proofs.Pieces.{on_err, err_then, part_of_same}
+use Rattle.fk_ports.proofs.Pieces.{on_err, err_then, part_of_same}
 use Rattle.fk_top.proofs.call.give_shown.Goals as goal
 
 -- the name and the sign of the line, as they are given

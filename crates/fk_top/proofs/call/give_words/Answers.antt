@@ -1,6 +1,6 @@
 use Rattle.std.proofs.Common.{get_or}
 use Rattle.fk_top.specs.Report.{word_text}
-use Rattle.fk_top.proofs.Pieces.{on_err, same_within, part_given}
+use Rattle.fk_ports.proofs.Pieces.{on_err, same_within, part_given}
 use Rattle.fk_top.proofs.call.give_words.Goals as goal
 
 pub returns-in_err-give_word-clause-prefix : goal.returns-in_err-give_word-clause-prefix

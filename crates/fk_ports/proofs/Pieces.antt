@@ -67,3 +67,7 @@ told r before now bytes other same taken = subst (λ (b : List ℕ). OnOk r (now
 pub err_then : {A E : Type 0} (r : Result A E) (P Q : Type 0) → (P → Q) → OnErr r P → OnErr r Q
 err_then (Ok a) P Q step p = tt
 err_then (Err e) P Q step p = step p
+
+pub ok_then : {A E : Type 0} (r : Result A E) (P Q : Type 0) → (P → Q) → OnOk r P → OnOk r Q
+ok_then (Ok a) P Q step p = step p
+ok_then (Err e) P Q step p = tt

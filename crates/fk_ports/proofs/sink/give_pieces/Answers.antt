@@ -1,6 +1,6 @@
 use Rattle.std.proofs.Common.{ℕ, List, [], Bor, get_or}
-use Rattle.fk_top.proofs.Pieces.{on_err, same_within, part_given}
-use Rattle.fk_top.proofs.call.give_pieces.Goals as goal
+use Rattle.fk_ports.proofs.Pieces.{on_err, same_within, part_given}
+use Rattle.fk_ports.proofs.sink.give_pieces.Goals as goal
 
 pub returns-in_err-give_all-clause-prefix : goal.returns-in_err-give_all-clause-prefix
 returns-in_err-give_all-clause-prefix g c =
