@@ -1,5 +1,6 @@
 pub mod Readable
 pub mod Inputs
+pub mod Runs
 pub mod Lost
 pub mod Causes
 pub mod Refusing

@@ -12,6 +12,7 @@ mod line;
 mod refused;
 mod report;
 mod run;
+mod shown;
 mod source;
 mod stand;
 mod status;
