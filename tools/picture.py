@@ -5,9 +5,10 @@
 
 TRACE is a file that `./fork95 trace` wrote. Each hart has a column, and time runs downwards. A
 colour tells how deep a hart is in the tree of groups, grey that it waits for others, and white that
-it commits nothing any more. Marks tell where groups begin, split, shrink, end, go on, meet and agree.
-Where there are more cycles than rows, each row stands for equally many of them, so the picture of a
-long run is as small as that of a short one. `--from` and `--to` show the cycles between.
+it commits nothing any more. Marks tell where groups begin, split, shrink, end, resume, meet and
+agree. Where there are more cycles than rows, each row stands for equally many of them, so the
+picture of a long run is as small as that of a short one. `--from` and `--to` show the cycles
+between.
 
 The names of events and the form of the lines are those of docs/MACHINE.md, "Traces".
 """
@@ -35,8 +36,11 @@ MARK_COLOURS = {
     "meet": "#d50000",
     "agree": "#5d4037",
 }
-# The most ranges of a row whose marks are drawn one by one.
+# The most ranges of a row whose marks are drawn one by one, the most marks with their signs, and the
+# most rows with marks of an event. An event of more rows isn't marked: its lines would hide the rest.
 MOST_RANGES = 24
+MOST_SIGNS = 300
+MOST_MARKED = 100
 
 
 class BadTrace(Exception):
@@ -74,13 +78,16 @@ class Rows:
     def row_of(self, cycle):
         return (cycle - self.first) // self.step
 
+    def start_of(self, row):
+        return self.first + row * self.step
+
     def cycles_of(self, row):
         """The number of cycles of a row; the last row may have fewer."""
-        return min(self.last, self.first + (row + 1) * self.step - 1) - (self.first + row * self.step) + 1
+        return min(self.last + 1, self.start_of(row + 1)) - self.start_of(row)
 
     def pass_to(self, cycle, depths):
         """Notes the depths in all rows that are over before a cycle."""
-        while self.done < self.count and self.first + (self.done + 1) * self.step <= cycle:
+        while self.done < self.count and self.start_of(self.done + 1) <= cycle:
             self.depths[self.done] = list(depths)
             self.done += 1
 
@@ -89,7 +96,7 @@ class Rows:
         start, end = max(start, self.first), min(end, self.last)
         while start <= end:
             row = self.row_of(start)
-            until = min(end, self.first + (row + 1) * self.step - 1)
+            until = min(end, self.start_of(row + 1) - 1)
             self.waits[row][hart] += until - start + 1
             start = until + 1
 
@@ -230,11 +237,17 @@ def spans_of(mask):
     return spans
 
 
+def drawn(mask):
+    """The ranges of a mask that are drawn: one across all of them where there are many."""
+    spans = spans_of(mask)
+    return spans if len(spans) <= MOST_RANGES else [(spans[0][0], spans[-1][1])]
+
+
 def colours(rows, reader):
     """The colour of each hart in each row; None where it commits nothing any more."""
     table = []
     for row in range(rows.count):
-        start = rows.first + row * rows.step
+        start = rows.start_of(row)
         length = rows.cycles_of(row)
         line = []
         for hart in range(rows.harts):
@@ -287,7 +300,8 @@ class Drawing:
         self.parts.append(text)
 
     def text(self, x, y, words, anchor="start", size=11):
-        self.add(f'<text x="{x}" y="{y}" font-size="{size}" text-anchor="{anchor}">{escape(words)}</text>')
+        style = f'font-size="{size}" text-anchor="{anchor}"'
+        self.add(f'<text x="{x}" y="{y}" {style}>{escape(words)}</text>')
 
     def x(self, hart):
         return LEFT + self.cell * hart
@@ -303,7 +317,8 @@ class Drawing:
         paths = {}
         for colour, left, right, top, bottom in rectangles(colours(self.rows, reader)):
             wide, high = self.cell * (right - left), self.height * (bottom - top)
-            paths.setdefault(colour, []).append(f"M{self.x(left)} {self.y(top)}h{wide}v{high}h-{wide}z")
+            cell = f"M{self.x(left)} {self.y(top)}h{wide}v{high}h-{wide}z"
+            paths.setdefault(colour, []).append(cell)
         for colour, path in paths.items():
             self.add(f'<path fill="{colour}" d="{"".join(path)}"/>')
         self.add(
@@ -312,27 +327,26 @@ class Drawing:
         )
 
     def marks(self):
+        """Lines across the harts of each event, each with the event's sign where there are few."""
+        rows = self.rows.marks
+        spans = {event: [drawn(marks.get(event, 0)) for marks in rows] for event in EVENTS}
+        self.unmarked = [event for event in EVENTS if sum(map(bool, spans[event])) > MOST_MARKED]
+        for event in self.unmarked:
+            spans[event] = []
+        total = sum(len(found) for lines in spans.values() for found in lines)
+        has_signs = total <= MOST_SIGNS and self.cell >= 6
         for place, event in enumerate(EVENTS):
             path = []
-            for row, marks in enumerate(self.rows.marks):
-                path += self.marks_of(row, place, marks.get(event, 0))
+            for row, found in enumerate(spans[event]):
+                y = self.y(row) + self.height * (place + 1) / (len(EVENTS) + 1)
+                path += [self.mark(event, first, end, y, has_signs) for first, end in found]
             if path:
-                colour = MARK_COLOURS[event]
-                self.add(f'<path fill="none" stroke="{colour}" stroke-width="1.2" d="{"".join(path)}"/>')
+                style = f'fill="none" stroke="{MARK_COLOURS[event]}" stroke-width="1.2"'
+                self.add(f'<path {style} d="{"".join(path)}"/>')
 
-    def marks_of(self, row, place, mask):
-        """A line across the harts of an event, with the sign of the event at its left end."""
-        spans = spans_of(mask)
-        if len(spans) > MOST_RANGES:
-            spans = [(spans[0][0], spans[-1][1])]
-        y = self.y(row) + self.height * (place + 1) / (len(EVENTS) + 1)
-        path = []
-        for first, end in spans:
-            left, right = self.x(first), self.x(end)
-            path.append(f"M{left} {y:.1f}H{right}")
-            if self.height >= 5 and self.cell >= 5:
-                path.append(sign(EVENTS[place], left + self.cell / 2, y))
-        return path
+    def mark(self, event, first, end, y, has_sign):
+        line = f"M{self.x(first)} {y:.1f}H{self.x(end)}"
+        return line + sign(event, self.x(first) + self.cell / 2, y) if has_sign else line
 
     def axes(self):
         rows = self.rows
@@ -344,7 +358,7 @@ class Drawing:
         apart = max(1, 40 // self.height)
         for row in range(0, rows.count, apart):
             y = self.y(row)
-            self.text(LEFT - 8, y + 4, str(rows.first + row * rows.step), "end", 10)
+            self.text(LEFT - 8, y + 4, str(rows.start_of(row)), "end", 10)
             self.add(f'<path stroke="#888" d="M{LEFT - 5} {y}h5"/>')
 
     def legend(self, reader):
@@ -364,10 +378,16 @@ class Drawing:
             self.text(x + 26, y, event)
             x += 76
         step = self.rows.step
-        self.text(LEFT, y + 20, "each row is one cycle" if step == 1 else f"each row is {step} cycles")
+        words = "each row is " + ("one cycle" if step == 1 else f"{step} cycles")
+        if step > 1:
+            words += ", grey where a hart waits in half of them or more"
+        if self.unmarked:
+            words += "; too many to be marked: " + ", ".join(self.unmarked)
+        self.text(LEFT, y + 20, words)
 
     def box(self, x, y, colour, words):
-        self.add(f'<rect x="{x}" y="{y - 10}" width="14" height="12" fill="{colour}" stroke="#888"/>')
+        style = f'width="14" height="12" fill="{colour}" stroke="#888"'
+        self.add(f'<rect x="{x}" y="{y - 10}" {style}/>')
         self.text(x + 19, y, words)
         return x + 32 + 6 * len(words)
 

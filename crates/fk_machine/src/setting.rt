@@ -1,14 +1,12 @@
 //! What stays the same in a cycle.
 
-ghost use Rattle.std.specs.Prelude.{◌≡◌, ◌≤◌, All, false, length, vec_len, IfOk};
-ghost use Rattle.fk_image.specs.Limits.{IsCommit};
+ghost use Rattle.std.specs.Prelude.{◌≡◌, ◌≤◌, false, vec_len};
 ghost use Rattle.fk_num.specs.Limits.{most_code_words};
 ghost use Rattle.fk_isa.specs.declared.instruction.Instruction.TheVariants.{Ebreak};
 ghost use Rattle.fk_isa.specs.Fits.{Fits};
 ghost use Rattle.fk_isa.specs.FitsProp.{Fits-prop};
-ghost use Rattle.fk_machine.specs.Commit.{commits_of};
-ghost use Rattle.fk_machine.specs.View.{entry_at};
 
+use crate::commits::{CommitTable, commit_table};
 use fk_isa::{Instruction, decode};
 use std::alloc::{AllocError, Global};
 
@@ -43,29 +41,6 @@ impl CodeWord {
     }
 }
 
-/// For each word of code what it commits, if it does: the count of operations, and the event.
-pub type CommitTable = Vec<Option<(u32, u32)>>;
-
-// The commits of `code_words` words of code, of which these are the entries. It puts the last entry
-// first, so that the first of several entries for a word would stay.
-fn commit_table(
-    alloc: Global,
-    code_words: usize,
-    entries: &[(u32, u32)],
-) -> Result<CommitTable, AllocError>
-    requires { All (IsCommit code_words) entries.now }
-    ensures { IfOk result (λ table. entry_at table.items ≡ commits_of entries.now) }
-{
-    let mut table = vec![in alloc; None; code_words]?;
-    let mut left = entries.len();
-    while left > 0 {
-        left -= 1;
-        let (address, word) = entries[left];
-        table[(address / 4) as usize] = Some((word % 256, word / 256));
-    }
-    Ok(table)
-}
-
 /// The code, what it commits, and the numbers that devices give.
 #[derive(Drop)]
 pub struct Setting {
@@ -81,9 +56,11 @@ pub struct Setting {
 }
 
 impl Setting {
-    ghost use Rattle.std.specs.Prelude.{map};
+    ghost use Rattle.std.specs.Prelude.{All, length, map, IfOk};
+    ghost use Rattle.fk_image.specs.Limits.{IsCommit};
     ghost use Rattle.fk_isa.specs.Find.{row};
-    ghost use Rattle.fk_machine.specs.View.{row_of};
+    ghost use Rattle.fk_machine.specs.Commit.{commits_of};
+    ghost use Rattle.fk_machine.specs.View.{entry_at, row_of};
 
     /// The setting of the first cycle. Fails if there isn't enough memory.
     pub fn new(

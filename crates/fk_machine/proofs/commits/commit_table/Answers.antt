@@ -5,7 +5,7 @@ use Rattle.fk_image.specs.Limits.{IsCommit}
 use Rattle.fk_machine.specs.Commit.{commits_of}
 use Rattle.fk_machine.specs.View.{entry_at}
 use Rattle.fk_machine.proofs.Table.{none_committed, one_more_entry}
-use Rattle.fk_machine.proofs.setting.commit_table.Goals as goal
+use Rattle.fk_machine.proofs.commits.commit_table.Goals as goal
 
 -- the entry at `left`, counted down
 entry : (n : ℕ) (entries : List (ℕ × ℕ)) (left : ℕ) → ℕ × ℕ

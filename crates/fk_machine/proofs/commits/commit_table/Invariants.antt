@@ -1,7 +1,7 @@
 use Rattle.std.proofs.Common.{◌≡◌, ◌≤◌, length, drop}
 use Rattle.fk_machine.specs.Commit.{commits_of}
 use Rattle.fk_machine.specs.View.{entry_at}
-use Rattle.fk_machine.proofs.setting.commit_table.Given as goal
+use Rattle.fk_machine.proofs.commits.commit_table.Given as goal
 
 abbrev pub decreases-loop-left : goal.decreases-loop-left
 decreases-loop-left l = l.left
