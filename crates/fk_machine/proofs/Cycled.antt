@@ -10,7 +10,7 @@ use Rattle.fk_machine.specs.Cycle.{Machine, turns, turns_of, setting_of as setti
 use Rattle.fk_machine.specs.View.{harts_of, local_of, ran_of, shared_of, row_of, setting_of, machine_of}
 use Rattle.fk_machine.specs.Does.{TurnsGive}
 
-length-harts_of : (n : ℕ) (hs : List TrackedHart) (w : ℕ → Memory) → length (harts_of n hs w) ≡ length hs
+pub length-harts_of : (n : ℕ) (hs : List TrackedHart) (w : ℕ → Memory) → length (harts_of n hs w) ≡ length hs
 length-harts_of n [] w = refl
 length-harts_of n (h ∷ hs) w = ap suc (length-harts_of (suc n) hs w)
 

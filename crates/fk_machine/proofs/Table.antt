@@ -1,32 +1,36 @@
 -- The table of commits.
-use Rattle.std.proofs.Common.{◌≡◌, ◌≢◌, ℕ, zero, suc, ◌*◌, ◌/◌, ◌%◌, ◌<◌, List, [], ◌∷◌, Option, Some, None, Bool, true, false, length, get_or, drop, refl, sym, ap, ◌∙◌, arith, eq-eqb}
-use Rattle.std.specs.Prelude.{◌==◌, if◌then◌else◌, replicate}
+use Rattle.std.proofs.Common.{◌≡◌, ◌≢◌, ℕ, zero, suc, ◌*◌, ◌/◌, ◌%◌, ◌<◌, ◌≤◌, List, [], ◌∷◌, Option, Some, None, Bool, true, false, length, map, get_or, refl, sym, ap, ◌∙◌, arith, eq-eqb}
+use Rattle.std.specs.Prelude.{◌==◌, if◌then◌else◌, replicate, slice_index_or}
 use Rattle.std.proofs.Math.ListN.{set}
 use Rattle.std.proofs.Math.Path.{fun_ext}
 use Rattle.std.proofs.lemmas.Bool.{eqb-true}
 use Rattle.std.proofs.lemmas.Grind.{get_or-set_at}
 use Rattle.std.proofs.lemmas.List.{get_or-set_other}
 use Rattle.fk_image.specs.Limits.{IsCommit, count_of_word, event_of_word}
-use Rattle.fk_machine.specs.Commit.{commits_of}
-use Rattle.fk_machine.specs.View.{entry_at}
+use Rattle.fk_machine.specs.declared.hart.TrackedHart.{TrackedHart}
+use Rattle.fk_machine.specs.Commit.{Commits, commit_at, commits_of}
+use Rattle.fk_machine.specs.View.{entry_at, ran_of}
 
 abbrev Commit : Type 0
 Commit = Option (ℕ × ℕ)
 
-none-read : (n i : ℕ) → get_or (replicate n (None {ℕ × ℕ})) i None ≡ None
+abbrev nothing : Commit
+nothing = None
+
+none-read : (n i : ℕ) → get_or (replicate n nothing) i nothing ≡ nothing
 none-read zero i = refl
 none-read (suc n) zero = refl
 none-read (suc n) (suc i) = none-read n i
 
-none-at : (n a : ℕ) → entry_at (replicate n None) a ≡ None
+none-at : (n a : ℕ) → entry_at (replicate n nothing) a ≡ nothing
 none-at n a = by (a % 4 == 0)
   where
-    by : (b : Bool) → (if b then get_or (replicate n (None {ℕ × ℕ})) (a / 4) None else None) ≡ None
+    by : (b : Bool) → (if b then get_or (replicate n nothing) (a / 4) nothing else nothing) ≡ nothing
     by true = none-read n (a / 4)
     by false = refl
 
 -- a table without entries commits nothing
-pub none_committed : (n : ℕ) → entry_at (replicate n None) ≡ commits_of []
+pub none_committed : (n : ℕ) → entry_at (replicate n nothing) ≡ commits_of []
 none_committed n = fun_ext (none-at n)
 
 -- what is read where an entry has been written
@@ -60,3 +64,14 @@ one_more_entry table n entry entries is sized so_far =
     fun_ext (λ a.
     written-at table entry.0 a (Some (entry.1 % 256, entry.1 / 256)) is.aligned within
     ∙ ap (λ commits. if entry.0 == a then Some (count_of_word entry.1, event_of_word entry.1) else commits a) so_far)
+
+-- what a hart committed, by the address that it ran
+pub committed_here : (commits : Commits) (hs : List TrackedHart) (i : ℕ) (d : TrackedHart) → i < length hs → slice_index_or (map (commit_at commits) (ran_of hs)) i None ≡ commit_at commits (get_or hs i d).ran
+committed_here commits [] i d lt = absurd (omega (arith, lt))
+committed_here commits (h ∷ hs) zero d lt = refl
+committed_here commits (h ∷ hs) (suc i) d lt = committed_here commits hs i d (omega (arith, lt))
+
+pub none_here : (commits : Commits) (hs : List TrackedHart) (i : ℕ) → length hs ≤ i → slice_index_or (map (commit_at commits) (ran_of hs)) i None ≡ None
+none_here commits [] i le = refl
+none_here commits (h ∷ hs) zero le = absurd (omega (arith, le))
+none_here commits (h ∷ hs) (suc i) le = none_here commits hs i (omega (arith, le))

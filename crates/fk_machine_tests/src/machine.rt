@@ -8,6 +8,7 @@ use fk_image::{Image, read_image};
 use fk_machine::stand::{ACCESS, EBREAK, ECALL, FETCH, MISALIGNED, UNKNOWN};
 use fk_machine::{Machine, Stand};
 use fk_ports::MemSink;
+use fk_trace::run_trace;
 use std::alloc::{AllocError, Global};
 use std::process::Abort;
 
@@ -446,5 +447,21 @@ fn harts_commit_in_the_last_cycle(rt: HostRuntime) -> Result<(), AllocError> {
     machine.cycle();
     assert!(rt; machine.committed(0) == Some((2, 1)) && machine.committed(1) == Some((2, 1)));
     assert!(rt; machine.committed(2).is_none() && machine.stand() == Stand::Finished);
+    Ok(())
+}
+
+const COMMITTING_TRACE: &[u8] =
+    b"fork95 trace 1\nharts 2\nc 2 0-1*2\ng 2 split 0-1\nend 2\n";
+
+#[test]
+fn a_trace_tells_what_harts_commit(rt: HostRuntime) -> Result<(), AllocError> {
+    let alloc = rt.alloc();
+    let Ok(image) = read_image(alloc, &COMMITTING) else {
+        return Err(AllocError);
+    };
+    let mut machine = Machine::new(alloc, &image, &[], 2)?;
+    let mut out = MemSink::new(alloc, 200, Vec::new(alloc))?;
+    assert!(rt; run_trace(&mut machine, 10, &mut out).is_ok());
+    assert!(rt; out.bytes() == COMMITTING_TRACE);
     Ok(())
 }

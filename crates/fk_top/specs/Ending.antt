@@ -10,9 +10,9 @@ use Rattle.fk_top.specs.declared.ending.Ending.{Ending}
 use Rattle.fk_top.specs.declared.ending.Told.{Told}
 use Rattle.fk_top.specs.declared.ending.PutFile.{PutFile}
 use Rattle.fk_top.specs.declared.ending.LastLine.{LastLine}
-use Rattle.fk_top.specs.declared.run.MachineRun.{MachineRun}
-use Rattle.fk_top.specs.declared.run.RunText.{RunText}
-use Rattle.fk_top.specs.declared.run.RunText.TheVariants as texts
+use Rattle.fk_top.specs.declared.machine_run.MachineRun.{MachineRun}
+use Rattle.fk_top.specs.declared.machine_run.RunText.{RunText}
+use Rattle.fk_top.specs.declared.machine_run.RunText.TheVariants as texts
 use Rattle.fk_top.specs.declared.variable.Variable.{Variable}
 use Rattle.fk_top.specs.declared.ending.Ending.TheVariants as endings
 use Rattle.fk_top.specs.declared.ending.LastLine.TheVariants.{Reported, FrameTooLarge, NoGlobal}

@@ -6,9 +6,10 @@ ghost use Rattle.fk_top.specs.Outcome.{ListsImage, RefusesImage, RunsImage, list
 ghost use Rattle.fk_top.specs.Ending.{outcome_of};
 
 use crate::ending::{Ending, LastLine, Told, refused};
+use crate::machine_run::RunText;
 use crate::refused::image_report_of;
 use crate::report::Report;
-use crate::run::{RunText, run_ending};
+use crate::run::run_ending;
 use crate::status::Status;
 use fk_asm::listing::listing_line;
 use fk_image::read_image;

@@ -12,7 +12,8 @@ ghost use Rattle.fk_top.specs.Call.{Stored, call_of, given_of, request_of, store
 
 use crate::ending::{Ending, LastLine, PutFile, Told};
 use crate::find::find_ending;
-use crate::run::{MachineRun, give_run};
+use crate::machine_run::MachineRun;
+use crate::run::give_run;
 use crate::stand::{stand_report, status_of};
 use crate::status::Status;
 use fk_num::unsigned_text;

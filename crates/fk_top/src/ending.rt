@@ -5,8 +5,8 @@ ghost use Rattle.fk_top.specs.Ending.{last_line, outcome_of};
 ghost use Rattle.fk_top.specs.Outcome.{silent};
 ghost use Rattle.fk_top.specs.Report.{line_of, no_global_line};
 
+use crate::machine_run::MachineRun;
 use crate::report::Report;
-use crate::run::MachineRun;
 use crate::status::Status;
 use std::alloc::{AllocError, Global};
 

@@ -9,6 +9,7 @@ mod find;
 mod input;
 mod kinds;
 mod line;
+mod machine_run;
 mod refused;
 mod report;
 mod run;

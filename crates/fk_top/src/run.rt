@@ -12,6 +12,7 @@ ghost use Rattle.fk_top.specs.Ending.{outcome_of, run_text, variable_of, writing
 ghost use Rattle.fk_top.specs.Outcome.{EndsOn, Prints, most_numbers};
 
 use crate::ending::{Ending, refused};
+use crate::machine_run::{MachineRun, RunText};
 use crate::refused::input_report_of;
 use crate::shown::give_shown;
 use crate::status::Status;
@@ -24,29 +25,6 @@ use fk_top_input::read_input;
 use fk_top_words::RunWords;
 use fk_trace::run_trace;
 use std::alloc::{AllocError, Global};
-
-/// What is written of a run.
-#[derive(Clone, Copy)]
-pub enum RunText<'a> {
-    /// What the program prints, followed by the line of a variable, if one is shown.
-    Output(Option<Variable<'a>>),
-    /// The trace of the run.
-    Trace,
-}
-
-/// A run that can begin. It has all the memory that it needs.
-#[derive(Drop)]
-pub struct MachineRun<'a> {
-    /// The machine before its first cycle.
-    pub machine: Machine,
-    /// The image that it runs.
-    pub image: Image,
-    /// The bound on its cycles.
-    pub bound: u32,
-    /// What is written of the run.
-    pub text: RunText<'a>,
-    ghost fresh: { (machine_of machine).begun ≡ 0 },
-}
 
 /// The run of an image on an input text. Fails if there isn't enough memory.
 pub fn run_ending<'a>(

@@ -10,9 +10,10 @@ ghost use Rattle.fk_top.specs.Outcome.{TracesSource};
 ghost use Rattle.fk_top.specs.Ending.{outcome_of};
 
 use crate::ending::{Ending, LastLine, PutFile, Told, no_global, refused_source};
+use crate::machine_run::RunText;
 use crate::refused::last_line_of;
 use crate::report::Report;
-use crate::run::{RunText, run_ending};
+use crate::run::run_ending;
 use crate::status::Status;
 use crate::variable::Variable;
 use fk_compile::{Compiled, compile};

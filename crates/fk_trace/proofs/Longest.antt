@@ -3,7 +3,7 @@ use Rattle.std.proofs.Common.{◌≡◌, ◌≢◌, ℕ, zero, suc, ◌+◌, ◌
 use Rattle.std.specs.Prelude.{◌==◌, if◌then◌else◌, flat_map, replicate}
 use Rattle.std.proofs.lemmas.Bool.{eqb-true}
 use Rattle.fk_trace.specs.declared.column.Column.{Column}
-use Rattle.fk_trace.specs.declared.ranges.HartRange.{HartRange}
+use Rattle.fk_trace.specs.declared.hart_range.HartRange.{HartRange}
 use Rattle.fk_trace.specs.Text.{Range, joined, ranges, range_text, ranges_text}
 use Rattle.fk_trace.specs.Ranges.{range_of, text_from}
 

@@ -2,7 +2,7 @@
 use Rattle.std.specs.Prelude.{ℕ, suc, ◌-◌, ◌==◌, Bool, not, List, ◌++◌, map, replicate}
 use Rattle.std.specs.List.{list_any}
 use Rattle.fk_trace.specs.declared.column.Column.{Column}
-use Rattle.fk_trace.specs.declared.ranges.HartRange.{HartRange}
+use Rattle.fk_trace.specs.declared.hart_range.HartRange.{HartRange}
 use Rattle.fk_trace.specs.Text.{Commits, Range, number_in, event_of, ranges_text}
 
 -- A range of the code.

@@ -8,6 +8,7 @@
 #![tactic(auto)]
 
 mod column;
+mod hart_range;
 pub mod laws;
 mod line;
 mod ranges;

@@ -11,18 +11,10 @@ ghost use Rattle.fk_trace.specs.Ranges.{numbers_of, range_of, text_from};
 ghost use Rattle.fk_trace.specs.Text.{range_text, ranges_text};
 
 use crate::column::Column;
+use crate::hart_range::HartRange;
 use fk_machine::Machine;
 use fk_num::unsigned_text;
 use fk_ports::{Failed, Sink, give_pieces};
-
-/// A range of harts with the same number.
-#[derive(Clone, Copy)]
-struct HartRange {
-    first: u32,
-    last: u32,
-    number: u32,
-    ghost ordered: { first ≤ last },
-}
 
 /// Gives the ranges of the harts of which a column tells.
 pub fn give_ranges<K: Sink>(out: &mut K, machine: &Machine, column: Column) -> Result<(), Failed>

@@ -1,4 +1,4 @@
-use Rattle.std.proofs.Common.{◌≡◌, ℕ, zero, suc, if◌then◌else◌, Option, Some, None, ap, ◌-◌, ◌≤◌, List, length, take, drop, length-take-le, length-drop, Bool, false, refl, sym, ◌∙◌, arith}
+use Rattle.std.proofs.Common.{◌≡◌, ℕ, zero, suc, if◌then◌else◌, Option, Some, None, ap, ◌-◌, ◌≤◌, List, length, take, drop, length-take-le, length-drop, Bool, true, false, refl, sym, ◌∙◌, arith}
 use Rattle.std.specs.Prelude.{◌==◌}
 use Rattle.fk_isa.specs.declared.hart.Hart.{Hart}
 use Rattle.fk_machine.specs.declared.hart.TrackedHart.{TrackedHart}
