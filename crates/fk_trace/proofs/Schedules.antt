@@ -39,10 +39,10 @@ keeps-commits m (suc n) = by (is_running (after n m).stand) refl
 
 -- one more cycle is one more round
 module _ (image : Image) (input : List ℕ) (p n : ℕ) where
-  start : Machine
+  abbrev start : Machine
   start = machine_opening image input p
 
-  now : Machine
+  abbrev now : Machine
   now = after n start
 
   same : machine image input p n ≡ now

@@ -92,7 +92,7 @@ ranges_text column hart numbers = flat_map (range_text column) (ranges hart numb
 
 abbrev pub line_text : Column → ℕ → Commits → List ℕ
 line_text column cycle commits =
-    head_text column cycle ++ ranges_text column 0 (map (number_in column) commits) ++ codes "\n"
+    head_text column cycle ++ ranges_text column 0 (map (number_in column) commits) ++ 10 ∷ []
 
 -- A line is written where it tells of some hart.
 abbrev pub occurs : Column → Commits → Bool
@@ -122,10 +122,10 @@ lines_from cycle (commits ∷ rest) = cycle_lines cycle commits ++ lines_from (s
 -- ---- the trace
 
 abbrev pub first_lines : ℕ → List ℕ
-first_lines harts = codes "fork95 trace 1\nharts " ++ decimal harts ++ codes "\n"
+first_lines harts = codes "fork95 trace 1" ++ 10 ∷ codes "harts " ++ decimal harts ++ 10 ∷ []
 
 abbrev pub last_line : ℕ → List ℕ
-last_line cycles = codes "end " ++ decimal cycles ++ codes "\n"
+last_line cycles = codes "end " ++ decimal cycles ++ 10 ∷ []
 
 -- The trace of this many harts, which in each cycle commit this.
 abbrev pub trace_text : ℕ → List Commits → List ℕ

@@ -52,7 +52,10 @@ fn give_first_lines<K: Sink>(out: &mut K, harts: u32) -> Result<(), Failed>
     ensures steady { OnOk result (K.faults out.new ≡ K.faults out.old) }
 {
     let number = unsigned_text(harts);
-    give_pieces(out, &[b"fork95 trace 1\nharts ", number.as_slice(), b"\n"])
+    give_pieces(
+        out,
+        &[b"fork95 trace 1\n", b"harts ", number.as_slice(), b"\n"],
+    )
 }
 
 // Gives the last line.

@@ -9,12 +9,9 @@ use Rattle.fk_top.proofs.shown.give_words.Given as goal
 
 -- the words from an index on are still to be given
 abbrev pub invariant-loop-index : goal.invariant-loop-index
-invariant-loop-index g l =
-    let m = machine_of l.fn.machine in
-    let v = l.fn.variable in
-    record {
-      given : IsGiven (words_text v.signed (words_in m (variable_of v)))
-          (words_text v.signed (map m.shared.words (range_with_len (v.first + l.index) (v.words - l.index))))
-          (g.K.Sink.taken l.initial.out) (g.K.Sink.taken l.out);
-      steady : g.K.Sink.faults l.out ≡ g.K.Sink.faults l.initial.out;
-    }
+invariant-loop-index g l = record {
+  given : IsGiven (words_text l.fn.variable.signed (words_in (machine_of l.fn.machine) (variable_of l.fn.variable)))
+      (words_text l.fn.variable.signed (map (machine_of l.fn.machine).shared.words (range_with_len (l.fn.variable.first + l.index) (l.fn.variable.words - l.index))))
+      (g.K.Sink.taken l.initial.out) (g.K.Sink.taken l.out);
+  steady : g.K.Sink.faults l.out ≡ g.K.Sink.faults l.initial.out;
+}

@@ -21,13 +21,13 @@ returns-then-not-clause-all g c =
 
 -- the whole line is still to be given
 module _ (column : Column) (m : Machine) (before : Option (List ℕ)) (there : occurs column (committed m) ≡ true) where
-  line : List ℕ
+  abbrev line : List ℕ
   line = line_if column m.begun (committed m)
 
-  ranges : List ℕ
+  abbrev ranges : List ℕ
   ranges = ranges_text column 0 (numbers_of column (committed m))
 
-  whole : IsGiven line (head_text column m.begun ++ (ranges ++ (codes "\n" ++ []))) before before
+  whole : IsGiven line (head_text column m.begun ++ (ranges ++ (10 ∷ []))) before before
   whole = subst (λ rest. IsGiven line rest before before) (ap (λ b. if b then line_text column m.begun (committed m) else []) there) (none_given line before)
 
 pub returns-in_err-give_head-clause-prefix : goal.returns-in_err-give_head-clause-prefix
@@ -56,7 +56,7 @@ returns-clause-all g c =
     let there = sym c.occurs.ensures ∙ c.if-not-occurs.false in
     let head = piece_given _ (head_text column m.begun) _ before _ _ (whole column m before there) (c.in_ok-give_head.ensures.all ∙ ap (λ n. append_known before (head_text column n)) c.cycles.ensures) in
     let told = piece_given _ (ranges column m before there) _ before _ _ head c.in_ok-give_ranges.ensures.all in
-    ok_then c.give_all.result _ _ (λ all. all_given _ [] before _ refl (piece_given _ (codes "\n") [] before _ _ told all)) c.give_all.ensures.all
+    ok_then c.give_all.result _ _ (λ all. all_given _ [] before _ refl (piece_given _ (10 ∷ []) [] before _ _ told all)) c.give_all.ensures.all
 
 pub returns-clause-prefix : goal.returns-clause-prefix
 returns-clause-prefix g c =
@@ -66,4 +66,4 @@ returns-clause-prefix g c =
     let there = sym c.occurs.ensures ∙ c.if-not-occurs.false in
     let head = piece_given _ (head_text column m.begun) _ before _ _ (whole column m before there) (c.in_ok-give_head.ensures.all ∙ ap (λ n. append_known before (head_text column n)) c.cycles.ensures) in
     let told = piece_given _ (ranges column m before there) _ before _ _ head c.in_ok-give_ranges.ensures.all in
-    err_then c.give_all.result _ _ (part_of_given _ (codes "\n") [] before _ _ told) c.give_all.ensures.prefix
+    err_then c.give_all.result _ _ (part_of_given _ (10 ∷ []) [] before _ _ told) c.give_all.ensures.prefix

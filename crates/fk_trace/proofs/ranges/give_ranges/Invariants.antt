@@ -8,10 +8,10 @@ use Rattle.fk_trace.proofs.ranges.give_ranges.Given as goal
 
 -- the text of the harts so far was given, except for that of the last range
 abbrev pub invariant-loop-hart : goal.invariant-loop-hart
-invariant-loop-hart g l =
-    let numbers = numbers_of l.fn.column (committed (machine_of l.fn.machine)) in
-    record {
-      last : l.range.last + 1 ≡ l.hart;
-      given : IsGiven (ranges_text l.fn.column 0 numbers) (text_from l.fn.column l.range (drop l.hart numbers)) (g.K.Sink.taken l.initial.out) (g.K.Sink.taken l.out);
-      steady : g.K.Sink.faults l.out ≡ g.K.Sink.faults l.initial.out;
-    }
+invariant-loop-hart g l = record {
+  last : l.range.last + 1 ≡ l.hart;
+  given : IsGiven (ranges_text l.fn.column 0 (numbers_of l.fn.column (committed (machine_of l.fn.machine))))
+      (text_from l.fn.column l.range (drop l.hart (numbers_of l.fn.column (committed (machine_of l.fn.machine)))))
+      (g.K.Sink.taken l.initial.out) (g.K.Sink.taken l.out);
+  steady : g.K.Sink.faults l.out ≡ g.K.Sink.faults l.initial.out;
+}
