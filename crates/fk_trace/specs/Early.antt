@@ -14,8 +14,8 @@ trace_of cycles m = trace_text (length m.harts) (committed_in cycles m)
 abbrev pub lines_in : ℕ → Machine → List ℕ
 lines_in n m = lines_from (m.begun + 1) (committed_in n m)
 
--- Some of these cycles were run, at least one. The sink had taken `before`. It took the lines of all
--- of them, except for the last, and only a prefix of those of that one.
+-- Some of these cycles were run, at least one. The sink had taken `before`. It took the lines of
+-- all of them, except for the last, and only a prefix of those of that one.
 pub record StoppedInCycle (cycles : ℕ) (old new : Machine)
     (before now : Option (List ℕ)) : Type 0 where
   pub told : ℕ

@@ -6,8 +6,8 @@ use Rattle.fk_machine.specs.Run.{committed_in, rounds}
 use Rattle.fk_trace.specs.declared.column.Column.TheVariants.{Counts}
 use Rattle.fk_trace.specs.Text.{number_in}
 
--- The counts that the harts commit in each cycle are the rounds of the schedule that is read off the
--- run.
+-- The counts that the harts commit in each cycle are the rounds of the schedule that is read off
+-- the run.
 abbrev pub CountsAreTheSchedule : Type 0
 CountsAreTheSchedule =
     (image : Image) (input : List ℕ) (p n : ℕ)

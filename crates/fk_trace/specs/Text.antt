@@ -6,7 +6,8 @@ use Rattle.std.specs.List.{list_any}
 use Rattle.fk_trace.specs.declared.column.Column.{Column}
 use Rattle.fk_trace.specs.declared.column.Column.TheVariants.{Counts, Of}
 use Rattle.fk_trace.specs.declared.column.Event.{Event}
-use Rattle.fk_trace.specs.declared.column.Event.TheVariants.{Split, Shrink, End, Resume, Meet, Agree}
+use Rattle.fk_trace.specs.declared.column.Event.TheVariants.{Split, Shrink, End, Resume}
+use Rattle.fk_trace.specs.declared.column.Event.TheVariants.{Meet, Agree}
 
 -- What a hart commits in a cycle, if it commits: a count of operations, and the number of an event,
 -- 0 for none.
