@@ -12,6 +12,7 @@ mod hart_range;
 pub mod laws;
 mod line;
 mod ranges;
+mod short_text;
 mod trace;
 
 pub use column::Event;

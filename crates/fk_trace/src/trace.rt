@@ -4,15 +4,16 @@ ghost use Rattle.std.specs.Prelude.{◌≡◌, ◌+◌, ◌<◌, ◌^◌, length
 ghost use Rattle.std.specs.Io.KnownBytes.{append_known};
 ghost use Rattle.fk_ports.specs.Faults.{HasRisen};
 ghost use Rattle.fk_ports.specs.Known.{TakesPrefix};
-ghost use Rattle.fk_machine.specs.Run.{after};
+ghost use Rattle.fk_machine.specs.Run.{after, committed};
 ghost use Rattle.fk_machine.specs.View.{machine_of};
 ghost use Rattle.fk_trace.specs.Early.{StoppedInCycle, TracedEarly, lines_in, trace_of};
-ghost use Rattle.fk_trace.specs.Text.{first_lines, last_line};
+ghost use Rattle.fk_trace.specs.Text.{cycle_lines, first_lines, last_line};
 
 use crate::line::give_cycle;
+use crate::short_text::ShortText;
 use fk_machine::{Machine, Stand};
 use fk_num::unsigned_text;
-use fk_ports::{Failed, Sink, give_pieces};
+use fk_ports::{Failed, Sink, give_all, give_pieces};
 
 /// Runs a machine of which no cycle was run, until it ends or `bound` cycles are begun, and gives
 /// the trace of the run in place of what the program prints. It gives the status of the machine.
@@ -71,6 +72,22 @@ fn give_last_line<K: Sink>(out: &mut K, cycles: u32) -> Result<(), Failed>
     give_pieces(out, &[b"end ", number.as_slice(), b"\n"])
 }
 
+// Gives the lines of the machine's last cycle, at once if they are short.
+fn give_lines<K: Sink>(out: &mut K, machine: &Machine) -> Result<(), Failed>
+    ensures all { OnOk result (K.taken out.new ≡ append_known (K.taken out.old)
+        (cycle_lines (machine_of machine.now).begun (committed (machine_of machine.now)))) }
+    ensures prefix { OnErr result (TakesPrefix (K.taken out.old) (K.taken out.new)
+        (cycle_lines (machine_of machine.now).begun (committed (machine_of machine.now)))) }
+    ensures fault { OnErr result (HasRisen (K.faults out.old) (K.faults out.new)) }
+    ensures steady { OnOk result (K.faults out.new ≡ K.faults out.old) }
+{
+    let mut text = ShortText::new();
+    match give_cycle(&mut text, machine) {
+        Ok(()) => give_all(out, text.bytes()),
+        Err(Failed) => give_cycle(out, machine),
+    }
+}
+
 // Runs `cycles` cycles, or fewer if the machine ends before, and gives the lines of each, in order.
 fn trace_for<K: Sink>(machine: &mut Machine, cycles: u32, out: &mut K) -> Result<(), Failed>
     requires { (machine_of machine.old).begun + cycles < 2 ^ 32 }
@@ -86,7 +103,7 @@ fn trace_for<K: Sink>(machine: &mut Machine, cycles: u32, out: &mut K) -> Result
     while left > 0 && machine.stand() == Stand::Running {
         left -= 1;
         machine.cycle();
-        give_cycle(out, machine)?;
+        give_lines(out, machine)?;
     }
     Ok(())
 }

@@ -39,32 +39,32 @@ loop-left-preserved g c =
       few = omega (arith, so_far.few);
       ran = ran ∙ ap (λ i. after i start) sum;
       taken =
-          c.in_ok-give_cycle.ensures.all
+          c.in_ok-give_lines.ensures.all
           ∙ ap (λ known. append_known known (cycle_lines new.begun (committed new))) so_far.taken
           ∙ append_known-append before (lines_in done start) (cycle_lines new.begun (committed new))
           ∙ ap (λ (l : Machine). append_known before (lines_in done start ++ cycle_lines l.begun (committed l))) ran
           ∙ ap (append_known before) (sym (lines_in-next start done runs))
           ∙ ap (λ i. append_known before (lines_in i start)) sum;
-      steady = c.in_ok-give_cycle.ensures.steady ∙ so_far.steady;
+      steady = c.in_ok-give_lines.ensures.steady ∙ so_far.steady;
       count = omega (arith, c.cycle.ensures.count, so_far.count, so_far.few);
     }
 
-pub returns-in_err-give_cycle-clause-early : goal.returns-in_err-give_cycle-clause-early
-returns-in_err-give_cycle-clause-early g c =
+pub returns-in_err-give_lines-clause-early : goal.returns-in_err-give_lines-clause-early
+returns-in_err-give_lines-clause-early g c =
     let start = machine_of c.args.machine.now in
     let before = g.K.Sink.taken c.args.out.now in
     let done = c.args.cycles - c.loop-left.left in
     let so_far = c.loop-left.invariant in
     let sum : suc done ≡ done + 1 = omega arith in
-    let early : StoppedInCycle c.args.cycles start (machine_of c.cycle.new.self) before (g.K.Sink.taken c.give_cycle.new.out) =
+    let early : StoppedInCycle c.args.cycles start (machine_of c.cycle.new.self) before (g.K.Sink.taken c.give_lines.new.out) =
     record {
       told = done;
       few = omega (arith, so_far.few);
       running = ap (λ (l : Machine). is_running l.stand) (sym so_far.ran) ∙ ap is_running (sym c.stand.ensures ∙ c.loop-left-test.eq);
       machine = c.cycle.ensures.cycle ∙ ap cycle so_far.ran ∙ ap (λ i. after i start) sum;
       taken =
-          subst (λ known. TakesPrefix known (g.K.Sink.taken c.give_cycle.new.out) (cycle_lines (machine_of c.cycle.new.self).begun (committed (machine_of c.cycle.new.self))))
-          so_far.taken c.in_err-give_cycle.ensures.prefix;
+          subst (λ known. TakesPrefix known (g.K.Sink.taken c.give_lines.new.out) (cycle_lines (machine_of c.cycle.new.self).begun (committed (machine_of c.cycle.new.self))))
+          so_far.taken c.in_err-give_lines.ensures.prefix;
     } in
     search rules
 
