@@ -170,12 +170,13 @@ rest-unserved h hs =
     ∙ ap (λ l. h ∷ map unserved l) (take_all (length hs) hs (omega arith))
 
 pub is_stopped : (t : Setting) (n : ℕ) (hs : List TrackedHart) (d h' : TrackedHart) (xs own : List ℕ) (s s' : Shared) (stand : Stand) → 1 ≤ length hs → length own ≡ 32768 → (get_or hs 0 d).state.ended ≡ false → h'.ran ≡ Some (get_or hs 0 d).state.pc → step t n (hart_of (get_or hs 0 d).state (slice_index (take 32768 xs))) s ≡ Stops stand → hart_of h'.state (slice_index own) ≡ hart_of (get_or hs 0 d).state (slice_index (take 32768 xs)) → s' ≡ s
-    → (end : List TrackedHart) → end ≡ put_mid 1 (length (slice_set hs 0 h') - 1) (slice_set hs 0 h') (map unserved (take (length (slice_set hs 0 h') - 1) (drop 1 (slice_set hs 0 h'))))
-    → TurnsGive (turns t n (harts_of 0 hs (local_of xs)) s) (Some stand) (harts_of 0 end (local_of (own ++ drop 32768 xs))) (ran_of end) s'
-is_stopped t n [] d h' xs own s s' stand some len live ran e same_hart same end is = absurd (omega (arith, some))
-is_stopped t n (h ∷ hs) d h' xs own s s' stand some len live ran e same_hart same end is =
+    → (rest : List TrackedHart) → rest ≡ map unserved (take (length (slice_set hs 0 h') - 1) (drop 1 (slice_set hs 0 h')))
+    → TurnsGive (turns t n (harts_of 0 hs (local_of xs)) s) (Some stand) (harts_of 0 (put_mid 1 (length (slice_set hs 0 h') - 1) (slice_set hs 0 h') rest) (local_of (own ++ drop 32768 xs))) (ran_of (put_mid 1 (length (slice_set hs 0 h') - 1) (slice_set hs 0 h') rest)) s'
+is_stopped t n [] d h' xs own s s' stand some len live ran e same_hart same rest is = absurd (omega (arith, some))
+is_stopped t n (h ∷ hs) d h' xs own s s' stand some len live ran e same_hart same rest is =
     let given = stops_first t n h h' hs xs own s s' stand len live ran e same_hart same in
-    subst (λ l. TurnsGive (turns t n (harts_of 0 (h ∷ hs) (local_of xs)) s) (Some stand) (harts_of 0 l (local_of (own ++ drop 32768 xs))) (ran_of l) s') (sym (is ∙ rest-unserved h' hs)) given
+    let end = ap (put_mid 1 (length (h' ∷ hs) - 1) (h' ∷ hs)) is ∙ rest-unserved h' hs in
+    subst (λ l. TurnsGive (turns t n (harts_of 0 (h ∷ hs) (local_of xs)) s) (Some stand) (harts_of 0 l (local_of (own ++ drop 32768 xs))) (ran_of l) s') (sym end) given
 
 -- the turns of those above the first one complete them
 pub completed : (t : Setting) (n : ℕ) (whole : Turns) (hs hs' : List TrackedHart) (xs xs' : List ℕ) (s s' : Shared) (stop : Option Stand) → Begun t n whole hs xs s → 32784 ≤ length xs → TurnsGive (turns t (n + 1) (harts_of 0 (take (length hs - 1) (drop 1 hs)) (local_of (take (length xs - 32784) (drop 32784 xs)))) s) stop (harts_of 0 hs' (local_of xs')) (ran_of hs') s' → TurnsGive whole stop (harts_of 0 (put_mid 1 (length hs - 1) hs hs') (local_of (put_mid 32784 (length xs - 32784) xs xs'))) (ran_of (put_mid 1 (length hs - 1) hs hs')) s'
