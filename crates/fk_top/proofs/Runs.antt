@@ -1,5 +1,6 @@
 -- What is written of a machine's run, and what a run comes to.
-use Rattle.std.proofs.Common.{◌≡◌, ℕ, ◌-◌, List, Option, Some, None, refl, sym, ap, ◌∙◌, arith}
+use Rattle.std.proofs.Common.{◌≡◌, ℕ, ◌-◌, List, Option, Some, None, Result, Ok, Err, true, false, refl, sym, ap, ◌∙◌, arith}
+use Rattle.std.specs.Prelude.{OnErr, OnOk, is_err}
 use Rattle.fk_image.specs.declared.Image.{Image}
 use Rattle.fk_machine.specs.Cycle.{Machine, machine_opening}
 use Rattle.fk_machine.specs.Run.{machine, after, output_of}
@@ -46,3 +47,12 @@ part_shown before now bytes (Some row) m part = TakesPrefix-longer before now by
 -- all cycles of a machine of which none was run
 pub all_left : (bound begun : ℕ) → begun ≡ 0 → bound - begun ≡ bound
 all_left bound begun none = omega (arith, none)
+
+-- what holds after an error holds where a result is one, and so for a result that is none
+pub on_is_err : {A E : Type 0} (r : Result A E) (P : Type 0) → is_err r ≡ true → OnErr r P → P
+on_is_err (Ok a) P is holds = absurd (cc)
+on_is_err (Err e) P is holds = holds
+
+pub on_is_ok : {A E : Type 0} (r : Result A E) (P : Type 0) → is_err r ≡ false → OnOk r P → P
+on_is_ok (Ok a) P is holds = holds
+on_is_ok (Err e) P is holds = absurd (cc)

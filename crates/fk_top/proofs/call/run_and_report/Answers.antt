@@ -11,6 +11,7 @@ use Rattle.fk_top.specs.Ending.{run_outcome}
 use Rattle.fk_top.specs.Outcome.{stand_report, status_of}
 use Rattle.fk_top.specs.Report.{line_of}
 use Rattle.fk_top.specs.Call.{Call, HasCause, HasEnded}
+use Rattle.fk_top.proofs.Runs.{on_is_err, on_is_ok}
 use Rattle.fk_top.proofs.call.run_and_report.Goals as goal
 
 -- a machine's status has its cause
@@ -34,11 +35,15 @@ returns-then-is_err-clause-cause g c = λ request store same ends.
     let stand = c.in-Ok.ensures.stand ∙ ap (λ (l : Machine). l.stand) end in
     let begun = c.cycles.ensures ∙ ap (λ (l : Machine). l.begun) end in
     let report = c.stand_report-report.ensures ∙ ap (λ s. stand_report c.args.run.image c.args.run.bound s c.cycles.result) stand ∙ ap (stand_report c.args.run.image c.args.run.bound (after c.args.run.bound m).stand) begun in
+    let failed = sym c.is_err.ensures ∙ c.if-is_err.true in
     record {
       outcome = run_outcome c.args.run;
       cause = ends;
       cut = inr (inr (same, c.in-Ok.ensures.all,
-          record { rose = c.give_line.ensures.fault; prefix = subst (λ r. TakesPrefix _ _ (line_of r)) report c.give_line.ensures.prefix }));
+          record {
+            rose = on_is_err c.give_line.result _ failed c.give_line.ensures.fault;
+            prefix = subst (λ r. TakesPrefix (g.E.Sink.taken c.args.err.now) (g.E.Sink.taken c.give_line.new.err) (line_of r)) report (on_is_err c.give_line.result _ failed c.give_line.ensures.prefix);
+          }));
     }
 
 pub returns-clause-cause : goal.returns-clause-cause
@@ -55,5 +60,5 @@ returns-clause-cause g c = λ request store same ends.
       cause = ends;
       put = same;
       out_took = c.in-Ok.ensures.all;
-      err_took = c.give_line.ensures.all ∙ ap (λ r. append_known (g.E.Sink.taken c.args.err.now) (line_of r)) report;
+      err_took = on_is_ok c.give_line.result _ (sym c.is_err.ensures ∙ c.if-is_err.false) c.give_line.ensures.all ∙ ap (λ r. append_known (g.E.Sink.taken c.args.err.now) (line_of r)) report;
     }))
