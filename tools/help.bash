@@ -7,6 +7,7 @@ Usage:
   fork95 build FILE -o IMAGE                           compile to an image
   fork95 exec IMAGE --harts P --cycles N               run an image
   fork95 list IMAGE                                    print an image's code
+  fork95 trace FILE --harts P --cycles N               compile, run, and tell who does what when
   fork95 explain RULE|NAME                             explain a rule (1 to 40) or the name in a report
 
 P is 1 to 1024, N is 0 to 4294967295. Give no input by </dev/null.

@@ -16,7 +16,7 @@ use Rattle.fk_layout_globals.specs.Rows.{Row}
 use Rattle.fk_compile_text.specs.Text.{IsBuilt, IsChecked}
 use Rattle.fk_compile.specs.Faithful.{IsFaithful, words_by}
 use Rattle.fk_top_input.specs.Input.{input_of}
-use Rattle.fk_top_words.specs.Command.{Command, Run, Build, Exec, ListCode, Reads}
+use Rattle.fk_top_words.specs.Command.{Command, Run, Build, Exec, ListCode, Trace, Reads}
 use Rattle.fk_top.specs.declared.report.Report.TheVariants as reports
 use Rattle.fk_top.specs.declared.status.Status.{Status}
 use Rattle.fk_top.specs.declared.status.Status.TheVariants.{Done, Refused, Usage, ReadFault}
@@ -271,22 +271,28 @@ IsReadable (Run file harts cycles show) source = IsText source × (shown : Optio
 IsReadable (Build file image) source = IsText source
 IsReadable (Exec image harts cycles) bytes = IsImage bytes
 IsReadable (ListCode image) bytes = IsImage bytes
+IsReadable (Trace file harts cycles) source = IsText source
 
 -- The text has numbers, and no more than there may be beside this many globals.
 abbrev pub IsInputBeside : ℕ → List ℕ → Type 0
 IsInputBeside globals text = (numbers : List ℕ)
     × (input_of (most_numbers globals) text ≡ Ok numbers)
 
+-- The text has numbers beside the shared variables of a source.
+abbrev pub IsInputFor : List ℕ → List ℕ → Type 0
+IsInputFor source text =
+    (program : ProgramTree) × (facts : Facts) × IsChecked source program facts
+    × IsInputBeside (length (words_by program facts)) text
+
 -- The input of a command is in order, beside the shared variables of its text or beside the globals
 -- of its image.
 abbrev pub IsAccepted : Command → List ℕ → List ℕ → Type 0
-IsAccepted (Run file harts cycles show) source text =
-    (program : ProgramTree) × (facts : Facts) × IsChecked source program facts
-    × IsInputBeside (length (words_by program facts)) text
+IsAccepted (Run file harts cycles show) source text = IsInputFor source text
 IsAccepted (Build file image) source text = Unit {0}
 IsAccepted (Exec image harts cycles) bytes text =
     (read : Image) × IsImageOf bytes read × IsInputBeside (vec_len read.globals) text
 IsAccepted (ListCode image) bytes text = Unit {0}
+IsAccepted (Trace file harts cycles) source text = IsInputFor source text
 
 -- The status for the machine of an image on the numbers of a text.
 abbrev pub IsOfStand : Image → List ℕ → ℕ → ℕ → Status → Type 0
@@ -294,17 +300,23 @@ IsOfStand image text harts cycles status =
     (input : List ℕ) × (numbers_for image text ≡ Ok input)
     × (status ≡ status_of (machine image input harts cycles).stand)
 
+-- The status for the machine of an image of a source.
+abbrev pub IsOfSource : List ℕ → List ℕ → ℕ → ℕ → Status → Type 0
+IsOfSource source text harts cycles status =
+    (image : Image) × IsFaithful source image × IsOfStand image text harts cycles status
+
 -- The statuses where both are in order: Memory, that of the run of an image of the source or of the
 -- bytes, or Done.
 abbrev pub IsOfAccepted : Command → List ℕ → List ℕ → Status → Type 0
 IsOfAccepted (Run file harts cycles show) source text status =
-    (status ≡ Memory)
-    ⊎ ((image : Image) × IsFaithful source image × IsOfStand image text harts cycles status)
+    (status ≡ Memory) ⊎ IsOfSource source text harts cycles status
 IsOfAccepted (Build file image) source text status = (status ≡ Memory) ⊎ (status ≡ Done)
 IsOfAccepted (Exec image harts cycles) bytes text status =
     (status ≡ Memory)
     ⊎ ((read : Image) × IsImageOf bytes read × IsOfStand read text harts cycles status)
 IsOfAccepted (ListCode image) bytes text status = (status ≡ Memory) ⊎ (status ≡ Done)
+IsOfAccepted (Trace file harts cycles) source text status =
+    (status ≡ Memory) ⊎ IsOfSource source text harts cycles status
 
 -- The statuses where the file isn't in order.
 abbrev pub IsOfUnreadable : Command → Status → Type 0
@@ -312,6 +324,7 @@ IsOfUnreadable (Run file harts cycles show) status = (status ≡ Memory) ⊎ (st
 IsOfUnreadable (Build file image) status = (status ≡ Memory) ⊎ (status ≡ Refused)
 IsOfUnreadable (Exec image harts cycles) status = (status ≡ Memory) ⊎ (status ≡ ImageRefused)
 IsOfUnreadable (ListCode image) status = (status ≡ Memory) ⊎ (status ≡ ImageRefused)
+IsOfUnreadable (Trace file harts cycles) status = (status ≡ Memory) ⊎ (status ≡ Refused)
 
 -- The statuses where the file is in order and the input isn't.
 abbrev pub IsOfUnaccepted : Status → Type 0

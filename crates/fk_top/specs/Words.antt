@@ -2,12 +2,13 @@
 use Rattle.std.specs.Prelude.{◌+◌, ℕ, List}
 use Rattle.fk_num.specs.Limits.{most_text_bytes}
 use Rattle.fk_top_words.specs.Arguments.{Text}
-use Rattle.fk_top_words.specs.Command.{Command, Run, Build, Exec, ListCode, Reads}
+use Rattle.fk_top_words.specs.Command.{Command, Run, Build, Exec, ListCode, Trace, Reads}
 
 -- The command runs an image: that of a source, or one given by its bytes.
 abbrev pub Runs : Command → Type 0
 Runs (Run file harts cycles show) = Unit {0}
 Runs (Exec image harts cycles) = Unit {0}
+Runs (Trace file harts cycles) = Unit {0}
 Runs command = ⊥
 
 -- The words are a command that runs.
@@ -28,6 +29,7 @@ file_of (Run file harts cycles show) = file
 file_of (Build file image) = file
 file_of (Exec image harts cycles) = image
 file_of (ListCode image) = image
+file_of (Trace file harts cycles) = file
 
 -- The most bytes of its file that a command reads: one more than a source may have, or than an
 -- image can have.
@@ -36,6 +38,7 @@ most_bytes (Run file harts cycles show) = most_text_bytes + 1
 most_bytes (Build file image) = most_text_bytes + 1
 most_bytes (Exec image harts cycles) = 5434905
 most_bytes (ListCode image) = 5434905
+most_bytes (Trace file harts cycles) = most_text_bytes + 1
 
 -- The most bytes of the input that a command takes: one more than an input text may have if it
 -- runs, else none.
@@ -44,3 +47,4 @@ most_input (Run file harts cycles show) = most_text_bytes + 1
 most_input (Build file image) = 0
 most_input (Exec image harts cycles) = most_text_bytes + 1
 most_input (ListCode image) = 0
+most_input (Trace file harts cycles) = most_text_bytes + 1

@@ -15,7 +15,7 @@ pub fn file_of<'a>(command: CommandWords<'a>) -> &'a str
     ensures { result.now ≡ file_of (command_of command.entry) }
 {
     match command {
-        CommandWords::Run(run, _) | CommandWords::Exec(run) => run.file,
+        CommandWords::Run(run, _) | CommandWords::Exec(run) | CommandWords::Trace(run) => run.file,
         CommandWords::Build(file, _) => file,
         CommandWords::List(image) => image,
     }
@@ -26,7 +26,9 @@ pub fn most_bytes(command: CommandWords) -> usize
     ensures { result ≡ most_bytes (command_of command.entry) }
 {
     match command {
-        CommandWords::Run(_, _) | CommandWords::Build(_, _) => MOST_TEXT_BYTES + 1,
+        CommandWords::Run(_, _) | CommandWords::Build(_, _) | CommandWords::Trace(_) => {
+            MOST_TEXT_BYTES + 1
+        }
         CommandWords::Exec(_) | CommandWords::List(_) => IMAGE_LIMIT + 1,
     }
 }
@@ -36,7 +38,9 @@ pub fn most_input(command: CommandWords) -> usize
     ensures { result ≡ most_input (command_of command.entry) }
 {
     match command {
-        CommandWords::Run(_, _) | CommandWords::Exec(_) => MOST_TEXT_BYTES + 1,
+        CommandWords::Run(_, _) | CommandWords::Exec(_) | CommandWords::Trace(_) => {
+            MOST_TEXT_BYTES + 1
+        }
         CommandWords::Build(_, _) | CommandWords::List(_) => 0,
     }
 }

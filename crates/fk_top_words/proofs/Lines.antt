@@ -96,6 +96,9 @@ behind_exec words = behind (codes "exec") exec_parts (record { labelled = refl; 
 pub behind_list : (words : List Text) → Behind (codes "list") list_parts words
 behind_list words = behind (codes "list") list_parts (record { labelled = refl; entered = refl; no_help = refl }) words
 
+pub behind_trace : (words : List Text) → Behind (codes "trace") exec_parts words
+behind_trace words = behind (codes "trace") exec_parts (record { labelled = refl; entered = refl; no_help = refl }) words
+
 -- ---- other first words
 
 pub no_words : fault_of written_app [] ≡ [] → ⊥
@@ -108,17 +111,19 @@ pub data Named (word : Text) : Type 0 where
   is_build : word ≡ codes "build" → Named word
   is_exec : word ≡ codes "exec" → Named word
   is_list : word ≡ codes "list" → Named word
+  is_trace : word ≡ codes "trace" → Named word
   other : find (answers_to word) (names_of app) ≡ None → Named word
 
 pub named : (word : Text) → Named word
-named word = by (bytes_eq (codes "run") word) (bytes_eq (codes "build") word) (bytes_eq (codes "exec") word) (bytes_eq (codes "list") word) refl refl refl refl
+named word = by (bytes_eq (codes "run") word) (bytes_eq (codes "build") word) (bytes_eq (codes "exec") word) (bytes_eq (codes "list") word) (bytes_eq (codes "trace") word) refl refl refl refl refl
   where
-    by : (a b c d : Bool) → bytes_eq (codes "run") word ≡ a → bytes_eq (codes "build") word ≡ b → bytes_eq (codes "exec") word ≡ c → bytes_eq (codes "list") word ≡ d → Named word
-    by true b c d e f g h = is_run (sym (same_text (codes "run") word e))
-    by false true c d e f g h = is_build (sym (same_text (codes "build") word f))
-    by false false true d e f g h = is_exec (sym (same_text (codes "exec") word g))
-    by false false false true e f g h = is_list (sym (same_text (codes "list") word h))
-    by false false false false e f g h = other (rw (e, f, g, h) refl)
+    by : (a b c d t : Bool) → bytes_eq (codes "run") word ≡ a → bytes_eq (codes "build") word ≡ b → bytes_eq (codes "exec") word ≡ c → bytes_eq (codes "list") word ≡ d → bytes_eq (codes "trace") word ≡ t → Named word
+    by true b c d t e f g h i = is_run (sym (same_text (codes "run") word e))
+    by false true c d t e f g h i = is_build (sym (same_text (codes "build") word f))
+    by false false true d t e f g h i = is_exec (sym (same_text (codes "exec") word g))
+    by false false false true t e f g h i = is_list (sym (same_text (codes "list") word h))
+    by false false false false true e f g h i = is_trace (sym (same_text (codes "trace") word i))
+    by false false false false false e f g h i = other (rw (e, f, g, h, i) refl)
 
 module _ (word : Text) (words : List Text) (none : find (answers_to word) (names_of app) ≡ None) where
   turn_other : Form word → (word ≡ 45 ∷ 45 ∷ [] → ⊥) → turn_fault app.top (names_of app) (walk_from nothing_held) word ≡ [] → ⊥

@@ -37,7 +37,8 @@ abbrev pub app : App
 app = record {
   top = record written_top { is_leaf = false; is_built = true };
   subs = command (codes "run") run_parts ∷ command (codes "build") build_parts
-      ∷ command (codes "exec") exec_parts ∷ command (codes "list") list_parts ∷ [];
+      ∷ command (codes "exec") exec_parts ∷ command (codes "list") list_parts
+      ∷ command (codes "trace") exec_parts ∷ [];
 }
 
 pub built-written : built written_app ≡ app

@@ -6,13 +6,14 @@ use Rattle.fk_top_words.specs.declared.command.CommandWords.{CommandWords}
 use Rattle.fk_top_words.specs.declared.command.CommandWords.TheVariants as words
 
 -- The commands: compile a file and run it, and then show a variable, if one is named; compile a
--- file into an image; run an image; list an image's code. A run is by this many harts, for at most
--- this many cycles.
+-- file into an image; run an image; list an image's code; compile a file and trace its run. A run is
+-- by this many harts, for at most this many cycles.
 pub data Command : Type 0 where
   Run : (file : Text) (harts cycles : ℕ) (show : Option Text) → Command
   Build : (file image : Text) → Command
   Exec : (image : Text) (harts cycles : ℕ) → Command
   ListCode : (image : Text) → Command
+  Trace : (file : Text) (harts cycles : ℕ) → Command
 
 abbrev pub once_or_never : Option Text → List Text
 once_or_never None = []
@@ -48,6 +49,8 @@ ReadsBehind word words (Build file image) =
 ReadsBehind word words (Exec image harts cycles) = (word ≡ codes "exec")
     × ReadsRun words image harts cycles None
 ReadsBehind word words (ListCode image) = (word ≡ codes "list") × Gives words (only_file image)
+ReadsBehind word words (Trace file harts cycles) = (word ≡ codes "trace")
+    × ReadsRun words file harts cycles None
 
 -- The words of each command, those after the program's name.
 abbrev pub Reads : List Text → Command → Type 0
@@ -64,3 +67,4 @@ command_of (words.Run r show) = Run r.file.now r.harts r.cycles (option_map (λ 
 command_of (words.Build file image) = Build file.now image.now
 command_of (words.Exec r) = Exec r.file.now r.harts r.cycles
 command_of (words.List image) = ListCode image.now
+command_of (words.Trace r) = Trace r.file.now r.harts r.cycles

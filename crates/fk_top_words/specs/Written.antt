@@ -81,5 +81,6 @@ abbrev pub written_app : App
 written_app = record {
   top = record written_top { is_leaf = false };
   subs = written_command (codes "run") run_parts ∷ written_command (codes "build") build_parts
-      ∷ written_command (codes "exec") exec_parts ∷ written_command (codes "list") list_parts ∷ [];
+      ∷ written_command (codes "exec") exec_parts ∷ written_command (codes "list") list_parts
+      ∷ written_command (codes "trace") exec_parts ∷ [];
 }

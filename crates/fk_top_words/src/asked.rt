@@ -45,6 +45,7 @@ fn asked_for<'a>(given: &ArgMatches<'a>, name: &str) -> Option<CommandWords<'a>>
         "build" => Some(CommandWords::Build(file, text_of(given, "image")?)),
         "exec" => Some(CommandWords::Exec(asked_run(given, file)?)),
         "list" => Some(CommandWords::List(file)),
+        "trace" => Some(CommandWords::Trace(asked_run(given, file)?)),
         _ => None,
     }
 }

@@ -27,4 +27,7 @@ pub enum CommandWords<'a> {
     Exec(RunWords<'a>),
     /// `list IMAGE`: lists the code of an image.
     List(&'a str),
+    /// `trace FILE --harts P --cycles N`: compiles a source and runs it, and tells what the harts
+    /// commit in each cycle.
+    Trace(RunWords<'a>),
 }

@@ -115,5 +115,6 @@ pub(crate) fn commands<'a>(alloc: Global) -> Result<Command<'a>, AllocError>
     let sources = holding(Ok(program(alloc)), run(alloc));
     let sources = holding(sources, build(alloc));
     let images = holding(sources, running(alloc, "exec"));
-    holding(images, reading(alloc, "list"))
+    let images = holding(images, reading(alloc, "list"));
+    holding(images, running(alloc, "trace"))
 }
