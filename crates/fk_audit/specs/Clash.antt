@@ -1,6 +1,6 @@
 -- Words that harts share in a cycle, and the first of them in a run.
-use Rattle.std.specs.Prelude.{◌≡◌, ℕ, ◌+◌, ◌*◌, ◌<◌, ◌≤◌, ◌==◌, Bool, true, ◌&&◌, Option, Some, None}
-use Rattle.std.specs.Prelude.{count_by}
+use Rattle.std.specs.Prelude.{◌≡◌, ℕ, ◌+◌, ◌*◌, ◌<◌, ◌≤◌, ◌==◌, ◌&&◌, Bool, true, Option, Some}
+use Rattle.std.specs.Prelude.{None, count_by}
 use Rattle.fk_machine.specs.Cycle.{Machine, is_running}
 use Rattle.fk_machine.specs.Run.{after}
 use Rattle.fk_audit.specs.declared.access.AccessKind.{AccessKind}
