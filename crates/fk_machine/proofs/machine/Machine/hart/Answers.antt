@@ -13,5 +13,5 @@ returns c =
     let n = c.args.number in
     let len = harts_length 0 m.harts.items (local_of m.locals.items) in
     ap (λ states. slice_get states n) (harts_states 0 m.harts.items (local_of m.locals.items))
-    ∙ slice_get-map hart_of m.harts.items n
-    ∙ ap (option_map hart_of) (slice_get_read m.harts.items (length m.harts.items) n c.index.result.now refl (omega (arith, len, c.requires)) c.index.ensures)
+    ∙ slice_get-map (λ h. hart_of h.state) m.harts.items n
+    ∙ ap (option_map (λ h. hart_of h.state)) (slice_get_read m.harts.items (length m.harts.items) n c.index.result.now refl (omega (arith, len, c.requires)) c.index.ensures)
