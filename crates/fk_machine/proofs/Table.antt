@@ -44,7 +44,7 @@ written-at table e a x aligned within = by (e == a) refl (a % 4 == 0) refl
         ∙ get_or-set_at table (e / 4) (a / 4) x None (ap (λ n. n / 4) (sym is)) within
 
     other : (e == a) ≡ false → (a % 4 == 0) ≡ true → a / 4 ≢ e / 4
-    other no here is = let there = eqb-true (a % 4) 0 here in let equal : e ≡ a = omega (arith, is, aligned, there) in let bad : true ≡ false = sym (eq-eqb e a equal) ∙ no in cc
+    other apart here is = let there = eqb-true (a % 4) 0 here in let equal : e ≡ a = omega (arith, is, aligned, there) in let bad : true ≡ false = sym (eq-eqb e a equal) ∙ apart in cc
 
     by : (b : Bool) → (e == a) ≡ b → (d : Bool) → (a % 4 == 0) ≡ d → entry_at (set table (e / 4) x) a ≡ (if b then x else entry_at table a)
     by true is d here = same (eqb-true e a is)

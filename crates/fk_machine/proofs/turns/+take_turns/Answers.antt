@@ -19,17 +19,17 @@ length-rest : {X : Type 0} (k : ℕ) (xs : List X) → length (take (length xs -
 length-rest k xs = length-take-le (length xs - k) (drop k xs) (omega (arith, length-drop k xs))
 
 -- what a hart notes when it begins its turn
-pub record Begins (old new : TrackedHart) : Type 0 where
-  pub same : new.state ≡ old.state
-  pub live : new.state.ended ≡ false → new.ran ≡ Some old.state.pc
+pub record Begins (state : Hart) (new : TrackedHart) : Type 0 where
+  pub same : new.state ≡ state
+  pub live : new.state.ended ≡ false → new.ran ≡ Some state.pc
   pub over : new.state.ended ≡ true → new.ran ≡ None
 
-begins : (old new : TrackedHart) → new ≡ record old { ran = address_of old.state } → Begins old new
-begins old new is =
+begins : (state : Hart) (new : TrackedHart) → new ≡ record { state = state; ran = address_of state } → Begins state new
+begins state new is =
     let same = ap (λ (h : TrackedHart). h.state) is in
     let ended = ap (λ (h : Hart). h.ended) same in
     let ran = ap (λ (h : TrackedHart). h.ran) is in
-    let by : Bool → Option ℕ = λ b. if b then None else Some old.state.pc in
+    let by : Bool → Option ℕ = λ b. if b then None else Some state.pc in
     record {
       same = same;
       live = λ e. ran ∙ ap by (sym ended ∙ e);
