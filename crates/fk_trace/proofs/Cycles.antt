@@ -10,20 +10,19 @@ use Rattle.fk_trace.proofs.Lines.{lines_from-next}
 -- as many cycles were begun as have their commits told
 pub begun-length : (m : Machine) (n : ℕ) → (after n m).begun ≡ m.begun + length (committed_in n m)
 begun-length m zero = let e : m.begun ≡ m.begun + zero = omega arith in e
-begun-length m (suc n) = by (is_running (after n m).stand) refl
+begun-length m (suc n) = by (is_running (after n m).stand) refl (begun-length m n)
   where
-    by : (b : Bool) → is_running (after n m).stand ≡ b → (after (suc n) m).begun ≡ m.begun + length (committed_in (suc n) m)
-    by true e =
-        let before = begun-length m n in
+    by : (b : Bool) → is_running (after n m).stand ≡ b → (after n m).begun ≡ m.begun + length (committed_in n m) → (after (suc n) m).begun ≡ m.begun + length (committed_in (suc n) m)
+    by true e before =
         let one = length-append (committed_in n m) (committed (after (suc n) m) ∷ []) in
         let more = ap length (committed_in-next m n e) in
         let begun : (after (suc n) m).begun ≡ (after n m).begun + 1 = rw e refl in
         omega (arith, before, one, more, begun)
-    by false e =
+    by false e before =
         let le : n ≤ suc n = omega arith in
         let same = ap length (committed_in-stopped m n (suc n) le e) in
         let begun : (after (suc n) m).begun ≡ (after n m).begun = rw e refl in
-        omega (arith, begun-length m n, same, begun)
+        omega (arith, before, same, begun)
 
 -- one more cycle has its lines
 pub lines_in-next : (m : Machine) (n : ℕ) → is_running (after n m).stand ≡ true

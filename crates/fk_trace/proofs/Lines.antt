@@ -17,7 +17,7 @@ not_zero End zero none = refl
 not_zero Resume zero none = refl
 not_zero Meet zero none = refl
 not_zero Agree zero none = refl
-not_zero event (suc n) none = absurd (cc)
+not_zero event (suc n) none = let bad : true ≡ false = none in cc
 
 shown_no : (event : Event) (commit : Commit) → not (event_of commit == 0) ≡ false → shows (Of event) (number_in (Of event) commit) ≡ false
 shown_no event None none = not_zero event 0 refl
@@ -25,11 +25,11 @@ shown_no event (Some commit) none = not_zero event commit.1 none
 
 no_event : (event : Event) (commits : Commits) → has_event commits ≡ false → occurs (Of event) commits ≡ false
 no_event event [] none = refl
-no_event event (c ∷ cs) none = by (not (event_of c == 0)) refl
+no_event event (c ∷ cs) none = by (not (event_of c == 0)) refl (no_event event cs)
   where
-    by : (b : Bool) → not (event_of c == 0) ≡ b → occurs (Of event) (c ∷ cs) ≡ false
-    by true e = absurd (let bad = rw e at none in cc)
-    by false e = rw (shown_no event c e) (no_event event cs (rw e at none))
+    by : (b : Bool) → not (event_of c == 0) ≡ b → (has_event cs ≡ false → occurs (Of event) cs ≡ false) → occurs (Of event) (c ∷ cs) ≡ false
+    by true e rest = let bad : true ≡ false = rw e at none in cc
+    by false e rest = rw (shown_no event c e) (rest (rw e at none))
 
 no_lines : (cycle : ℕ) (commits : Commits) (events : List Event) → has_event commits ≡ false → event_lines cycle commits events ≡ []
 no_lines cycle commits [] none = refl

@@ -1,5 +1,5 @@
 -- The longest ranges, taken from the first hart on.
-use Rattle.std.proofs.Common.{◌≡◌, ◌≢◌, ℕ, zero, suc, ◌+◌, ◌-◌, ◌≤◌, List, [], ◌∷◌, ◌++◌, Bool, true, false, refl, sym, ap, ◌∙◌, arith, append_assoc, append-nil}
+use Rattle.std.proofs.Common.{◌≡◌, ◌≢◌, ℕ, zero, suc, ◌+◌, ◌-◌, ◌≤◌, List, [], ◌∷◌, ◌++◌, Bool, true, false, refl, sym, ap, ◌∙◌, arith, append-nil, eq-eqb}
 use Rattle.std.specs.Prelude.{◌==◌, if◌then◌else◌, flat_map, replicate}
 use Rattle.std.proofs.lemmas.Bool.{eqb-true}
 use Rattle.fk_trace.specs.declared.column.Column.{Column}
@@ -44,8 +44,7 @@ joined-apart hart number r rs other = by (r.number == number) refl
     by false e = ap (λ b. if b then record r { first = hart } ∷ rs else single hart number ∷ r ∷ rs) e
 
 same-number : (n : ℕ) → (n == n) ≡ true
-same-number zero = refl
-same-number (suc n) = same-number n
+same-number n = eq-eqb n n refl
 
 joined-same : (hart number : ℕ) (first last : ℕ) (rs : List Range)
     → joined hart number (record { first = first; last = last; number = number } ∷ rs) ≡ record { first = hart; last = last; number = number } ∷ rs

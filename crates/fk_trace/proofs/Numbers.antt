@@ -11,7 +11,12 @@ pub numbers_from : (column : Column) (commits : Commits) (hart : ℕ) → hart <
     → drop hart (numbers_of column commits) ≡ number_in column (slice_index_or commits hart None) ∷ drop (hart + 1) (numbers_of column commits)
 numbers_from column [] hart lt = absurd (omega (arith, lt))
 numbers_from column (c ∷ cs) zero lt = refl
-numbers_from column (c ∷ cs) (suc hart) lt = numbers_from column cs hart (omega (arith, lt))
+numbers_from column (c ∷ cs) (suc hart) lt =
+    let next : hart + 1 ≡ suc hart = omega arith in
+    let whole : suc hart + 1 ≡ suc (suc hart) = omega arith in
+    numbers_from column cs hart (omega (arith, lt))
+    ∙ ap (λ k. number_in column (slice_index_or cs hart None) ∷ drop k (numbers_of column cs)) next
+    ∙ ap (λ k. number_in column (slice_index_or cs hart None) ∷ drop k (numbers_of column (c ∷ cs))) (sym whole)
 
 -- behind the last hart there are none
 pub numbers_end : (column : Column) (commits : Commits) (hart : ℕ) → length commits ≤ hart → drop hart (numbers_of column commits) ≡ []
@@ -25,20 +30,21 @@ pub none_yet : (test : Commit → Bool) (commits : Commits) (hart : ℕ) → har
     → test (slice_index_or commits hart None) ≡ false → list_any test (take (hart + 1) commits) ≡ false
 none_yet test [] hart lt before here = absurd (omega (arith, lt))
 none_yet test (c ∷ cs) zero lt before here = rw here refl
-none_yet test (c ∷ cs) (suc hart) lt before here = by (test c) refl
+none_yet test (c ∷ cs) (suc hart) lt before here = by (test c) refl (none_yet test cs hart (omega (arith, lt)))
   where
-    by : (b : Bool) → test c ≡ b → list_any test (take (suc hart + 1) (c ∷ cs)) ≡ false
-    by true e = absurd (let bad = rw e at before in cc)
-    by false e = rw e (none_yet test cs hart (omega (arith, lt)) (rw e at before) here)
+    by : (b : Bool) → test c ≡ b → (list_any test (take hart cs) ≡ false → test (slice_index_or cs hart None) ≡ false → list_any test (take (hart + 1) cs) ≡ false)
+        → list_any test (take (suc hart + 1) (c ∷ cs)) ≡ false
+    by true e rest = let bad : true ≡ false = rw e at before in cc
+    by false e rest = rw e (rest (rw e at before) here)
 
 pub some_here : (test : Commit → Bool) (commits : Commits) (hart : ℕ) → hart < length commits → test (slice_index_or commits hart None) ≡ true → list_any test commits ≡ true
 some_here test [] hart lt here = absurd (omega (arith, lt))
 some_here test (c ∷ cs) zero lt here = rw here refl
-some_here test (c ∷ cs) (suc hart) lt here = by (test c) refl
+some_here test (c ∷ cs) (suc hart) lt here = by (test c) refl (some_here test cs hart (omega (arith, lt)) here)
   where
-    by : (b : Bool) → test c ≡ b → list_any test (c ∷ cs) ≡ true
-    by true e = rw e refl
-    by false e = rw e (some_here test cs hart (omega (arith, lt)) here)
+    by : (b : Bool) → test c ≡ b → list_any test cs ≡ true → list_any test (c ∷ cs) ≡ true
+    by true e rest = rw e refl
+    by false e rest = rw e rest
 
 take-whole : {X : Type 0} (xs : List X) (n : ℕ) → length xs ≤ n → take n xs ≡ xs
 take-whole [] zero le = refl

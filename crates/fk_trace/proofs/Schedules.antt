@@ -14,11 +14,11 @@ use Rattle.fk_trace.specs.Text.{number_in}
 -- the count of an address in a table
 count_there : (entries : List (ℕ × ℕ)) (pc : ℕ) → number_in Counts (commits_of entries pc) ≡ count_in entries pc
 count_there [] pc = refl
-count_there (entry ∷ entries) pc = by (entry.0 == pc) refl
+count_there (entry ∷ entries) pc = by (entry.0 == pc) refl (count_there entries pc)
   where
-    by : (b : Bool) → (entry.0 == pc) ≡ b → number_in Counts (commits_of (entry ∷ entries) pc) ≡ count_in (entry ∷ entries) pc
-    by true e = rw e refl
-    by false e = rw e (count_there entries pc)
+    by : (b : Bool) → (entry.0 == pc) ≡ b → number_in Counts (commits_of entries pc) ≡ count_in entries pc → number_in Counts (commits_of (entry ∷ entries) pc) ≡ count_in (entry ∷ entries) pc
+    by true e rest = rw e refl
+    by false e rest = rw e rest
 
 count_ran : (image : Image) (commits : Commits) (pc : Option ℕ) → commits ≡ commits_of image.commits.items → number_in Counts (commit_at commits pc) ≡ count_of image pc
 count_ran image commits None same = refl
@@ -31,11 +31,11 @@ counts_ran image commits (pc ∷ ran) same = ap₂ (λ n ns. n ∷ ns) (count_ra
 -- cycles keep the commits of the code
 keeps-commits : (m : Machine) (n : ℕ) → (after n m).commits ≡ m.commits
 keeps-commits m zero = refl
-keeps-commits m (suc n) = by (is_running (after n m).stand) refl
+keeps-commits m (suc n) = by (is_running (after n m).stand) refl (keeps-commits m n)
   where
-    by : (b : Bool) → is_running (after n m).stand ≡ b → (after (suc n) m).commits ≡ m.commits
-    by true e = rw e (keeps-commits m n)
-    by false e = rw e (keeps-commits m n)
+    by : (b : Bool) → is_running (after n m).stand ≡ b → (after n m).commits ≡ m.commits → (after (suc n) m).commits ≡ m.commits
+    by true e before = rw e before
+    by false e before = rw e before
 
 -- one more cycle is one more round
 module _ (image : Image) (input : List ℕ) (p n : ℕ) where

@@ -9,7 +9,7 @@ pub loop-hart-preserved : goal.loop-hart-preserved
 loop-hart-preserved c =
     let column = c.args.column in
     let test : Commit → Bool = λ commit. shows column (number_in column commit) in
-    let lt = omega (arith, c.harts.ensures.committed, c.loop-hart-test.true) in
+    let lt = omega (arith, c.harts-hart-end.ensures.committed, c.loop-hart-test.true) in
     let here = sym (c.shows.ensures ∙ ap (shows column) (c.number_in.ensures ∙ ap (number_in column) c.committed.ensures)) ∙ c.if-shows.false in
     none_yet test (committed (machine_of c.args.machine.now)) c.loop-hart.hart lt c.loop-hart.invariant here
 
@@ -17,7 +17,7 @@ pub returns-then-shows : goal.returns-then-shows
 returns-then-shows c =
     let column = c.args.column in
     let test : Commit → Bool = λ commit. shows column (number_in column commit) in
-    let lt = omega (arith, c.harts.ensures.committed, c.loop-hart-test.true) in
+    let lt = omega (arith, c.harts-hart-end.ensures.committed, c.loop-hart-test.true) in
     let here = sym (c.shows.ensures ∙ ap (shows column) (c.number_in.ensures ∙ ap (number_in column) c.committed.ensures)) ∙ c.if-shows.true in
     sym (some_here test (committed (machine_of c.args.machine.now)) c.loop-hart.hart lt here)
 
@@ -26,4 +26,4 @@ returns c =
     let column = c.args.column in
     let test : Commit → Bool = λ commit. shows column (number_in column commit) in
     let commits = committed (machine_of c.args.machine.now) in
-    sym (none_at_all test commits c.loop-hart.hart (omega (arith, c.harts.ensures.committed, c.loop-hart-test.false)) c.loop-hart.invariant)
+    sym (none_at_all test commits c.loop-hart.hart (omega (arith, c.harts-hart-end.ensures.committed, c.loop-hart-test.false)) c.loop-hart.invariant)

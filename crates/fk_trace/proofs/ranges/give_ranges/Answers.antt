@@ -16,7 +16,7 @@ loop-hart-init g c =
     let commits = committed (machine_of c.args.machine.now) in
     let numbers = numbers_of column commits in
     let before = g.K.Sink.taken c.args.out.now in
-    let some : 0 < length commits = omega (arith, c.harts.ensures.committed, c.harts.ensures.some) in
+    let some : 0 < length commits = omega (arith, c.harts-hart-end.ensures.committed, c.harts-hart-end.ensures.some) in
     let first = c.number_in.ensures ∙ ap (number_in column) c.committed.ensures in
     record {
       last = refl;
@@ -33,7 +33,7 @@ loop-hart-preserved g c =
     let commits = committed (machine_of c.args.machine.now) in
     let numbers = numbers_of column commits in
     let hart = c.loop-hart.hart in
-    let lt : hart < length commits = omega (arith, c.harts.ensures.committed, c.loop-hart-test.true) in
+    let lt : hart < length commits = omega (arith, c.harts-hart-end.ensures.committed, c.loop-hart-test.true) in
     let next = c.number_in-2.ensures ∙ ap (number_in column) c.committed-2.ensures in
     let now = g.K.Sink.taken c.loop-hart.out in
     let so_far = subst (λ above. IsGiven (ranges_text column 0 numbers) (text_from column c.loop-hart.range above) (g.K.Sink.taken c.args.out.now) now)
@@ -50,7 +50,7 @@ returns-in_err-go_on-clause-prefix g c =
     let commits = committed (machine_of c.args.machine.now) in
     let numbers = numbers_of column commits in
     let hart = c.loop-hart.hart in
-    let lt : hart < length commits = omega (arith, c.harts.ensures.committed, c.loop-hart-test.true) in
+    let lt : hart < length commits = omega (arith, c.harts-hart-end.ensures.committed, c.loop-hart-test.true) in
     let next = c.number_in-2.ensures ∙ ap (number_in column) c.committed-2.ensures in
     let so_far = subst (λ above. IsGiven (ranges_text column 0 numbers) (text_from column c.loop-hart.range above) (g.K.Sink.taken c.args.out.now) (g.K.Sink.taken c.loop-hart.out))
     (numbers_from column commits hart lt ∙ ap (λ n. n ∷ drop (hart + 1) numbers) (sym next)) c.loop-hart.invariant.given in
@@ -64,7 +64,7 @@ returns-clause-all g c =
     let numbers = numbers_of column commits in
     let before = g.K.Sink.taken c.args.out.now in
     let r = c.loop-hart.range in
-    let past : length commits ≤ c.loop-hart.hart = omega (arith, c.harts.ensures.committed, c.loop-hart-test.false) in
+    let past : length commits ≤ c.loop-hart.hart = omega (arith, c.harts-hart-end.ensures.committed, c.loop-hart-test.false) in
     let last = subst (λ text. IsGiven (ranges_text column 0 numbers) text before (g.K.Sink.taken c.loop-hart.out))
     (ap (text_from column r) (numbers_end column commits c.loop-hart.hart past) ∙ last_range column r r.ordered ∙ sym (append-nil (range_text column (range_of r)))) c.loop-hart.invariant.given in
     ok_then c.give_range.result _ _ (λ all. all_given (ranges_text column 0 numbers) [] before _ refl (piece_given (ranges_text column 0 numbers) (range_text column (range_of r)) [] before _ _ last all)) c.give_range.ensures.all
@@ -76,7 +76,7 @@ returns-clause-prefix g c =
     let numbers = numbers_of column commits in
     let before = g.K.Sink.taken c.args.out.now in
     let r = c.loop-hart.range in
-    let past : length commits ≤ c.loop-hart.hart = omega (arith, c.harts.ensures.committed, c.loop-hart-test.false) in
+    let past : length commits ≤ c.loop-hart.hart = omega (arith, c.harts-hart-end.ensures.committed, c.loop-hart-test.false) in
     let last = subst (λ text. IsGiven (ranges_text column 0 numbers) text before (g.K.Sink.taken c.loop-hart.out))
     (ap (text_from column r) (numbers_end column commits c.loop-hart.hart past) ∙ last_range column r r.ordered ∙ sym (append-nil (range_text column (range_of r)))) c.loop-hart.invariant.given in
     err_then c.give_range.result _ _ (part_of_given (ranges_text column 0 numbers) (range_text column (range_of r)) [] before _ _ last) c.give_range.ensures.prefix

@@ -10,13 +10,13 @@ use Rattle.fk_trace.proofs.ranges.go_on.Goals as goal
 pub returns-then-eq-clause-given : goal.returns-then-eq-clause-given
 returns-then-eq-clause-given g c = λ bytes rest before given.
     subst (λ text. IsGiven bytes text before (g.K.Sink.taken c.args.out.now))
-    (grows c.args.column c.args.range _ c.args.number rest c.args.range.ordered c.if-eq.true refl refl refl) given
+    (grows c.args.column c.args.range _ c.args.number rest c.args.range.ordered c.if-number-range.true refl refl refl) given
 
 pub returns-in_err-give_range-clause-prefix : goal.returns-in_err-give_range-clause-prefix
 returns-in_err-give_range-clause-prefix g c = λ bytes rest before given.
     let r = c.args.range in
     let parts = subst (λ text. IsGiven bytes text before (g.K.Sink.taken c.args.out.now))
-    (ends c.args.column r (c.args.number ∷ rest) r.ordered c.if-eq.false) given in
+    (ends c.args.column r (c.args.number ∷ rest) r.ordered c.if-number-range.false) given in
     on_err c.from_residual.result _
     (part_of_given bytes (range_text c.args.column (range_of r)) _ before _ _ parts c.in_err-give_range.ensures.prefix)
 
@@ -24,7 +24,7 @@ pub returns-in_ok-give_range-clause-given : goal.returns-in_ok-give_range-clause
 returns-in_ok-give_range-clause-given g c = λ bytes rest before given.
     let r = c.args.range in
     let parts = subst (λ text. IsGiven bytes text before (g.K.Sink.taken c.args.out.now))
-    (ends c.args.column r (c.args.number ∷ rest) r.ordered c.if-eq.false) given in
+    (ends c.args.column r (c.args.number ∷ rest) r.ordered c.if-number-range.false) given in
     let after = piece_given bytes (range_text c.args.column (range_of r)) _ before _ _ parts c.in_ok-give_range.ensures.all in
     subst (λ text. IsGiven bytes text before (g.K.Sink.taken c.give_range.new.out))
     (ap (λ h. ranges_text c.args.column h (c.args.number ∷ rest)) (omega arith) ∙ begins c.args.column _ rest refl) after
