@@ -41,7 +41,7 @@ loop-hart-preserved g c =
     (numbers_from column commits hart lt ∙ ap (λ n. n ∷ drop (hart + 1) numbers) (sym next)) c.loop-hart.invariant.given in
     record {
       ordered = c.in_ok-range.ensures.ordered;
-      last = c.in_ok-range.ensures.next ∙ c.loop-hart.invariant.last;
+      last = ap (λ n. n + 1) (c.in_ok-range.ensures.next ∙ c.loop-hart.invariant.last);
       given = c.in_ok-range.ensures.given (ranges_text column 0 numbers) (drop (hart + 1) numbers) (g.K.Sink.taken c.args.out.now) so_far;
       steady = c.in_ok-range.ensures.steady ∙ c.loop-hart.invariant.steady;
     }

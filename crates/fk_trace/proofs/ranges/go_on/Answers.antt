@@ -1,4 +1,4 @@
-use Rattle.std.proofs.Common.{◌≡◌, ◌≢◌, ℕ, List, ◌∷◌, ◌++◌, Option, sym, ap, subst, ◌∙◌, refl, arith}
+use Rattle.std.proofs.Common.{◌≡◌, ◌≢◌, ℕ, suc, ◌+◌, List, ◌∷◌, ◌++◌, Option, sym, ap, subst, ◌∙◌, refl, arith}
 use Rattle.fk_ports.specs.Known.{IsGiven}
 use Rattle.fk_ports.proofs.Given.{piece_given, part_of_given}
 use Rattle.fk_ports.proofs.Pieces.{on_err}
@@ -25,6 +25,7 @@ returns-clause-given g c = λ bytes rest before given.
     let r = c.args.range in
     let parts = subst (λ text. IsGiven bytes text before (g.K.Sink.taken c.args.out.now))
     (ends c.args.column r (c.args.number ∷ rest) c.requires.ordered c.if-number-range.false) given in
+    let next : suc r.last ≡ r.last + 1 = omega arith in
     let after = piece_given bytes (range_text c.args.column (range_of r)) _ before _ _ parts c.in_ok-give_range.ensures.all in
     subst (λ text. IsGiven bytes text before (g.K.Sink.taken c.give_range.new.out))
-    (ap (λ h. ranges_text c.args.column h (c.args.number ∷ rest)) (omega arith) ∙ begins c.args.column _ rest refl) after
+    (ap (λ h. ranges_text c.args.column h (c.args.number ∷ rest)) next ∙ begins c.args.column _ rest refl) after

@@ -34,7 +34,8 @@ loop-left-preserved g c =
     let new = machine_of c.cycle.new.self in
     let sum : suc done ≡ c.args.cycles - (c.loop-left.left - 1) = omega (arith, so_far.few) in
     let ran : new ≡ after (suc done) start = c.cycle.ensures.cycle ∙ ap cycle so_far.ran in
-    let runs : is_running (after done start).stand ≡ true = ap (λ (l : Machine). is_running l.stand) (sym so_far.ran) ∙ ap is_running (sym c.stand.ensures ∙ c.loop-left-test.eq) in
+    let goes_on : (machine_of c.loop-left.machine).stand ≡ Running = search rules in
+    let runs : is_running (after done start).stand ≡ true = ap (λ (l : Machine). is_running l.stand) (sym so_far.ran) ∙ ap is_running goes_on in
     record {
       few = omega (arith, so_far.few);
       ran = ran ∙ ap (λ i. after i start) sum;
@@ -56,11 +57,12 @@ returns-in_err-give_lines-clause-early g c =
     let done = c.args.cycles - c.loop-left.left in
     let so_far = c.loop-left.invariant in
     let sum : suc done ≡ done + 1 = omega arith in
+    let goes_on : (machine_of c.loop-left.machine).stand ≡ Running = search rules in
     let early : StoppedInCycle c.args.cycles start (machine_of c.cycle.new.self) before (g.K.Sink.taken c.give_lines.new.out) =
     record {
       told = done;
       few = omega (arith, so_far.few);
-      running = ap (λ (l : Machine). is_running l.stand) (sym so_far.ran) ∙ ap is_running (sym c.stand.ensures ∙ c.loop-left-test.eq);
+      running = ap (λ (l : Machine). is_running l.stand) (sym so_far.ran) ∙ ap is_running goes_on;
       machine = c.cycle.ensures.cycle ∙ ap cycle so_far.ran ∙ ap (λ i. after i start) sum;
       taken =
           subst (λ known. TakesPrefix known (g.K.Sink.taken c.give_lines.new.out) (cycle_lines (machine_of c.cycle.new.self).begun (committed (machine_of c.cycle.new.self))))
