@@ -7,7 +7,7 @@ use Rattle.fk_machine.specs.Step.{state_of}
 use Rattle.fk_machine.specs.View.{machine_of}
 use Rattle.fk_audit.specs.declared.touch.Touch.{Touch}
 use Rattle.fk_audit.specs.Touch.{with_touch}
-use Rattle.fk_audit.specs.Mark.{next_touch, next_touches}
+use Rattle.fk_audit.specs.Mark.{next_touches}
 use Rattle.fk_audit.proofs.Touched.{next_more, some_hart}
 use Rattle.fk_audit.proofs.touch.collect.Goals as goal
 use Rattle.fk_audit.proofs.touch.collect.Goals.{in-Some, in_default}

@@ -1,4 +1,4 @@
-use Rattle.std.proofs.Common.{◌≡◌, map, Some, None, sym, ap, refl, ◌∙◌, rules}
+use Rattle.std.proofs.Common.{◌≡◌, map, Some, None, ap, refl, ◌∙◌, rules}
 use Rattle.fk_isa.specs.Step.{HartState, hart_of}
 use Rattle.fk_machine.specs.Step.{state_of}
 use Rattle.fk_machine.specs.View.{machine_of}
@@ -12,8 +12,8 @@ returns-in_err-instruction-clause-touch c =
     let m = machine_of c.args.machine.now in
     let h = hart_of c.hart-hart.result.now in
     let n = c.args.number in
-    let none : c.from_residual-in_err-instruction.result ≡ None = search rules in
-    of_hart (map state_of m.harts) n h (λ (x : HartState). c.from_residual-in_err-instruction.result ≡ next_touch m.code n x) c.hart-hart.ensures
+    let none : c.from_residual.result ≡ None = search rules in
+    of_hart (map state_of m.harts) n h (λ (x : HartState). c.from_residual.result ≡ next_touch m.code n x) c.hart-hart.ensures
     (none ∙ live_touch m.code n h None None c.if-hart.false c.in_err-instruction.ensures.instruction refl)
 
 pub returns-in_err-access-clause-touch : goal.returns-in_err-access-clause-touch
