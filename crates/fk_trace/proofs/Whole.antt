@@ -1,9 +1,9 @@
 -- The parts of a whole trace.
-use Rattle.std.proofs.Common.{◌≡◌, ℕ, suc, ◌+◌, ◌-◌, ◌≤◌, List, [], ◌∷◌, ◌++◌, Option, Bool, true, false, length, sym, ap, subst, ◌∙◌, arith, append_assoc}
+use Rattle.std.proofs.Common.{◌≡◌, ℕ, suc, ◌+◌, ◌≤◌, List, ◌++◌, Option, length, sym, ap, subst, ◌∙◌, arith, append_assoc}
 use Rattle.std.specs.Io.KnownBytes.{append_known}
 use Rattle.fk_ports.specs.Known.{TakesPrefix}
 use Rattle.fk_ports.proofs.Given.{append_known-append, TakesPrefix-longer, TakesPrefix-after}
-use Rattle.fk_machine.specs.Cycle.{Machine, is_running}
+use Rattle.fk_machine.specs.Cycle.{Machine}
 use Rattle.fk_machine.specs.Run.{after, committed, committed_in}
 use Rattle.fk_trace.specs.Text.{cycle_lines, first_lines, last_line, lines_from}
 use Rattle.fk_trace.specs.Early.{StoppedInCycle, lines_in, trace_of}

@@ -1,9 +1,9 @@
-use Rattle.std.proofs.Common.{◌≡◌, ℕ, List, [], ◌∷◌, ◌++◌, Option, codes, sym, ap, subst, ◌∙◌, refl, not, true, false, append_assoc}
+use Rattle.std.proofs.Common.{◌≡◌, ℕ, List, [], ◌∷◌, ◌++◌, Option, sym, ap, subst, ◌∙◌, refl, true, append_assoc}
 use Rattle.std.specs.Prelude.{if◌then◌else◌}
 use Rattle.std.specs.Io.KnownBytes.{append_known}
 use Rattle.fk_ports.specs.Known.{IsGiven, TakesPrefix}
 use Rattle.fk_ports.proofs.Given.{append_known-nil, all_given, none_given, part_of_given, piece_given}
-use Rattle.fk_ports.proofs.Pieces.{on_err, err_then, ok_then, part_of_same}
+use Rattle.fk_ports.proofs.Pieces.{on_err, err_then, ok_then}
 use Rattle.fk_machine.specs.Cycle.{Machine}
 use Rattle.fk_machine.specs.Run.{committed}
 use Rattle.fk_machine.specs.View.{machine_of}

@@ -1,4 +1,4 @@
-use Rattle.std.proofs.Common.{◌≡◌, Bool, ◌<◌, ◌≤◌, length, sym, ap, ◌∙◌, arith}
+use Rattle.std.proofs.Common.{Bool, ◌<◌, length, sym, ap, ◌∙◌, arith}
 use Rattle.fk_machine.specs.Run.{committed}
 use Rattle.fk_machine.specs.View.{machine_of}
 use Rattle.fk_trace.specs.Text.{Commit, number_in, shows}

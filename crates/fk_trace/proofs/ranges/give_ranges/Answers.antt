@@ -1,4 +1,4 @@
-use Rattle.std.proofs.Common.{◌≡◌, ◌+◌, ◌<◌, ◌≤◌, [], ◌∷◌, append-nil, length, drop, sym, ap, subst, ◌∙◌, refl, arith}
+use Rattle.std.proofs.Common.{◌+◌, ◌<◌, ◌≤◌, [], ◌∷◌, append-nil, length, drop, sym, ap, subst, ◌∙◌, refl, arith}
 use Rattle.fk_ports.specs.Known.{IsGiven}
 use Rattle.fk_ports.proofs.Given.{all_given, none_given, part_of_given, piece_given}
 use Rattle.fk_ports.proofs.Pieces.{on_err, err_then, ok_then}

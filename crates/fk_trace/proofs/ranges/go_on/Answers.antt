@@ -1,9 +1,9 @@
-use Rattle.std.proofs.Common.{◌≡◌, ◌≢◌, ℕ, suc, ◌+◌, List, ◌∷◌, ◌++◌, Option, sym, ap, subst, ◌∙◌, refl, arith}
+use Rattle.std.proofs.Common.{◌≡◌, suc, ◌+◌, ◌∷◌, ap, subst, ◌∙◌, refl, arith}
 use Rattle.fk_ports.specs.Known.{IsGiven}
 use Rattle.fk_ports.proofs.Given.{piece_given, part_of_given}
 use Rattle.fk_ports.proofs.Pieces.{on_err}
 use Rattle.fk_trace.specs.Text.{range_text, ranges_text}
-use Rattle.fk_trace.specs.Ranges.{range_of, text_from}
+use Rattle.fk_trace.specs.Ranges.{range_of}
 use Rattle.fk_trace.proofs.Longest.{begins, ends, grows}
 use Rattle.fk_trace.proofs.ranges.go_on.Goals as goal
 

@@ -1,6 +1,5 @@
-use Rattle.std.proofs.Common.{◌≡◌, ℕ, List, [], ◌++◌, Option, Some, sym, ap, subst, ◌∙◌}
+use Rattle.std.proofs.Common.{◌≡◌, ℕ, List, [], ◌++◌, Some, ap, ◌∙◌}
 use Rattle.std.specs.Io.KnownBytes.{append_known}
-use Rattle.fk_ports.specs.Known.{TakesPrefix}
 use Rattle.fk_ports.proofs.Pieces.{told, err_then, part_of_same}
 use Rattle.fk_machine.specs.Run.{committed}
 use Rattle.fk_machine.specs.View.{machine_of}
