@@ -14,7 +14,7 @@ use Rattle.fk_elf.specs.Files.{IsElfOf}
 use Rattle.fk_top_input.specs.declared.fault.InputFault.{InputFault}
 use Rattle.fk_top_input.specs.Input.{input_of}
 use Rattle.fk_top_words.specs.Arguments.{Text}
-use Rattle.fk_top_words.specs.Command.{Command, Run, Build, Exec, ListCode, Elf, Unelf, Audit}
+use Rattle.fk_top_words.specs.Command.{Command, Run, Build, Exec, ListCode, Elf, Unelf, Audit, Trace}
 use Rattle.fk_top_words.proofs.OneCommand.{one_command}
 use Rattle.fk_layout_globals.specs.Rows.{Row}
 use Rattle.fk_compile_text.specs.Text.{IsChecked, HasGlobal}
@@ -22,7 +22,7 @@ use Rattle.fk_compile.specs.Faithful.{IsFaithful, words_by}
 use Rattle.fk_top.specs.declared.status.Status.{Status}
 use Rattle.fk_top.specs.declared.status.Status.TheVariants.{Done, Refused, Usage, ReadFault, WriteFault, Memory, SourceFault, CycleBound, Trap, ImageRefused, InputRefused, ElfRefused}
 use Rattle.fk_top.specs.Words.{Runs, Puts, IsPut, file_of, most_bytes, most_input}
-use Rattle.fk_top.specs.Outcome.{Outcome, EndsOn, EndsAudit, ComesTo, RefusesSource, RefusesImage, RefusesElf, LacksGlobal, IsShown, most_numbers}
+use Rattle.fk_top.specs.Outcome.{Outcome, Writing, Prints, Traces, EndsOn, EndsAudit, ComesTo, RefusesSource, RefusesImage, RefusesElf, LacksGlobal, IsShown, most_numbers}
 use Rattle.fk_top.specs.Refused.{IsRefusedBy, IsNoElfAs, IsNoImageAs}
 use Rattle.fk_top.specs.Call.{Call, Request, Ends, IsUnread, IsFileUnread, IsInputUnread, IsCut, IsOutOfMemory, HasEnded, HasCause, IsInOrder, IsReadable, IsAccepted, IsInputBeside, IsOfStand, IsOfAccepted, IsOfUnreadable, IsOfUnaccepted, IsText, IsImage, IsElf, AreCut}
 use Rattle.fk_top.proofs.Lost.{no_more, moved, few_input}
@@ -63,6 +63,7 @@ taken (ListCode f) text = []
 taken (Elf i f) text = []
 taken (Unelf f i) text = []
 taken (Audit f p n) text = take 1048577 text
+taken (Trace f p n) text = take 1048577 text
 
 no_bytes : (bytes : List ℕ) → length bytes ≤ 0 → bytes ≡ []
 no_bytes [] le = refl
@@ -80,6 +81,7 @@ taken_is request (ListCode f) text got told moves = moves.appended ∙ no_bytes 
 taken_is request (Elf i f) text got told moves = moves.appended ∙ no_bytes moves.bytes moves.few
 taken_is request (Unelf f i) text got told moves = moves.appended ∙ no_bytes moves.bytes moves.few
 taken_is request (Audit f p n) text got told moves = first_of_told _ _ text got 1048577 (told tt) moves
+taken_is request (Trace f p n) text got told moves = first_of_told _ _ text got 1048577 (told tt) moves
 
 -- what a command comes to over the first bytes of its file and of the input
 abbrev pub ComesToFirst : Command → List ℕ → List ℕ → Outcome → Type 0
@@ -103,9 +105,9 @@ nothing_put : (outcome other : Outcome) → outcome ≡ other → other.put ≡ 
 nothing_put outcome other is none some = let e = ap (λ (o : Outcome). o.put) is ∙ none in cc
 
 -- only some commands put
-no_put_run : (image : Image) (text : List ℕ) (p n : ℕ) (shown : Option Row) (outcome : Outcome) → EndsOn image text p n shown outcome → IsSome outcome.put → ⊥
-no_put_run image text p n shown outcome (inl r) some = nothing_put outcome _ r.is refl some
-no_put_run image text p n shown outcome (inr r) some = nothing_put outcome _ r.is refl some
+no_put_run : (image : Image) (text : List ℕ) (p n : ℕ) (writing : Writing) (outcome : Outcome) → EndsOn image text p n writing outcome → IsSome outcome.put → ⊥
+no_put_run image text p n writing outcome (inl r) some = nothing_put outcome _ r.is refl some
+no_put_run image text p n writing outcome (inr r) some = nothing_put outcome _ r.is refl some
 
 no_put_audit : (image : Image) (text : List ℕ) (p n : ℕ) (outcome : Outcome) → EndsAudit image text p n outcome → IsSome outcome.put → ⊥
 no_put_audit image text p n outcome (inl r) some = nothing_put outcome _ r.is refl some
@@ -114,16 +116,18 @@ no_put_audit image text p n outcome (inr r) some = nothing_put outcome _ r.is re
 put_by : (command : Command) (bytes text : List ℕ) (outcome : Outcome) → ComesTo command bytes text outcome → IsSome outcome.put → Puts command
 put_by (Run f p n s) bytes text outcome (inl r) some = nothing_put outcome _ r.is refl some
 put_by (Run f p n s) bytes text outcome (inr (inl r)) some = nothing_put outcome _ r.is refl some
-put_by (Run f p n s) bytes text outcome (inr (inr r)) some = no_put_run r.image text p n r.shown outcome r.ends some
+put_by (Run f p n s) bytes text outcome (inr (inr r)) some = no_put_run r.image text p n (Prints r.shown) outcome r.ends some
 put_by (Build f i) bytes text outcome comes some = tt
 put_by (Exec f p n) bytes text outcome (inl r) some = nothing_put outcome _ r.is refl some
-put_by (Exec f p n) bytes text outcome (inr r) some = no_put_run r.image text p n None outcome r.ends some
+put_by (Exec f p n) bytes text outcome (inr r) some = no_put_run r.image text p n (Prints None) outcome r.ends some
 put_by (ListCode f) bytes text outcome (inl r) some = nothing_put outcome _ r.is refl some
 put_by (ListCode f) bytes text outcome (inr r) some = nothing_put outcome _ r.is refl some
 put_by (Elf i f) bytes text outcome comes some = tt
 put_by (Unelf f i) bytes text outcome comes some = tt
 put_by (Audit f p n) bytes text outcome (inl r) some = nothing_put outcome _ r.is refl some
 put_by (Audit f p n) bytes text outcome (inr r) some = no_put_audit r.image text p n outcome r.ends some
+put_by (Trace f p n) bytes text outcome (inl r) some = nothing_put outcome _ r.is refl some
+put_by (Trace f p n) bytes text outcome (inr r) some = no_put_run r.image text p n Traces outcome r.ends some
 
 -- the words of a call that puts are those of one
 pub puts_by : (request : Request) (outcome : Outcome) → Ends request outcome → IsSome outcome.put → IsPut request.words
@@ -281,11 +285,11 @@ same_image bytes a b is other = (one_image bytes a b is other).globals
 -- ---- what is in order
 
 -- what comes of an image and an input that is in order beside its globals
-accepted_run : (image : Image) (text : List ℕ) (p n globals : ℕ) (shown : Option Row) (outcome : Outcome) (status : Status) → vec_len image.globals ≡ globals
-    → IsInputBeside globals text → outcome.status ≡ status → EndsOn image (take 1048577 text) p n shown outcome → IsOfStand image text p n status
-accepted_run image text p n globals shown outcome status count input same (inl r) =
+accepted_run : (image : Image) (text : List ℕ) (p n globals : ℕ) (writing : Writing) (outcome : Outcome) (status : Status) → vec_len image.globals ≡ globals
+    → IsInputBeside globals text → outcome.status ≡ status → EndsOn image (take 1048577 text) p n writing outcome → IsOfStand image text p n status
+accepted_run image text p n globals writing outcome status count input same (inl r) =
     absurd (not_beside (vec_len image.globals) globals text r.fault count r.refused input)
-accepted_run image text p n globals shown outcome status count input same (inr r) =
+accepted_run image text p n globals writing outcome status count input same (inr r) =
     (r.input, sym (input_of_taken (most_numbers (vec_len image.globals)) text) ∙ r.numbers, status-of outcome _ status r.is same)
 
 accepted_audit : (image : Image) (text : List ℕ) (p n globals : ℕ) (outcome : Outcome) (status : Status) → vec_len image.globals ≡ globals
@@ -301,14 +305,14 @@ accepted_ends (Run f p n s) source text outcome status is input same (inr (inl r
 accepted_ends (Run f p n s) source text outcome status is input same (inr (inr r)) =
     let built = subst (λ (b : List ℕ). IsFaithful b r.image) (read_text source is.0) r.compiled in
     let count = globals_of source r.image input.0 input.1 built input.2 in
-    inr (r.image, built, accepted_run r.image text p n (length (words_by input.0 input.1)) r.shown outcome status count input.3 same r.ends)
+    inr (r.image, built, accepted_run r.image text p n (length (words_by input.0 input.1)) (Prints r.shown) outcome status count input.3 same r.ends)
 accepted_ends (Build f i) source text outcome status is input same (inl r) = absurd (not_refused source outcome is r)
 accepted_ends (Build f i) source text outcome status is input same (inr r) = inr (status-of outcome _ status r.is same)
 accepted_ends (Exec f p n) bytes text outcome status is input same (inl r) = absurd (not_image_refused bytes outcome is r)
 accepted_ends (Exec f p n) bytes text outcome status is input same (inr r) =
     let spelled = subst (λ (b : List ℕ). IsImageOf b r.image) (read_image bytes is.0 is.1) r.spelled in
     let count = same_count r.image input.0 (same_image bytes r.image input.0 spelled input.1) in
-    inr (r.image, spelled, accepted_run r.image text p n (vec_len input.0.globals) None outcome status count input.2 same r.ends)
+    inr (r.image, spelled, accepted_run r.image text p n (vec_len input.0.globals) (Prints None) outcome status count input.2 same r.ends)
 accepted_ends (ListCode f) bytes text outcome status is input same (inl r) = absurd (not_image_refused bytes outcome is r)
 accepted_ends (ListCode f) bytes text outcome status is input same (inr r) = inr (status-of outcome _ status r.is same)
 accepted_ends (Elf i f) bytes text outcome status is input same (inl r) = absurd (not_image_refused bytes outcome is r)
@@ -320,6 +324,11 @@ accepted_ends (Audit f p n) source text outcome status is input same (inr r) =
     let built = subst (λ (b : List ℕ). IsFaithful b r.image) (read_text source is) r.compiled in
     let count = globals_of source r.image input.0 input.1 built input.2 in
     inr (r.image, built, accepted_audit r.image text p n (length (words_by input.0 input.1)) outcome status count input.3 same r.ends)
+accepted_ends (Trace f p n) source text outcome status is input same (inl r) = absurd (not_refused source outcome is r)
+accepted_ends (Trace f p n) source text outcome status is input same (inr r) =
+    let built = subst (λ (b : List ℕ). IsFaithful b r.image) (read_text source is) r.compiled in
+    let count = globals_of source r.image input.0 input.1 built input.2 in
+    inr (r.image, built, accepted_run r.image text p n (length (words_by input.0 input.1)) Traces outcome status count input.3 same r.ends)
 
 -- where the file isn't
 unreadable_ends : (command : Command) (bytes text : List ℕ) (outcome : Outcome) (status : Status) → ¬ IsReadable command bytes → outcome.status ≡ status → ComesToFirst command bytes text outcome → IsOfUnreadable command status
@@ -339,6 +348,8 @@ unreadable_ends (Unelf f i) bytes text outcome status none same (inl r) = inr (s
 unreadable_ends (Unelf f i) bytes text outcome status none same (inr r) = absurd (none (file_read bytes r.image r.made))
 unreadable_ends (Audit f p n) source text outcome status none same (inl r) = inr (status-of outcome _ status r.is same)
 unreadable_ends (Audit f p n) source text outcome status none same (inr r) = absurd (none (read_built source r.image r.compiled))
+unreadable_ends (Trace f p n) source text outcome status none same (inl r) = inr (status-of outcome _ status r.is same)
+unreadable_ends (Trace f p n) source text outcome status none same (inr r) = absurd (none (read_built source r.image r.compiled))
 
 -- and where the input isn't
 unaccepted_ends : (command : Command) (bytes text : List ℕ) (outcome : Outcome) (status : Status) → IsReadable command bytes → ¬ IsAccepted command bytes text → outcome.status ≡ status → ComesToFirst command bytes text outcome → IsOfUnaccepted status
@@ -349,7 +360,7 @@ unaccepted_ends (Run f p n s) source text outcome status is none same (inr (inr 
     faithful : IsFaithful source r.image
     faithful = subst (λ (b : List ℕ). IsFaithful b r.image) (read_text source is.0) r.compiled
 
-    by : EndsOn r.image (take 1048577 text) p n r.shown outcome → IsOfUnaccepted status
+    by : EndsOn r.image (take 1048577 text) p n (Prints r.shown) outcome → IsOfUnaccepted status
     by (inl refuses) = inr (status-of outcome _ status refuses.is same)
     by (inr runs) =
         let count = globals_of source r.image faithful.program faithful.facts faithful faithful.checked in
@@ -358,7 +369,7 @@ unaccepted_ends (Build f i) source text outcome status is none same comes = absu
 unaccepted_ends (Exec f p n) bytes text outcome status is none same (inl r) = absurd (not_image_refused bytes outcome is r)
 unaccepted_ends (Exec f p n) bytes text outcome status is none same (inr r) = by r.ends
   where
-    by : EndsOn r.image (take 1048577 text) p n None outcome → IsOfUnaccepted status
+    by : EndsOn r.image (take 1048577 text) p n (Prints None) outcome → IsOfUnaccepted status
     by (inl refuses) = inr (status-of outcome _ status refuses.is same)
     by (inr runs) =
         let spelled = subst (λ (b : List ℕ). IsImageOf b r.image) (read_image bytes is.0 is.1) r.spelled in
@@ -377,6 +388,17 @@ unaccepted_ends (Audit f p n) source text outcome status is none same (inr r) = 
     by (inr runs) =
         let count = globals_of source r.image faithful.program faithful.facts faithful faithful.checked in
         absurd (none (faithful.program, faithful.facts, faithful.checked, beside (vec_len r.image.globals) _ text runs.input count runs.numbers))
+unaccepted_ends (Trace f p n) source text outcome status is none same (inl r) = absurd (not_refused source outcome is r)
+unaccepted_ends (Trace f p n) source text outcome status is none same (inr r) = by r.ends
+  where
+    faithful : IsFaithful source r.image
+    faithful = subst (λ (b : List ℕ). IsFaithful b r.image) (read_text source is) r.compiled
+
+    by : EndsOn r.image (take 1048577 text) p n Traces outcome → IsOfUnaccepted status
+    by (inl refuses) = inr (status-of outcome _ status refuses.is same)
+    by (inr runs) =
+        let count = globals_of source r.image faithful.program faithful.facts faithful faithful.checked in
+        absurd (none (faithful.program, faithful.facts, faithful.checked, beside (vec_len r.image.globals) _ text runs.input count runs.numbers))
 
 -- want of memory is an answer in any case
 memory_accepted : (command : Command) (bytes text : List ℕ) (status : Status) → status ≡ Memory → IsOfAccepted command bytes text status
@@ -387,6 +409,7 @@ memory_accepted (ListCode f) bytes text status is = inl is
 memory_accepted (Elf i f) bytes text status is = inl is
 memory_accepted (Unelf f i) bytes text status is = inl is
 memory_accepted (Audit f p n) bytes text status is = inl is
+memory_accepted (Trace f p n) bytes text status is = inl is
 
 memory_unreadable : (command : Command) (status : Status) → status ≡ Memory → IsOfUnreadable command status
 memory_unreadable (Run f p n s) status is = inl is
@@ -396,6 +419,7 @@ memory_unreadable (ListCode f) status is = inl is
 memory_unreadable (Elf i f) status is = inl is
 memory_unreadable (Unelf f i) status is = inl is
 memory_unreadable (Audit f p n) status is = inl is
+memory_unreadable (Trace f p n) status is = inl is
 
 -- ---- the answers to what is in order, and to what isn't
 

@@ -1,7 +1,7 @@
 pub mod Readable
 pub mod Inputs
+pub mod Runs
 pub mod Lost
-pub mod Pieces
 pub mod Causes
 pub mod Refusing
 pub mod Unread

@@ -18,7 +18,7 @@ use Rattle.fk_compile_text.specs.Text.{IsBuilt, IsChecked}
 use Rattle.fk_compile.specs.Faithful.{IsFaithful, words_by}
 use Rattle.fk_top_input.specs.Input.{input_of}
 use Rattle.fk_top_words.specs.Command.{Command, Run, Build, Exec, ListCode, Elf}
-use Rattle.fk_top_words.specs.Command.{Unelf, Audit, Reads}
+use Rattle.fk_top_words.specs.Command.{Unelf, Audit, Trace, Reads}
 use Rattle.fk_top.specs.declared.report.Report.TheVariants as reports
 use Rattle.fk_top.specs.declared.status.Status.{Status}
 use Rattle.fk_top.specs.declared.status.Status.TheVariants.{Done, Refused, Usage, ReadFault}
@@ -277,6 +277,7 @@ IsReadable (ListCode image) bytes = IsImage bytes
 IsReadable (Elf image file) bytes = IsImage bytes
 IsReadable (Unelf file image) bytes = IsElf bytes
 IsReadable (Audit file harts cycles) source = IsText source
+IsReadable (Trace file harts cycles) source = IsText source
 
 -- The text has numbers, and no more than there may be beside this many globals.
 abbrev pub IsInputBeside : ℕ → List ℕ → Type 0
@@ -299,6 +300,7 @@ IsAccepted (ListCode image) bytes text = Unit {0}
 IsAccepted (Elf image file) bytes text = Unit {0}
 IsAccepted (Unelf file image) bytes text = Unit {0}
 IsAccepted (Audit file harts cycles) source text = IsInputOfText source text
+IsAccepted (Trace file harts cycles) source text = IsInputOfText source text
 
 -- The status for the machine of an image on the numbers of a text.
 abbrev pub IsOfStand : Image → List ℕ → ℕ → ℕ → Status → Type 0
@@ -325,6 +327,8 @@ IsOfAccepted (Elf image file) bytes text status = (status ≡ Memory) ⊎ (statu
 IsOfAccepted (Unelf file image) bytes text status = (status ≡ Memory) ⊎ (status ≡ Done)
 IsOfAccepted (Audit file harts cycles) source text status =
     (status ≡ Memory) ⊎ IsOfRun source text harts cycles status
+IsOfAccepted (Trace file harts cycles) source text status =
+    (status ≡ Memory) ⊎ IsOfRun source text harts cycles status
 
 -- The statuses where the file isn't in order.
 abbrev pub IsOfUnreadable : Command → Status → Type 0
@@ -335,6 +339,7 @@ IsOfUnreadable (ListCode image) status = (status ≡ Memory) ⊎ (status ≡ Ima
 IsOfUnreadable (Elf image file) status = (status ≡ Memory) ⊎ (status ≡ ImageRefused)
 IsOfUnreadable (Unelf file image) status = (status ≡ Memory) ⊎ (status ≡ ElfRefused)
 IsOfUnreadable (Audit file harts cycles) status = (status ≡ Memory) ⊎ (status ≡ Refused)
+IsOfUnreadable (Trace file harts cycles) status = (status ≡ Memory) ⊎ (status ≡ Refused)
 
 -- The statuses where the file is in order and the input isn't.
 abbrev pub IsOfUnaccepted : Status → Type 0

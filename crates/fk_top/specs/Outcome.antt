@@ -11,7 +11,7 @@ use Rattle.fk_top_input.specs.declared.fault.InputFault.{InputFault}
 use Rattle.fk_top_input.specs.Input.{input_of}
 use Rattle.fk_top_words.specs.Arguments.{Text}
 use Rattle.fk_top_words.specs.Command.{Command, Run, Build, Exec, ListCode, Elf}
-use Rattle.fk_top_words.specs.Command.{Unelf, Audit}
+use Rattle.fk_top_words.specs.Command.{Unelf, Audit, Trace}
 use Rattle.fk_machine.specs.declared.stand.Stand.{Stand}
 use Rattle.fk_machine.specs.declared.stand.Stand.TheVariants.{Running, Finished, Faulted, Trapped}
 use Rattle.fk_machine.specs.Cycle.{Machine, machine_opening}
@@ -19,6 +19,7 @@ use Rattle.fk_machine.specs.Run.{machine, output_of}
 use Rattle.fk_audit.specs.declared.access.AccessKind.TheVariants.{Read, Write}
 use Rattle.fk_audit.specs.declared.verdict.Verdict.{Verdict}
 use Rattle.fk_audit.specs.Clash.{IsFirstOf}
+use Rattle.fk_trace.specs.Early.{trace_of}
 use Rattle.fk_layout_globals.specs.Rows.{Row}
 use Rattle.fk_compile_text.specs.Text.{HasGlobal}
 use Rattle.fk_compile.specs.Faithful.{IsFaithful}
@@ -85,14 +86,25 @@ abbrev pub with_shown : List ℕ → Option Row → Machine → List ℕ
 with_shown output None m = output
 with_shown output (Some row) m = output ++ show_line row.name row.signed (words_in m row)
 
+-- What is written of a run: what the program prints, followed by the line of a variable, if one is
+-- shown; or the trace of the run.
+pub data Writing : Type 0 where
+  Prints : (shown : Option Row) → Writing
+  Traces : Writing
+
+abbrev pub written : Image → List ℕ → ℕ → ℕ → Writing → List ℕ
+written image input harts bound (Prints shown) =
+    with_shown (output_of image input harts bound) shown (machine image input harts bound)
+written image input harts bound Traces = trace_of bound (machine_opening image input harts)
+
 -- The outcome of running the machine of an image on these input numbers for at most `bound` cycles.
-abbrev pub ran : Image → List ℕ → ℕ → ℕ → Option Row → Outcome
-ran image input harts bound shown =
+abbrev pub ran : Image → List ℕ → ℕ → ℕ → Writing → Outcome
+ran image input harts bound writing =
     let m = machine image input harts bound in
     record {
       status = status_of m.stand;
       put = None;
-      output = with_shown (output_of image input harts bound) shown m;
+      output = written image input harts bound writing;
       line = line_of (stand_report image bound m.stand m.begun);
     }
 
@@ -202,17 +214,17 @@ pub record RefusesInput (image : Image) (text : List ℕ) (outcome : Outcome) : 
   pub says : input_report_of fault ≡ Some report
   pub is : outcome ≡ silent InputRefused (line_of report)
 
--- The machine of an image ran on the numbers of the text, and the variable was shown.
-pub record RunsOn (image : Image) (text : List ℕ) (harts cycles : ℕ) (shown : Option Row)
+-- The machine of an image ran on the numbers of the text, and this was written of the run.
+pub record RunsOn (image : Image) (text : List ℕ) (harts cycles : ℕ) (writing : Writing)
     (outcome : Outcome) : Type 0 where
   pub input : List ℕ
   pub numbers : numbers_for image text ≡ Ok input
-  pub is : outcome ≡ ran image input harts cycles shown
+  pub is : outcome ≡ ran image input harts cycles writing
 
 -- The outcome for an image and an input text.
-abbrev pub EndsOn : Image → List ℕ → ℕ → ℕ → Option Row → Outcome → Type 0
-EndsOn image text harts cycles shown outcome = RefusesInput image text outcome
-    ⊎ RunsOn image text harts cycles shown outcome
+abbrev pub EndsOn : Image → List ℕ → ℕ → ℕ → Writing → Outcome → Type 0
+EndsOn image text harts cycles writing outcome = RefusesInput image text outcome
+    ⊎ RunsOn image text harts cycles writing outcome
 
 -- An image of the source was run, and the variable was shown; or the input was refused.
 pub record RunsSource (source text : List ℕ) (harts cycles : ℕ) (show : Option Text)
@@ -221,7 +233,14 @@ pub record RunsSource (source text : List ℕ) (harts cycles : ℕ) (show : Opti
   pub compiled : IsFaithful source image
   pub shown : Option Row
   pub is_shown : IsShown source show shown
-  pub ends : EndsOn image text harts cycles shown outcome
+  pub ends : EndsOn image text harts cycles (Prints shown) outcome
+
+-- An image of the source was run, and its run was traced; or the input was refused.
+pub record TracesSource (source text : List ℕ) (harts cycles : ℕ) (outcome : Outcome)
+    : Type 0 where
+  pub image : Image
+  pub compiled : IsFaithful source image
+  pub ends : EndsOn image text harts cycles Traces outcome
 
 -- The machine of an image ran on the numbers of the text, and was audited.
 pub record AuditsOn (image : Image) (text : List ℕ) (harts cycles : ℕ)
@@ -255,7 +274,7 @@ pub record PutsImage (source name : List ℕ) (outcome : Outcome) : Type 0 where
 pub record RunsImage (bytes text : List ℕ) (harts cycles : ℕ) (outcome : Outcome) : Type 0 where
   pub image : Image
   pub spelled : IsImageOf bytes image
-  pub ends : EndsOn image text harts cycles None outcome
+  pub ends : EndsOn image text harts cycles (Prints None) outcome
 
 -- The code of the image of the bytes is listed.
 pub record ListsImage (bytes : List ℕ) (outcome : Outcome) : Type 0 where
@@ -295,3 +314,5 @@ ComesTo (Unelf file image) bytes text outcome = RefusesElf bytes outcome
     ⊎ PutsFromElf bytes image outcome
 ComesTo (Audit file harts cycles) source text outcome = RefusesSource source outcome
     ⊎ AuditsSource source text harts cycles outcome
+ComesTo (Trace file harts cycles) source text outcome = RefusesSource source outcome
+    ⊎ TracesSource source text harts cycles outcome

@@ -9,7 +9,7 @@ ghost use Rattle.fk_top.specs.Ending.{outcome_of};
 ghost use Rattle.fk_top.specs.Outcome.{EndsAudit, IsVerdict};
 ghost use Rattle.fk_top.specs.Report.{clash_text, pram_name, verdict_text};
 
-use crate::ending::{Ending, LastLine, refused};
+use crate::ending::{Ending, LastLine, Told, refused};
 use crate::line::{Line, append, append_number};
 use crate::refused::input_report_of;
 use crate::run::most_numbers;
@@ -58,13 +58,12 @@ pub fn audit_ending<'a>(
     let audited = audit_image(alloc, image, input.as_slice(), run.harts, run.cycles)?;
     let lines = verdict_text(audited.verdict);
     output.extend_from_slice(lines.as_slice()).unwrap();
-    Ok(Ending {
+    Ok(Ending::Told(Told {
         status: status_of(audited.stand),
         put: None,
         output,
-        shown: None,
         line: LastLine::Reported(stand_report(image, run.cycles, audited.stand, audited.cycles)),
-    })
+    }))
 }
 
 // Runs an image on input numbers, with this many harts, until it ends or the bound on the cycles is

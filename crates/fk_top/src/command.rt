@@ -18,7 +18,8 @@ pub fn file_of<'a>(command: CommandWords<'a>) -> &'a str
     ensures { result.now ≡ file_of (command_of command.entry) }
 {
     match command {
-        CommandWords::Run(run, _) | CommandWords::Exec(run) | CommandWords::Audit(run) => run.file,
+        CommandWords::Run(run, _) | CommandWords::Exec(run) => run.file,
+        CommandWords::Audit(run) | CommandWords::Trace(run) => run.file,
         CommandWords::Build(file, _) | CommandWords::Unelf(file, _) => file,
         CommandWords::List(image) | CommandWords::Elf(image, _) => image,
     }
@@ -29,9 +30,8 @@ pub fn most_bytes(command: CommandWords) -> usize
     ensures { result ≡ most_bytes (command_of command.entry) }
 {
     match command {
-        CommandWords::Run(_, _) | CommandWords::Build(_, _) | CommandWords::Audit(_) => {
-            MOST_TEXT_BYTES + 1
-        }
+        CommandWords::Run(_, _) | CommandWords::Build(_, _) => MOST_TEXT_BYTES + 1,
+        CommandWords::Audit(_) | CommandWords::Trace(_) => MOST_TEXT_BYTES + 1,
         CommandWords::Exec(_) | CommandWords::List(_) => IMAGE_LIMIT + 1,
         CommandWords::Elf(_, _) => IMAGE_LIMIT + 1,
         CommandWords::Unelf(_, _) => ELF_LIMIT + 1,
@@ -43,9 +43,8 @@ pub fn most_input(command: CommandWords) -> usize
     ensures { result ≡ most_input (command_of command.entry) }
 {
     match command {
-        CommandWords::Run(_, _) | CommandWords::Exec(_) | CommandWords::Audit(_) => {
-            MOST_TEXT_BYTES + 1
-        }
+        CommandWords::Run(_, _) | CommandWords::Exec(_) => MOST_TEXT_BYTES + 1,
+        CommandWords::Audit(_) | CommandWords::Trace(_) => MOST_TEXT_BYTES + 1,
         CommandWords::Build(_, _) | CommandWords::List(_) => 0,
         CommandWords::Elf(_, _) | CommandWords::Unelf(_, _) => 0,
     }

@@ -4,7 +4,7 @@ ghost use Rattle.std.specs.Prelude.{◌≡◌, ◌⊎◌, ◌≤◌, length, IfO
 ghost use Rattle.fk_top.specs.Outcome.{PutsElf, PutsFromElf, RefusesElf, RefusesImage, wrote};
 ghost use Rattle.fk_top.specs.Ending.{outcome_of};
 
-use crate::ending::{Ending, LastLine, PutFile, refused};
+use crate::ending::{Ending, LastLine, PutFile, Told, refused};
 use crate::refused::{elf_report_of, image_report_of};
 use crate::report::Report;
 use crate::status::Status;
@@ -47,11 +47,10 @@ fn putting<'a>(alloc: Global, name: &'a str, bytes: Vec<u8>) -> Ending<'a>
     ensures { outcome_of result ≡ wrote name.now bytes.items }
 {
     let line = LastLine::Reported(Report::Wrote(bytes.len() as u32));
-    Ending {
+    Ending::Told(Told {
         status: Status::Done,
         put: Some(PutFile { name, bytes }),
         output: Vec::new(alloc),
-        shown: None,
         line,
-    }
+    })
 }

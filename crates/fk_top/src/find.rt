@@ -16,15 +16,15 @@ use crate::elf::{put_elf, put_image};
 use crate::ending::{Ending, silent};
 use crate::input::take_input;
 use crate::report::Report;
-use crate::source::{audit_source, build_source, run_source};
+use crate::source::{audit_source, build_source, run_source, trace_source};
 use crate::status::Status;
 use fk_ports::{Source, Store, StoreFault};
 use fk_top_words::{CommandWords, WordsFault, read_words};
 use std::alloc::{AllocError, Global};
 
 /// The ending of a call with these words, for a store and an input. It changes nothing in the
-/// store, and gives nothing to any sink. A file or an input that could not be read is an ending
-/// too. It fails only if there isn't enough memory.
+/// store, runs nothing but an audit, and gives nothing to any sink. A file or an input that could
+/// not be read is an ending too. It fails only if there isn't enough memory.
 pub fn find_ending<'a, F: Store, S: Source>(
     alloc: Global,
     words: &'a [String],
@@ -104,5 +104,6 @@ fn command_ending<'a>(
         CommandWords::Elf(_, file) => put_elf(alloc, bytes, file),
         CommandWords::Unelf(_, image) => put_image(alloc, bytes, image),
         CommandWords::Audit(run) => audit_source(alloc, bytes, text, run),
+        CommandWords::Trace(run) => trace_source(alloc, bytes, text, run),
     }
 }

@@ -14,13 +14,13 @@ use Rattle.std.proofs.lemmas.Str.{IsUtf8-string_bytes}
 use Rattle.clap.specs.Simple.{App, is_simple, subcommand_of}
 use Rattle.fk_top_words.specs.Arguments.{Text, Part, File, Harts, Cycles, Show, Image, Argument, Values, Gives, Spells, all_values, values_of}
 use Rattle.fk_top_words.specs.Asked.{AsksFor, AsksOf, RunsBy, number_of}
-use Rattle.fk_top_words.specs.Command.{Command, Run, Build, Exec, ListCode, Elf, Unelf, Audit, Reads, ReadsRun, ReadsBehind, once_or_never, only_file, two_files}
+use Rattle.fk_top_words.specs.Command.{Command, Run, Build, Exec, ListCode, Elf, Unelf, Audit, Trace, Reads, ReadsRun, ReadsBehind, once_or_never, only_file, two_files}
 use Rattle.fk_top_words.specs.Written.{id_of, run_parts, put_parts, exec_parts, list_parts, written_app}
 use Rattle.fk_top_words.proofs.Rules.{IsCommand, exec_command, is_in, list_command, put_command, run_command}
 use Rattle.fk_top_words.proofs.Given.{IsOnce, at, first-rows, given, lacks, no_values, rows, some_values}
 use Rattle.fk_top_words.proofs.Taken.{Adds, AreIn, AreTexts, rows_at_end, sound}
 use Rattle.fk_top_words.proofs.Spelled.{gets}
-use Rattle.fk_top_words.proofs.Lines.{Behind, Named, is_run, is_build, is_exec, is_list, is_elf, is_unelf, is_audit, other, named, behind_run, behind_build, behind_exec, behind_list, behind_elf, behind_unelf, behind_audit, no_words, other_word}
+use Rattle.fk_top_words.proofs.Lines.{Behind, Named, is_run, is_build, is_exec, is_list, is_elf, is_unelf, is_audit, is_trace, other, named, behind_run, behind_build, behind_exec, behind_list, behind_elf, behind_unelf, behind_audit, behind_trace, no_words, other_word}
 
 pub differ : (a b : Text) → bytes_eq a b ≡ false → a ≡ b → ⊥
 differ a b e same = let t = (bytes_eq-Decides a b).1 same in let bad : true ≡ false = sym t ∙ e in cc
@@ -133,6 +133,7 @@ asked_run words end adds (ListCode image) asks = absurd (differ (codes "run") (c
 asked_run words end adds (Elf image file) asks = absurd (differ (codes "run") (codes "elf") refl asks.0)
 asked_run words end adds (Unelf file image) asks = absurd (differ (codes "run") (codes "unelf") refl asks.0)
 asked_run words end adds (Audit file harts cycles) asks = absurd (differ (codes "run") (codes "audit") refl asks.0)
+asked_run words end adds (Trace file harts cycles) asks = absurd (differ (codes "run") (codes "trace") refl asks.0)
 
 asked_build : (words : List Text) (end : List Row) → Adds put_parts [] false words end → (command : Command) → AsksFor (codes "build") end command → ReadsBehind (codes "build") words command
 asked_build words end adds (Run file harts cycles show) asks = absurd (differ (codes "build") (codes "run") refl asks.0)
@@ -142,6 +143,7 @@ asked_build words end adds (ListCode image) asks = absurd (differ (codes "build"
 asked_build words end adds (Elf image file) asks = absurd (differ (codes "build") (codes "elf") refl asks.0)
 asked_build words end adds (Unelf file image) asks = absurd (differ (codes "build") (codes "unelf") refl asks.0)
 asked_build words end adds (Audit file harts cycles) asks = absurd (differ (codes "build") (codes "audit") refl asks.0)
+asked_build words end adds (Trace file harts cycles) asks = absurd (differ (codes "build") (codes "trace") refl asks.0)
 
 asked_exec : (words : List Text) (end : List Row) → Adds exec_parts [] false words end → (command : Command) → AsksFor (codes "exec") end command → ReadsBehind (codes "exec") words command
 asked_exec words end adds (Run file harts cycles show) asks = absurd (differ (codes "exec") (codes "run") refl asks.0)
@@ -151,6 +153,7 @@ asked_exec words end adds (ListCode image) asks = absurd (differ (codes "exec") 
 asked_exec words end adds (Elf image file) asks = absurd (differ (codes "exec") (codes "elf") refl asks.0)
 asked_exec words end adds (Unelf file image) asks = absurd (differ (codes "exec") (codes "unelf") refl asks.0)
 asked_exec words end adds (Audit file harts cycles) asks = absurd (differ (codes "exec") (codes "audit") refl asks.0)
+asked_exec words end adds (Trace file harts cycles) asks = absurd (differ (codes "exec") (codes "trace") refl asks.0)
 
 asked_list : (words : List Text) (end : List Row) → Adds list_parts [] false words end → (command : Command) → AsksFor (codes "list") end command → ReadsBehind (codes "list") words command
 asked_list words end adds (Run file harts cycles show) asks = absurd (differ (codes "list") (codes "run") refl asks.0)
@@ -160,6 +163,7 @@ asked_list words end adds (ListCode image) asks = (refl, reads_list words end ad
 asked_list words end adds (Elf image file) asks = absurd (differ (codes "list") (codes "elf") refl asks.0)
 asked_list words end adds (Unelf file image) asks = absurd (differ (codes "list") (codes "unelf") refl asks.0)
 asked_list words end adds (Audit file harts cycles) asks = absurd (differ (codes "list") (codes "audit") refl asks.0)
+asked_list words end adds (Trace file harts cycles) asks = absurd (differ (codes "list") (codes "trace") refl asks.0)
 
 asked_elf : (words : List Text) (end : List Row) → Adds put_parts [] false words end → (command : Command) → AsksFor (codes "elf") end command → ReadsBehind (codes "elf") words command
 asked_elf words end adds (Run file harts cycles show) asks = absurd (differ (codes "elf") (codes "run") refl asks.0)
@@ -169,6 +173,7 @@ asked_elf words end adds (ListCode image) asks = absurd (differ (codes "elf") (c
 asked_elf words end adds (Elf image file) asks = (refl, reads_put words end adds image file asks.1 asks.2)
 asked_elf words end adds (Unelf file image) asks = absurd (differ (codes "elf") (codes "unelf") refl asks.0)
 asked_elf words end adds (Audit file harts cycles) asks = absurd (differ (codes "elf") (codes "audit") refl asks.0)
+asked_elf words end adds (Trace file harts cycles) asks = absurd (differ (codes "elf") (codes "trace") refl asks.0)
 
 asked_unelf : (words : List Text) (end : List Row) → Adds put_parts [] false words end → (command : Command) → AsksFor (codes "unelf") end command → ReadsBehind (codes "unelf") words command
 asked_unelf words end adds (Run file harts cycles show) asks = absurd (differ (codes "unelf") (codes "run") refl asks.0)
@@ -178,6 +183,7 @@ asked_unelf words end adds (ListCode image) asks = absurd (differ (codes "unelf"
 asked_unelf words end adds (Elf image file) asks = absurd (differ (codes "unelf") (codes "elf") refl asks.0)
 asked_unelf words end adds (Unelf file image) asks = (refl, reads_put words end adds file image asks.1 asks.2)
 asked_unelf words end adds (Audit file harts cycles) asks = absurd (differ (codes "unelf") (codes "audit") refl asks.0)
+asked_unelf words end adds (Trace file harts cycles) asks = absurd (differ (codes "unelf") (codes "trace") refl asks.0)
 
 asked_audit : (words : List Text) (end : List Row) → Adds exec_parts [] false words end → (command : Command) → AsksFor (codes "audit") end command → ReadsBehind (codes "audit") words command
 asked_audit words end adds (Run file harts cycles show) asks = absurd (differ (codes "audit") (codes "run") refl asks.0)
@@ -187,6 +193,17 @@ asked_audit words end adds (ListCode image) asks = absurd (differ (codes "audit"
 asked_audit words end adds (Elf image file) asks = absurd (differ (codes "audit") (codes "elf") refl asks.0)
 asked_audit words end adds (Unelf file image) asks = absurd (differ (codes "audit") (codes "unelf") refl asks.0)
 asked_audit words end adds (Audit file harts cycles) asks = (refl, reads_exec words end adds file harts cycles asks.1 asks.2)
+asked_audit words end adds (Trace file harts cycles) asks = absurd (differ (codes "audit") (codes "trace") refl asks.0)
+
+asked_trace : (words : List Text) (end : List Row) → Adds exec_parts [] false words end → (command : Command) → AsksFor (codes "trace") end command → ReadsBehind (codes "trace") words command
+asked_trace words end adds (Run file harts cycles show) asks = absurd (differ (codes "trace") (codes "run") refl asks.0)
+asked_trace words end adds (Build file image) asks = absurd (differ (codes "trace") (codes "build") refl asks.0)
+asked_trace words end adds (Exec image harts cycles) asks = absurd (differ (codes "trace") (codes "exec") refl asks.0)
+asked_trace words end adds (ListCode image) asks = absurd (differ (codes "trace") (codes "list") refl asks.0)
+asked_trace words end adds (Elf image file) asks = absurd (differ (codes "trace") (codes "elf") refl asks.0)
+asked_trace words end adds (Unelf file image) asks = absurd (differ (codes "trace") (codes "unelf") refl asks.0)
+asked_trace words end adds (Audit file harts cycles) asks = absurd (differ (codes "trace") (codes "audit") refl asks.0)
+asked_trace words end adds (Trace file harts cycles) asks = (refl, reads_exec words end adds file harts cycles asks.1 asks.2)
 
 taken_named : (name : Text) (ps : List Part) (known : IsCommand ps) (words : List Text) → Behind name ps words → AreTexts words
     → ((end : List Row) → Adds ps [] false words end → (command : Command) → AsksFor name end command → ReadsBehind name words command)
@@ -210,6 +227,8 @@ taken_word word words texts (is_unelf e) fine =
     subst (λ w. IsTaken (w ∷ words)) (sym e) (taken_named (codes "unelf") put_parts put_command words (behind_unelf words) texts (asked_unelf words) (subst (λ w. fault_of written_app (w ∷ words) ≡ []) e fine))
 taken_word word words texts (is_audit e) fine =
     subst (λ w. IsTaken (w ∷ words)) (sym e) (taken_named (codes "audit") exec_parts exec_command words (behind_audit words) texts (asked_audit words) (subst (λ w. fault_of written_app (w ∷ words) ≡ []) e fine))
+taken_word word words texts (is_trace e) fine =
+    subst (λ w. IsTaken (w ∷ words)) (sym e) (taken_named (codes "trace") exec_parts exec_command words (behind_trace words) texts (asked_trace words) (subst (λ w. fault_of written_app (w ∷ words) ≡ []) e fine))
 taken_word word words texts (other none) fine = absurd (other_word word words none fine)
 
 pub taken : (words : List Text) → AreTexts words → fault_of written_app words ≡ [] → IsTaken words
@@ -359,6 +378,17 @@ asked_as word words (Audit file harts cycles) reads =
     let gc = given_by Cycles us r.cycles_text [] each.cycles in
     subst (λ w. IsAsked (w ∷ words) (Audit file harts cycles)) (sym reads.0)
     (asked_named (codes "audit") exec_parts exec_command words (Audit file harts cycles) us (Some file) (Some r.harts_text) (Some r.cycles_text) None None (behind_audit words) r.given.spelled each
+    (exec_in us each.show each.image) (rw (gf, gh, gc) refl)
+    (λ end e. (refl, first-is File us (Some file) end e each.file, asks_run us file r.harts_text r.cycles_text None None end harts cycles each e r.harts_are r.cycles_are r.some_harts r.few_harts)))
+asked_as word words (Trace file harts cycles) reads =
+    let r = reads.1 in
+    let us = r.given.arguments in
+    let each = each_of us _ (Some file) (Some r.harts_text) (Some r.cycles_text) None None r.given.values_are refl refl refl refl refl in
+    let gf = given_by File us file [] each.file in
+    let gh = given_by Harts us r.harts_text [] each.harts in
+    let gc = given_by Cycles us r.cycles_text [] each.cycles in
+    subst (λ w. IsAsked (w ∷ words) (Trace file harts cycles)) (sym reads.0)
+    (asked_named (codes "trace") exec_parts exec_command words (Trace file harts cycles) us (Some file) (Some r.harts_text) (Some r.cycles_text) None None (behind_trace words) r.given.spelled each
     (exec_in us each.show each.image) (rw (gf, gh, gc) refl)
     (λ end e. (refl, first-is File us (Some file) end e each.file, asks_run us file r.harts_text r.cycles_text None None end harts cycles each e r.harts_are r.cycles_are r.some_harts r.few_harts)))
 asked_as word words (Build file image) reads =

@@ -3,7 +3,7 @@ use Rattle.std.specs.Prelude.{◌≡◌, ℕ, ◌≤◌, List, Option, Some, Non
 use Rattle.fk_num.specs.Numeral.{read_word}
 use Rattle.clap.specs.Walk.{Row, first_of}
 use Rattle.fk_top_words.specs.Arguments.{Text}
-use Rattle.fk_top_words.specs.Command.{Command, Run, Build, Exec, ListCode, Elf, Unelf, Audit}
+use Rattle.fk_top_words.specs.Command.{Command, Run, Build, Exec, ListCode, Elf, Unelf, Audit, Trace}
 
 -- The number that is found for an argument.
 abbrev pub number_of : Text → List Row → Option ℕ
@@ -34,6 +34,8 @@ AsksFor name rows (Unelf file image) =
     (name ≡ codes "unelf") × (first_of (codes "file") rows ≡ Some file)
     × (first_of (codes "image") rows ≡ Some image)
 AsksFor name rows (Audit file harts cycles) = (name ≡ codes "audit")
+    × (first_of (codes "file") rows ≡ Some file) × RunsBy rows harts cycles
+AsksFor name rows (Trace file harts cycles) = (name ≡ codes "trace")
     × (first_of (codes "file") rows ≡ Some file) × RunsBy rows harts cycles
 
 -- The command that the command word and the values which `clap` found stand for.

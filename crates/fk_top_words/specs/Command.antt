@@ -7,8 +7,8 @@ use Rattle.fk_top_words.specs.declared.command.CommandWords.TheVariants as words
 
 -- The commands: compile a file and run it, and then show a variable, if one is named; compile a
 -- file into an image; run an image; list an image's code; make the ELF file of an image, and the
--- image of an ELF file; compile a file, run it, and tell which PRAM the run needed. A run is by this
--- many harts, for at most this many cycles.
+-- image of an ELF file; compile a file, run it, and tell which PRAM the run needed; compile a file
+-- and trace its run. A run is by this many harts, for at most this many cycles.
 pub data Command : Type 0 where
   Run : (file : Text) (harts cycles : ℕ) (show : Option Text) → Command
   Build : (file image : Text) → Command
@@ -17,6 +17,7 @@ pub data Command : Type 0 where
   Elf : (image file : Text) → Command
   Unelf : (file image : Text) → Command
   Audit : (file : Text) (harts cycles : ℕ) → Command
+  Trace : (file : Text) (harts cycles : ℕ) → Command
 
 abbrev pub once_or_never : Option Text → List Text
 once_or_never None = []
@@ -61,6 +62,8 @@ ReadsBehind word words (Unelf file image) =
     (word ≡ codes "unelf") × Gives words (two_files file image)
 ReadsBehind word words (Audit file harts cycles) = (word ≡ codes "audit")
     × ReadsRun words file harts cycles None
+ReadsBehind word words (Trace file harts cycles) = (word ≡ codes "trace")
+    × ReadsRun words file harts cycles None
 
 -- The words of each command, those after the program's name.
 abbrev pub Reads : List Text → Command → Type 0
@@ -80,3 +83,4 @@ command_of (words.List image) = ListCode image.now
 command_of (words.Elf image file) = Elf image.now file.now
 command_of (words.Unelf file image) = Unelf file.now image.now
 command_of (words.Audit r) = Audit r.file.now r.harts r.cycles
+command_of (words.Trace r) = Trace r.file.now r.harts r.cycles

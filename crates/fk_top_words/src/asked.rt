@@ -48,6 +48,7 @@ fn asked_for<'a>(given: &ArgMatches<'a>, name: &str) -> Option<CommandWords<'a>>
         "elf" => Some(CommandWords::Elf(file, text_of(given, "image")?)),
         "unelf" => Some(CommandWords::Unelf(file, text_of(given, "image")?)),
         "audit" => Some(CommandWords::Audit(asked_run(given, file)?)),
+        "trace" => Some(CommandWords::Trace(asked_run(given, file)?)),
         _ => None,
     }
 }

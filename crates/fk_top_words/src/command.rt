@@ -34,4 +34,7 @@ pub enum CommandWords<'a> {
     /// `audit FILE --harts P --cycles N`: compiles a source, runs it, and tells which PRAM the run
     /// needed.
     Audit(RunWords<'a>),
+    /// `trace FILE --harts P --cycles N`: compiles a source and runs it, and tells what the harts
+    /// commit in each cycle.
+    Trace(RunWords<'a>),
 }

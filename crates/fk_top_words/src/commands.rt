@@ -120,5 +120,6 @@ pub(crate) fn commands<'a>(alloc: Global) -> Result<Command<'a>, AllocError>
     let images = holding(images, reading(alloc, "list"));
     let files = holding(images, putting(alloc, "elf"));
     let files = holding(files, putting(alloc, "unelf"));
-    holding(files, running(alloc, "audit"))
+    let runs = holding(files, running(alloc, "audit"));
+    holding(runs, running(alloc, "trace"))
 }
