@@ -189,6 +189,10 @@ def audit(name, harts=1, cycles=1000000):
     return ["audit", name, "--harts", str(harts), "--cycles", str(cycles)]
 
 
+def trace(name, harts=1, cycles=1000000):
+    return ["trace", name, "--harts", str(harts), "--cycles", str(cycles)]
+
+
 def build(name, to):
     return ["build", name, "-o", to]
 
@@ -717,6 +721,34 @@ ROWS += [
     Row(audit("one_sum.f95"), 4, b"", "", out_to="/dev/full"),
     Row(audit("one_sum.f95", harts=1025), 2, b"", r"refused command line\n"),
     Row(audit("one_sum.f95") + ["--show", "x"], 2, b"", r"refused command line\n"),
+]
+
+# What the processors commit in each cycle.
+RANGES = rb"( \d+-\d+\*[1-9]\d*)+\n"
+EVENTS = rb"(g \d+ (split|shrink|end|resume|meet|agree)( \d+-\d+)+\n)*"
+
+
+def traced(harts):
+    """A trace of this many processors in which some commit."""
+    return re.compile(rb"fork95 trace 1\nharts %d\n(c [1-9]\d*%s%s)+end \d+\n" % (harts, RANGES, EVENTS))
+
+
+FILES["nothing.f95"] = b"void main(void) { }"
+ROWS += [
+    Row(trace("nothing.f95"), 0, re.compile(rb"fork95 trace 1\nharts 1\nc (\d+) 0-0\*1\nend \1\n"), FINISHED),
+    Row(trace("nothing.f95", harts=1024), 0, traced(1024), FINISHED),
+    Row(trace("nothing.f95", cycles=0), 7, b"fork95 trace 1\nharts 1\nend 0\n", AT_ONCE),
+    Row(trace("ranks.f95", harts=4), 0, traced(4), FINISHED),
+    # the program's own output isn't written
+    Row(trace("prints.f95", harts=3), 0, traced(3), FINISHED),
+    Row(trace("greatest_crew.f95", harts=8), 0, traced(8), FINISHED, given=SOME_NUMBERS),
+    Row(trace("faults.f95", harts=2), 6, traced(2), r"fault BadAddress at 1:75 by processor 1 after \d+ cycles\n"),
+    # what is refused, and in which order
+    Row(trace("undeclared.f95"), 1, b"", r"refused 8 Rule 1 at 1:26\n", given=b"x"),
+    Row(trace("empty.f95"), 10, b"", r"refused 19 NotANumber 2\n", given=b"12 x"),
+    Row(trace("absent.f95"), 3, b"", r"read fault\n"),
+    Row(trace("nothing.f95"), 4, b"", "", out_to="/dev/full"),
+    Row(trace("nothing.f95", harts=1025), 2, b"", r"refused command line\n"),
 ]
 
 
