@@ -80,7 +80,7 @@ pub enum Report {
     OutOfRange(u32),
     /// This word of the input is one too many; or, as 0, the input text is too long.
     TooMany(u32),
-    /// The source has a form that isn't built.
+    /// The source has a `fork`, which isn't built.
     NotBuilt,
     /// This byte of the ELF file isn't that of the headers which its own sizes demand.
     ElfHeader(u32),
