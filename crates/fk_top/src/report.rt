@@ -78,7 +78,7 @@ pub enum Report {
     OutOfRange(u32),
     /// This word of the input is one too many; or, as 0, the input text is too long.
     TooMany(u32),
-    /// The source has a form that isn't built.
+    /// The source has a `fork`, which isn't built.
     NotBuilt,
     /// The words are no command.
     CommandLine,
